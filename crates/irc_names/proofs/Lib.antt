@@ -1,0 +1,4 @@
+pub mod FoldTwice
+pub mod FoldsByRanges
+pub mod MaskSteps
+pub mod RuleFacts

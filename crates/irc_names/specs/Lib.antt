@@ -1,0 +1,9 @@
+pub mod Fold
+pub mod FoldLaws
+pub mod MaskLaws
+pub mod Masks
+pub mod Names
+pub mod Spellings
+pub mod Walks
+pub mod Tables
+pub mod TableLaws

@@ -1,0 +1,63 @@
+//! Names of an IRC network: their case fold, their rules, their types, and masks.
+#![tactic(auto)]
+
+mod case_fold;
+mod channel_name;
+mod copying;
+mod exact;
+mod hashing;
+mod host;
+mod mask;
+mod matching;
+mod nick;
+mod rules;
+mod server_name;
+
+pub use case_fold::{fold, same};
+pub use channel_name::ChannelName;
+pub use copying::{copied, cut_copy, first_bytes};
+pub use exact::{Exact, Folded};
+pub use host::Host;
+pub use mask::Mask;
+pub use matching::mask_matches;
+pub use nick::Nick;
+pub use rules::{is_channel, is_host, is_key, is_mask, is_nick, is_server};
+pub use server_name::ServerName;
+
+// How long names may be, in bytes. Each limit stands here alone: code and definitions cite these constants.
+
+/// The longest nickname (RFC 2812, section 1.2.1).
+pub const MAX_NICK: usize = 9;
+
+/// The longest channel name, with its `#` (RFC 2812, section 1.3).
+pub const MAX_CHANNEL: usize = 50;
+
+/// The longest host (our own choice: as long as a server's name).
+pub const MAX_HOST: usize = 63;
+
+/// The longest server name (RFC 2812, section 1.1).
+pub const MAX_SERVER: usize = 63;
+
+/// The longest key of a channel (RFC 2812, section 2.3.1).
+pub const MAX_KEY: usize = 23;
+
+/// The longest mask of a ban (our own choice).
+pub const MAX_MASK: usize = 90;
+
+/// The longest user name (our own choice).
+pub const MAX_USER_NAME: usize = 10;
+
+/// The longest real name (our own choice).
+pub const MAX_REAL_NAME: usize = 50;
+
+/// The longest topic, and the longest text of a quit, a part or a kick (our own choice).
+pub const MAX_WORDS: usize = 160;
+
+/// The longest text in which a server describes itself (our own choice).
+pub const MAX_INFO: usize = 63;
+
+/// The longest text that says when a server was created (our own choice).
+pub const MAX_CREATED: usize = 30;
+
+#[cfg(test)]
+mod tests;
