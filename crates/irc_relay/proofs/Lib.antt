@@ -1,0 +1,15 @@
+pub mod TellingNames
+pub mod JoiningParts
+pub mod GoingToward
+pub mod TakingOut
+pub mod Walking
+pub mod Flowing
+pub mod Delivering
+pub mod Adding
+pub mod Returning
+pub mod Running
+pub mod Counting
+pub mod Queueing
+pub mod RelayingNews
+pub mod DeliveringNews
+pub mod SettlingNews

@@ -1,0 +1,5 @@
+use Rattle.irc_relay.proofs.Returning.{paying_delivers}
+use Rattle.irc_relay.proofs.laws_of_relays.paying_delivers.Goals as goal
+
+pub returns : goal.returns
+returns g c = paying_delivers

@@ -1,0 +1,5 @@
+pub mod Links
+pub mod Relay
+pub mod Queue
+pub mod Laws
+pub mod NewsNet

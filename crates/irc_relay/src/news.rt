@@ -1,0 +1,224 @@
+//! An example of a network whose deliveries meet the laws: servers in a tree that relay news.
+
+ghost use Rattle.std.specs.Prelude.{◌≡◌, ◌≢◌, ◌++◌, [], ◌∷◌, IfOk, OnOk, IfSome, IfNone, IsTrue, IsFalse, MatchBool, position};
+ghost use Rattle.irc_relay.specs.Queue.{queue_of};
+ghost use Rattle.irc_relay.specs.Links.{IsForest};
+ghost use Rattle.irc_relay.specs.Relay.{IsAtRest, GoesAway};
+ghost use Rattle.irc_relay.specs.NewsNet.{net_of, links_of, streams_of, HasSettled, PublishedGoesAway, name, reading, is_between, sent_on, TakesOldest, DeliversNews, KeepsNews};
+
+use std::alloc::{AllocError, Global};
+
+/// A link between two servers.
+#[derive(Clone, Copy)]
+pub struct Edge {
+    pub near: u8,
+    pub far: u8,
+}
+
+/// A news item on its way.
+#[derive(Clone, Copy)]
+pub struct Sent {
+    pub from: u8,
+    pub to: u8,
+    pub item: u8,
+}
+
+/// A news item that a server has shown.
+#[derive(Clone, Copy)]
+pub struct Shown {
+    pub at: u8,
+    pub item: u8,
+}
+
+/// The servers: how they are linked, what each showed last, what they showed, and what is under way, in the order of sending.
+#[derive(Drop)]
+pub struct News {
+    pub edges: Vec<Edge>,
+    pub latest: [u8; 256],
+    pub shown: Vec<Shown>,
+    pub flying: Vec<Sent>,
+}
+
+// Where the first item from one server to another stands.
+fn first_between(flying: &[Sent], from: u8, to: u8) -> Option<usize>
+    ensures { result ≡ position (is_between from to) flying.now }
+{
+    flying.iter().position(|s| s.from == from && s.to == to)
+}
+
+// Takes the oldest item on its way from one server to another out of what is under way.
+fn take_oldest(flying: &mut Vec<Sent>, from: u8, to: u8) -> Option<u8>
+    ensures some { IfSome result (λ item. TakesOldest from to item flying.old.items flying.new.items) }
+    ensures none { IfNone result ((flying.new.items ≡ flying.old.items) × (queue_of reading flying.old.items (name from) (name to) ≡ [])) }
+{
+    let index = first_between(flying, from, to)?;
+    let taken = flying.remove(index);
+    Some(taken.item)
+}
+
+// Sends an item that came from one neighbour to all others.
+fn send_on(
+    edges: &[Edge],
+    at: u8,
+    from: u8,
+    item: u8,
+    flying: &mut Vec<Sent>,
+) -> Result<(), AllocError>
+    ensures sent { OnOk result (flying.new.items ≡ flying.old.items ++ sent_on edges.now at from item) }
+{
+    for edge in edges {
+        if edge.near == at && edge.far != from {
+            flying.push(Sent {
+                from: at,
+                to: edge.far,
+                item,
+            })?;
+        } else if edge.far == at && edge.near != from {
+            flying.push(Sent {
+                from: at,
+                to: edge.near,
+                item,
+            })?;
+        }
+    }
+    Ok(())
+}
+
+impl News {
+    /// Servers that are linked in this way, and have shown nothing.
+    pub fn new(alloc: Global, edges: Vec<Edge>) -> News
+        ensures edges { result.edges.items ≡ edges.items }
+        ensures rest { IsAtRest (net_of result) }
+    {
+        News {
+            edges,
+            latest: [0; 256],
+            shown: Vec::new(alloc),
+            flying: Vec::new(alloc),
+        }
+    }
+
+    /// Gives a news item to a server, which shows it and sends it to all its neighbours.
+    pub fn publish(&mut self, at: u8, item: u8) -> Result<(), AllocError>
+        ensures shown { OnOk result (self.new.shown.items ≡ self.old.shown.items ++ record { at = at; item = item } ∷ []) }
+        ensures sent { OnOk result (self.new.flying.items ≡ self.old.flying.items ++ sent_on self.old.edges.items at at item) }
+        ensures goes_away { OnOk result (PublishedGoesAway at self.old self.new) }
+        ensures edges { OnOk result (self.new.edges.items ≡ self.old.edges.items) }
+    {
+        self.latest[usize::from(at)] = item;
+        self.shown.push(Shown { at, item })?;
+        send_on(&self.edges, at, at, item, &mut self.flying)
+    }
+
+    /// Delivers the oldest item on its way from one server to another, and says whether there was one.
+    pub fn deliver(&mut self, from: u8, to: u8) -> Result<bool, AllocError>
+        requires { from ≢ to }
+        ensures taken { IfOk result (λ taken. MatchBool taken (DeliversNews from to self.old self.new) (queue_of reading self.old.flying.items (name from) (name to) ≡ [])) }
+        ensures kept { IfOk result (λ _. KeepsNews self.old self.new) }
+        ensures edges { OnOk result (self.new.edges.items ≡ self.old.edges.items) }
+    {
+        let Some(item) = take_oldest(&mut self.flying, from, to) else {
+            return Ok(false);
+        };
+        let place = usize::from(to);
+        if item != self.latest[place] {
+            self.latest[place] = item;
+            self.shown.push(Shown { at: to, item })?;
+            send_on(&self.edges, to, from, item, &mut self.flying)?;
+        }
+        Ok(true)
+    }
+
+    /// Delivers what has come from one server, in the order of sending, until nothing is under way.
+    pub fn settle(&mut self, source: u8) -> Result<(), AllocError>
+        requires forest { IsForest (links_of self.old.edges.items) }
+        requires goes_away { GoesAway (streams_of self.old source) (net_of self.old) }
+        ensures settled { OnOk result (HasSettled source self.old self.new) }
+    {
+        while !self.flying.is_empty() {
+            let next = self.flying[0];
+            self.deliver(next.from, next.to)?;
+        }
+        Ok(())
+    }
+}
+
+#[cfg(test)]
+mod tests {
+    use super::*;
+    use std::test::Fail;
+
+    // Four servers, the second of them linked to all others.
+    fn star(alloc: Global) -> Result<News, AllocError>
+        ensures forest { IfOk result (λ news. IsForest (links_of news.edges.items)) }
+        ensures rest { IfOk result (λ news. IsAtRest (net_of news)) }
+    {
+        let edges = vec![in alloc;
+            Edge { near: 1, far: 2 },
+            Edge { near: 3, far: 2 },
+            Edge { near: 2, far: 4 },
+        ]?;
+        Ok(News::new(alloc, edges))
+    }
+
+    // How often a server has shown an item.
+    fn times(news: &News, at: u8, item: u8) -> usize {
+        news.shown
+            .iter()
+            .filter(|s| s.at == at && s.item == item)
+            .count()
+    }
+
+    #[test]
+    fn every_server_shows_it_once(rt: HostRuntime) -> Result<(), Fail> {
+        let mut news = star(rt.alloc())?;
+        news.publish(1, 7)?;
+        assert!(rt; news.deliver(1, 2)?);
+        assert!(rt; news.deliver(2, 4)?);
+        assert!(rt; news.deliver(2, 3)?);
+        assert!(rt; !news.deliver(2, 1)?);
+        assert!(rt; !news.deliver(2, 3)?);
+        for at in 1..=4u8 {
+            assert_eq!(rt; times(&news, at, 7), 1, "at {at}");
+        }
+        assert!(rt; news.flying.is_empty());
+        Ok(())
+    }
+
+    #[test]
+    fn oldest_comes_first(rt: HostRuntime) -> Result<(), Fail> {
+        let mut news = star(rt.alloc())?;
+        news.publish(4, 7)?;
+        news.publish(4, 8)?;
+        assert!(rt; news.deliver(4, 2)?);
+        assert_eq!(rt; times(&news, 2, 7), 1);
+        assert_eq!(rt; times(&news, 2, 8), 0);
+        assert!(rt; news.deliver(4, 2)?);
+        assert_eq!(rt; times(&news, 2, 8), 1);
+        Ok(())
+    }
+
+    #[test]
+    fn a_known_item_is_not_passed_on(rt: HostRuntime) -> Result<(), Fail> {
+        let mut news = star(rt.alloc())?;
+        news.publish(1, 7)?;
+        news.publish(1, 7)?;
+        assert!(rt; news.deliver(1, 2)?);
+        assert!(rt; news.deliver(1, 2)?);
+        assert_eq!(rt; times(&news, 2, 7), 1);
+        assert_eq!(rt; news.flying.len(), 2);
+        Ok(())
+    }
+
+    #[test]
+    fn settles(rt: HostRuntime) -> Result<(), Fail> {
+        let mut news = star(rt.alloc())?;
+        news.publish(3, 9)?;
+        news.settle(3)?;
+        for at in 1..=4u8 {
+            assert_eq!(rt; times(&news, at, 9), 1, "at {at}");
+        }
+        assert!(rt; news.flying.is_empty());
+        Ok(())
+    }
+}
