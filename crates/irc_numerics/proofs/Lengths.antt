@@ -1,0 +1,221 @@
+-- How long the parts of a reply are.
+use Rattle.std.proofs.Common.{◌≡◌, ℕ, ◌+◌, ◌*◌, ◌^◌, ◌<◌, ◌≤◌, true, false, Option, Some, None, List, [], ◌∷◌, ◌++◌, map, length, refl, ap, arith, rules, length-append, lit≤, codes}
+use Rattle.std.specs.Prelude.{decimal, IfSome}
+use Rattle.std.specs.List.{AllByRecursion}
+use Rattle.std.proofs.lemmas.Fmt.{length-decimal-le}
+use Rattle.irc_line.specs.declared.limits.TheConstants.{MAX_LINE}
+use Rattle.irc_line.specs.Bytes.{space, colon, crlf}
+use Rattle.irc_line.specs.Messages.{joined_text, line_text, middle_text, last_text, prefix_text, prefix_of, named}
+use Rattle.irc_line.proofs.CutLaws.{cut_all}
+use Rattle.irc_names.specs.declared.TheConstants.{MAX_NICK, MAX_CHANNEL, MAX_SERVER}
+use Rattle.irc_numerics.specs.declared.replies.Mark.{Mark}
+use Rattle.irc_numerics.specs.declared.replies.Mark.TheVariants.{Plain, Voiced, Operator}
+use Rattle.irc_numerics.specs.declared.replies.Visibility.TheVariants.{Public, Private, Secret}
+use Rattle.irc_numerics.specs.declared.replies.Listed.{Listed}
+use Rattle.irc_numerics.specs.declared.replies.OnChannel.{OnChannel}
+use Rattle.irc_numerics.specs.declared.replies.Reply.{Reply}
+use Rattle.irc_numerics.specs.declared.replies.Reply.TheVariants.{Welcome, YourHost, Created, MyInfo, UserModeIs, LuserClient, LuserChannels, LuserMe, IsOn, WhoisUser, WhoisServer, EndOfWho, EndOfWhois, WhoisChannels, List as ListRow, ListEnd, ChannelModeIs, NoTopic, Topic, Inviting, WhoReply, NamReply, EndOfNames, BanList, EndOfBanList, NoSuchNick, NoSuchChannel, CannotSendToChan, TooManyChannels, TooManyTargets, NoOrigin, NoRecipient, NoTextToSend, UnknownCommand, NoMotd, NoNicknameGiven, ErroneousNickname, NicknameInUse, UserNotInChannel, NotOnChannel, UserOnChannel, NotRegistered, NeedMoreParams, AlreadyRegistered, KeySet, ChannelIsFull, UnknownMode, InviteOnlyChan, BannedFromChan, BadChannelKey, BanListFull, ChanOPrivsNeeded, UModeUnknownFlag, UsersDontMatch}
+use Rattle.irc_numerics.specs.Replies.{ReplyWords, number, words, numbered, reply_parts, reply_name, spaced, in_a_row, mark_text, listed, on_channel}
+use Rattle.irc_numerics.specs.Laws.{IsWithinLimits, IsWhole}
+
+-- the words, each behind a space
+abbrev sizes : List (List ℕ) → ℕ
+sizes [] = 0
+sizes (word ∷ rest) = 1 + length word + sizes rest
+
+-- the last words, behind a space and a colon
+abbrev last_size : Option (List ℕ) → ℕ
+last_size None = 0
+last_size (Some last) = 2 + length last
+
+length-middle_text : (ws : List (List ℕ)) → length (middle_text ws) ≡ sizes ws
+length-middle_text [] = refl
+length-middle_text (w ∷ ws) =
+    let rest : length (middle_text ws) ≡ sizes ws = length-middle_text ws in
+    let parts : length ((space ∷ w) ++ middle_text ws) ≡ length (space ∷ w) + length (middle_text ws) = length-append
+    (space ∷ w) (middle_text ws) in
+    omega arith
+
+length-last_text : (last : Option (List ℕ)) → length (last_text last) ≡ last_size last
+length-last_text None = refl
+length-last_text (Some last) = omega arith
+
+-- the pieces of a text are no longer than as many words
+length-in_a_row : (ps : List (List ℕ)) → length (in_a_row ps) ≤ sizes ps
+length-in_a_row [] = lit≤ tt
+length-in_a_row (p ∷ ps) =
+    let rest : length (in_a_row ps) ≤ sizes ps = length-in_a_row ps in
+    let parts : length (p ++ in_a_row ps) ≡ length p + length (in_a_row ps) = length-append p (in_a_row ps) in
+    omega arith
+
+row_fits : (digits : List ℕ) (ws ps : List (List ℕ)) → length digits + sizes ws + (2 + sizes ps) ≤ 435
+    → length digits + sizes ws + (2 + length (in_a_row ps)) ≤ 435
+row_fits digits ws ps short = let row : length (in_a_row ps) ≤ sizes ps = length-in_a_row ps in omega arith
+
+digits : (n : ℕ) → n < 2 ^ 64 → length (decimal n) ≤ 20
+digits n small = search (rules, length-decimal-le 20)
+
+length-mark_text : (mark : Mark) → length (mark_text mark) ≤ 1
+length-mark_text Plain = lit≤ tt
+length-mark_text Voiced = lit≤ tt
+length-mark_text Operator = lit≤ tt
+
+-- a list of entries, each with the space before it
+spaced-fits : {A : Type 0} (entry : A → List ℕ) (most : ℕ) (items : List A) → AllByRecursion (λ item. length
+    (entry item) ≤ most) items
+    → length (spaced (map entry items)) ≤ length items * (most + 1)
+spaced-fits entry most [] fit = omega arith
+spaced-fits entry most (x ∷ []) fit = let first : length (entry x) ≤ most = fit.0 in omega arith
+spaced-fits entry most (x ∷ y ∷ rest) fit =
+    let first : length (entry x) ≤ most = fit.0 in
+    let later : length (spaced (map entry (y ∷ rest))) ≤ length (y ∷ rest) * (most + 1) = spaced-fits entry most
+    (y ∷ rest) fit.1 in
+    let parts = length-append (entry x) (space ∷ spaced (map entry (y ∷ rest))) in
+    omega arith
+
+members_fit : (names : List Listed) → AllByRecursion (λ member. length member.nick ≤ MAX_NICK) names → AllByRecursion
+    (λ member. length (listed member) ≤ 10) names
+members_fit [] fit = fit
+members_fit (x ∷ xs) fit =
+    let nick : length x.nick ≤ MAX_NICK = fit.0 in
+    let mark : length (mark_text x.mark) ≤ 1 = length-mark_text x.mark in
+    let parts = length-append (mark_text x.mark) (x.nick) in
+    (omega arith, members_fit xs fit.1)
+
+places_fit : (places : List OnChannel) → AllByRecursion (λ place. length place.channel ≤ MAX_CHANNEL) places
+    → AllByRecursion (λ place. length (on_channel place) ≤ 51) places
+places_fit [] fit = fit
+places_fit (x ∷ xs) fit =
+    let channel : length x.channel ≤ MAX_CHANNEL = fit.0 in
+    let mark : length (mark_text x.mark) ≤ 1 = length-mark_text x.mark in
+    let parts = length-append (mark_text x.mark) (x.channel) in
+    (omega arith, places_fit xs fit.1)
+
+-- what a reply within its limits says leaves room for the longest server name and nickname
+short : (reply : Reply) → IsWithinLimits reply → length (number reply) + sizes ((words reply).middle) + last_size
+    ((words reply).last) ≤ 435
+unfolding number words
+short (Welcome nick user host) limits =
+    row_fits (codes "001") []
+    (codes "Welcome to the Internet Relay Network " ∷ nick ∷ codes "!" ∷ user.items ∷ codes "@" ∷ host ∷ [])
+    (omega arith)
+short (YourHost server) limits =
+    row_fits (codes "002") [] (codes "Your host is " ∷ server ∷ codes ", running version treeircd-1" ∷ []) (omega arith)
+short (Created created) limits =
+    row_fits (codes "003") [] (codes "This server was created " ∷ created.items ∷ []) (omega arith)
+short (MyInfo server) limits = omega arith
+short (UserModeIs true) limits = lit≤ tt
+short (UserModeIs false) limits = lit≤ tt
+short (LuserClient users servers) limits =
+    row_fits (codes "251") []
+    (codes "There are " ∷ decimal users ∷ codes " users and 0 services on " ∷ decimal servers ∷ codes " servers" ∷ [])
+    (omega (arith, digits users limits.0, digits servers limits.1))
+short (LuserChannels channels) limits = omega (arith, digits channels limits)
+short (LuserMe clients links) limits =
+    row_fits (codes "255") []
+    (codes "I have " ∷ decimal clients ∷ codes " clients and " ∷ decimal links ∷ codes " servers" ∷ []) (omega
+    (arith, digits clients limits.0, digits links limits.1))
+short (IsOn _) limits = absurd limits
+short (WhoisUser nick user host real) limits = omega arith
+short (WhoisServer nick server info) limits = omega arith
+short (EndOfWho _) limits = absurd limits
+short (EndOfWhois _) limits = absurd limits
+short (WhoisChannels nick channels) limits = omega (
+  arith,
+  spaced-fits on_channel 51 channels.items
+      (places_fit channels.items limits.2),
+)
+short (ListRow channel count topic) limits = omega (arith, digits count limits.1)
+short ListEnd limits = lit≤ tt
+short (ChannelModeIs channel modes None None) limits = omega arith
+short (ChannelModeIs channel modes None (Some n)) limits = omega (arith, digits n limits.3)
+short (ChannelModeIs channel modes (Some k) None) limits = omega (arith, limits.2)
+short (ChannelModeIs channel modes (Some k) (Some n)) limits = omega (arith, digits n limits.3, limits.2)
+short (NoTopic channel) limits = omega arith
+short (Topic channel topic) limits = omega arith
+short (Inviting channel nick) limits = omega arith
+short (WhoReply None user host server nick mark hops real) limits =
+    row_fits (codes "352") (codes "*" ∷ user.items ∷ host ∷ server ∷ nick ∷ (codes "H" ++ mark_text mark) ∷ [])
+    (decimal hops ∷ codes " " ∷ real.items ∷ []) (omega (arith, digits hops limits.5, length-mark_text mark))
+short (WhoReply (Some place) user host server nick mark hops real) limits =
+    row_fits (codes "352") (place ∷ user.items ∷ host ∷ server ∷ nick ∷ (codes "H" ++ mark_text mark) ∷ [])
+    (decimal hops ∷ codes " " ∷ real.items ∷ []) (omega (arith, digits hops limits.5, length-mark_text mark, limits.0))
+short (NamReply Public channel names) limits = omega (
+  arith,
+  spaced-fits listed 10 names.items
+      (members_fit names.items limits.2),
+)
+short (NamReply Private channel names) limits = omega (
+  arith,
+  spaced-fits listed 10 names.items
+      (members_fit names.items limits.2),
+)
+short (NamReply Secret channel names) limits = omega (
+  arith,
+  spaced-fits listed 10 names.items
+      (members_fit names.items limits.2),
+)
+short (EndOfNames _) limits = absurd limits
+short (BanList channel mask) limits = omega arith
+short (EndOfBanList channel) limits = omega arith
+short (NoSuchNick _) limits = absurd limits
+short (NoSuchChannel _) limits = absurd limits
+short (CannotSendToChan channel) limits = omega arith
+short (TooManyChannels channel) limits = omega arith
+short (TooManyTargets _) limits = absurd limits
+short NoOrigin limits = lit≤ tt
+short (NoRecipient _) limits = absurd limits
+short NoTextToSend limits = lit≤ tt
+short (UnknownCommand _) limits = absurd limits
+short NoMotd limits = lit≤ tt
+short NoNicknameGiven limits = lit≤ tt
+short (ErroneousNickname _) limits = absurd limits
+short (NicknameInUse nick) limits = omega arith
+short (UserNotInChannel _ _) limits = absurd limits
+short (NotOnChannel channel) limits = omega arith
+short (UserOnChannel nick channel) limits = omega arith
+short NotRegistered limits = lit≤ tt
+short (NeedMoreParams _) limits = absurd limits
+short AlreadyRegistered limits = lit≤ tt
+short (KeySet channel) limits = omega arith
+short (ChannelIsFull channel) limits = omega arith
+short (UnknownMode mode channel) limits =
+    row_fits (codes "472") ((mode ∷ []) ∷ []) (codes "is unknown mode char to me for " ∷ channel ∷ []) (omega arith)
+short (InviteOnlyChan channel) limits = omega arith
+short (BannedFromChan channel) limits = omega arith
+short (BadChannelKey channel) limits = omega arith
+short (BanListFull channel) limits = omega arith
+short (ChanOPrivsNeeded channel) limits = omega arith
+short UModeUnknownFlag limits = lit≤ tt
+short UsersDontMatch limits = lit≤ tt
+
+length-joined : (server name digits : List ℕ) (said : ReplyWords)
+    → length (joined_text (reply_parts server name digits said)) ≡ 3 + length server + length name +
+    (length digits + sizes said.middle + last_size said.last)
+length-joined server name digits said =
+    let front = prefix_text (prefix_of (named server)) in
+    let middle = middle_text (name ∷ said.middle) in
+    let last = last_text said.last in
+    let a = length-append (front ++ digits ++ middle) last in
+    let b = length-append (front ++ digits) middle in
+    let c = length-append front digits in
+    let d = length-append (colon ∷ server) (space ∷ []) in
+    let e = length-middle_text (name ∷ said.middle) in
+    let f = length-last_text said.last in
+    omega arith
+
+reply_name_fits : (nick : Option (List ℕ)) → IfSome nick (λ n. length n ≤ MAX_NICK) → length (reply_name nick) ≤ MAX_NICK
+reply_name_fits None fits = lit≤ tt
+reply_name_fits (Some nick) fits = fits
+
+pub within_limits_is_whole : (server : List ℕ) (nick : Option (List ℕ)) (reply : Reply) → length server ≤ MAX_SERVER
+    → IfSome nick (λ n. length n ≤ MAX_NICK)
+    → IsWithinLimits reply → IsWhole server nick reply
+unfolding numbered line_text
+within_limits_is_whole server nick reply server_fits nick_fits limits =
+    let name = reply_name nick in
+    let all = length-joined server name (number reply) (words reply) in
+    let name_fits = reply_name_fits nick nick_fits in
+    let said_fits = short reply limits in
+    let line_fits : length (joined_text (reply_parts server name (number reply) (words reply))) ≤ MAX_LINE = omega arith in
+    record { fits = line_fits; uncut = ap (λ line. line ++ crlf) (cut_all _ line_fits) }

@@ -1,0 +1,4 @@
+pub mod ByVariant
+pub mod Cutting
+pub mod Entries
+pub mod Lengths

@@ -1,0 +1,21 @@
+//! The numeric replies of an IRC server to its clients (RFC 2812 section 5), each with its words.
+#![tactic(auto)]
+
+mod channel_refusals;
+mod channels;
+pub mod laws;
+pub mod limits;
+mod lists;
+mod refusals;
+mod replies;
+mod statistics;
+#[cfg(test)]
+mod tests;
+mod users;
+mod writing;
+
+pub use replies::{
+    Created, Info, Key, Listed, Mark, ModeLetters, OnChannel, RealName, Reply, TopicText, UserName,
+    Visibility, Words,
+};
+pub use writing::reply_line;

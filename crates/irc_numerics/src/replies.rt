@@ -1,0 +1,367 @@
+//! What a reply says.
+ghost use Rattle.std.specs.Prelude.{◌≡◌};
+ghost use Rattle.irc_numerics.specs.Replies.{mark_text, visibility_text, blank_member, blank_place};
+
+use crate::limits::{MAX_MODE_LETTERS, MAX_NAMES, MAX_WHOIS_CHANNELS};
+use arrayvec::ArrayVec;
+use irc_line::Line;
+use irc_names::{
+    ChannelName, Host, MAX_CREATED, MAX_INFO, MAX_KEY, MAX_REAL_NAME, MAX_USER_NAME, MAX_WORDS,
+    Mask, Nick, ServerName,
+};
+
+/// A client's own words, as it gave them.
+pub type Words = Line;
+
+/// The user name of a user.
+pub type UserName = ArrayVec<u8, MAX_USER_NAME>;
+
+/// The real name of a user.
+pub type RealName = ArrayVec<u8, MAX_REAL_NAME>;
+
+/// The topic of a channel.
+pub type TopicText = ArrayVec<u8, MAX_WORDS>;
+
+/// What a server says of itself.
+pub type Info = ArrayVec<u8, MAX_INFO>;
+
+/// When a server was made.
+pub type Created = ArrayVec<u8, MAX_CREATED>;
+
+/// The key of a channel, or `*` in its place.
+pub type Key = ArrayVec<u8, MAX_KEY>;
+
+/// The modes of a channel: `+`, and the letters of those that are set.
+pub type ModeLetters = ArrayVec<u8, MAX_MODE_LETTERS>;
+
+/// What a member of a channel is there.
+#[derive(Clone, Copy, Debug, PartialEq, Eq)]
+pub enum Mark {
+    /// A member, and no more.
+    Plain,
+    /// A member that has a voice in a moderated channel (RFC 2811 section 2.4.2).
+    Voiced,
+    /// An operator of the channel (RFC 2811 section 2.4.3).
+    Operator,
+}
+
+impl Mark {
+    /// What is written before the name of such a member.
+    pub(crate) fn as_bytes(&self) -> &[u8]
+        ensures { result.now ≡ mark_text self.now }
+    {
+        match self {
+            Mark::Plain => b"",
+            Mark::Voiced => b"+",
+            Mark::Operator => b"@",
+        }
+    }
+}
+
+/// Who may know of a channel (RFC 2811 section 4.2.6).
+#[derive(Clone, Copy, Debug, PartialEq, Eq)]
+pub enum Visibility {
+    /// Everybody.
+    Public,
+    /// Its members, and others by its name.
+    Private,
+    /// Its members alone.
+    Secret,
+}
+
+impl Visibility {
+    /// What stands for it in a 353 (RFC 2812 section 5.1).
+    pub(crate) fn as_bytes(&self) -> &[u8]
+        ensures { result.now ≡ visibility_text self.now }
+    {
+        match self {
+            Visibility::Public => b"=",
+            Visibility::Private => b"*",
+            Visibility::Secret => b"@",
+        }
+    }
+}
+
+/// A member in the list of a channel's members.
+#[derive(Debug, Drop)]
+pub struct Listed {
+    /// What it is on that channel.
+    pub mark: Mark,
+    /// Its nickname.
+    pub nick: Nick,
+}
+
+/// A blank, such as stands behind the last member in the storage of a list.
+impl Default for Listed {
+    #[tactic(auto, unfolding(irc_names::specs::Names::is_nick))]
+    fn default() -> Self
+        ensures { result ≡ blank_member }
+    {
+        let Some(nick) = Nick::read(b"x") else {
+            unreachable!();
+        };
+        Listed {
+            mark: Mark::Plain,
+            nick,
+        }
+    }
+}
+
+/// A channel in the list of a user's channels.
+#[derive(Debug, Drop)]
+pub struct OnChannel {
+    /// What the user is there.
+    pub mark: Mark,
+    /// The name of the channel.
+    pub channel: ChannelName,
+}
+
+/// A blank, such as stands behind the last channel in the storage of a list.
+impl Default for OnChannel {
+    #[tactic(auto, unfolding(irc_names::specs::Names::is_channel))]
+    fn default() -> Self
+        ensures { result ≡ blank_place }
+    {
+        let Some(channel) = ChannelName::read(b"#") else {
+            unreachable!();
+        };
+        OnChannel {
+            mark: Mark::Plain,
+            channel,
+        }
+    }
+}
+
+/// A numeric reply (RFC 2812 section 5), in the order of the numbers. It owns what it says, so that it outlives changes of what
+/// it was decided on.
+#[derive(Debug, Drop)]
+pub enum Reply {
+    /// 001, with the user's full name.
+    Welcome {
+        nick: Nick,
+        user: UserName,
+        host: Host,
+    },
+    /// 002.
+    YourHost {
+        server: ServerName,
+    },
+    /// 003.
+    Created {
+        created: Created,
+    },
+    /// 004, with the modes that there are.
+    MyInfo {
+        server: ServerName,
+    },
+    /// 221, a user's own mode.
+    UserModeIs {
+        invisible: bool,
+    },
+    /// 251.
+    LuserClient {
+        users: usize,
+        servers: usize,
+    },
+    /// 254.
+    LuserChannels {
+        channels: usize,
+    },
+    /// 255.
+    LuserMe {
+        clients: usize,
+        links: usize,
+    },
+    /// 303, with the nicknames parted by one space.
+    IsOn {
+        nicks: Words,
+    },
+    /// 311.
+    WhoisUser {
+        nick: Nick,
+        user: UserName,
+        host: Host,
+        real: RealName,
+    },
+    /// 312.
+    WhoisServer {
+        nick: Nick,
+        server: ServerName,
+        info: Info,
+    },
+    /// 315, with what was asked for.
+    EndOfWho {
+        name: Words,
+    },
+    /// 318, with what was asked for.
+    EndOfWhois {
+        nick: Words,
+    },
+    /// 319.
+    WhoisChannels {
+        nick: Nick,
+        channels: ArrayVec<OnChannel, MAX_WHOIS_CHANNELS>,
+    },
+    /// 322, with the count of those members that the client may know of.
+    List {
+        channel: ChannelName,
+        count: usize,
+        topic: TopicText,
+    },
+    /// 323.
+    ListEnd,
+    /// 324.
+    ChannelModeIs {
+        channel: ChannelName,
+        modes: ModeLetters,
+        key: Option<Key>,
+        limit: Option<u16>,
+    },
+    /// 331.
+    NoTopic {
+        channel: ChannelName,
+    },
+    /// 332.
+    Topic {
+        channel: ChannelName,
+        topic: TopicText,
+    },
+    /// 341.
+    Inviting {
+        channel: ChannelName,
+        nick: Nick,
+    },
+    /// 352, with the channel if one was asked for.
+    WhoReply {
+        channel: Option<ChannelName>,
+        user: UserName,
+        host: Host,
+        server: ServerName,
+        nick: Nick,
+        mark: Mark,
+        hops: u32,
+        real: RealName,
+    },
+    /// 353.
+    NamReply {
+        visibility: Visibility,
+        channel: ChannelName,
+        names: ArrayVec<Listed, MAX_NAMES>,
+    },
+    /// 366, with what was asked for, or `*`.
+    EndOfNames {
+        name: Words,
+    },
+    /// 367.
+    BanList {
+        channel: ChannelName,
+        mask: Mask,
+    },
+    /// 368.
+    EndOfBanList {
+        channel: ChannelName,
+    },
+    /// 401, with what was given.
+    NoSuchNick {
+        name: Words,
+    },
+    /// 403, with what was given.
+    NoSuchChannel {
+        name: Words,
+    },
+    /// 404.
+    CannotSendToChan {
+        channel: ChannelName,
+    },
+    /// 405.
+    TooManyChannels {
+        channel: ChannelName,
+    },
+    /// 407, with the first target that is too many.
+    TooManyTargets {
+        target: Words,
+    },
+    /// 409.
+    NoOrigin,
+    /// 411, with the command in capitals.
+    NoRecipient {
+        command: Words,
+    },
+    /// 412.
+    NoTextToSend,
+    /// 421, with the command as it was given.
+    UnknownCommand {
+        command: Words,
+    },
+    /// 422.
+    NoMotd,
+    /// 431.
+    NoNicknameGiven,
+    /// 432, with what was given.
+    ErroneousNickname {
+        nick: Words,
+    },
+    /// 433, as it was given.
+    NicknameInUse {
+        nick: Nick,
+    },
+    /// 441, with what was given.
+    UserNotInChannel {
+        nick: Words,
+        channel: ChannelName,
+    },
+    /// 442.
+    NotOnChannel {
+        channel: ChannelName,
+    },
+    /// 443.
+    UserOnChannel {
+        nick: Nick,
+        channel: ChannelName,
+    },
+    /// 451.
+    NotRegistered,
+    /// 461, with the command in capitals.
+    NeedMoreParams {
+        command: Words,
+    },
+    /// 462.
+    AlreadyRegistered,
+    /// 467.
+    KeySet {
+        channel: ChannelName,
+    },
+    /// 471.
+    ChannelIsFull {
+        channel: ChannelName,
+    },
+    /// 472, with the byte that is no mode.
+    UnknownMode {
+        mode: u8,
+        channel: ChannelName,
+    },
+    /// 473.
+    InviteOnlyChan {
+        channel: ChannelName,
+    },
+    /// 474.
+    BannedFromChan {
+        channel: ChannelName,
+    },
+    /// 475.
+    BadChannelKey {
+        channel: ChannelName,
+    },
+    /// 478, for the list of bans.
+    BanListFull {
+        channel: ChannelName,
+    },
+    /// 482.
+    ChanOPrivsNeeded {
+        channel: ChannelName,
+    },
+    /// 501.
+    UModeUnknownFlag,
+    /// 502.
+    UsersDontMatch,
+}
