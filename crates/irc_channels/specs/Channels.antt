@@ -1,0 +1,151 @@
+-- A channel as a row of a table, and each change that is made to one (RFC 2811 sections 2 to 4).
+use Rattle.std.specs.Prelude.{ℕ, ◌+◌, ◌-◌, ◌*◌, Bool, true, false, not, is_some, Option, Some, None, List, [], ◌∷◌, ◌++◌, fold, filter, if◌then◌else◌}
+use Rattle.std.specs.List.{list_any}
+use Rattle.std.specs.Option.{option_map}
+use Rattle.std.specs.Ordering.{is_lt}
+use Rattle.std.specs.FinMap.{empty, keys}
+use Rattle.irc_names.specs.Fold.{key, same, name_cmp}
+use Rattle.irc_names.specs.Tables.{Table, row, alter, moved}
+use Rattle.irc_channels.specs.declared.flags.Flags.{Flags}
+use Rattle.irc_channels.specs.declared.modes.Privacy.{Privacy}
+use Rattle.irc_channels.specs.declared.modes.Privacy.TheVariants.{Public, Private, Secret}
+use Rattle.irc_channels.specs.declared.modes.Modes.{Modes}
+use Rattle.irc_channels.specs.declared.modes.ModeChange.{ModeChange}
+use Rattle.irc_channels.specs.declared.modes.ModeLetter.{ModeLetter}
+use Rattle.irc_channels.specs.declared.modes.ModeLetter.TheVariants as letter
+
+-- A channel: its name as its maker spelled it, its modes and its topic, the flags of each member, and who is invited. Members and
+-- invited users stand under the folds of their nicknames.
+pub record Channel : Type 0 where
+  pub name : List ℕ
+  pub modes : Modes
+  pub topic : List ℕ
+  pub members : Table Flags
+  pub invited : Table (Unit {0})
+
+abbrev pub no_modes : Modes
+no_modes = record {
+  invite_only = false;
+  moderated = false;
+  no_outside = false;
+  topic_locked = false;
+  privacy = Public;
+  key = None;
+  limit = None;
+  bans = [];
+}
+
+-- a channel that somebody makes, before anybody is in it: nothing is set
+abbrev pub new_channel : List ℕ → Channel
+new_channel name = record { name = name; modes = no_modes; topic = []; members = empty; invited = empty }
+
+-- whether the user with this fold is a member
+abbrev pub has_member : List ℕ → Channel → Bool
+has_member nick channel = is_some (row channel.members nick)
+
+abbrev pub is_invited : List ℕ → Channel → Bool
+is_invited nick channel = is_some (row channel.invited nick)
+
+abbrev pub is_nil : {X : Type 0} → List X → Bool
+is_nil [] = true
+is_nil (x ∷ xs) = false
+
+-- a channel ends when its last member leaves, with its modes, topic and invitations (RFC 2811 section 3)
+abbrev pub while_members : Channel → Option Channel
+while_members channel = if is_nil (keys channel.members) then None else Some channel
+
+-- a user joins, and its invitation is used up; one who is a member already changes nothing
+abbrev pub joined : List ℕ → Bool → Channel → Channel
+joined nick op channel =
+    if has_member nick channel then channel else record channel {
+      members = alter nick (λ _. Some (record { op = op; voice = false })) channel.members;
+      invited = alter nick (λ _. None) channel.invited;
+    }
+
+-- a member leaves; one who is none changes nothing
+abbrev pub left : List ℕ → Channel → Option Channel
+left nick channel =
+    if has_member nick channel then while_members (record channel { members = alter nick (λ _. None) channel.members }) else Some channel
+
+-- a user is gone, and its invitation too
+abbrev pub without_user : List ℕ → Channel → Option Channel
+without_user nick channel = while_members (record channel {
+  members = alter nick (λ _. None) channel.members;
+  invited = alter nick (λ _. None) channel.invited;
+})
+
+-- a user has another nickname
+abbrev pub renamed : List ℕ → List ℕ → Channel → Channel
+renamed old new channel = record channel {
+  members = moved old new (λ flags. flags) channel.members;
+  invited = moved old new (λ u. u) channel.invited;
+}
+
+abbrev pub invited_too : List ℕ → Channel → Channel
+invited_too nick channel = record channel { invited = alter nick (λ _. Some tt) channel.invited }
+
+abbrev pub with_topic : List ℕ → Channel → Channel
+with_topic topic channel = record channel { topic = topic }
+
+-- The changes of modes (RFC 2811 section 4).
+
+-- p is set only where nothing is, and cleared only where it is set (our own choice)
+abbrev pub private_changed : Bool → Privacy → Privacy
+private_changed true Public = Private
+private_changed false Private = Public
+private_changed _ before = before
+
+-- s is set in any case, and cleared only where it is set (our own choice)
+abbrev pub secret_changed : Bool → Privacy → Privacy
+secret_changed true before = Secret
+secret_changed false Secret = Public
+secret_changed false before = before
+
+-- the number that digits write
+abbrev pub number_of : List ℕ → ℕ
+number_of digits = fold (λ n digit. 10 * n + (digit - 48)) 0 digits
+
+-- The bans with this mask in its place in folded order, unless one that is the same stands there.
+abbrev pub with_ban : List ℕ → List (List ℕ) → List (List ℕ)
+with_ban mask bans =
+    if list_any (same mask) bans then bans
+    else filter (λ ban. is_lt (name_cmp ban mask)) bans ++ mask ∷ filter (λ ban. is_lt (name_cmp mask ban)) bans
+
+abbrev pub without_ban : List ℕ → List (List ℕ) → List (List ℕ)
+without_ban mask bans = filter (λ ban. not (same mask ban)) bans
+
+abbrev pub bans_changed : Bool → List ℕ → List (List ℕ) → List (List ℕ)
+bans_changed true mask bans = with_ban mask bans
+bans_changed false mask bans = without_ban mask bans
+
+-- a flag of one member; whoever is none has none
+abbrev pub member_changed : List ℕ → (Flags → Flags) → Channel → Channel
+member_changed nick change channel = record channel { members = alter (key nick) (option_map change) channel.members }
+
+abbrev pub modes_changed : (Modes → Modes) → Channel → Channel
+modes_changed change channel = record channel { modes = change channel.modes }
+
+-- what a change of a mode does, by its letter; one that wants a parameter and has none changes nothing
+abbrev pub letter_changed : Bool → ModeLetter → Option (List ℕ) → Channel → Channel
+letter_changed plus letter.InviteOnly word channel = modes_changed (λ m. record m { invite_only = plus }) channel
+letter_changed plus letter.Moderated word channel = modes_changed (λ m. record m { moderated = plus }) channel
+letter_changed plus letter.NoOutside word channel = modes_changed (λ m. record m { no_outside = plus }) channel
+letter_changed plus letter.TopicLocked word channel = modes_changed (λ m. record m { topic_locked = plus }) channel
+letter_changed plus letter.Private word channel = modes_changed (λ m. record m { privacy = private_changed plus m.privacy }) channel
+letter_changed plus letter.Secret word channel = modes_changed (λ m. record m { privacy = secret_changed plus m.privacy }) channel
+letter_changed true letter.Key (Some word) channel = modes_changed (λ m. record m { key = Some word }) channel
+letter_changed false letter.Key word channel = modes_changed (λ m. record m { key = None }) channel
+letter_changed true letter.Limit (Some word) channel = modes_changed (λ m. record m { limit = Some (number_of word) }) channel
+letter_changed false letter.Limit word channel = modes_changed (λ m. record m { limit = None }) channel
+letter_changed plus letter.Ban (Some word) channel = modes_changed (λ m. record m { bans = bans_changed plus word m.bans }) channel
+letter_changed plus letter.Operator (Some word) channel = member_changed word (λ f. record f { op = plus }) channel
+letter_changed plus letter.Voice (Some word) channel = member_changed word (λ f. record f { voice = plus }) channel
+letter_changed plus other None channel = channel
+
+abbrev pub changed : ModeChange → Channel → Channel
+changed change channel = letter_changed change.plus change.letter change.word channel
+
+-- changes are made one after another
+abbrev pub all_changed : List ModeChange → Channel → Channel
+all_changed [] channel = channel
+all_changed (change ∷ changes) channel = all_changed changes (changed change channel)

@@ -1,0 +1,17 @@
+-- The texts of a channel.
+use Rattle.std.specs.Prelude.{ℕ, ◌≤◌, List, length, take, IsTrue}
+use Rattle.irc_names.specs.declared.TheConstants.{MAX_MASK, MAX_WORDS}
+use Rattle.irc_names.specs.Names.{is_key}
+
+abbrev pub IsKey : List ℕ → Type 0
+IsKey bytes = IsTrue (is_key bytes)
+
+abbrev pub IsModeWord : List ℕ → Type 0
+IsModeWord bytes = length bytes ≤ MAX_MASK
+
+abbrev pub IsWords : List ℕ → Type 0
+IsWords bytes = length bytes ≤ MAX_WORDS
+
+-- a topic, or the text of a quit, a part or a kick, made of any bytes: cut (our own choice)
+unfoldable pub cut_words : List ℕ → List ℕ
+cut_words bytes = take MAX_WORDS bytes

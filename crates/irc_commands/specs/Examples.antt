@@ -1,0 +1,78 @@
+-- Lines of a client, and what they do, in a room with one user (RFC 2812 section 3).
+use Rattle.std.specs.Prelude.{◌≡◌, ℕ, true, false, Option, Some, None, List, [], ◌∷◌, codes}
+use Rattle.std.specs.FinMap.{empty}
+use Rattle.irc_names.specs.Fold.{key}
+use Rattle.irc_names.specs.Tables.{alter}
+use Rattle.irc_line.specs.Messages.{Parsed}
+use Rattle.irc_users.specs.declared.user.User.{User}
+use Rattle.irc_numerics.specs.declared.replies.Reply.TheVariants.{NoSuchNick, TooManyTargets, UnknownCommand, NotRegistered, NicknameInUse}
+use Rattle.irc_room.specs.declared.effect.Target.TheVariants as target
+use Rattle.irc_room.specs.declared.effect.Effect.TheVariants.{Quit, Say}
+use Rattle.irc_room.specs.Room.{Room}
+use Rattle.irc_routes.specs.Place.{Place, alone}
+use Rattle.irc_commands.specs.declared.decision.Act.{Act}
+use Rattle.irc_commands.specs.declared.decision.Act.TheVariants.{Answer, Raw, Do}
+use Rattle.irc_commands.specs.declared.pending.Pending.{Pending}
+use Rattle.irc_commands.specs.Decisions.{kept, client_words, nothing, does}
+use Rattle.irc_commands.specs.Decide.{decide}
+use Rattle.irc_commands.specs.Register.{register, replies}
+
+-- al on a.net, alone
+abbrev pub al : User
+al = record { nick = codes "al"; user = codes "u"; host = codes "h"; real = codes "Al"; home = codes "a.net"; invisible = false }
+
+abbrev pub al_alone : Room
+al_alone = record { users = alter (key (codes "al")) (λ _. Some al) empty; channels = empty }
+
+abbrev pub a_net : Place
+a_net = alone (codes "a.net") (codes "Test server") (codes "2024-01-01")
+
+abbrev pub line : List ℕ → List (List ℕ) → Parsed
+line command params = record { prefix = None; command = command; params = params }
+
+-- al says something to itself
+abbrev pub to_itself : Act
+to_itself = Do (Say (codes "al") false (target.User (codes "al")) (kept (codes "x")))
+
+-- whoever is not there is named as it was given
+abbrev pub UnknownTarget : Type 0
+UnknownTarget = decide al_alone a_net (codes "al") (line (codes "PRIVMSG") (codes "bo" ∷ codes "hi" ∷ [])) ≡ does (Answer (NoSuchNick (client_words (codes "bo"))) ∷ [])
+
+-- four targets are served, and a fifth is too many
+abbrev pub FifthTarget : Type 0
+FifthTarget = decide al_alone a_net (codes "al") (line (codes "privmsg") (codes "al,al,al,al,zz" ∷ codes "x" ∷ []))
+    ≡ does (to_itself ∷ to_itself ∷ to_itself ∷ to_itself ∷ Answer (TooManyTargets (client_words (codes "zz"))) ∷ [])
+
+-- a NOTICE to nobody is not answered
+abbrev pub SilentNotice : Type 0
+SilentNotice = decide al_alone a_net (codes "al") (line (codes "NOTICE") (codes "bo" ∷ codes "hi" ∷ [])) ≡ nothing
+
+-- a QUIT ends with an ERROR line and closes the client
+abbrev pub QuitWithText : Type 0
+QuitWithText = decide al_alone a_net (codes "al") (line (codes "QUIT") (codes "bye" ∷ []))
+    ≡ record { steps = Do (Quit (codes "al") (codes "bye")) ∷ Raw (kept (codes "ERROR :Closing link (bye)\r\n")) ∷ []; close = true }
+
+-- an unknown command is named as it was given
+abbrev pub UnknownWord : Type 0
+UnknownWord = decide al_alone a_net (codes "al") (line (codes "FOO") []) ≡ does (Answer (UnknownCommand (client_words (codes "FOO"))) ∷ [])
+
+-- a line with the prefix of another is ignored
+abbrev pub ForeignPrefix : Type 0
+ForeignPrefix = decide al_alone a_net (codes "al") (record { prefix = Some (codes "zz"); command = codes "PING"; params = codes "x" ∷ [] }) ≡ nothing
+
+-- a connection that has given nothing
+abbrev pub newcomer : Option (List ℕ) → Pending
+newcomer nick = record { nick = nick; user = None; real = []; host = codes "h" }
+
+-- other commands have to wait for registration
+abbrev pub EarlyJoin : Type 0
+EarlyJoin = register al_alone a_net (newcomer None) (line (codes "JOIN") (codes "#c" ∷ [])) ≡ replies (newcomer None) (Answer NotRegistered ∷ [])
+
+-- a nickname is taken in any case of letters
+abbrev pub TakenByFold : Type 0
+TakenByFold = register al_alone a_net (newcomer None) (line (codes "NICK") (codes "AL" ∷ [])) ≡ replies (newcomer None) (Answer (NicknameInUse (codes "AL")) ∷ [])
+
+-- Who chose a nickname before somebody registered with it has none when it completes its own registration.
+abbrev pub TakenMeanwhile : Type 0
+TakenMeanwhile = register al_alone a_net (newcomer (Some (codes "al"))) (line (codes "USER") (codes "u" ∷ codes "0" ∷ codes "*" ∷ codes "Xy" ∷ []))
+    ≡ replies (record { nick = None; user = Some (codes "u"); real = codes "Xy"; host = codes "h" }) (Answer (NicknameInUse (codes "al")) ∷ [])

@@ -1,0 +1,10 @@
+pub mod Commands
+pub mod Decisions
+pub mod Ping
+pub mod Quit
+pub mod Say
+pub mod Decide
+pub mod Register
+pub mod Examples
+pub mod RoomOfUsers
+pub mod CodeViews

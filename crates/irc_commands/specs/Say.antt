@@ -1,0 +1,103 @@
+-- PRIVMSG and NOTICE (RFC 2812 section 3.3).
+use Rattle.std.specs.Prelude.{ℕ, ◌-◌, Bool, true, false, not, ◌&&◌, ◌||◌, Option, Some, None, List, [], ◌∷◌, ◌++◌, codes, length, take, drop, filter, nat_eq, is_some, if◌then◌else◌}
+use Rattle.std.specs.List.{list_any, flat_map, slice_split}
+use Rattle.irc_names.specs.Fold.{key}
+use Rattle.irc_names.specs.MaskLaws.{matches}
+use Rattle.irc_names.specs.Tables.{row}
+use Rattle.irc_line.specs.declared.limits.TheConstants.{MAX_LINE}
+use Rattle.irc_line.specs.Messages.{full, full_name, joined_text}
+use Rattle.irc_users.specs.declared.user.User.{User}
+use Rattle.irc_channels.specs.declared.flags.Flags.{Flags}
+use Rattle.irc_channels.specs.Channels.{Channel, is_nil}
+use Rattle.irc_numerics.specs.declared.replies.Reply.TheVariants.{NoRecipient, NoTextToSend, NoSuchNick, CannotSendToChan, TooManyTargets}
+use Rattle.irc_room.specs.declared.effect.Target.{Target}
+use Rattle.irc_room.specs.declared.effect.Target.TheVariants as target
+use Rattle.irc_room.specs.declared.effect.Effect.TheVariants.{Say}
+use Rattle.irc_room.specs.Room.{Room}
+use Rattle.irc_commands.specs.declared.TheConstants.{MAX_TARGETS}
+use Rattle.irc_commands.specs.declared.decision.Act.{Act}
+use Rattle.irc_commands.specs.declared.decision.Act.TheVariants.{Answer, Do}
+use Rattle.irc_commands.specs.Decisions.{kept, client_words}
+
+abbrev pub is_comma : ℕ → Bool
+is_comma b = nat_eq b 44
+
+-- the entries of a comma list, without the empty ones
+unfoldable pub entries : List ℕ → List (List ℕ)
+entries list = filter (λ entry. not (is_nil entry)) (slice_split is_comma list)
+
+abbrev pub is_channel_target : List ℕ → Bool
+is_channel_target [] = false
+is_channel_target (b ∷ bytes) = nat_eq b 35
+
+-- nick!user@host, against which bans are held (RFC 2811 section 4.3)
+abbrev pub mask_of : User → List ℕ
+mask_of user = full_name user.nick user.user user.host
+
+abbrev pub is_banned : User → Channel → Bool
+is_banned user channel = list_any (λ ban. matches ban (mask_of user)) channel.modes.bans
+
+-- an operator, or a member with voice
+abbrev pub is_raised : Option Flags → Bool
+is_raised None = false
+is_raised (Some flags) = flags.op || flags.voice
+
+-- Whether a user may speak in a channel (RFC 2811 sections 4.2.2, 4.2.3 and 4.3.1): a member where outsiders are kept out; an operator or
+-- a voiced member where it is moderated; and one of these, or whom no ban matches.
+abbrev pub may_speak : User → Channel → Bool
+may_speak user channel =
+    let flags = row channel.members (key user.nick) in
+    (not channel.modes.no_outside || is_some flags)
+    && (not channel.modes.moderated || is_raised flags)
+    && (is_raised flags || not (is_banned user channel))
+
+abbrev pub say_command : Bool → List ℕ
+say_command notice = if notice then codes "NOTICE" else codes "PRIVMSG"
+
+-- the text, cut so that the line for clients is not (our own choice)
+abbrev pub said_text : User → Bool → List ℕ → List ℕ → List ℕ
+said_text me notice to words =
+    let empty = joined_text (record { sender = full me.nick me.user me.host; command = say_command notice; middle = to ∷ []; last = Some [] }) in
+    take (MAX_LINE - length empty) words
+
+abbrev pub says : User → Bool → Target → List ℕ → List ℕ → List Act
+says me notice to name words = Do (Say me.nick notice to (kept (said_text me notice name words))) ∷ []
+
+-- a target that was found is written as stored, one that was not as given
+abbrev pub to_channel : User → Bool → List ℕ → List ℕ → Option Channel → List Act
+to_channel me notice word words None = Answer (NoSuchNick (client_words word)) ∷ []
+to_channel me notice word words (Some channel) =
+    if may_speak me channel then says me notice (target.Channel channel.name) channel.name words
+    else Answer (CannotSendToChan channel.name) ∷ []
+
+abbrev pub to_user : User → Bool → List ℕ → List ℕ → Option User → List Act
+to_user me notice word words None = Answer (NoSuchNick (client_words word)) ∷ []
+to_user me notice word words (Some user) = says me notice (target.User user.nick) user.nick words
+
+abbrev pub to_one : Room → User → Bool → List ℕ → List ℕ → List Act
+to_one room me notice words name =
+    if is_channel_target name then to_channel me notice name words (row room.channels (key name))
+    else to_user me notice name words (row room.users (key name))
+
+-- the target behind the last that is served, if there is one
+abbrev pub too_many : List (List ℕ) → List Act
+too_many [] = []
+too_many (target ∷ more) = Answer (TooManyTargets (client_words target)) ∷ []
+
+abbrev pub is_answer : Act → Bool
+is_answer (Answer reply) = true
+is_answer other = false
+
+-- a NOTICE is never answered
+abbrev pub unless_notice : Bool → List Act → List Act
+unless_notice notice steps = if notice then filter (λ step. not (is_answer step)) steps else steps
+
+abbrev pub say_to : Room → User → Bool → List ℕ → List ℕ → List Act
+say_to room me notice targets words =
+    flat_map (to_one room me notice words) (take MAX_TARGETS (entries targets)) ++ too_many (drop MAX_TARGETS (entries targets))
+
+abbrev pub say_steps : Room → User → Bool → List (List ℕ) → List Act
+say_steps room me notice [] = unless_notice notice (Answer (NoRecipient (client_words (say_command notice))) ∷ [])
+say_steps room me notice (targets ∷ []) = unless_notice notice (Answer NoTextToSend ∷ [])
+say_steps room me notice (targets ∷ [] ∷ more) = unless_notice notice (Answer NoTextToSend ∷ [])
+say_steps room me notice (targets ∷ (b ∷ bytes) ∷ more) = unless_notice notice (say_to room me notice targets (b ∷ bytes))

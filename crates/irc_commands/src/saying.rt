@@ -1,0 +1,192 @@
+//! PRIVMSG and NOTICE (RFC 2812 section 3.3).
+ghost use Rattle.std.specs.Prelude.{◌≡◌, ℕ, ◌+◌, ◌≤◌, ◌<◌, Bool, false, not, List, [], ◌∷◌, ◌++◌, length, take, drop, IfOk, OnOk, MatchOption};
+ghost use Rattle.std.specs.List.{list_any};
+ghost use Rattle.irc_line.specs.Bytes.{begins};
+ghost use Rattle.irc_line.specs.PartViews.{words_now};
+ghost use Rattle.irc_commands.specs.RoomOfUsers.{room_of};
+ghost use Rattle.irc_commands.specs.declared.decision.Act.TheVariants.{Answer};
+ghost use Rattle.irc_commands.specs.Say.{is_comma, is_channel_target, entries, said_text, to_one, say_to, say_steps, unless_notice, say_command};
+
+use crate::MAX_TARGETS;
+use crate::decision::Act;
+use crate::finding::find_user;
+use crate::lines::client_words;
+use irc_line::Line;
+use irc_line::limits::MAX_LINE;
+use irc_names::{MAX_CHANNEL, copied, first_bytes};
+use irc_numerics::Reply;
+use irc_room::{Effect, Target};
+use irc_users::User;
+use std::alloc::{AllocError, Global};
+
+const COMMA: u8 = b',';
+
+/// The first entry of a comma list that is not empty, and the list behind it.
+fn next_entry(list: &[u8]) -> Option<(&[u8], &[u8])>
+    ensures { MatchOption result (entries list.now ≡ []) (λ e. (entries list.now ≡ e.0.now ∷ entries e.1.now) × (length e.1.now < length list.now)) }
+{
+    let behind = skip_commas(list);
+    if behind.is_empty() {
+        return None;
+    }
+    let end = entry_length(behind);
+    Some((&behind[..end], &behind[end..]))
+}
+
+/// The list behind the commas at its front.
+fn skip_commas(list: &[u8]) -> &[u8]
+    ensures same { entries result.now ≡ entries list.now }
+    ensures entry { begins is_comma result.now ≡ false }
+    ensures shorter { length result.now ≤ length list.now }
+{
+    for (i, byte) in list.iter().enumerate() {
+        if *byte != COMMA {
+            return &list[i..];
+        }
+    }
+    &[]
+}
+
+/// How long the entry at the front of a list is.
+fn entry_length(list: &[u8]) -> usize
+    ensures fits { result ≤ length list.now }
+    ensures no_comma { list_any is_comma (take result list.now) ≡ false }
+    ensures ends { begins (λ b. not (is_comma b)) (drop result list.now) ≡ false }
+{
+    for (i, byte) in list.iter().enumerate() {
+        if *byte == COMMA {
+            return i;
+        }
+    }
+    list.len()
+}
+
+/// What is said to a target, cut so that the line which its clients see is not.
+fn said_text(me: &User, notice: bool, to: &[u8], words: &[u8]) -> Line
+    requires { length to.now ≤ MAX_CHANNEL }
+    ensures { result.items ≡ said_text me.now notice to.now words.now }
+{
+    let sender = me.nick.as_bytes().len() + me.user.as_bytes().len() + me.host.as_bytes().len();
+    let command = if notice { 6 } else { 7 };
+    copied(first_bytes(
+        words,
+        MAX_LINE.saturating_sub(sender + command + to.len() + SEPARATORS),
+    ))
+}
+
+/// The bytes of a line that part its sender, command, target and text: `:`, `!`, `@`, three spaces and `:`.
+const SEPARATORS: usize = 7;
+
+/// What a message to one target does.
+fn to_target(users: &[User], me: &User, notice: bool, words: &[u8], name: &[u8]) -> Act
+    ensures { to_one (room_of users.now) me.now notice words.now name.now ≡ result ∷ [] }
+{
+    let missing = Act::Answer(Reply::NoSuchNick {
+        name: client_words(name),
+    });
+    if is_channel_target(name) {
+        return missing;
+    }
+    match find_user(users, name) {
+        None => missing,
+        Some(user) => Act::Do(Effect::Say {
+            by: me.nick.copy(),
+            notice,
+            target: Target::User(user.nick.copy()),
+            text: said_text(me, notice, user.nick.as_bytes(), words),
+        }),
+    }
+}
+
+const HASH: u8 = b'#';
+
+/// Whether a target stands for a channel. No channel is there yet.
+fn is_channel_target(name: &[u8]) -> bool
+    ensures { result ≡ is_channel_target name.now }
+{
+    match name.first() {
+        Some(first) => *first == HASH,
+        None => false,
+    }
+}
+
+/// Appends a step, unless it is a reply to a NOTICE.
+fn push(steps: &mut Vec<Act, Global>, notice: bool, act: Act) -> Result<(), AllocError>
+    ensures { OnOk result (steps.new.items ≡ steps.old.items ++ unless_notice notice (act ∷ [])) }
+{
+    if notice && matches!(&act, Act::Answer(_)) {
+        return Ok(());
+    }
+    steps.push(act)?;
+    Ok(())
+}
+
+/// What a message to a comma list of targets does.
+fn say_to(
+    alloc: Global,
+    users: &[User],
+    me: &User,
+    notice: bool,
+    targets: &[u8],
+    words: &[u8],
+) -> Result<Vec<Act, Global>, AllocError>
+    ensures { IfOk result (λ steps. steps.items ≡ unless_notice notice (say_to (room_of users.now) me.now notice targets.now words.now)) }
+{
+    let mut steps = Vec::new(alloc);
+    let mut rest = targets;
+    let mut served = 0;
+    while let Some((target, behind)) = next_entry(rest) {
+        if served == MAX_TARGETS {
+            let target = client_words(target);
+            push(
+                &mut steps,
+                notice,
+                Act::Answer(Reply::TooManyTargets { target }),
+            )?;
+            return Ok(steps);
+        }
+        push(
+            &mut steps,
+            notice,
+            to_target(users, me, notice, words, target),
+        )?;
+        served += 1;
+        rest = behind;
+    }
+    Ok(steps)
+}
+
+/// What a PRIVMSG or a NOTICE does.
+pub(crate) fn say(
+    alloc: Global,
+    users: &[User],
+    me: &User,
+    notice: bool,
+    params: &[&[u8]],
+) -> Result<Vec<Act, Global>, AllocError>
+    ensures { IfOk result (λ steps. steps.items ≡ say_steps (room_of users.now) me.now notice (words_now params.now)) }
+{
+    let Some((targets, more)) = params.split_first() else {
+        let command = client_words(say_command(notice));
+        return refuse(alloc, notice, Reply::NoRecipient { command });
+    };
+    match more.first() {
+        Some(words) if !words.is_empty() => say_to(alloc, users, me, notice, targets, words),
+        _ => refuse(alloc, notice, Reply::NoTextToSend),
+    }
+}
+
+fn say_command(notice: bool) -> &'static [u8]
+    ensures { result.now ≡ say_command notice }
+{
+    if notice { b"NOTICE" } else { b"PRIVMSG" }
+}
+
+/// One reply, unless it would be to a NOTICE.
+fn refuse(alloc: Global, notice: bool, reply: Reply) -> Result<Vec<Act, Global>, AllocError>
+    ensures { IfOk result (λ steps. steps.items ≡ unless_notice notice (Answer reply ∷ [])) }
+{
+    let mut steps = Vec::new(alloc);
+    push(&mut steps, notice, Act::Answer(reply))?;
+    Ok(steps)
+}

@@ -1,0 +1,13 @@
+pub mod Rows
+pub mod IdleLaw
+pub mod EndsAndStarts
+pub mod SoundRows
+pub mod ModesKept
+pub mod WellFormedLaw
+pub mod ViewerLaws
+pub mod QuitLaw
+pub mod Listed
+pub mod ListedRooms
+pub mod ListedSeen
+pub mod ExampleRooms
+pub mod ExamplesProved

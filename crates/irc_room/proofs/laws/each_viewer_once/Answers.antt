@@ -1,0 +1,5 @@
+use Rattle.irc_room.proofs.ViewerLaws.{each_viewer_once}
+use Rattle.irc_room.proofs.laws.each_viewer_once.Goals as goal
+
+pub returns : goal.returns
+returns c = each_viewer_once

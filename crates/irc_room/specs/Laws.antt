@@ -1,0 +1,74 @@
+-- What holds of a room and the effects on it.
+use Rattle.std.specs.Prelude.{◌≡◌, ℕ, Bool, true, false, Some, None, List, [], ◌∷◌, codes, map, filter}
+use Rattle.std.specs.List.Sorted.{IsStrictlySortedBy}
+use Rattle.std.specs.FinMap.{empty, insert, keys}
+use Rattle.irc_names.specs.Fold.{key, same, name_cmp}
+use Rattle.irc_names.specs.Tables.{row}
+use Rattle.irc_line.specs.Messages.{text}
+use Rattle.irc_users.specs.declared.user.User.{User}
+use Rattle.irc_channels.specs.Channels.{Channel, no_modes}
+use Rattle.irc_room.specs.declared.effect.Effect.{Effect}
+use Rattle.irc_room.specs.declared.effect.Effect.TheVariants.{Quit, Join, Part, Kick}
+use Rattle.irc_room.specs.Room.{Room, IsWellFormed}
+use Rattle.irc_room.specs.Effects.{is_idle, IsPossible}
+use Rattle.irc_room.specs.After.{after}
+use Rattle.irc_room.specs.Seen.{Showing, seen, full_sender, share_channel}
+
+-- the room with nobody in it
+abbrev pub no_room : Room
+no_room = record { users = empty; channels = empty }
+
+abbrev pub NoRoomIsWellFormed : Type 0
+NoRoomIsWellFormed = IsWellFormed no_room
+
+-- a possible effect leaves a room well formed
+abbrev pub AfterIsWellFormed : Type 0
+AfterIsWellFormed = (room : Room) (effect : Effect) → IsWellFormed room → IsPossible room effect → IsWellFormed (after room effect)
+
+-- what does nothing leaves the room as it is
+abbrev pub IdleChangesNothing : Type 0
+IdleChangesNothing = (room : Room) (effect : Effect) → is_idle room effect ≡ true → after room effect ≡ room
+
+-- each viewer is below those after it, in folded order: so it stands there once
+abbrev pub EachViewerOnce : Type 0
+EachViewerOnce = (room : Room) (effect : Effect) → IsWellFormed room → IsStrictlySortedBy name_cmp (map (λ (s : Showing). s.viewer) (seen room effect))
+
+-- the line that a user's leaving is
+abbrev pub quit_line : User → List ℕ → List ℕ
+quit_line user reason = text (record { sender = full_sender user; command = codes "QUIT"; middle = []; last = Some reason })
+
+-- one who shares channels with a user that quits, however many, is shown the Quit once
+abbrev pub QuitSeenOnce : Type 0
+QuitSeenOnce = (room : Room) (nick reason viewer : List ℕ) (user other : User) → IsWellFormed room
+    → row room.users (key nick) ≡ Some user → row room.users (key viewer) ≡ Some other
+    → same nick viewer ≡ false → share_channel room nick viewer ≡ true
+    → filter (λ (s : Showing). same viewer s.viewer) (seen room (Quit nick reason)) ≡ record { viewer = other.nick; line = quit_line user reason } ∷ []
+
+-- whether there is no such channel after an effect
+abbrev pub EndsChannel : Room → List ℕ → Effect → Type 0
+EndsChannel room name effect = row (after room effect).channels (key name) ≡ None
+
+-- the ways in which a user leaves a channel, or all of them, however the two are spelled
+abbrev pub Leaves : List ℕ → List ℕ → Effect → Type 0
+Leaves nick name (Part who channel reason) = (key who ≡ key nick) × (key channel ≡ key name)
+Leaves nick name (Kick by channel who reason) = (key who ≡ key nick) × (key channel ≡ key name)
+Leaves nick name (Quit who reason) = key who ≡ key nick
+Leaves nick name other = ⊥
+
+-- a channel ends with its only member's leaving, with its modes, topic and invitations
+abbrev pub LastMemberEndsChannel : Type 0
+LastMemberEndsChannel = (room : Room) (nick name : List ℕ) (channel : Channel) (effect : Effect)
+    → row room.channels (key name) ≡ Some channel → keys channel.members ≡ key nick ∷ []
+    → Leaves nick name effect → EndsChannel room name effect
+
+-- a Join of a channel that is not there makes one in which nothing is set, with its maker for its only member
+abbrev pub JoinMakesChannel : Type 0
+JoinMakesChannel = (room : Room) (nick name : List ℕ) (op : Bool)
+    → row room.channels (key name) ≡ None
+    → row (after room (Join nick name op)).channels (key name) ≡ Some (record {
+      name = name;
+      modes = no_modes;
+      topic = [];
+      members = insert empty (key nick) (record { op = op; voice = false });
+      invited = empty;
+    })

@@ -1,0 +1,48 @@
+//! What holds of a room and the effects on it. Each law is a function that does nothing, and its contract is the law: the check
+//! proves it, and a crate above may cite it.
+ghost use Rattle.irc_room.specs.Laws.{
+  AfterIsWellFormed,
+  EachViewerOnce,
+  IdleChangesNothing,
+  JoinMakesChannel,
+  LastMemberEndsChannel,
+  NoRoomIsWellFormed,
+  QuitSeenOnce,
+};
+
+/// The room with nobody in it is well formed.
+pub fn no_room_is_well_formed()
+    ensures { NoRoomIsWellFormed }
+{}
+
+/// A room stays well formed: whom and what an effect names is there, and then members and invited users are users after it,
+/// each row stands under the fold of its name, and each channel has a member.
+pub fn after_is_well_formed()
+    ensures { AfterIsWellFormed }
+{}
+
+/// An effect that does nothing leaves the room equal: a Join by a member, a Part or a Kick of somebody who is none.
+pub fn idle_changes_nothing()
+    ensures { IdleChangesNothing }
+{}
+
+/// What an effect shows stands in folded order of the viewers, and no two showings are to one viewer.
+pub fn each_viewer_once()
+    ensures { EachViewerOnce }
+{}
+
+/// A user who shares channels with one that quits, however many, is shown its Quit, and that once.
+pub fn quit_seen_once()
+    ensures { QuitSeenOnce }
+{}
+
+/// When the only member of a channel leaves it, by a Part, a Kick or a Quit, there is no such channel.
+pub fn last_member_ends_channel()
+    ensures { LastMemberEndsChannel }
+{}
+
+/// A Join of a channel that is not there makes it as it is spelled, with no mode set, no topic and nobody invited. Its one
+/// member is who joined, an operator where the Join says so, and without voice.
+pub fn join_makes_channel()
+    ensures { JoinMakesChannel }
+{}

@@ -1,0 +1,35 @@
+-- What a decision may know of the server that makes it.
+use Rattle.std.specs.Prelude.{ℕ, ◌≤◌, List, [], ◌∷◌, length}
+use Rattle.irc_names.specs.declared.TheConstants.{MAX_INFO, MAX_CREATED}
+use Rattle.irc_names.specs.Names.{IsServer}
+use Rattle.irc_routes.specs.declared.own.Own.{Own}
+
+-- a server of the same network: how it describes itself, and how many links away it is
+pub record KnownServer : Type 0 where
+  pub name : List ℕ
+  pub info : List ℕ
+  pub distance : ℕ
+
+-- the server itself, how many links it has, and all servers that it is joined to, itself too, in order of name
+pub record Place : Type 0 where
+  pub name : List ℕ
+  pub info : List ℕ
+  pub created : List ℕ
+  pub links : ℕ
+  pub servers : List KnownServer
+
+-- a server that is linked to none
+abbrev pub alone : List ℕ → List ℕ → List ℕ → Place
+alone name info created = record {
+  name = name;
+  info = info;
+  created = created;
+  links = 0;
+  servers = (record { name = name; info = info; distance = 0 }) ∷ [];
+}
+
+-- the limits that a configuration keeps (our own choice)
+pub record KeepsLimits (own : Own) : Type 0 where
+  pub name : IsServer own.name.items
+  pub info : length own.info.items ≤ MAX_INFO
+  pub created : length own.created.items ≤ MAX_CREATED

@@ -1,0 +1,47 @@
+//! What happens to a server, what it puts out, and what it refuses.
+use irc_line::{Line, Text};
+use irc_names::Host;
+use thiserror::Error;
+
+/// What happens to a server. Connections are numbered by the caller.
+#[derive(Debug, Drop)]
+pub enum Event {
+    /// A client connects from a host.
+    Connect(u64, Host),
+    /// A line of a client, without its line end.
+    Line(u64, Line),
+    /// A client is gone.
+    Gone(u64),
+}
+
+/// What a server puts out.
+#[derive(Debug, Drop)]
+pub enum Out {
+    /// A line to a client.
+    ToClient(u64, Text),
+    /// The connection of a client ends.
+    CloseClient(u64),
+}
+
+/// Why an event is refused, in the order in which causes are looked for after [`ServerFault::Failed`], and [`ServerFault::Memory`] last.
+#[derive(Clone, Copy, Debug, Drop, Error, PartialEq, Eq)]
+pub enum ServerFault {
+    /// Memory ran out. The server answers [`ServerFault::Failed`] from then on.
+    #[error("out of memory")]
+    Memory,
+    /// Memory ran out before.
+    #[error("the server has failed")]
+    Failed,
+    /// No connection has this number.
+    #[error("no such connection")]
+    NoSuchConnection,
+    /// A connection has this number already.
+    #[error("the connection is there")]
+    ConnectionThere,
+    /// No link has this number.
+    #[error("no such link")]
+    NoSuchLink,
+    /// A link has this number already.
+    #[error("the link is there")]
+    LinkThere,
+}
