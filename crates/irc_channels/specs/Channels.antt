@@ -97,7 +97,7 @@ private_changed _ before = before
 
 -- s is set in any case, and cleared only where it is set (our own choice)
 abbrev pub secret_changed : Bool → Privacy → Privacy
-secret_changed true before = Secret
+secret_changed true _ = Secret
 secret_changed false Secret = Public
 secret_changed false before = before
 

@@ -1,2 +1,5 @@
 pub mod Texts
+pub mod Bans
 pub mod Channels
+pub mod ModeWords
+pub mod ModeLimits

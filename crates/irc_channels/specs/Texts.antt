@@ -1,13 +1,19 @@
 -- The texts of a channel.
 use Rattle.std.specs.Prelude.{ℕ, ◌≤◌, List, length, take, IsTrue}
-use Rattle.irc_names.specs.declared.TheConstants.{MAX_MASK, MAX_WORDS}
+use Rattle.irc_names.specs.declared.TheConstants.{MAX_WORDS}
 use Rattle.irc_names.specs.Names.{is_key}
+use Rattle.irc_channels.specs.declared.TheConstants.{MAX_MODE_WORD}
 
 abbrev pub IsKey : List ℕ → Type 0
 IsKey bytes = IsTrue (is_key bytes)
 
 abbrev pub IsModeWord : List ℕ → Type 0
-IsModeWord bytes = length bytes ≤ MAX_MASK
+IsModeWord bytes = length bytes ≤ MAX_MODE_WORD
+
+-- The parameter of a mode, made of any bytes: cut (our own choice). What is left of a word that was longer has one byte more than the
+-- longest word that any mode takes, so it is refused as the whole word would be.
+unfoldable pub cut_mode_word : List ℕ → List ℕ
+cut_mode_word bytes = take MAX_MODE_WORD bytes
 
 abbrev pub IsWords : List ℕ → Type 0
 IsWords bytes = length bytes ≤ MAX_WORDS

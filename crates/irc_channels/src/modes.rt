@@ -2,7 +2,8 @@
 ghost use Rattle.std.specs.Prelude.{◌≡◌};
 
 use crate::bans::BanList;
-use crate::texts::{Key, ModeWord};
+use crate::key::Key;
+use crate::mode_word::ModeWord;
 
 /// Who is told that a channel is there (RFC 2811 section 4.2.6).
 #[derive(Clone, Copy, Debug, PartialEq, Eq)]

@@ -1,1 +1,5 @@
 pub mod CleanNames
+pub mod FoldedRows
+pub mod OrderedEntries
+pub mod Renamings
+pub mod SearchedRows

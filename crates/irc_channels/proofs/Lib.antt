@@ -1,0 +1,2 @@
+pub mod BanPlaces
+pub mod ModeSteps

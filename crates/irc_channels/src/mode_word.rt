@@ -1,0 +1,64 @@
+//! The parameter of a mode.
+ghost use Rattle.std.specs.Prelude.{◌≡◌, ◌≤◌, length};
+ghost use Rattle.std.specs.Option.{SomeIff};
+ghost use Rattle.irc_channels.specs.Texts.{cut_mode_word, IsModeWord};
+
+use crate::MAX_MODE_WORD;
+use arrayvec::ArrayVec;
+use irc_names::{copied, cut_copy};
+use std::marker::Model;
+
+/// The parameter of a mode: a nickname, a key, a limit or a mask, as it is written, of at most [`MAX_MODE_WORD`] bytes.
+#[derive(Debug, Drop)]
+pub struct ModeWord(ArrayVec<u8, MAX_MODE_WORD>);
+
+/// In a clause it is the list of its bytes.
+impl Model for ModeWord {
+    ghost use Rattle.std.specs.Prelude.{ℕ, List};
+    ghost use Rattle.irc_channels.specs.Texts.{IsModeWord};
+
+    ghost Value = { List ℕ };
+
+    ghost view = { λ word. word.0.items };
+
+    ghost invariant = { λ word. IsModeWord word.0.items };
+
+    ghost inverse = { λ bytes. record { 0 = record { items = bytes } } };
+}
+
+impl ModeWord {
+    /// The word that these bytes are, where they are no more than [`MAX_MODE_WORD`].
+    pub fn read(bytes: &[u8]) -> Option<Self>
+        ensures { SomeIff result (IsModeWord bytes.now) bytes.now }
+    {
+        if bytes.len() <= MAX_MODE_WORD {
+            Some(ModeWord(copied(bytes)))
+        } else {
+            None
+        }
+    }
+
+    /// The word made of any bytes: those past [`MAX_MODE_WORD`] are cut off. A word that is cut is one byte too long for every
+    /// mode still, so no mode takes it.
+    #[tactic(auto, unfolding(crate::specs::Texts::cut_mode_word))]
+    pub fn cut(bytes: &[u8]) -> Self
+        ensures { result ≡ cut_mode_word bytes.now }
+    {
+        ModeWord(cut_copy(bytes))
+    }
+
+    /// The bytes of the word.
+    pub fn as_bytes(&self) -> &[u8]
+        ensures value { result.now ≡ self.now }
+        ensures fits { length result.now ≤ MAX_MODE_WORD }
+    {
+        self.0.as_slice()
+    }
+
+    /// The same word once more. It takes no memory and cannot fail.
+    pub fn copy(&self) -> Self
+        ensures { result ≡ self.now }
+    {
+        ModeWord(copied(self.as_bytes()))
+    }
+}

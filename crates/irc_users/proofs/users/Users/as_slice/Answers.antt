@@ -1,0 +1,7 @@
+use Rattle.std.proofs.Common.{◌∙◌, ap, sym}
+use Rattle.std.specs.FinMap.{values}
+use Rattle.irc_users.proofs.FoldedRows.{values-table_of}
+use Rattle.irc_users.proofs.users.Users.as_slice.Goals as goal
+
+pub returns : goal.returns
+returns c = c.as_slice.ensures.value ∙ sym (values-table_of _ c.self.invariant) ∙ ap values c.self.view_is

@@ -1,0 +1,81 @@
+-- The users of a room by nickname: a finite map whose keys are the folds of the nicknames (RFC 2812 sections 1.2.1 and 2.2).
+use Rattle.std.specs.Prelude.{◌≡◌, ℕ, ◌<◌, ◌≤◌, Bool, not, ◌&&◌, ◌||◌, List, map, take, drop, length, nat_eq, slice_index_or, is_some, is_none, if◌then◌else◌, IsTrue, refl, Option, Some, None, Result, Ok, Err}
+use Rattle.std.specs.Coded.{Coded, code_by, coded×, coded_ℕ, coded_bool, coded_list}
+use Rattle.std.specs.List.{list_all}
+use Rattle.std.specs.Ordering.{is_lt}
+use Rattle.std.specs.Cmp.Lexicographic.{pointwise}
+use Rattle.std.specs.FinMap.{from_entries, is_sorted}
+use Rattle.irc_names.specs.Fold.{key, same}
+use Rattle.irc_names.specs.MaskLaws.{matches}
+use Rattle.irc_names.specs.Tables.{Table, row, fold_cmp}
+use Rattle.irc_users.specs.declared.fault.RenameFault.{RenameFault}
+use Rattle.irc_users.specs.declared.fault.RenameFault.TheVariants.{Taken, NoSuchUser}
+use Rattle.irc_users.specs.declared.user.User.{User}
+
+abbrev pub coded_name : Coded (List ℕ)
+coded_name = coded_list coded_ℕ
+
+-- a user is stored as its fields
+abbrev pub user_code : Coded User
+user_code =
+    code_by (List ℕ × (List ℕ × (List ℕ × (List ℕ × (List ℕ × Bool)))))
+    (coded× coded_name (coded× coded_name (coded× coded_name (coded× coded_name (coded× coded_name coded_bool)))))
+    (λ u. (u.nick, (u.user, (u.host, (u.real, (u.home, u.invisible))))))
+    (λ p. record { nick = p.0; user = p.1.0; host = p.1.1.0; real = p.1.1.1.0; home = p.1.1.1.1.0; invisible = p.1.1.1.1.1 })
+    (λ _. refl)
+
+-- a user stands under the fold of its nickname
+abbrev pub entry : User → List ℕ × User
+entry user = (key user.nick, user)
+
+-- the table of some users
+unfoldable pub table_of : List User → Table User
+table_of users = from_entries (map entry users)
+
+-- users in folded order of their nicknames, no two of which have one fold
+unfoldable pub IsInFoldedOrder : List User → Type 0
+IsInFoldedOrder users = IsTrue (is_sorted fold_cmp (map entry users))
+
+-- whether a user stands before a fold, or after it
+abbrev pub is_before : List ℕ → User → Bool
+is_before fold user = is_lt (fold_cmp (key user.nick) fold)
+
+abbrev pub is_after : List ℕ → User → Bool
+is_after fold user = is_lt (fold_cmp fold (key user.nick))
+
+-- the user at this place has the fold
+pub record StandsAt (users : List User) (fold : List ℕ) (place : ℕ) : Type 0 where
+  pub within : place < length users
+  pub named : (d : User) → key (slice_index_or users place d).nick ≡ fold
+
+-- no user has the fold, and one that had it would stand at this place
+pub record BelongsAt (users : List User) (fold : List ℕ) (place : ℕ) : Type 0 where
+  pub within : place ≤ length users
+  pub before : IsTrue (list_all (is_before fold) (take place users))
+  pub after : IsTrue (list_all (is_after fold) (drop place users))
+
+-- where a fold stands among users, or where it would
+abbrev pub IsPlaceOf : List User → List ℕ → Result ℕ ℕ → Type 0
+IsPlaceOf users fold (Ok place) = StandsAt users fold place
+IsPlaceOf users fold (Err place) = BelongsAt users fold place
+
+-- the user under another nickname
+abbrev pub with_nick : List ℕ → User → User
+with_nick nick user = record user { nick = nick }
+
+-- whether another user than the one with the first nickname has the second
+abbrev pub is_taken : Table User → List ℕ → List ℕ → Bool
+is_taken table nick new = not (same nick new) && is_some (row table (key new))
+
+-- why the user with a nickname does not take another, if it does not
+abbrev pub rename_fault : Table User → List ℕ → List ℕ → Option RenameFault
+rename_fault table nick new =
+    if is_taken table nick new then Some Taken else (if is_none (row table (key nick)) then Some NoSuchUser else None)
+
+-- whether a user is connected to this server
+abbrev pub is_home : List ℕ → User → Bool
+is_home home user = pointwise nat_eq user.home home
+
+-- whether a mask matches the nickname, the host, the server or the real name of a user (RFC 2812 section 3.6.1)
+abbrev pub is_found_by : List ℕ → User → Bool
+is_found_by mask user = matches mask user.nick || matches mask user.host || matches mask user.home || matches mask user.real

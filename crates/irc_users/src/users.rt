@@ -1,0 +1,214 @@
+//! The users of a room, by nickname.
+ghost use Rattle.std.specs.Prelude.{◌≡◌, ℕ, ◌<◌, ◌≤◌, ◌↔◌, List, Result, is_some, is_ok, IsTrue, OnOk, OnErr, OnSome, IfNone, IsErrOf, IfOk, filter, map, vec_len, vec_capacity};
+ghost use Rattle.std.specs.Option.{option_copied};
+ghost use Rattle.std.specs.Result.{result_err};
+ghost use Rattle.std.specs.FinMap.{empty, values};
+ghost use Rattle.irc_names.specs.Fold.{key};
+ghost use Rattle.irc_names.specs.Tables.{row, alter, moved};
+ghost use Rattle.irc_users.specs.UserTable.{table_of, IsInFoldedOrder, IsPlaceOf, with_nick, is_taken, rename_fault, is_home, is_found_by};
+
+use crate::fault::{RenameFault, UsersFault};
+use crate::user::User;
+use irc_names::{Mask, Nick, ServerName, mask_matches};
+use std::alloc::{AllocError, Global};
+use std::marker::Model;
+
+/// Users, no two of which have one nickname by the fold.
+#[derive(Debug, Drop)]
+pub struct Users {
+    rows: Vec<User, Global>,
+}
+
+/// In a clause it is the table of its users, each under the fold of its nickname.
+impl Model for Users {
+    ghost use Rattle.irc_names.specs.Tables.{Table};
+    ghost use Rattle.irc_users.specs.declared.user.User.{User};
+    ghost use Rattle.irc_users.specs.UserTable.{user_code, coded_name, table_of, IsInFoldedOrder};
+    ghost use Rattle.std.specs.FinMap.{code};
+
+    ghost Value = { Table User };
+
+    ghost coded = { code coded_name user_code };
+
+    ghost view = { λ users. table_of users.rows.items };
+
+    ghost invariant = { λ users. IsInFoldedOrder users.rows.items };
+}
+
+impl Users {
+    /// No users.
+    pub fn new(alloc: Global) -> Self
+        ensures { result ≡ empty }
+    {
+        Users {
+            rows: Vec::new(alloc),
+        }
+    }
+
+    /// Adds a user, unless its nickname is taken.
+    pub fn add(&mut self, user: User) -> Result<(), UsersFault>
+        ensures taken { IsErrOf result UsersFault.Taken ↔ IsTrue (is_some (row self.old (key user.nick))) }
+        ensures ok { OnOk result (self.new ≡ alter (key user.nick) (λ _. Some user) self.old) }
+        ensures refused { OnErr result (self.new ≡ self.old) }
+    {
+        let Err(place) = place_of(&self.rows, &user.nick) else {
+            return Err(UsersFault::Taken);
+        };
+        match self.rows.insert(place, user) {
+            Ok(()) => Ok(()),
+            Err(_) => Err(UsersFault::Memory),
+        }
+    }
+
+    /// Gives the user with a nickname another, as spelled. It takes no memory.
+    pub fn rename(&mut self, nick: &Nick, new: &Nick) -> Result<(), RenameFault>
+        ensures fault { result_err result ≡ rename_fault self.old nick.now new.now }
+        ensures ok { OnOk result (self.new ≡ moved (key nick.now) (key new.now) (with_nick new.now) self.old) }
+        ensures refused { OnErr result (self.new ≡ self.old) }
+    {
+        if is_taken(&self.rows, nick, new) {
+            return Err(RenameFault::Taken);
+        }
+        let Some(mut user) = take_out(&mut self.rows, nick) else {
+            return Err(RenameFault::NoSuchUser);
+        };
+        user.nick = new.copy();
+        put_back(&mut self.rows, user);
+        Ok(())
+    }
+
+    /// Takes out the user with a nickname, if there is one.
+    pub fn remove(&mut self, nick: &Nick) -> Option<User>
+        ensures value { result ≡ row self.old (key nick.now) }
+        ensures after { self.new ≡ alter (key nick.now) (λ _. None) self.old }
+    {
+        take_out(&mut self.rows, nick)
+    }
+
+    /// The user with a nickname, if there is one.
+    pub fn find(&self, nick: &Nick) -> Option<&User>
+        ensures { option_copied result ≡ row self.now (key nick.now) }
+    {
+        match place_of(&self.rows, nick) {
+            Ok(place) => Some(&self.rows[place]),
+            Err(_) => None,
+        }
+    }
+
+    /// All users, in folded order of their nicknames.
+    pub fn as_slice(&self) -> &[User]
+        ensures { result.now ≡ values self.now }
+    {
+        self.rows.as_slice()
+    }
+
+    /// The users that are connected to a server, in folded order of their nicknames.
+    pub fn by_home(
+        &self,
+        alloc: Global,
+        home: &ServerName,
+    ) -> Result<Vec<&User, Global>, AllocError>
+        ensures { IfOk result (λ found. map (λ user. user.now) found.items ≡ filter (is_home home.now) (values self.now)) }
+    {
+        homed_at(self.as_slice(), alloc, home)
+    }
+
+    /// The users whose nickname, host, server or real name a mask matches, in folded order of their nicknames.
+    pub fn matching(&self, alloc: Global, mask: &Mask) -> Result<Vec<&User, Global>, AllocError>
+        ensures { IfOk result (λ found. map (λ user. user.now) found.items ≡ filter (is_found_by mask.now) (values self.now)) }
+    {
+        matched_by(self.as_slice(), alloc, mask)
+    }
+}
+
+/// Those of some users that are connected to a server.
+fn homed_at<'a>(
+    users: &'a [User],
+    alloc: Global,
+    home: &ServerName,
+) -> Result<Vec<&'a User, Global>, AllocError>
+    ensures { IfOk result (λ found. map (λ user. user.now) found.items ≡ filter (is_home home.now) users.now) }
+{
+    users
+        .iter()
+        .filter(|user| is_home(user, home))
+        .collect(alloc)
+}
+
+/// Those of some users of which a mask matches the nickname, the host, the server or the real name.
+fn matched_by<'a>(
+    users: &'a [User],
+    alloc: Global,
+    mask: &Mask,
+) -> Result<Vec<&'a User, Global>, AllocError>
+    ensures { IfOk result (λ found. map (λ user. user.now) found.items ≡ filter (is_found_by mask.now) users.now) }
+{
+    users
+        .iter()
+        .filter(|user| is_found_by(user, mask))
+        .collect(alloc)
+}
+
+/// Whether a user is connected to a server.
+fn is_home(user: &User, home: &ServerName) -> bool
+    ensures { result ≡ is_home home.now user.now }
+{
+    user.home.as_bytes() == home.as_bytes()
+}
+
+/// Whether a mask matches the nickname, the host, the server or the real name of a user.
+fn is_found_by(user: &User, mask: &Mask) -> bool
+    ensures { result ≡ is_found_by mask.now user.now }
+{
+    let mask = mask.as_bytes();
+    mask_matches(mask, user.nick.as_bytes())
+        || mask_matches(mask, user.host.as_bytes())
+        || mask_matches(mask, user.home.as_bytes())
+        || mask_matches(mask, user.real.as_bytes())
+}
+
+/// Whether another user than the one with the first nickname has the second.
+fn is_taken(rows: &[User], nick: &Nick, new: &Nick) -> bool
+    requires { IsInFoldedOrder rows.now }
+    ensures { result ≡ is_taken (table_of rows.now) nick.now new.now }
+{
+    nick != new && place_of(rows, new).is_ok()
+}
+
+/// Takes out the user with a nickname, if there is one; there is then room for another.
+fn take_out(rows: &mut Vec<User, Global>, nick: &Nick) -> Option<User>
+    requires { IsInFoldedOrder rows.old.items }
+    ensures value { result ≡ row (table_of rows.old.items) (key nick.now) }
+    ensures after { table_of rows.new.items ≡ alter (key nick.now) (λ _. None) (table_of rows.old.items) }
+    ensures ordered { IsInFoldedOrder rows.new.items }
+    ensures same { IfNone result (rows.new.items ≡ rows.old.items) }
+    ensures room { OnSome result (vec_len rows.new < vec_capacity rows.new) }
+{
+    match place_of(rows, nick) {
+        Ok(place) => Some(rows.remove(place)),
+        Err(_) => None,
+    }
+}
+
+/// Puts in a user whose nickname is free, where there is room for it.
+fn put_back(rows: &mut Vec<User, Global>, user: User)
+    requires ordered { IsInFoldedOrder rows.old.items }
+    requires free { row (table_of rows.old.items) (key user.nick) ≡ None }
+    requires room { vec_len rows.old < vec_capacity rows.old }
+    ensures after { table_of rows.new.items ≡ alter (key user.nick) (λ _. Some user) (table_of rows.old.items) }
+    ensures ordered { IsInFoldedOrder rows.new.items }
+{
+    match place_of(rows, &user.nick) {
+        Ok(_) => unreachable!(),
+        Err(place) => rows.insert(place, user).unwrap(),
+    }
+}
+
+/// Where the user with a nickname stands, or where it would stand.
+fn place_of(users: &[User], nick: &Nick) -> Result<usize, usize>
+    requires { IsInFoldedOrder users.now }
+    ensures place { IsPlaceOf users.now (key nick.now) result }
+    ensures known { is_ok result ≡ is_some (row (table_of users.now) (key nick.now)) }
+{
+    users.binary_search_by(|user| user.nick.cmp(nick))
+}
