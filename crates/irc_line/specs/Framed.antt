@@ -5,10 +5,6 @@ use Rattle.arrayvec.specs.ArrayVec.{ArrayVec}
 abbrev pub bytes_of : List (ArrayVec ℕ) → List (List ℕ)
 bytes_of = map (λ line. line.items)
 
-abbrev pub optional_bytes : Option (ArrayVec ℕ) → Option (List ℕ)
-optional_bytes None = None
-optional_bytes (Some line) = Some (line.items)
-
 -- the line that was found, if one was
 abbrev pub found_in : Option (ArrayVec ℕ) → List (List ℕ)
 found_in None = []

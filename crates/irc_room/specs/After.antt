@@ -4,6 +4,7 @@ use Rattle.std.specs.Option.{option_and_then, option_map}
 use Rattle.irc_names.specs.Fold.{key}
 use Rattle.irc_names.specs.Tables.{alter, each, moved}
 use Rattle.irc_users.specs.declared.user.User.{User}
+use Rattle.irc_users.specs.UserTable.{with_nick}
 use Rattle.irc_channels.specs.Channels.{Channel, new_channel, joined, left, without_user, renamed, invited_too, with_topic, all_changed}
 use Rattle.irc_room.specs.declared.effect.Effect.{Effect}
 use Rattle.irc_room.specs.declared.effect.Effect.TheVariants.{AddUser, Rename, Quit, Join, Part, Kick, ChangeModes, SetTopic, Say, Invite, UserMode}
@@ -18,9 +19,6 @@ alter_channel name change room = record room { channels = alter (key name) chang
 
 abbrev pub with_invisible : Bool → User → User
 with_invisible invisible user = record user { invisible = invisible }
-
-abbrev pub with_nick : List ℕ → User → User
-with_nick nick user = record user { nick = nick }
 
 unfoldable pub after : Room → Effect → Room
 after room (AddUser user) = alter_user user.nick (λ _. Some user) room
