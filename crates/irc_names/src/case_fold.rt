@@ -21,7 +21,7 @@ pub fn fold(byte: u8) -> u8
 }
 
 /// The order of two names: that of their folds, byte by byte.
-pub(crate) fn compare(left: &[u8], right: &[u8]) -> Ordering
+pub fn compare(left: &[u8], right: &[u8]) -> Ordering
     ensures { result ≡ name_cmp left.now right.now }
 {
     let mut mine = left;

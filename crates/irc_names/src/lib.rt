@@ -13,7 +13,7 @@ mod nick;
 mod rules;
 mod server_name;
 
-pub use case_fold::{fold, same};
+pub use case_fold::{compare, fold, same};
 pub use channel_name::ChannelName;
 pub use copying::{copied, cut_copy, first_bytes};
 pub use exact::{Exact, Folded};

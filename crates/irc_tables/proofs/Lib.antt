@@ -1,0 +1,4 @@
+pub mod OrderedEntries
+pub mod RowsAsTable
+pub mod SearchedRows
+pub mod ChangedRows

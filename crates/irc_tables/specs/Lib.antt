@@ -1,0 +1,2 @@
+pub mod FoldedRows
+pub mod RowViews

@@ -1,0 +1,197 @@
+//! A table by name.
+ghost use Rattle.std.specs.Prelude.{◌≡◌, ℕ, ◌<◌, ◌≤◌, Option, Some, None, Result, is_some, is_ok, IsTrue, OnOk, OnErr, IsOk, map, length, if◌then◌else◌, IfNone, OnSome, vec_len, vec_capacity};
+ghost use Rattle.std.specs.Option.{option_copied, option_map};
+ghost use Rattle.std.specs.FinMap.{empty, entries, keys};
+ghost use Rattle.irc_names.specs.Fold.{key};
+ghost use Rattle.irc_names.specs.Tables.{row, alter, each, moved};
+ghost use Rattle.irc_tables.specs.FoldedRows.{table_of, IsInFoldedOrder, IsPlaceOf};
+ghost use Rattle.irc_tables.specs.RowViews.{row_entry};
+
+use arrayvec::ArrayVec;
+use irc_names::{MAX_CHANNEL, compare, copied};
+use std::alloc::{AllocError, Global};
+use std::marker::Model;
+
+/// A row of a table.
+#[derive(Debug, Drop)]
+pub struct Row<V> {
+    /// The name that it stands under, as spelled.
+    pub name: ArrayVec<u8, MAX_CHANNEL>,
+    /// What stands there.
+    pub value: V,
+}
+
+/// Rows, no two of which have one name by the fold.
+#[derive(Debug, Drop)]
+pub struct NameTable<V> {
+    rows: Vec<Row<V>, Global>,
+}
+
+/// In a clause it is the table of its rows, each under the fold of its name.
+impl<V> Model for NameTable<V> {
+    ghost use Rattle.irc_names.specs.Tables.{Table};
+    ghost use Rattle.irc_tables.specs.FoldedRows.{coded_name, table_of, IsInFoldedOrder};
+    ghost use Rattle.irc_tables.specs.RowViews.{row_entry};
+    ghost use Rattle.std.specs.FinMap.{code};
+
+    ghost Value = { Table V };
+
+    ghost coded = { code coded_name V.code };
+
+    ghost view = { λ t. table_of row_entry t.rows.items };
+
+    ghost invariant = { λ t. IsInFoldedOrder row_entry t.rows.items };
+}
+
+/// A change that can be made of every row's value.
+pub trait RowChange<V> {
+    /// What becomes of a value; none where its row is taken out.
+    ghost changed: { Self → V → Option V };
+
+    /// Changes a value, and tells whether its row stays.
+    fn change(&self, value: &mut V) -> bool
+        ensures { changed self.now value.old ≡ (if result then Some value.new else None) };
+}
+
+impl<V: Drop> NameTable<V> {
+    /// A table without rows.
+    pub fn new(alloc: Global) -> Self
+        ensures { result ≡ empty }
+    {
+        NameTable {
+            rows: Vec::new(alloc),
+        }
+    }
+
+    /// How many rows there are.
+    pub fn len(&self) -> usize
+        ensures { result ≡ length (keys self.now) }
+    {
+        self.rows.as_slice().len()
+    }
+
+    /// What stands under a name, if anything does.
+    pub fn get(&self, name: &[u8]) -> Option<&V>
+        ensures { option_copied result ≡ row self.now (key name.now) }
+    {
+        match place_of(&self.rows, name) {
+            Ok(place) => Some(&self.rows[place].value),
+            Err(_) => None,
+        }
+    }
+
+    /// All rows, in folded order of their names.
+    pub fn as_slice(&self) -> &[Row<V>]
+        ensures { map row_entry result.now ≡ entries self.now }
+    {
+        self.rows.as_slice()
+    }
+
+    /// Puts a value under a name, in place of what stands there. Where something does, it takes no memory.
+    pub fn insert(&mut self, name: &[u8], value: V) -> Result<(), AllocError>
+        requires { length name.now ≤ MAX_CHANNEL }
+        ensures ok { OnOk result (self.new ≡ alter (key name.now) (λ _. Some value) self.old) }
+        ensures refused { OnErr result (self.new ≡ self.old) }
+        ensures there { IsTrue (is_some (row self.old (key name.now))) → IsOk result }
+    {
+        match place_of(&self.rows, name) {
+            Ok(place) => {
+                self.rows[place].value = value;
+                Ok(())
+            }
+            Err(place) => insert_at(&mut self.rows, place, name, value),
+        }
+    }
+
+    /// Takes out what stands under a name, if anything does.
+    pub fn remove(&mut self, name: &[u8]) -> Option<V>
+        ensures value { result ≡ row self.old (key name.now) }
+        ensures after { self.new ≡ alter (key name.now) (λ _. None) self.old }
+    {
+        match take_out(&mut self.rows, name) {
+            Some(row) => Some(row.value),
+            None => None,
+        }
+    }
+
+    /// Puts what stands under a name under another, in place of what stands there. It takes no memory.
+    pub fn rename(&mut self, name: &[u8], new: &[u8])
+        requires { length new.now ≤ MAX_CHANNEL }
+        ensures { self.new ≡ moved (key name.now) (key new.now) (λ value. value) self.old }
+    {
+        match take_out(&mut self.rows, name) {
+            Some(row) => put_in(&mut self.rows, new, row.value),
+            None => {}
+        }
+    }
+
+    /// Changes each row's value, or takes it out.
+    pub fn change_each<C: RowChange<V>>(&mut self, change: &C)
+        ensures { self.new ≡ each (C.changed change.now) self.old }
+    {
+        self.rows.retain_mut(|row| change.change(&mut row.value));
+    }
+}
+
+/// Where the row of a name stands, or where it would stand.
+fn place_of<V>(rows: &[Row<V>], name: &[u8]) -> Result<usize, usize>
+    requires { IsInFoldedOrder row_entry rows.now }
+    ensures place { IsPlaceOf row_entry rows.now (key name.now) result }
+    ensures known { is_ok result ≡ is_some (row (table_of row_entry rows.now) (key name.now)) }
+{
+    rows.binary_search_by(|row| compare(&row.name, name))
+}
+
+/// Puts a row in where it belongs. Where there is no memory nothing has changed.
+fn insert_at<V: Drop>(
+    rows: &mut Vec<Row<V>, Global>,
+    place: usize,
+    name: &[u8],
+    value: V,
+) -> Result<(), AllocError>
+    requires ordered { IsInFoldedOrder row_entry rows.old.items }
+    requires fits { length name.now ≤ MAX_CHANNEL }
+    requires gap { IsPlaceOf row_entry rows.old.items (key name.now) (Err place) }
+    ensures ok { OnOk result (table_of row_entry rows.new.items ≡ alter (key name.now) (λ _. Some value) (table_of row_entry rows.old.items)) }
+    ensures refused { OnErr result (rows.new.items ≡ rows.old.items) }
+    ensures ordered { IsInFoldedOrder row_entry rows.new.items }
+    ensures room { vec_len rows.old < vec_capacity rows.old → IsOk result }
+{
+    let row = Row {
+        name: copied(name),
+        value,
+    };
+    match rows.insert(place, row) {
+        Ok(()) => Ok(()),
+        Err(_) => Err(AllocError),
+    }
+}
+
+/// Takes out the row of a name, if there is one; there is then room for another.
+fn take_out<V: Drop>(rows: &mut Vec<Row<V>, Global>, name: &[u8]) -> Option<Row<V>>
+    requires { IsInFoldedOrder row_entry rows.old.items }
+    ensures value { option_map (λ r. r.value) result ≡ row (table_of row_entry rows.old.items) (key name.now) }
+    ensures after { table_of row_entry rows.new.items ≡ alter (key name.now) (λ _. None) (table_of row_entry rows.old.items) }
+    ensures ordered { IsInFoldedOrder row_entry rows.new.items }
+    ensures same { IfNone result (rows.new.items ≡ rows.old.items) }
+    ensures room { OnSome result (vec_len rows.new < vec_capacity rows.new) }
+{
+    match place_of(rows, name) {
+        Ok(place) => Some(rows.remove(place)),
+        Err(_) => None,
+    }
+}
+
+/// Puts a value under a name, in place of what stands there, where there is room for one row more.
+fn put_in<V: Drop>(rows: &mut Vec<Row<V>, Global>, name: &[u8], value: V)
+    requires ordered { IsInFoldedOrder row_entry rows.old.items }
+    requires fits { length name.now ≤ MAX_CHANNEL }
+    requires room { vec_len rows.old < vec_capacity rows.old }
+    ensures after { table_of row_entry rows.new.items ≡ alter (key name.now) (λ _. Some value) (table_of row_entry rows.old.items) }
+    ensures ordered { IsInFoldedOrder row_entry rows.new.items }
+{
+    match place_of(rows, name) {
+        Ok(place) => rows[place].value = value,
+        Err(place) => insert_at(rows, place, name, value).unwrap(),
+    }
+}
