@@ -6,6 +6,7 @@ use Rattle.std.specs.Ordering.{is_lt}
 use Rattle.std.specs.FinMap.{empty, keys}
 use Rattle.irc_names.specs.Fold.{key, same, name_cmp}
 use Rattle.irc_names.specs.Tables.{Table, row, alter, moved}
+use Rattle.irc_channels.specs.declared.channel.Channel.{Channel}
 use Rattle.irc_channels.specs.declared.flags.Flags.{Flags}
 use Rattle.irc_channels.specs.declared.modes.Privacy.{Privacy}
 use Rattle.irc_channels.specs.declared.modes.Privacy.TheVariants.{Public, Private, Secret}
@@ -13,15 +14,6 @@ use Rattle.irc_channels.specs.declared.modes.Modes.{Modes}
 use Rattle.irc_channels.specs.declared.modes.ModeChange.{ModeChange}
 use Rattle.irc_channels.specs.declared.modes.ModeLetter.{ModeLetter}
 use Rattle.irc_channels.specs.declared.modes.ModeLetter.TheVariants as letter
-
--- A channel: its name as its maker spelled it, its modes and its topic, the flags of each member, and who is invited. Members and
--- invited users stand under the folds of their nicknames.
-pub record Channel : Type 0 where
-  pub name : List ℕ
-  pub modes : Modes
-  pub topic : List ℕ
-  pub members : Table Flags
-  pub invited : Table (Unit {0})
 
 abbrev pub no_modes : Modes
 no_modes = record {

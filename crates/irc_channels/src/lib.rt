@@ -2,6 +2,7 @@
 #![tactic(auto)]
 
 mod bans;
+mod channel;
 mod flags;
 mod key;
 mod mode_word;
@@ -10,6 +11,7 @@ mod modes;
 mod words;
 
 pub use bans::BanList;
+pub use channel::Channel;
 pub use flags::Flags;
 pub use key::Key;
 pub use mode_word::ModeWord;

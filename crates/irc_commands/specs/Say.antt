@@ -8,7 +8,8 @@ use Rattle.irc_line.specs.declared.limits.TheConstants.{MAX_LINE}
 use Rattle.irc_line.specs.Messages.{full, full_name, joined_text}
 use Rattle.irc_users.specs.declared.user.User.{User}
 use Rattle.irc_channels.specs.declared.flags.Flags.{Flags}
-use Rattle.irc_channels.specs.Channels.{Channel, is_nil}
+use Rattle.irc_channels.specs.declared.channel.Channel.{Channel}
+use Rattle.irc_channels.specs.Channels.{is_nil}
 use Rattle.irc_numerics.specs.declared.replies.Reply.TheVariants.{NoRecipient, NoTextToSend, NoSuchNick, CannotSendToChan, TooManyTargets}
 use Rattle.irc_room.specs.declared.effect.Target.{Target}
 use Rattle.irc_room.specs.declared.effect.Target.TheVariants as target

@@ -4,7 +4,8 @@ use Rattle.std.specs.Option.{option_and_then, option_map_or}
 use Rattle.std.specs.FinMap.Entries.{find}
 use Rattle.irc_names.specs.Fold.{key}
 use Rattle.irc_names.specs.Tables.{fold_cmp, row}
-use Rattle.irc_channels.specs.Channels.{Channel, is_invited}
+use Rattle.irc_channels.specs.declared.channel.Channel.{Channel}
+use Rattle.irc_channels.specs.Channels.{is_invited}
 use Rattle.irc_room.specs.declared.effect.Effect.{Effect}
 use Rattle.irc_room.specs.Room.{Room}
 use Rattle.irc_room.specs.Effects.{has_user, is_member}

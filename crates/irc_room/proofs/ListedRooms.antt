@@ -11,7 +11,8 @@ use Rattle.irc_channels.specs.declared.modes.Modes.{Modes}
 use Rattle.irc_channels.specs.declared.modes.ModeChange.{ModeChange}
 use Rattle.irc_channels.specs.declared.modes.ModeLetter.{ModeLetter}
 use Rattle.irc_channels.specs.declared.modes.ModeLetter.TheVariants as letter
-use Rattle.irc_channels.specs.Channels.{Channel, no_modes, new_channel, has_member, is_nil, while_members, joined, left, without_user, renamed, invited_too, with_topic, private_changed, secret_changed, number_of, bans_changed, letter_changed, all_changed}
+use Rattle.irc_channels.specs.declared.channel.Channel.{Channel}
+use Rattle.irc_channels.specs.Channels.{no_modes, new_channel, has_member, is_nil, while_members, joined, left, without_user, renamed, invited_too, with_topic, private_changed, secret_changed, number_of, bans_changed, letter_changed, all_changed}
 use Rattle.irc_room.specs.declared.effect.Effect.{Effect}
 use Rattle.irc_room.specs.declared.effect.Effect.TheVariants.{AddUser, Rename, Quit, Join, Part, Kick, ChangeModes, SetTopic, Say, Invite, UserMode}
 use Rattle.irc_room.specs.Room.{Room}

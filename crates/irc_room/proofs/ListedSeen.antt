@@ -8,7 +8,8 @@ use Rattle.irc_names.specs.Fold.{key, same}
 use Rattle.irc_names.specs.Tables.{fold_cmp, row}
 use Rattle.irc_line.specs.Messages.{Sender, named}
 use Rattle.irc_users.specs.declared.user.User.{User}
-use Rattle.irc_channels.specs.Channels.{Channel, has_member}
+use Rattle.irc_channels.specs.declared.channel.Channel.{Channel}
+use Rattle.irc_channels.specs.Channels.{has_member}
 use Rattle.irc_room.specs.declared.effect.By.{By}
 use Rattle.irc_room.specs.declared.effect.By.TheVariants as by
 use Rattle.irc_room.specs.declared.effect.Target.{Target}

@@ -8,7 +8,8 @@ use Rattle.irc_channels.specs.declared.flags.Flags.{Flags}
 use Rattle.irc_channels.specs.declared.modes.ModeChange.{ModeChange}
 use Rattle.irc_channels.specs.declared.modes.ModeLetter.{ModeLetter}
 use Rattle.irc_channels.specs.declared.modes.ModeLetter.TheVariants as letter
-use Rattle.irc_channels.specs.Channels.{Channel, member_changed, letter_changed, changed, all_changed}
+use Rattle.irc_channels.specs.declared.channel.Channel.{Channel}
+use Rattle.irc_channels.specs.Channels.{member_changed, letter_changed, changed, all_changed}
 use Rattle.irc_room.specs.Room.{IsSoundRow}
 use Rattle.irc_room.proofs.Rows.{some_key, some_row, is_some_map}
 

@@ -7,7 +7,8 @@ use Rattle.irc_names.specs.Tables.{Table, fold_cmp, row, alter, each, moved}
 use Rattle.irc_names.specs.TableLaws.{same_fold, one_fold, row-alter, row-each, row-moved}
 use Rattle.irc_users.specs.declared.user.User.{User}
 use Rattle.irc_users.specs.UserTable.{with_nick}
-use Rattle.irc_channels.specs.Channels.{Channel, new_channel, joined, left, without_user, renamed, invited_too, with_topic, all_changed}
+use Rattle.irc_channels.specs.declared.channel.Channel.{Channel}
+use Rattle.irc_channels.specs.Channels.{new_channel, joined, left, without_user, renamed, invited_too, with_topic, all_changed}
 use Rattle.irc_room.specs.declared.effect.Effect.TheVariants.{AddUser, Rename, Quit, Join, Part, Kick, ChangeModes, SetTopic, Say, Invite, UserMode}
 use Rattle.irc_room.specs.Room.{Room, IsWellFormed, IsSoundRow}
 use Rattle.irc_room.specs.After.{after, alter_user, alter_channel, with_invisible}

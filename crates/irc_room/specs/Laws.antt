@@ -6,7 +6,8 @@ use Rattle.irc_names.specs.Fold.{key, same, name_cmp}
 use Rattle.irc_names.specs.Tables.{row}
 use Rattle.irc_line.specs.Messages.{text}
 use Rattle.irc_users.specs.declared.user.User.{User}
-use Rattle.irc_channels.specs.Channels.{Channel, no_modes}
+use Rattle.irc_channels.specs.declared.channel.Channel.{Channel}
+use Rattle.irc_channels.specs.Channels.{no_modes}
 use Rattle.irc_room.specs.declared.effect.Effect.{Effect}
 use Rattle.irc_room.specs.declared.effect.Effect.TheVariants.{Quit, Join, Part, Kick}
 use Rattle.irc_room.specs.Room.{Room, IsWellFormed}

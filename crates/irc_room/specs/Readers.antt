@@ -4,7 +4,8 @@ use Rattle.std.specs.Option.{option_and_then, option_map_or}
 use Rattle.irc_names.specs.Tables.{row}
 use Rattle.irc_users.specs.declared.user.User.{User}
 use Rattle.irc_channels.specs.declared.flags.Flags.{Flags}
-use Rattle.irc_channels.specs.Channels.{Channel, is_invited}
+use Rattle.irc_channels.specs.declared.channel.Channel.{Channel}
+use Rattle.irc_channels.specs.Channels.{is_invited}
 use Rattle.irc_room.specs.Room.{Room}
 
 -- the user with this fold

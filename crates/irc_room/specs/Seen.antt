@@ -10,7 +10,8 @@ use Rattle.irc_users.specs.declared.user.User.{User}
 use Rattle.irc_channels.specs.declared.modes.ModeChange.{ModeChange}
 use Rattle.irc_channels.specs.declared.modes.ModeLetter.{ModeLetter}
 use Rattle.irc_channels.specs.declared.modes.ModeLetter.TheVariants as letter
-use Rattle.irc_channels.specs.Channels.{Channel, has_member}
+use Rattle.irc_channels.specs.declared.channel.Channel.{Channel}
+use Rattle.irc_channels.specs.Channels.{has_member}
 use Rattle.irc_room.specs.declared.effect.By.{By}
 use Rattle.irc_room.specs.declared.effect.By.TheVariants as by
 use Rattle.irc_room.specs.declared.effect.Target.{Target}

@@ -1,15 +1,15 @@
 -- Rows in folded order, seen as a table.
-use Rattle.std.specs.Prelude.{T}
+use Rattle.std.specs.Prelude.{T, OnOk}
 use Rattle.std.proofs.Common.{◌≡◌, ℕ, ◌<◌, suc, Bool, true, false, not, cond, List, [], ◌∷◌, ◌++◌, map, take, drop, length, get_or, refl, sym, ◌∙◌, ap, subst, Option, Some, None, Result, Ok, Err, is_some, is_ok, arith, drop-cons, add-one, set}
-use Rattle.std.proofs.lemmas.List.{get_or_default, length-map, map-append, take-append-drop, take-set, drop-set}
+use Rattle.std.proofs.lemmas.List.{get_or_default, length-map, map-append, take-append-drop, take-set, drop-set, drop-set-lt}
 use Rattle.std.proofs.lemmas.List.Folds.{list_all-map}
 use Rattle.std.specs.List.{insert, remove}
 use Rattle.std.specs.Ordering.{is_lt, eq_by_cmp}
 use Rattle.std.specs.Cmp.{IsTotalOrder, eq_by_cmp_equiv}
 use Rattle.std.specs.Cmp.Lexicographic.{nat_list_cmp_total}
 use Rattle.std.specs.FinMap.{empty, entries, keys, from_sorted, get-from_entries, get-from_sorted, entries-from_sorted, find, is_sorted, slice_cmp-IsAntisymmetric, nat_cmp-IsAntisymmetric}
-use Rattle.std.specs.FinMap.Entries.{put, is_sorted-put, find-put, is_sorted-where_key, find-where_key}
-use Rattle.irc_names.specs.Tables.{Table, row, alter, moved, put_row, fold_cmp}
+use Rattle.std.specs.FinMap.Entries.{put as put_entry, is_sorted-put, find-put, is_sorted-where_key, find-where_key}
+use Rattle.irc_names.specs.Tables.{Table, row, put, alter, moved, put_row, fold_cmp}
 use Rattle.irc_names.specs.TableLaws.{same_fold, one_fold, same_table, row-alter}
 use Rattle.irc_tables.specs.FoldedRows.{table_of, IsInFoldedOrder, StandsAt, BelongsAt, IsPlaceOf}
 use Rattle.irc_tables.proofs.OrderedEntries.{are_below, are_above, put-between, put-there, find-above, find-past, find-there, others, others-between, sorted-below, sorted-above}
@@ -72,12 +72,12 @@ module _ {X V : Type 0} (entry : X → List ℕ × V) (rows : List X) (fold : Li
       row-table_of entry rows fold ∙ ap (look fold) cut ∙ find-past order fold front back below ∙ find-above order fold back above
 
   module _ (x : X) (v : V) (is : entry x ≡ (fold, v)) where
-    inserted : map entry (insert rows i x) ≡ put fold_cmp fold v (map entry rows)
+    inserted : map entry (insert rows i x) ≡ put_entry fold_cmp fold v (map entry rows)
     inserted =
         map-append entry (take i rows) (x ∷ drop i rows)
         ∙ ap (λ e. front ++ e ∷ back) is
         ∙ sym (put-between order fold v front back below above)
-        ∙ ap (put fold_cmp fold v) (sym cut)
+        ∙ ap (put_entry fold_cmp fold v) (sym cut)
 
     pub added-sorted : IsInFoldedOrder entry rows → IsInFoldedOrder entry (insert rows i x)
     unfolding IsInFoldedOrder
@@ -156,13 +156,13 @@ module _ {X V : Type 0} (entry : X → List ℕ × V) (rows : List X) (fold : Li
         ∙ ap (λ front. front ++ drop i (set rows i y)) (take-set rows i y)
         ∙ ap (λ back. take i rows ++ back) (drop-set rows i y within ∙ ap (λ n. y ∷ drop n rows) (add-one i))
 
-    replaced : map entry (set rows i y) ≡ put fold_cmp fold w (map entry rows)
+    replaced : map entry (set rows i y) ≡ put_entry fold_cmp fold w (map entry rows)
     replaced =
         ap (map entry) set_parts
         ∙ map-append entry (take i rows) (y ∷ drop (suc i) rows)
         ∙ ap (λ e. front_of ++ e ∷ back_of) now
         ∙ sym (put-there order fold w v front_of back_of (sorted-below order fold v front_of back_of in_order))
-        ∙ ap (put fold_cmp fold w) (sym whole_entries)
+        ∙ ap (put_entry fold_cmp fold w) (sym whole_entries)
 
     pub replaced-sorted : IsInFoldedOrder entry (set rows i y)
     unfolding IsInFoldedOrder
@@ -174,6 +174,32 @@ module _ {X V : Type 0} (entry : X → List ℕ × V) (rows : List X) (fold : Li
         ∙ ap (look q) replaced
         ∙ find-put fold_cmp order q fold w (map entry rows)
         ∙ sym (row-alter fold (λ _. Some w) (table_of entry rows) q ∙ ap (cond (same_fold q fold) (Some w)) (row-table_of entry rows q)))
+
+-- a row that is taken out after it was changed
+pub remove_changed : {X : Type 0} (rows : List X) (i : ℕ) (y : X) → remove (set rows i y) i ≡ remove rows i
+remove_changed rows i y =
+    ap (λ front. front ++ drop (suc i) (set rows i y)) (take-set rows i y)
+    ∙ ap (λ back. take i rows ++ back) (drop-set-lt (suc i) rows i y (omega arith))
+
+-- what a row becomes is all that counts
+pub alter_alike : {V : Type 0} (table : Table V) (fold : List ℕ) (change other : Option V → Option V) → change (row table fold) ≡ other (row table fold)
+    → alter fold change table ≡ alter fold other table
+unfolding alter
+alter_alike table fold change other alike = ap (put table fold) alike
+
+-- what a change said, by whether the row stays
+pub said_goes : {V : Type 0} (stays : Bool) (o : Option V) (w : V) → o ≡ cond stays (Some w) None → stays ≡ false → o ≡ None
+said_goes true o w is goes = cc
+said_goes false o w is goes = is
+
+pub said_stays : {V : Type 0} (stays : Bool) (o : Option V) (w : V) → o ≡ cond stays (Some w) None → stays ≡ true → o ≡ Some w
+said_stays true o w is stays = is
+said_stays false o w is stays = cc
+
+-- what follows where a call was Ok
+pub ok_also : {U E A B : Type 0} (result : Result U E) → (A → B) → OnOk result A → OnOk result B
+ok_also (Ok u) follows told = follows told
+ok_also (Err e) follows told = tt
 
 -- ---- whether a row is there
 

@@ -3,5 +3,5 @@
 
 mod table;
 
-pub use table::{NameTable, Row, RowChange};
+pub use table::{NameTable, Row, RowAttempt, RowChange};
 

@@ -1,6 +1,6 @@
 //! A table by name.
-ghost use Rattle.std.specs.Prelude.{◌≡◌, ℕ, ◌<◌, ◌≤◌, Option, Some, None, Result, is_some, is_ok, IsTrue, OnOk, OnErr, IsOk, map, length, if◌then◌else◌, IfNone, OnSome, vec_len, vec_capacity};
-ghost use Rattle.std.specs.Option.{option_copied, option_map};
+ghost use Rattle.std.specs.Prelude.{◌≡◌, ℕ, Ok, Err, ◌<◌, ◌≤◌, Option, Some, None, Result, is_some, is_ok, IsTrue, OnOk, OnErr, IsOk, map, length, if◌then◌else◌, IfNone, OnSome, vec_len, vec_capacity};
+ghost use Rattle.std.specs.Option.{option_copied, option_map, option_and_then};
 ghost use Rattle.std.specs.FinMap.{empty, entries, keys};
 ghost use Rattle.irc_names.specs.Fold.{key};
 ghost use Rattle.irc_names.specs.Tables.{row, alter, each, moved};
@@ -51,6 +51,17 @@ pub trait RowChange<V> {
     /// Changes a value, and tells whether its row stays.
     fn change(&self, value: &mut V) -> bool
         ensures { changed self.now value.old ≡ (if result then Some value.new else None) };
+}
+
+/// A change of one row's value for which memory may run out.
+pub trait RowAttempt<V> {
+    /// What becomes of a value.
+    ghost tried: { Self → V → V };
+
+    /// Changes a value. Where there is no memory nothing has changed.
+    fn attempt(&self, value: &mut V) -> Result<(), AllocError>
+        ensures ok { OnOk result (value.new ≡ tried self.now value.old) }
+        ensures refused { OnErr result (value.new ≡ value.old) };
 }
 
 impl<V: Drop> NameTable<V> {
@@ -125,6 +136,30 @@ impl<V: Drop> NameTable<V> {
         }
     }
 
+    /// Changes what stands under a name, or takes it out; where nothing does, nothing changes. It takes no memory.
+    pub fn change_at<C: RowChange<V>>(&mut self, name: &[u8], change: &C)
+        ensures { self.new ≡ alter (key name.now) (option_and_then (C.changed change.now)) self.old }
+    {
+        match place_of(&self.rows, name) {
+            Ok(place) => change_row(&mut self.rows, place, name, change),
+            Err(_) => {}
+        }
+    }
+
+    /// Tries a change of what stands under a name; where nothing does, nothing changes.
+    ///
+    /// # Errors
+    /// Where memory runs out; nothing has changed then.
+    pub fn try_at<C: RowAttempt<V>>(&mut self, name: &[u8], change: &C) -> Result<(), AllocError>
+        ensures ok { OnOk result (self.new ≡ alter (key name.now) (option_map (C.tried change.now)) self.old) }
+        ensures refused { OnErr result (self.new ≡ self.old) }
+    {
+        match place_of(&self.rows, name) {
+            Ok(place) => try_row(&mut self.rows, place, name, change),
+            Err(_) => Ok(()),
+        }
+    }
+
     /// Changes each row's value, or takes it out.
     pub fn change_each<C: RowChange<V>>(&mut self, change: &C)
         ensures { self.new ≡ each (C.changed change.now) self.old }
@@ -194,4 +229,38 @@ fn put_in<V: Drop>(rows: &mut Vec<Row<V>, Global>, name: &[u8], value: V)
         Ok(place) => rows[place].value = value,
         Err(place) => insert_at(rows, place, name, value).unwrap(),
     }
+}
+
+/// Changes the value of the row at a place, or takes the row out.
+fn change_row<V: Drop, C: RowChange<V>>(
+    rows: &mut Vec<Row<V>, Global>,
+    place: usize,
+    name: &[u8],
+    change: &C,
+)
+    requires ordered { IsInFoldedOrder row_entry rows.old.items }
+    requires at { IsPlaceOf row_entry rows.old.items (key name.now) (Ok place) }
+    ensures after { table_of row_entry rows.new.items ≡ alter (key name.now) (option_and_then (C.changed change.now)) (table_of row_entry rows.old.items) }
+    ensures ordered { IsInFoldedOrder row_entry rows.new.items }
+{
+    let stays = change.change(&mut rows[place].value);
+    if !stays {
+        rows.remove(place);
+    }
+}
+
+/// Tries a change of the value of the row at a place.
+fn try_row<V: Drop, C: RowAttempt<V>>(
+    rows: &mut Vec<Row<V>, Global>,
+    place: usize,
+    name: &[u8],
+    change: &C,
+) -> Result<(), AllocError>
+    requires ordered { IsInFoldedOrder row_entry rows.old.items }
+    requires at { IsPlaceOf row_entry rows.old.items (key name.now) (Ok place) }
+    ensures ok { OnOk result (table_of row_entry rows.new.items ≡ alter (key name.now) (option_map (C.tried change.now)) (table_of row_entry rows.old.items)) }
+    ensures refused { OnErr result (table_of row_entry rows.new.items ≡ table_of row_entry rows.old.items) }
+    ensures ordered { IsInFoldedOrder row_entry rows.new.items }
+{
+    change.attempt(&mut rows[place].value)
 }

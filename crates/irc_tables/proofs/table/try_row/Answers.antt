@@ -1,0 +1,31 @@
+use Rattle.std.proofs.Common.{◌≡◌, ◌∙◌, ap, sym, subst, Some, None}
+use Rattle.std.specs.Option.{option_map}
+use Rattle.irc_names.specs.Fold.{key}
+use Rattle.irc_tables.specs.RowViews.{row_entry}
+use Rattle.irc_tables.proofs.RowsAsTable.{replaced-table, replaced-sorted, row-present, alter_alike, ok_also}
+use Rattle.irc_tables.proofs.table.try_row.Goals as goal
+
+pub returns-clause-ok : goal.returns-clause-ok
+returns-clause-ok g c =
+    let fold = key c.args.name.now in
+    let x = c.index_mut.result.now in
+    let w = c.attempt.new.value in
+    let there = ap (λ r. key r.name.items) c.index_mut.ensures.value ∙ c.requires.at.named _ in
+    ok_also c.attempt.result
+    (λ is.
+        replaced-table row_entry c.args.rows.now.items fold c.args.place x x.value c.requires.ordered c.requires.at.within c.index_mut.ensures.value
+        (ap (λ k. (k, x.value)) there) _ w (ap (λ k. (k, w)) there)
+        ∙ alter_alike _ fold (λ _. Some w) (option_map (g.C.RowAttempt.tried c.args.change.now))
+        (sym (ap (option_map (g.C.RowAttempt.tried c.args.change.now))
+        (row-present row_entry c.args.rows.now.items fold c.args.place x x.value c.requires.ordered c.requires.at.within c.index_mut.ensures.value (ap (λ k. (k, x.value)) there))
+        ∙ ap Some (sym is))))
+    c.attempt.ensures.ok
+
+pub returns-clause-ordered : goal.returns-clause-ordered
+returns-clause-ordered g c =
+    let fold = key c.args.name.now in
+    let x = c.index_mut.result.now in
+    let w = c.attempt.new.value in
+    let there = ap (λ r. key r.name.items) c.index_mut.ensures.value ∙ c.requires.at.named _ in
+    replaced-sorted row_entry c.args.rows.now.items fold c.args.place x x.value c.requires.ordered c.requires.at.within c.index_mut.ensures.value
+    (ap (λ k. (k, x.value)) there) _ w (ap (λ k. (k, w)) there)
