@@ -4,7 +4,7 @@ use Rattle.std.specs.Option.{option_and_then, option_map}
 use Rattle.irc_names.specs.Fold.{key}
 use Rattle.irc_names.specs.Tables.{alter, each, moved}
 use Rattle.irc_users.specs.declared.user.User.{User}
-use Rattle.irc_users.specs.UserTable.{with_nick}
+use Rattle.irc_users.specs.UserTable.{with_nick, with_invisible}
 use Rattle.irc_channels.specs.declared.channel.Channel.{Channel}
 use Rattle.irc_channels.specs.Channels.{new_channel, joined, left, without_user, renamed, invited_too, with_topic, all_changed}
 use Rattle.irc_room.specs.declared.effect.Effect.{Effect}
@@ -17,9 +17,6 @@ alter_user nick change room = record room { users = alter (key nick) change room
 
 abbrev pub alter_channel : List ℕ → (Option Channel → Option Channel) → Room → Room
 alter_channel name change room = record room { channels = alter (key name) change room.channels }
-
-abbrev pub with_invisible : Bool → User → User
-with_invisible invisible user = record user { invisible = invisible }
 
 unfoldable pub after : Room → Effect → Room
 after room (AddUser user) = alter_user user.nick (λ _. Some user) room

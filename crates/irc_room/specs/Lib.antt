@@ -5,3 +5,5 @@ pub mod Seen
 pub mod Laws
 pub mod Examples
 pub mod Readers
+pub mod Applying
+pub mod Codes

@@ -2,7 +2,11 @@
 #![tactic(auto)]
 
 mod effect;
+mod fault;
+mod room;
 pub mod examples;
 pub mod laws;
 
 pub use effect::{By, Effect, ModeChanges, Target};
+pub use fault::RoomFault;
+pub use room::Room;

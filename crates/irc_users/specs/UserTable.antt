@@ -63,6 +63,10 @@ IsPlaceOf users fold (Err place) = BelongsAt users fold place
 abbrev pub with_nick : List ℕ → User → User
 with_nick nick user = record user { nick = nick }
 
+-- the user with mode i, or without it
+abbrev pub with_invisible : Bool → User → User
+with_invisible invisible user = record user { invisible = invisible }
+
 -- whether another user than the one with the first nickname has the second
 abbrev pub is_taken : Table User → List ℕ → List ℕ → Bool
 is_taken table nick new = not (same nick new) && is_some (row table (key new))

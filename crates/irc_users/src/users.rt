@@ -9,7 +9,7 @@ ghost use Rattle.irc_users.specs.UserTable.{table_of, IsInFoldedOrder, IsPlaceOf
 
 use crate::fault::{RenameFault, UsersFault};
 use crate::user::User;
-use irc_names::{Mask, Nick, ServerName, mask_matches};
+use irc_names::{Mask, Nick, ServerName, compare, mask_matches};
 use std::alloc::{AllocError, Global};
 use std::marker::Model;
 
@@ -90,6 +90,16 @@ impl Users {
         ensures { option_copied result ≡ row self.now (key nick.now) }
     {
         match place_of(&self.rows, nick) {
+            Ok(place) => Some(&self.rows[place]),
+            Err(_) => None,
+        }
+    }
+
+    /// The user whose nickname is the same as these bytes under the fold, which may be no nickname themselves.
+    pub fn find_named(&self, name: &[u8]) -> Option<&User>
+        ensures { option_copied result ≡ row self.now (key name.now) }
+    {
+        match place_named(&self.rows, name) {
             Ok(place) => Some(&self.rows[place]),
             Err(_) => None,
         }
@@ -210,5 +220,14 @@ fn place_of(users: &[User], nick: &Nick) -> Result<usize, usize>
     ensures place { IsPlaceOf users.now (key nick.now) result }
     ensures known { is_ok result ≡ is_some (row (table_of users.now) (key nick.now)) }
 {
-    users.binary_search_by(|user| user.nick.cmp(nick))
+    place_named(users, nick.as_bytes())
+}
+
+/// Where the user with these bytes for a nickname stands, by the fold, or where it would stand.
+fn place_named(users: &[User], name: &[u8]) -> Result<usize, usize>
+    requires { IsInFoldedOrder users.now }
+    ensures place { IsPlaceOf users.now (key name.now) result }
+    ensures known { is_ok result ≡ is_some (row (table_of users.now) (key name.now)) }
+{
+    users.binary_search_by(|user| compare(user.nick.as_bytes(), name))
 }

@@ -1,0 +1,49 @@
+-- A room as a server keeps it, and what comes of asking it for an effect.
+use Rattle.std.specs.Prelude.{◌≡◌, ℕ, Bool, true, false, not, Option, Some, None, Result, Ok, Err, List, [], ◌++◌, map, filter, if◌then◌else◌}
+use Rattle.std.specs.List.{list_all}
+use Rattle.std.specs.Option.{option_map_or}
+use Rattle.arrayvec.specs.ArrayVec.{ArrayVec}
+use Rattle.irc_names.specs.Fold.{key}
+use Rattle.irc_names.specs.Tables.{row}
+use Rattle.irc_users.specs.UserTable.{is_home}
+use Rattle.irc_room.specs.declared.effect.Effect.{Effect}
+use Rattle.irc_room.specs.declared.fault.RoomFault.{RoomFault}
+use Rattle.irc_room.specs.declared.fault.RoomFault.TheVariants.{NoSuchUser, NoSuchChannel, Memory, Failed}
+use Rattle.irc_room.specs.Room.{Room}
+use Rattle.irc_room.specs.Effects.{has_user, has_channel, needs_users, needs_channel}
+use Rattle.irc_room.specs.After.{after}
+use Rattle.irc_room.specs.Seen.{Showing, seen}
+
+-- whose room it is, whether memory ran out, and the room
+pub record Kept : Type 0 where
+  pub own : List ℕ
+  pub failed : Bool
+  pub room : Room
+
+-- why an effect is refused, if it is: the causes in the order in which they are looked for
+abbrev pub room_fault : Kept → Effect → Option RoomFault
+room_fault kept effect =
+    if kept.failed then Some Failed
+    else (if not (list_all (has_user kept.room) (needs_users effect)) then Some NoSuchUser
+    else (if not (option_map_or (has_channel kept.room) (needs_channel effect) true) then Some NoSuchChannel
+    else None))
+
+-- whether a viewer is connected to the server whose room it is
+abbrev pub is_own : Kept → Showing → Bool
+is_own kept showing = option_map_or (is_home kept.own) (row kept.room.users (key showing.viewer)) false
+
+-- a showing, as the code hands it out
+abbrev pub handed : Showing → List ℕ × ArrayVec ℕ
+handed showing = (showing.viewer, record { items = showing.line })
+
+-- what an effect shows to the server's own users, in folded order
+abbrev pub shown_here : Kept → Effect → List (List ℕ × ArrayVec ℕ)
+shown_here kept effect = map handed (filter (is_own kept) (seen kept.room effect))
+
+-- An effect is applied: the room is the one after it, and what it shows is put out. Where it is refused nothing changes, save that a
+-- room for which memory ran out answers Failed from then on.
+abbrev pub Applied : Kept → Effect → List (List ℕ × ArrayVec ℕ) → Result (Unit {0}) RoomFault → Kept → List (List ℕ × ArrayVec ℕ) → Type 0
+Applied old effect out (Ok done) new out_after =
+    (room_fault old effect ≡ None) × (new ≡ record old { room = after old.room effect }) × (out_after ≡ out ++ shown_here old effect)
+Applied old effect out (Err Memory) new out_after = (room_fault old effect ≡ None) × (new ≡ record old { failed = true }) × (out_after ≡ out)
+Applied old effect out (Err fault) new out_after = (room_fault old effect ≡ Some fault) × (new ≡ old) × (out_after ≡ out)
