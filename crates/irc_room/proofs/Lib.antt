@@ -11,3 +11,4 @@ pub mod ListedRooms
 pub mod ListedSeen
 pub mod ExampleRooms
 pub mod ExamplesProved
+pub mod Refusals

@@ -5,7 +5,7 @@ use Rattle.std.specs.FinMap.Entries.{find}
 use Rattle.irc_names.specs.Fold.{key}
 use Rattle.irc_names.specs.Tables.{Table, fold_cmp, alter}
 use Rattle.irc_users.specs.declared.user.User.{User}
-use Rattle.irc_users.specs.UserTable.{with_nick}
+use Rattle.irc_users.specs.UserTable.{with_nick, with_invisible}
 use Rattle.irc_channels.specs.declared.flags.Flags.{Flags}
 use Rattle.irc_channels.specs.declared.modes.Modes.{Modes}
 use Rattle.irc_channels.specs.declared.modes.ModeChange.{ModeChange}
@@ -16,7 +16,7 @@ use Rattle.irc_channels.specs.Channels.{no_modes, new_channel, has_member, is_ni
 use Rattle.irc_room.specs.declared.effect.Effect.{Effect}
 use Rattle.irc_room.specs.declared.effect.Effect.TheVariants.{AddUser, Rename, Quit, Join, Part, Kick, ChangeModes, SetTopic, Say, Invite, UserMode}
 use Rattle.irc_room.specs.Room.{Room}
-use Rattle.irc_room.specs.After.{after, with_invisible}
+use Rattle.irc_room.specs.After.{after}
 use Rattle.irc_room.proofs.Rows.{is_some_map}
 use Rattle.irc_room.proofs.Listed.{map_itself, table_of, row_listed, alter_entry, alter_listed, each_entry, each_listed, move_entry, moved_listed, keys_listed}
 

@@ -6,12 +6,12 @@ use Rattle.irc_names.specs.Fold.{key}
 use Rattle.irc_names.specs.Tables.{Table, fold_cmp, row, alter, each, moved}
 use Rattle.irc_names.specs.TableLaws.{same_fold, one_fold, row-alter, row-each, row-moved}
 use Rattle.irc_users.specs.declared.user.User.{User}
-use Rattle.irc_users.specs.UserTable.{with_nick}
+use Rattle.irc_users.specs.UserTable.{with_nick, with_invisible}
 use Rattle.irc_channels.specs.declared.channel.Channel.{Channel}
 use Rattle.irc_channels.specs.Channels.{new_channel, joined, left, without_user, renamed, invited_too, with_topic, all_changed}
 use Rattle.irc_room.specs.declared.effect.Effect.TheVariants.{AddUser, Rename, Quit, Join, Part, Kick, ChangeModes, SetTopic, Say, Invite, UserMode}
 use Rattle.irc_room.specs.Room.{Room, IsWellFormed, IsSoundRow}
-use Rattle.irc_room.specs.After.{after, alter_user, alter_channel, with_invisible}
+use Rattle.irc_room.specs.After.{after, alter_user, alter_channel}
 use Rattle.irc_room.specs.Laws.{AfterIsWellFormed, NoRoomIsWellFormed}
 use Rattle.irc_room.proofs.Rows.{not_none, same_some}
 use Rattle.irc_room.proofs.SoundRows.{IsWithin, IsKnown, known, sound_more, left_sound, without_sound, renamed_sound, joined_sound, new_known, invited_sound, topic_sound}

@@ -7,6 +7,7 @@ use Rattle.irc_names.specs.Tables.{row}
 use Rattle.irc_channels.specs.Channels.{has_member}
 use Rattle.irc_room.specs.declared.effect.By.{By}
 use Rattle.irc_room.specs.declared.effect.By.TheVariants as by
+use Rattle.irc_room.specs.declared.effect.Target.{Target}
 use Rattle.irc_room.specs.declared.effect.Target.TheVariants as target
 use Rattle.irc_room.specs.declared.effect.Effect.{Effect}
 use Rattle.irc_room.specs.declared.effect.Effect.TheVariants.{AddUser, Rename, Quit, Join, Part, Kick, ChangeModes, SetTopic, Say, Invite, UserMode}
@@ -35,6 +36,11 @@ abbrev pub by_nick : By → Option (List ℕ)
 by_nick (by.User nick) = Some nick
 by_nick by.Home = None
 
+-- the nickname that a text is for, if it is for a user
+abbrev pub target_users : Target → List (List ℕ)
+target_users (target.User nick) = nick ∷ []
+target_users (target.Channel channel) = []
+
 -- the nicknames that must be there for the effect to be one
 abbrev pub needs_users : Effect → List (List ℕ)
 needs_users (AddUser user) = []
@@ -45,8 +51,7 @@ needs_users (Part nick channel text) = nick ∷ []
 needs_users (Kick by channel nick text) = by ∷ nick ∷ []
 needs_users (ChangeModes by channel changes) = option_to_list (by_nick by)
 needs_users (SetTopic by channel text) = option_to_list (by_nick by)
-needs_users (Say by notice (target.User nick) text) = by ∷ nick ∷ []
-needs_users (Say by notice (target.Channel channel) text) = by ∷ []
+needs_users (Say by notice to text) = by ∷ target_users to
 needs_users (Invite by nick channel) = by ∷ nick ∷ []
 needs_users (UserMode nick invisible) = nick ∷ []
 

@@ -3,6 +3,7 @@
 
 mod effect;
 mod fault;
+mod refusing;
 mod room;
 pub mod examples;
 pub mod laws;

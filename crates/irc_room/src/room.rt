@@ -1,17 +1,19 @@
 //! One room.
-ghost use Rattle.std.specs.Prelude.{◌≡◌, ℕ, Bool, false, IsTrue, map, IfOk};
+ghost use Rattle.std.specs.Prelude.{◌≡◌, ℕ, Bool, false, true, map, IfOk};
 ghost use Rattle.std.specs.Option.{option_copied};
 ghost use Rattle.std.specs.FinMap.{empty, values};
 ghost use Rattle.irc_names.specs.Fold.{key};
+ghost use Rattle.irc_names.specs.Tables.{row};
 ghost use Rattle.irc_room.specs.Applying.{Kept, Applied};
 ghost use Rattle.irc_room.specs.Effects.{brings_free};
 ghost use Rattle.irc_room.specs.Laws.{no_room};
-ghost use Rattle.irc_room.specs.Readers.{user_at, channel_at};
+ghost use Rattle.irc_room.specs.Readers.{user_at, channel_at, flags_at, is_invited_at};
 ghost use Rattle.irc_room.specs.Room.{IsWellFormed};
 
 use crate::effect::Effect;
 use crate::fault::RoomFault;
-use irc_channels::Channel;
+use crate::refusing::refusal;
+use irc_channels::{Channel, Flags};
 use irc_line::Text;
 use irc_names::{Nick, ServerName};
 use irc_tables::NameTable;
@@ -56,5 +58,78 @@ impl Room {
             users: Users::new(alloc),
             channels: NameTable::new(alloc),
         }
+    }
+
+    /// The server that keeps it.
+    pub fn own(&self) -> &ServerName
+        ensures name { result.now ≡ self.now.own }
+        ensures well_formed { IsWellFormed self.now.room }
+    {
+        &self.own
+    }
+
+    /// The user whose nickname is the same as these bytes under the fold, which may be no nickname themselves.
+    pub fn user(&self, name: &[u8]) -> Option<&User>
+        ensures { option_copied result ≡ user_at self.now.room (key name.now) }
+    {
+        self.users.find_named(name)
+    }
+
+    /// The channel whose name is the same as these bytes under the fold, which may be no channel's name themselves.
+    pub fn channel(&self, name: &[u8]) -> Option<&Channel>
+        ensures { option_copied result ≡ channel_at self.now.room (key name.now) }
+    {
+        self.channels.get(name)
+    }
+
+    /// The flags of the user of a nickname in the channel of a name, where it is a member.
+    pub fn member(&self, nick: &[u8], channel: &[u8]) -> Option<Flags>
+        ensures { result ≡ flags_at self.now.room (key nick.now) (key channel.now) }
+    {
+        match self.channels.get(channel) {
+            Some(channel) => flags_in(channel, nick),
+            None => None,
+        }
+    }
+
+    /// Whether the user of a nickname is invited to the channel of a name.
+    pub fn invited(&self, nick: &[u8], channel: &[u8]) -> bool
+        ensures { result ≡ is_invited_at self.now.room (key nick.now) (key channel.now) }
+    {
+        match self.channels.get(channel) {
+            Some(channel) => channel.invited.get(nick).is_some(),
+            None => false,
+        }
+    }
+
+    /// Applies an effect: the room is the one after it, and what it shows to the server's own users is appended to `out`, in
+    /// folded order of the viewers.
+    ///
+    /// The nickname of a user that is added is free, and so is the new one of a Rename, save that it may be the renamer's own.
+    ///
+    /// # Errors
+    /// [`RoomFault::Failed`] where memory ran out before; [`RoomFault::NoSuchUser`] where a user that it names is not there;
+    /// [`RoomFault::NoSuchChannel`] where the channel that it names is not there, but for a Join, which makes it, and an Invite.
+    /// Nothing has changed then. [`RoomFault::Memory`] where memory runs out: `out` is as it was, and the room answers Failed from
+    /// then on.
+    pub fn apply(&mut self, effect: &Effect, out: &mut Vec<(Nick, Text), Global>) -> Result<(), RoomFault>
+        requires { brings_free self.old.room effect.now ≡ true }
+        ensures { Applied self.old effect.now out.old.items result self.new out.new.items }
+    {
+        if let Some(fault) = refusal(self.failed, &self.users, &self.channels, effect) {
+            return Err(fault);
+        }
+        self.failed = true;
+        Err(RoomFault::Memory)
+    }
+}
+
+/// The flags of the user of a nickname in a channel.
+fn flags_in(channel: &Channel, nick: &[u8]) -> Option<Flags>
+    ensures { result ≡ row channel.now.members (key nick.now) }
+{
+    match channel.members.get(nick) {
+        Some(flags) => Some(*flags),
+        None => None,
     }
 }
