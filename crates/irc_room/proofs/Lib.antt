@@ -12,3 +12,4 @@ pub mod ListedSeen
 pub mod ExampleRooms
 pub mod ExamplesProved
 pub mod Refusals
+pub mod WrittenChanges

@@ -7,3 +7,5 @@ pub mod Examples
 pub mod Readers
 pub mod Applying
 pub mod Codes
+pub mod Signs
+pub mod LineViews

@@ -7,6 +7,8 @@ mod refusing;
 mod room;
 pub mod examples;
 pub mod laws;
+mod lines;
+mod mode_letters;
 
 pub use effect::{By, Effect, ModeChanges, Target};
 pub use fault::RoomFault;

@@ -1,0 +1,141 @@
+//! The line that each kind of effect shows (RFC 2812 section 3). Where the doer is not there, there is none.
+ghost use Rattle.std.specs.Prelude.{◌≡◌, None, Some, [], ◌∷◌, IfOk, codes, if◌then◌else◌};
+ghost use Rattle.std.specs.Option.{option_map};
+ghost use Rattle.irc_line.specs.MessageViews.{optional_now};
+ghost use Rattle.irc_line.specs.PartViews.{sender, words_now};
+ghost use Rattle.irc_room.specs.Seen.{changes_words, full_sender, line_of};
+ghost use Rattle.irc_room.specs.LineViews.{line_bytes};
+
+use crate::mode_letters::{letters_text, words_behind};
+use irc_channels::ModeChange;
+use irc_line::{Parts, Prefix, Text, write_message};
+use irc_users::User;
+use std::alloc::{AllocError, Global};
+
+/// The prefix of a line that a user causes: `nick!user@host` (RFC 2812 section 2.3.1).
+pub fn full_prefix(user: &User) -> Prefix<'_>
+    ensures { sender result ≡ full_sender user.now }
+{
+    Prefix::Full {
+        nick: user.nick.as_bytes(),
+        user: user.user.as_bytes(),
+        host: user.host.as_bytes(),
+    }
+}
+
+/// The line with these parts, if there is somebody who sends it.
+fn line_of(
+    doer: Option<Prefix<'_>>,
+    command: &[u8],
+    middle: &[&[u8]],
+    last: Option<&[u8]>,
+) -> Option<Text>
+    ensures { line_bytes result ≡ line_of command.now (words_now middle.now) (optional_now last.entry) (option_map sender doer.entry) }
+{
+    match doer {
+        None => None,
+        Some(prefix) => Some(write_message(&Parts {
+            prefix,
+            command,
+            middle,
+            last,
+        })),
+    }
+}
+
+/// A user has another nickname (RFC 2812 section 3.1.2).
+pub(crate) fn nick_line(doer: Option<Prefix<'_>>, new: &[u8]) -> Option<Text>
+    ensures { line_bytes result ≡ line_of (codes "NICK") (new.now ∷ []) None (option_map sender doer.entry) }
+{
+    line_of(doer, b"NICK", &[new], None)
+}
+
+/// A user leaves (RFC 2812 section 3.1.7).
+pub(crate) fn quit_line(doer: Option<Prefix<'_>>, reason: &[u8]) -> Option<Text>
+    ensures { line_bytes result ≡ line_of (codes "QUIT") [] (Some reason.now) (option_map sender doer.entry) }
+{
+    line_of(doer, b"QUIT", &[], Some(reason))
+}
+
+/// A user joins a channel (RFC 2812 section 3.2.1).
+pub(crate) fn join_line(doer: Option<Prefix<'_>>, channel: &[u8]) -> Option<Text>
+    ensures { line_bytes result ≡ line_of (codes "JOIN") (channel.now ∷ []) None (option_map sender doer.entry) }
+{
+    line_of(doer, b"JOIN", &[channel], None)
+}
+
+/// A member leaves a channel (RFC 2812 section 3.2.2).
+pub(crate) fn part_line(doer: Option<Prefix<'_>>, channel: &[u8], reason: &[u8]) -> Option<Text>
+    ensures { line_bytes result ≡ line_of (codes "PART") (channel.now ∷ []) (Some reason.now) (option_map sender doer.entry) }
+{
+    line_of(doer, b"PART", &[channel], Some(reason))
+}
+
+/// A member is made to leave a channel (RFC 2812 section 3.2.8).
+pub(crate) fn kick_line<'a>(
+    doer: Option<Prefix<'_>>,
+    channel: &'a [u8],
+    nick: &'a [u8],
+    reason: &[u8],
+) -> Option<Text>
+    ensures { line_bytes result ≡ line_of (codes "KICK") (channel.now ∷ nick.now ∷ []) (Some reason.now) (option_map sender doer.entry) }
+{
+    line_of(doer, b"KICK", &[channel, nick], Some(reason))
+}
+
+/// A channel's modes change (RFC 2812 section 3.2.3).
+pub(crate) fn mode_line(
+    alloc: Global,
+    doer: Option<Prefix<'_>>,
+    channel: &[u8],
+    changes: &[ModeChange],
+) -> Result<Option<Text>, AllocError>
+    ensures { IfOk result (λ line. line_bytes line ≡ line_of (codes "MODE") (channel.now ∷ changes_words changes.now) None (option_map sender doer.entry)) }
+{
+    let letters = letters_text(alloc, changes)?;
+    let words = words_behind(alloc, channel, &letters, changes)?;
+    Ok(line_of(doer, b"MODE", &words, None))
+}
+
+/// A channel's topic changes (RFC 2812 section 3.2.4).
+pub(crate) fn topic_line(doer: Option<Prefix<'_>>, channel: &[u8], topic: &[u8]) -> Option<Text>
+    ensures { line_bytes result ≡ line_of (codes "TOPIC") (channel.now ∷ []) (Some topic.now) (option_map sender doer.entry) }
+{
+    line_of(doer, b"TOPIC", &[channel], Some(topic))
+}
+
+/// A text is said (RFC 2812 section 3.3).
+pub(crate) fn say_line(
+    doer: Option<Prefix<'_>>,
+    notice: bool,
+    target: &[u8],
+    words: &[u8],
+) -> Option<Text>
+    ensures { line_bytes result ≡ line_of (if notice then codes "NOTICE" else codes "PRIVMSG") (target.now ∷ []) (Some words.now) (option_map sender doer.entry) }
+{
+    let command: &[u8] = if notice { b"NOTICE" } else { b"PRIVMSG" };
+    line_of(doer, command, &[target], Some(words))
+}
+
+/// A user is invited to a channel (RFC 2812 section 3.2.7).
+pub(crate) fn invite_line<'a>(
+    doer: Option<Prefix<'_>>,
+    nick: &'a [u8],
+    channel: &'a [u8],
+) -> Option<Text>
+    ensures { line_bytes result ≡ line_of (codes "INVITE") (nick.now ∷ channel.now ∷ []) None (option_map sender doer.entry) }
+{
+    line_of(doer, b"INVITE", &[nick, channel], None)
+}
+
+/// A user's mode i changes (RFC 2812 section 3.1.5).
+pub(crate) fn user_mode_line(
+    doer: Option<Prefix<'_>>,
+    nick: &[u8],
+    invisible: bool,
+) -> Option<Text>
+    ensures { line_bytes result ≡ line_of (codes "MODE") (nick.now ∷ (if invisible then codes "+i" else codes "-i") ∷ []) None (option_map sender doer.entry) }
+{
+    let mode = if invisible { b"+i" } else { b"-i" };
+    line_of(doer, b"MODE", &[nick, mode], None)
+}

@@ -1,0 +1,95 @@
+//! Changes of modes as they are written (RFC 2812 section 3.2.3).
+ghost use Rattle.std.specs.Prelude.{◌≡◌, [], ◌∷◌, ◌++◌, IfOk, OnOk, option_to_list};
+ghost use Rattle.std.specs.List.{filter_map};
+ghost use Rattle.irc_line.specs.PartViews.{words_now};
+ghost use Rattle.irc_room.specs.Seen.{letter_byte, letters_text, sign_byte};
+ghost use Rattle.irc_room.specs.Signs.{sign_between};
+
+use irc_channels::{ModeChange, ModeLetter};
+use std::alloc::{AllocError, Global};
+
+/// The letter that a mode is written as.
+fn letter_byte(letter: ModeLetter) -> u8
+    ensures { result ≡ letter_byte letter }
+{
+    match letter {
+        ModeLetter::InviteOnly => b'i',
+        ModeLetter::Moderated => b'm',
+        ModeLetter::NoOutside => b'n',
+        ModeLetter::TopicLocked => b't',
+        ModeLetter::Private => b'p',
+        ModeLetter::Secret => b's',
+        ModeLetter::Key => b'k',
+        ModeLetter::Limit => b'l',
+        ModeLetter::Ban => b'b',
+        ModeLetter::Operator => b'o',
+        ModeLetter::Voice => b'v',
+    }
+}
+
+/// `+` for a mode that is set, `-` for one that is taken away.
+fn sign_byte(plus: bool) -> u8
+    ensures { result ≡ sign_byte plus }
+{
+    if plus { b'+' } else { b'-' }
+}
+
+/// The letters of changes in order, with a sign before the first and wherever it differs from the one before.
+pub(crate) fn letters_text(alloc: Global, changes: &[ModeChange]) -> Result<Vec<u8, Global>, AllocError>
+    ensures { IfOk result (λ letters. letters.items ≡ letters_text changes.now) }
+{
+    let mut letters = Vec::new(alloc);
+    let mut sign = None;
+    for change in changes {
+        push_sign(&mut letters, sign, change.plus)?;
+        letters.push(letter_byte(change.letter))?;
+        sign = Some(change.plus);
+    }
+    Ok(letters)
+}
+
+/// Appends the sign that a letter has in front of it, if it has one.
+fn push_sign(
+    letters: &mut Vec<u8, Global>,
+    before: Option<bool>,
+    plus: bool,
+) -> Result<(), AllocError>
+    ensures { OnOk result (letters.new.items ≡ letters.old.items ++ sign_between before plus) }
+{
+    match before {
+        Some(sign) if sign == plus => {}
+        _ => letters.push(sign_byte(plus))?,
+    }
+    Ok(())
+}
+
+/// A channel's name, the letters of changes, and their parameters in order.
+pub(crate) fn words_behind<'a>(
+    alloc: Global,
+    channel: &'a [u8],
+    letters: &'a [u8],
+    changes: &'a [ModeChange],
+) -> Result<Vec<&'a [u8], Global>, AllocError>
+    ensures { IfOk result (λ words. words_now words.items ≡ channel.now ∷ letters.now ∷ filter_map (λ c. c.word) changes.now) }
+{
+    let mut words = Vec::new(alloc);
+    words.push(channel)?;
+    words.push(letters)?;
+    for change in changes {
+        push_word(&mut words, change)?;
+    }
+    Ok(words)
+}
+
+/// Appends the parameter of a change, if it has one.
+fn push_word<'a>(
+    words: &mut Vec<&'a [u8], Global>,
+    change: &'a ModeChange,
+) -> Result<(), AllocError>
+    ensures { OnOk result (words_now words.new.items ≡ words_now words.old.items ++ option_to_list change.now.word) }
+{
+    if let Some(word) = &change.word {
+        words.push(word.as_bytes())?;
+    }
+    Ok(())
+}
