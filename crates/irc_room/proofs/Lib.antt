@@ -13,3 +13,4 @@ pub mod ExampleRooms
 pub mod ExamplesProved
 pub mod Refusals
 pub mod WrittenChanges
+pub mod RowValues

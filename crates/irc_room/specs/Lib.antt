@@ -9,3 +9,4 @@ pub mod Applying
 pub mod Codes
 pub mod Signs
 pub mod LineViews
+pub mod RoomParts

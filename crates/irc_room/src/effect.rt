@@ -1,4 +1,6 @@
 //! The changes that a room can undergo.
+ghost use Rattle.std.specs.Prelude.{◌≡◌};
+
 use irc_channels::{ModeChange, Words};
 use irc_line::Line;
 use irc_names::{ChannelName, Nick};
@@ -20,6 +22,22 @@ impl Model for ModeChanges {
     ghost Value = { List ModeChange };
 
     ghost view = { λ c. c.changes.items };
+}
+
+impl ModeChanges {
+    /// These changes.
+    pub fn new(changes: Vec<ModeChange, Global>) -> Self
+        ensures { result ≡ changes.items }
+    {
+        ModeChanges { changes }
+    }
+
+    /// The changes, in order.
+    pub fn as_slice(&self) -> &[ModeChange]
+        ensures { result.now ≡ self.now }
+    {
+        self.changes.as_slice()
+    }
 }
 
 /// Who changes a channel.

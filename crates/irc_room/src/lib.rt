@@ -2,13 +2,16 @@
 #![tactic(auto)]
 
 mod effect;
-mod fault;
-mod refusing;
-mod room;
+mod effect_lines;
 pub mod examples;
+mod fault;
 pub mod laws;
 mod lines;
 mod mode_letters;
+mod refusing;
+mod room;
+mod room_parts;
+mod seeing;
 
 pub use effect::{By, Effect, ModeChanges, Target};
 pub use fault::RoomFault;

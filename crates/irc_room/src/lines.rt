@@ -13,7 +13,7 @@ use irc_users::User;
 use std::alloc::{AllocError, Global};
 
 /// The prefix of a line that a user causes: `nick!user@host` (RFC 2812 section 2.3.1).
-pub fn full_prefix(user: &User) -> Prefix<'_>
+pub(crate) fn full_prefix(user: &User) -> Prefix<'_>
     ensures { sender result ≡ full_sender user.now }
 {
     Prefix::Full {

@@ -1,0 +1,94 @@
+//! The line that an effect shows at a server: one, for all its viewers (RFC 2812 section 3).
+ghost use Rattle.std.specs.Prelude.{◌≡◌, IfOk};
+ghost use Rattle.irc_room.specs.LineViews.{line_bytes};
+ghost use Rattle.irc_room.specs.RoomParts.{room_of, IsByUser, IsOfUsers, ShowsAll, ShowsAt};
+
+use crate::effect::Effect;
+use crate::lines::{
+    invite_line, join_line, kick_line, mode_line, nick_line, part_line, quit_line, say_line,
+    topic_line, user_mode_line,
+};
+use crate::room_parts::{
+    RoomParts, from_by, from_nick, stored_channel, stored_nick, target_name,
+};
+use irc_line::Text;
+use std::alloc::{AllocError, Global};
+
+/// The line that an effect on a room shows at the server of this name to those who see it, where it shows one.
+pub(crate) fn effect_line(
+    alloc: Global,
+    own: &[u8],
+    parts: RoomParts<'_>,
+    effect: &Effect,
+) -> Result<Option<Text>, AllocError>
+    ensures { IfOk result (λ line. ShowsAt (room_of parts.entry) effect.now own.now (line_bytes line)) }
+{
+    match effect {
+        Effect::ChangeModes { by, channel, changes } => mode_line(
+            alloc,
+            from_by(own, parts, by),
+            stored_channel(parts, channel),
+            changes.as_slice(),
+        ),
+        Effect::SetTopic { by, channel, text } => Ok(topic_line(
+            from_by(own, parts, by),
+            stored_channel(parts, channel),
+            text.as_bytes(),
+        )),
+        _ => Ok(member_line(parts, effect)),
+    }
+}
+
+/// The line of an effect that only a user brings about.
+fn member_line(parts: RoomParts<'_>, effect: &Effect) -> Option<Text>
+    requires { IsByUser effect.now }
+    ensures { ShowsAll (room_of parts.entry) effect.now (line_bytes result) }
+{
+    match effect {
+        Effect::Join { nick, channel, .. } => join_line(
+            from_nick(parts, nick),
+            stored_channel(parts, channel),
+        ),
+        Effect::Part { nick, channel, text } => part_line(
+            from_nick(parts, nick),
+            stored_channel(parts, channel),
+            text.as_bytes(),
+        ),
+        Effect::Kick { by, channel, nick, text } => kick_line(
+            from_nick(parts, by),
+            stored_channel(parts, channel),
+            stored_nick(parts, nick),
+            text.as_bytes(),
+        ),
+        Effect::Invite { by, nick, channel } => invite_line(
+            from_nick(parts, by),
+            stored_nick(parts, nick),
+            stored_channel(parts, channel),
+        ),
+        _ => user_line(parts, effect),
+    }
+}
+
+/// The line of an effect on users alone, or of a text.
+fn user_line(parts: RoomParts<'_>, effect: &Effect) -> Option<Text>
+    requires { IsOfUsers effect.now }
+    ensures { ShowsAll (room_of parts.entry) effect.now (line_bytes result) }
+{
+    match effect {
+        Effect::AddUser(_) => None,
+        Effect::Rename { nick, new } => nick_line(from_nick(parts, nick), new.as_bytes()),
+        Effect::Quit { nick, text } => quit_line(from_nick(parts, nick), text.as_bytes()),
+        Effect::Say { by, notice, target, text } => say_line(
+            from_nick(parts, by),
+            *notice,
+            target_name(parts, target),
+            text.as_slice(),
+        ),
+        Effect::UserMode { nick, invisible } => user_mode_line(
+            from_nick(parts, nick),
+            stored_nick(parts, nick),
+            *invisible,
+        ),
+        _ => unreachable!(),
+    }
+}
