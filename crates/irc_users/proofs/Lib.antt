@@ -1,5 +1,3 @@
 pub mod CleanNames
-pub mod FoldedRows
-pub mod OrderedEntries
 pub mod Renamings
-pub mod SearchedRows
+pub mod UserRows

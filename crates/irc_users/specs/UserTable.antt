@@ -1,19 +1,14 @@
 -- The users of a room by nickname: a finite map whose keys are the folds of the nicknames (RFC 2812 sections 1.2.1 and 2.2).
-use Rattle.std.specs.Prelude.{◌≡◌, ℕ, ◌<◌, ◌≤◌, Bool, not, ◌&&◌, ◌||◌, List, map, take, drop, length, nat_eq, slice_index_or, is_some, is_none, if◌then◌else◌, IsTrue, refl, Option, Some, None, Result, Ok, Err}
-use Rattle.std.specs.Coded.{Coded, code_by, coded×, coded_ℕ, coded_bool, coded_list}
-use Rattle.std.specs.List.{list_all}
-use Rattle.std.specs.Ordering.{is_lt}
+use Rattle.std.specs.Prelude.{ℕ, Bool, not, ◌&&◌, ◌||◌, List, nat_eq, is_some, is_none, if◌then◌else◌, refl, Option, Some, None}
+use Rattle.std.specs.Coded.{Coded, code_by, coded×, coded_bool}
 use Rattle.std.specs.Cmp.Lexicographic.{pointwise}
-use Rattle.std.specs.FinMap.{from_entries, is_sorted}
 use Rattle.irc_names.specs.Fold.{key, same}
 use Rattle.irc_names.specs.MaskLaws.{matches}
-use Rattle.irc_names.specs.Tables.{Table, row, fold_cmp}
+use Rattle.irc_names.specs.Tables.{Table, row}
+use Rattle.irc_tables.specs.FoldedRows.{coded_name}
 use Rattle.irc_users.specs.declared.fault.RenameFault.{RenameFault}
 use Rattle.irc_users.specs.declared.fault.RenameFault.TheVariants.{Taken, NoSuchUser}
 use Rattle.irc_users.specs.declared.user.User.{User}
-
-abbrev pub coded_name : Coded (List ℕ)
-coded_name = coded_list coded_ℕ
 
 -- a user is stored as its fields
 abbrev pub user_code : Coded User
@@ -27,37 +22,6 @@ user_code =
 -- a user stands under the fold of its nickname
 abbrev pub entry : User → List ℕ × User
 entry user = (key user.nick, user)
-
--- the table of some users
-unfoldable pub table_of : List User → Table User
-table_of users = from_entries (map entry users)
-
--- users in folded order of their nicknames, no two of which have one fold
-unfoldable pub IsInFoldedOrder : List User → Type 0
-IsInFoldedOrder users = IsTrue (is_sorted fold_cmp (map entry users))
-
--- whether a user stands before a fold, or after it
-abbrev pub is_before : List ℕ → User → Bool
-is_before fold user = is_lt (fold_cmp (key user.nick) fold)
-
-abbrev pub is_after : List ℕ → User → Bool
-is_after fold user = is_lt (fold_cmp fold (key user.nick))
-
--- the user at this place has the fold
-pub record StandsAt (users : List User) (fold : List ℕ) (place : ℕ) : Type 0 where
-  pub within : place < length users
-  pub named : (d : User) → key (slice_index_or users place d).nick ≡ fold
-
--- no user has the fold, and one that had it would stand at this place
-pub record BelongsAt (users : List User) (fold : List ℕ) (place : ℕ) : Type 0 where
-  pub within : place ≤ length users
-  pub before : IsTrue (list_all (is_before fold) (take place users))
-  pub after : IsTrue (list_all (is_after fold) (drop place users))
-
--- where a fold stands among users, or where it would
-abbrev pub IsPlaceOf : List User → List ℕ → Result ℕ ℕ → Type 0
-IsPlaceOf users fold (Ok place) = StandsAt users fold place
-IsPlaceOf users fold (Err place) = BelongsAt users fold place
 
 -- the user under another nickname
 abbrev pub with_nick : List ℕ → User → User

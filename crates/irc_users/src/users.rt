@@ -1,11 +1,12 @@
 //! The users of a room, by nickname.
-ghost use Rattle.std.specs.Prelude.{◌≡◌, ℕ, ◌<◌, ◌≤◌, ◌↔◌, List, Result, is_some, is_ok, IsTrue, OnOk, OnErr, OnSome, IfNone, IsErrOf, IfOk, filter, map, vec_len, vec_capacity};
-ghost use Rattle.std.specs.Option.{option_copied};
+ghost use Rattle.std.specs.Prelude.{◌≡◌, ℕ, ◌<◌, ◌≤◌, ◌↔◌, List, Result, is_some, is_ok, IsTrue, OnOk, OnErr, OnSome, IfNone, IsErrOf, IfOk, filter, map, length, vec_len, vec_capacity};
+ghost use Rattle.std.specs.Option.{option_copied, option_map};
 ghost use Rattle.std.specs.Result.{result_err};
-ghost use Rattle.std.specs.FinMap.{empty, values};
+ghost use Rattle.std.specs.FinMap.{empty, keys, values};
 ghost use Rattle.irc_names.specs.Fold.{key};
 ghost use Rattle.irc_names.specs.Tables.{row, alter, moved};
-ghost use Rattle.irc_users.specs.UserTable.{table_of, IsInFoldedOrder, IsPlaceOf, with_nick, is_taken, rename_fault, is_home, is_found_by};
+ghost use Rattle.irc_tables.specs.FoldedRows.{table_of, IsInFoldedOrder, IsPlaceOf};
+ghost use Rattle.irc_users.specs.UserTable.{entry, with_nick, with_invisible, is_taken, rename_fault, is_home, is_found_by};
 
 use crate::fault::{RenameFault, UsersFault};
 use crate::user::User;
@@ -23,16 +24,17 @@ pub struct Users {
 impl Model for Users {
     ghost use Rattle.irc_names.specs.Tables.{Table};
     ghost use Rattle.irc_users.specs.declared.user.User.{User};
-    ghost use Rattle.irc_users.specs.UserTable.{user_code, coded_name, table_of, IsInFoldedOrder};
+    ghost use Rattle.irc_tables.specs.FoldedRows.{coded_name, table_of, IsInFoldedOrder};
+    ghost use Rattle.irc_users.specs.UserTable.{user_code, entry};
     ghost use Rattle.std.specs.FinMap.{code};
 
     ghost Value = { Table User };
 
     ghost coded = { code coded_name user_code };
 
-    ghost view = { λ users. table_of users.rows.items };
+    ghost view = { λ users. table_of entry users.rows.items };
 
-    ghost invariant = { λ users. IsInFoldedOrder users.rows.items };
+    ghost invariant = { λ users. IsInFoldedOrder entry users.rows.items };
 }
 
 impl Users {
@@ -43,6 +45,13 @@ impl Users {
         Users {
             rows: Vec::new(alloc),
         }
+    }
+
+    /// How many users there are.
+    pub fn len(&self) -> usize
+        ensures { result ≡ length (keys self.now) }
+    {
+        self.rows.as_slice().len()
     }
 
     /// Adds a user, unless its nickname is taken.
@@ -75,6 +84,17 @@ impl Users {
         user.nick = new.copy();
         put_back(&mut self.rows, user);
         Ok(())
+    }
+
+    /// Sets whether the user with a nickname has mode i; where there is no such user, nothing changes (RFC 2812 section 3.1.5).
+    /// It takes no memory.
+    pub fn set_invisible(&mut self, nick: &Nick, invisible: bool)
+        ensures { self.new ≡ alter (key nick.now) (option_map (with_invisible invisible)) self.old }
+    {
+        match place_of(&self.rows, nick) {
+            Ok(place) => self.rows[place].invisible = invisible,
+            Err(_) => {}
+        }
     }
 
     /// Takes out the user with a nickname, if there is one.
@@ -179,18 +199,18 @@ fn is_found_by(user: &User, mask: &Mask) -> bool
 
 /// Whether another user than the one with the first nickname has the second.
 fn is_taken(rows: &[User], nick: &Nick, new: &Nick) -> bool
-    requires { IsInFoldedOrder rows.now }
-    ensures { result ≡ is_taken (table_of rows.now) nick.now new.now }
+    requires { IsInFoldedOrder entry rows.now }
+    ensures { result ≡ is_taken (table_of entry rows.now) nick.now new.now }
 {
     nick != new && place_of(rows, new).is_ok()
 }
 
 /// Takes out the user with a nickname, if there is one; there is then room for another.
 fn take_out(rows: &mut Vec<User, Global>, nick: &Nick) -> Option<User>
-    requires { IsInFoldedOrder rows.old.items }
-    ensures value { result ≡ row (table_of rows.old.items) (key nick.now) }
-    ensures after { table_of rows.new.items ≡ alter (key nick.now) (λ _. None) (table_of rows.old.items) }
-    ensures ordered { IsInFoldedOrder rows.new.items }
+    requires { IsInFoldedOrder entry rows.old.items }
+    ensures value { result ≡ row (table_of entry rows.old.items) (key nick.now) }
+    ensures after { table_of entry rows.new.items ≡ alter (key nick.now) (λ _. None) (table_of entry rows.old.items) }
+    ensures ordered { IsInFoldedOrder entry rows.new.items }
     ensures same { IfNone result (rows.new.items ≡ rows.old.items) }
     ensures room { OnSome result (vec_len rows.new < vec_capacity rows.new) }
 {
@@ -202,11 +222,11 @@ fn take_out(rows: &mut Vec<User, Global>, nick: &Nick) -> Option<User>
 
 /// Puts in a user whose nickname is free, where there is room for it.
 fn put_back(rows: &mut Vec<User, Global>, user: User)
-    requires ordered { IsInFoldedOrder rows.old.items }
-    requires free { row (table_of rows.old.items) (key user.nick) ≡ None }
+    requires ordered { IsInFoldedOrder entry rows.old.items }
+    requires free { row (table_of entry rows.old.items) (key user.nick) ≡ None }
     requires room { vec_len rows.old < vec_capacity rows.old }
-    ensures after { table_of rows.new.items ≡ alter (key user.nick) (λ _. Some user) (table_of rows.old.items) }
-    ensures ordered { IsInFoldedOrder rows.new.items }
+    ensures after { table_of entry rows.new.items ≡ alter (key user.nick) (λ _. Some user) (table_of entry rows.old.items) }
+    ensures ordered { IsInFoldedOrder entry rows.new.items }
 {
     match place_of(rows, &user.nick) {
         Ok(_) => unreachable!(),
@@ -216,18 +236,18 @@ fn put_back(rows: &mut Vec<User, Global>, user: User)
 
 /// Where the user with a nickname stands, or where it would stand.
 fn place_of(users: &[User], nick: &Nick) -> Result<usize, usize>
-    requires { IsInFoldedOrder users.now }
-    ensures place { IsPlaceOf users.now (key nick.now) result }
-    ensures known { is_ok result ≡ is_some (row (table_of users.now) (key nick.now)) }
+    requires { IsInFoldedOrder entry users.now }
+    ensures place { IsPlaceOf entry users.now (key nick.now) result }
+    ensures known { is_ok result ≡ is_some (row (table_of entry users.now) (key nick.now)) }
 {
     place_named(users, nick.as_bytes())
 }
 
 /// Where the user with these bytes for a nickname stands, by the fold, or where it would stand.
 fn place_named(users: &[User], name: &[u8]) -> Result<usize, usize>
-    requires { IsInFoldedOrder users.now }
-    ensures place { IsPlaceOf users.now (key name.now) result }
-    ensures known { is_ok result ≡ is_some (row (table_of users.now) (key name.now)) }
+    requires { IsInFoldedOrder entry users.now }
+    ensures place { IsPlaceOf entry users.now (key name.now) result }
+    ensures known { is_ok result ≡ is_some (row (table_of entry users.now) (key name.now)) }
 {
     users.binary_search_by(|user| compare(user.nick.as_bytes(), name))
 }

@@ -1,6 +1,6 @@
 use Rattle.std.proofs.Common.{◌∙◌, ap, sym}
 use Rattle.std.specs.FinMap.{values}
-use Rattle.irc_users.proofs.FoldedRows.{values-table_of}
+use Rattle.irc_users.proofs.UserRows.{values-table_of}
 use Rattle.irc_users.proofs.users.Users.as_slice.Goals as goal
 
 pub returns : goal.returns

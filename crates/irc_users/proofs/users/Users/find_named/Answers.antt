@@ -1,13 +1,14 @@
 use Rattle.std.proofs.Common.{◌∙◌, ap, sym, subst}
 use Rattle.irc_names.specs.Fold.{key}
 use Rattle.irc_names.specs.Tables.{row}
-use Rattle.irc_users.specs.UserTable.{StandsAt}
-use Rattle.irc_users.proofs.FoldedRows.{row-stands}
+use Rattle.irc_tables.specs.FoldedRows.{StandsAt}
+use Rattle.irc_users.specs.UserTable.{entry}
+use Rattle.irc_tables.proofs.RowsAsTable.{row-stands}
 use Rattle.irc_users.proofs.users.Users.find_named.Goals as goal
 
 pub returns-in-Ok : goal.returns-in-Ok
 returns-in-Ok c =
     let fold = key c.args.name.now in
     sym (ap (λ table. row table fold) (sym c.self.view_is)
-    ∙ row-stands _ fold c.in-Ok.place _ c.self.invariant
-    (subst (λ users. StandsAt users fold c.in-Ok.place) c.deref.ensures.value c.in-Ok.ensures.place) c.index.ensures)
+    ∙ row-stands entry _ fold c.in-Ok.place _ c.self.invariant
+    (subst (λ users. StandsAt entry users fold c.in-Ok.place) c.deref.ensures.value c.in-Ok.ensures.place) c.index.ensures)

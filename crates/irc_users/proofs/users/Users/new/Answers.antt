@@ -1,10 +1,11 @@
 use Rattle.std.proofs.Common.{◌∙◌, ap, sym, subst}
-use Rattle.irc_users.specs.UserTable.{table_of, IsInFoldedOrder}
-use Rattle.irc_users.proofs.FoldedRows.{nobody-sorted, nobody-table}
+use Rattle.irc_tables.specs.FoldedRows.{table_of, IsInFoldedOrder}
+use Rattle.irc_users.specs.UserTable.{entry}
+use Rattle.irc_tables.proofs.RowsAsTable.{nothing-sorted, nothing-table}
 use Rattle.irc_users.proofs.users.Users.new.Goals as goal
 
 pub invariant_of-result : goal.invariant_of-result
-invariant_of-result c = subst (λ users. IsInFoldedOrder users) (sym c.new.ensures.items) nobody-sorted
+invariant_of-result c = subst (λ users. IsInFoldedOrder entry users) (sym c.new.ensures.items) (nothing-sorted entry)
 
 pub returns : goal.returns
-returns c = ap table_of c.new.ensures.items ∙ nobody-table
+returns c = ap (table_of entry) c.new.ensures.items ∙ nothing-table entry
