@@ -1,2 +1,3 @@
 pub mod BanPlaces
+pub mod DigitSteps
 pub mod ModeSteps

@@ -1,12 +1,15 @@
 -- A channel as a row of a table, and each change that is made to one (RFC 2811 sections 2 to 4).
-use Rattle.std.specs.Prelude.{ℕ, ◌+◌, ◌-◌, ◌*◌, Bool, true, false, not, is_some, Option, Some, None, List, [], ◌∷◌, ◌++◌, fold, filter, if◌then◌else◌}
-use Rattle.std.specs.List.{list_any}
+use Rattle.std.specs.Prelude.{ℕ, ◌+◌, ◌-◌, ◌*◌, Bool, true, false, not, ◌&&◌, is_some, Option, Some, None, List, [], ◌∷◌, ◌++◌, fold, filter, nat_le, if◌then◌else◌}
+use Rattle.std.specs.List.{list_any, list_all}
+use Rattle.std.specs.Char.{is_ascii_digit}
 use Rattle.std.specs.Option.{option_map}
 use Rattle.std.specs.Ordering.{is_lt}
 use Rattle.std.specs.FinMap.{empty, keys}
 use Rattle.irc_names.specs.Fold.{key, same, name_cmp}
+use Rattle.irc_names.specs.Names.{fits, is_key, is_mask}
 use Rattle.irc_names.specs.Tables.{Table, row, alter, moved}
 use Rattle.irc_channels.specs.declared.channel.Channel.{Channel}
+use Rattle.irc_channels.specs.declared.TheConstants.{MAX_LIMIT, MAX_LIMIT_DIGITS}
 use Rattle.irc_channels.specs.declared.flags.Flags.{Flags}
 use Rattle.irc_channels.specs.declared.modes.Privacy.{Privacy}
 use Rattle.irc_channels.specs.declared.modes.Privacy.TheVariants.{Public, Private, Secret}
@@ -97,6 +100,23 @@ secret_changed false before = before
 abbrev pub number_of : List ℕ → ℕ
 number_of digits = fold (λ n digit. 10 * n + (digit - 48)) 0 digits
 
+-- a limit is 1 to 65535, written in at most 5 digits (our own choice)
+unfoldable pub is_limit : List ℕ → Bool
+is_limit digits =
+    list_all is_ascii_digit digits && fits MAX_LIMIT_DIGITS digits && (nat_le 1 (number_of digits) && nat_le (number_of digits) MAX_LIMIT)
+
+-- k is set to its parameter; one that is no key changes nothing, nor does k without one. It is cleared whatever its parameter is.
+abbrev pub key_changed : Bool → Option (List ℕ) → Option (List ℕ) → Option (List ℕ)
+key_changed true (Some word) before = if is_key word then Some word else before
+key_changed true None before = before
+key_changed false word before = None
+
+-- l is set to the number that its parameter writes; one that is no limit changes nothing, nor does l without one
+abbrev pub limit_changed : Bool → Option (List ℕ) → Option ℕ → Option ℕ
+limit_changed true (Some word) before = if is_limit word then Some (number_of word) else before
+limit_changed true None before = before
+limit_changed false word before = None
+
 -- The bans with this mask in its place in folded order, unless one that is the same stands there.
 abbrev pub with_ban : List ℕ → List (List ℕ) → List (List ℕ)
 with_ban mask bans =
@@ -106,9 +126,17 @@ with_ban mask bans =
 abbrev pub without_ban : List ℕ → List (List ℕ) → List (List ℕ)
 without_ban mask bans = filter (λ ban. not (same mask ban)) bans
 
+abbrev pub ban_changed : Bool → List ℕ → List (List ℕ) → List (List ℕ)
+ban_changed true mask bans = with_ban mask bans
+ban_changed false mask bans = without_ban mask bans
+
+-- a ban is set or taken away; a parameter that is no mask changes nothing
 abbrev pub bans_changed : Bool → List ℕ → List (List ℕ) → List (List ℕ)
-bans_changed true mask bans = with_ban mask bans
-bans_changed false mask bans = without_ban mask bans
+bans_changed plus word bans = if is_mask word then ban_changed plus word bans else bans
+
+abbrev pub bans_by_word : Bool → Option (List ℕ) → List (List ℕ) → List (List ℕ)
+bans_by_word plus (Some word) bans = bans_changed plus word bans
+bans_by_word plus None bans = bans
 
 -- a flag of one member; whoever is none has none
 abbrev pub member_changed : List ℕ → (Flags → Flags) → Channel → Channel
@@ -117,22 +145,24 @@ member_changed nick change channel = record channel { members = alter (key nick)
 abbrev pub modes_changed : (Modes → Modes) → Channel → Channel
 modes_changed change channel = record channel { modes = change channel.modes }
 
--- what a change of a mode does, by its letter; one that wants a parameter and has none changes nothing
+-- what a change of a mode of the channel does, by its letter; o and v are modes of a member
+abbrev pub mode_changed : Bool → ModeLetter → Option (List ℕ) → Modes → Modes
+mode_changed plus letter.InviteOnly word m = record m { invite_only = plus }
+mode_changed plus letter.Moderated word m = record m { moderated = plus }
+mode_changed plus letter.NoOutside word m = record m { no_outside = plus }
+mode_changed plus letter.TopicLocked word m = record m { topic_locked = plus }
+mode_changed plus letter.Private word m = record m { privacy = private_changed plus m.privacy }
+mode_changed plus letter.Secret word m = record m { privacy = secret_changed plus m.privacy }
+mode_changed plus letter.Key word m = record m { key = key_changed plus word m.key }
+mode_changed plus letter.Limit word m = record m { limit = limit_changed plus word m.limit }
+mode_changed plus letter.Ban word m = record m { bans = bans_by_word plus word m.bans }
+mode_changed plus other word m = m
+
+-- what a change of a mode does, of a member or of the channel; one that wants a parameter and has none changes nothing
 abbrev pub letter_changed : Bool → ModeLetter → Option (List ℕ) → Channel → Channel
-letter_changed plus letter.InviteOnly word channel = modes_changed (λ m. record m { invite_only = plus }) channel
-letter_changed plus letter.Moderated word channel = modes_changed (λ m. record m { moderated = plus }) channel
-letter_changed plus letter.NoOutside word channel = modes_changed (λ m. record m { no_outside = plus }) channel
-letter_changed plus letter.TopicLocked word channel = modes_changed (λ m. record m { topic_locked = plus }) channel
-letter_changed plus letter.Private word channel = modes_changed (λ m. record m { privacy = private_changed plus m.privacy }) channel
-letter_changed plus letter.Secret word channel = modes_changed (λ m. record m { privacy = secret_changed plus m.privacy }) channel
-letter_changed true letter.Key (Some word) channel = modes_changed (λ m. record m { key = Some word }) channel
-letter_changed false letter.Key word channel = modes_changed (λ m. record m { key = None }) channel
-letter_changed true letter.Limit (Some word) channel = modes_changed (λ m. record m { limit = Some (number_of word) }) channel
-letter_changed false letter.Limit word channel = modes_changed (λ m. record m { limit = None }) channel
-letter_changed plus letter.Ban (Some word) channel = modes_changed (λ m. record m { bans = bans_changed plus word m.bans }) channel
 letter_changed plus letter.Operator (Some word) channel = member_changed word (λ f. record f { op = plus }) channel
 letter_changed plus letter.Voice (Some word) channel = member_changed word (λ f. record f { voice = plus }) channel
-letter_changed plus other None channel = channel
+letter_changed plus other word channel = modes_changed (mode_changed plus other word) channel
 
 abbrev pub changed : ModeChange → Channel → Channel
 changed change channel = letter_changed change.plus change.letter change.word channel

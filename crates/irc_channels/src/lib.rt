@@ -5,6 +5,8 @@ mod bans;
 mod channel;
 mod flags;
 mod key;
+mod limit;
+mod mode_changing;
 mod mode_word;
 mod mode_words;
 mod modes;
@@ -28,6 +30,12 @@ pub const MAX_MODE_PARAMETERS: usize = 3;
 /// The longest parameter of a mode that is kept whole: one byte more than the longest that any mode takes, which is a mask of
 /// `irc_names::MAX_MASK` bytes. So a word that had to be cut is still refused for its length, by whichever mode it is for.
 pub const MAX_MODE_WORD: usize = irc_names::MAX_MASK + 1;
+
+/// The greatest limit of members that a channel can have (our own choice).
+pub const MAX_LIMIT: u16 = 65_535;
+
+/// The most digits of a limit (our own choice: as many as [`MAX_LIMIT`] has).
+pub const MAX_LIMIT_DIGITS: usize = 5;
 
 #[cfg(test)]
 mod tests;
