@@ -1,3 +1,4 @@
 pub mod BanPlaces
+pub mod ChangesParted
 pub mod DigitSteps
 pub mod ModeSteps

@@ -10,6 +10,7 @@ use Rattle.irc_names.specs.Names.{fits, is_key, is_mask}
 use Rattle.irc_names.specs.Tables.{Table, row, alter, moved}
 use Rattle.irc_channels.specs.declared.channel.Channel.{Channel}
 use Rattle.irc_channels.specs.declared.TheConstants.{MAX_LIMIT, MAX_LIMIT_DIGITS}
+use Rattle.irc_channels.specs.declared.channel.Channel.{Channel}
 use Rattle.irc_channels.specs.declared.flags.Flags.{Flags}
 use Rattle.irc_channels.specs.declared.modes.Privacy.{Privacy}
 use Rattle.irc_channels.specs.declared.modes.Privacy.TheVariants.{Public, Private, Secret}
@@ -78,6 +79,10 @@ renamed old new channel = record channel {
 
 abbrev pub invited_too : List ℕ → Channel → Channel
 invited_too nick channel = record channel { invited = alter nick (λ _. Some tt) channel.invited }
+
+-- an invitation is taken back
+abbrev pub uninvited : List ℕ → Channel → Channel
+uninvited nick channel = record channel { invited = alter nick (λ _. None) channel.invited }
 
 abbrev pub with_topic : List ℕ → Channel → Channel
 with_topic topic channel = record channel { topic = topic }

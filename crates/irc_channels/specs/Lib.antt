@@ -1,5 +1,6 @@
 pub mod Texts
 pub mod Bans
 pub mod Channels
+pub mod ManyChanges
 pub mod ModeWords
 pub mod ModeLimits

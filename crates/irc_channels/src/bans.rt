@@ -1,5 +1,5 @@
 //! A channel's bans.
-ghost use Rattle.std.specs.Prelude.{◌≡◌, ◌≤◌, [], length, filter, find, position, is_ok, vec_len, if◌then◌else◌};
+ghost use Rattle.std.specs.Prelude.{◌≡◌, ◌≤◌, [], length, filter, find, position, is_ok, vec_len, IfOk, if◌then◌else◌};
 ghost use Rattle.std.specs.Option.{option_copied};
 ghost use Rattle.irc_names.specs.Fold.{same};
 ghost use Rattle.irc_channels.specs.Bans.{before, IsBanList, some_matches};
@@ -57,6 +57,15 @@ impl BanList {
         ensures ordered { IsBanList self.now }
     {
         self.masks.as_slice()
+    }
+
+    /// The same bans once more.
+    pub fn copy(&self) -> Result<Self, AllocError>
+        ensures { IfOk result (λ copy. copy ≡ self.now) }
+    {
+        Ok(BanList {
+            masks: self.masks.clone()?,
+        })
     }
 
     /// The ban that is the same under the fold, as it is spelled here.

@@ -1,7 +1,8 @@
 //! Changes of a channel's modes.
-ghost use Rattle.std.specs.Prelude.{◌≡◌, OnOk, OnErr};
+ghost use Rattle.std.specs.Prelude.{◌≡◌, IfOk, OnOk, OnErr};
 ghost use Rattle.std.specs.Option.{option_copied};
 ghost use Rattle.irc_channels.specs.Channels.{no_modes, mode_changed, private_changed, secret_changed, key_changed, limit_changed, bans_by_word};
+ghost use Rattle.irc_channels.specs.ManyChanges.{modes_after};
 
 use crate::bans::BanList;
 use crate::key::Key;
@@ -25,6 +26,33 @@ impl Modes {
             limit: None,
             bans: BanList::new(alloc),
         }
+    }
+
+    /// The same modes once more.
+    pub fn copy(&self) -> Result<Self, AllocError>
+        ensures { IfOk result (λ copy. copy ≡ self.now) }
+    {
+        Ok(Modes {
+            invite_only: self.invite_only,
+            moderated: self.moderated,
+            no_outside: self.no_outside,
+            topic_locked: self.topic_locked,
+            privacy: self.privacy,
+            key: copy_key(&self.key),
+            limit: self.limit,
+            bans: self.bans.copy()?,
+        })
+    }
+
+    /// The modes after changes of them, one after another.
+    pub fn changed(&self, changes: &[ModeChange]) -> Result<Self, AllocError>
+        ensures { IfOk result (λ modes. modes ≡ modes_after changes.now self.now) }
+    {
+        let mut modes = self.copy()?;
+        for change in changes {
+            modes.change(change)?;
+        }
+        Ok(modes)
     }
 
     /// Changes a mode of the channel. The letters o and v are modes of a member, and change nothing here. Where there is no memory
@@ -74,6 +102,15 @@ impl ModeChange {
             Some(word) => Some(word.as_bytes()),
             None => None,
         }
+    }
+}
+
+fn copy_key(key: &Option<Key>) -> Option<Key>
+    ensures { result ≡ key.now }
+{
+    match key {
+        Some(key) => Some(key.copy()),
+        None => None,
     }
 }
 
