@@ -10,7 +10,6 @@ use Rattle.irc_names.specs.Names.{fits, is_key, is_mask}
 use Rattle.irc_names.specs.Tables.{Table, row, alter, moved}
 use Rattle.irc_channels.specs.declared.channel.Channel.{Channel}
 use Rattle.irc_channels.specs.declared.TheConstants.{MAX_LIMIT, MAX_LIMIT_DIGITS}
-use Rattle.irc_channels.specs.declared.channel.Channel.{Channel}
 use Rattle.irc_channels.specs.declared.flags.Flags.{Flags}
 use Rattle.irc_channels.specs.declared.modes.Privacy.{Privacy}
 use Rattle.irc_channels.specs.declared.modes.Privacy.TheVariants.{Public, Private, Secret}

@@ -1,6 +1,7 @@
 -- The examples, each by computing what the lists say.
 use Rattle.std.proofs.Common.{true, false, not, ◌||◌, Some, None, [], ◌∷◌, ◌++◌, refl, ap, is_some, codes}
 use Rattle.irc_names.specs.Fold.{fold, fold_table}
+use Rattle.irc_names.specs.Names.{is_mask}
 use Rattle.irc_line.specs.Bytes.{cut}
 use Rattle.irc_line.specs.Messages.{line_text}
 use Rattle.irc_channels.specs.declared.modes.ModeChange.{ModeChange}
@@ -62,7 +63,7 @@ pub changes_written : ChangesWritten
 changes_written = (refl, refl)
 
 pub ban_stands_once : BanStandsOnce
-unfolding fold fold_table
+unfolding fold fold_table is_mask
 ban_stands_once =
     part_is (λ c. c.modes.bans)
     (two_members ++ ChangeModes (by.User (codes "foo")) (codes "#rust") (set letter.Ban (Some (codes "a[!*@*")) ∷ set letter.Ban (Some (codes "A{!*@*")) ∷ []) ∷ [])

@@ -12,7 +12,7 @@ use Rattle.irc_channels.specs.declared.modes.ModeChange.{ModeChange}
 use Rattle.irc_channels.specs.declared.modes.ModeLetter.{ModeLetter}
 use Rattle.irc_channels.specs.declared.modes.ModeLetter.TheVariants as letter
 use Rattle.irc_channels.specs.declared.channel.Channel.{Channel}
-use Rattle.irc_channels.specs.Channels.{no_modes, new_channel, has_member, is_nil, while_members, joined, left, without_user, renamed, invited_too, with_topic, private_changed, secret_changed, number_of, bans_changed, letter_changed, all_changed}
+use Rattle.irc_channels.specs.Channels.{no_modes, new_channel, has_member, is_nil, while_members, joined, left, without_user, renamed, invited_too, with_topic, private_changed, secret_changed, key_changed, limit_changed, bans_changed, letter_changed, all_changed}
 use Rattle.irc_room.specs.declared.effect.Effect.{Effect}
 use Rattle.irc_room.specs.declared.effect.Effect.TheVariants.{AddUser, Rename, Quit, Join, Part, Kick, ChangeModes, SetTopic, Say, Invite, UserMode}
 use Rattle.irc_room.specs.Room.{Room}
@@ -93,9 +93,9 @@ list_letter plus letter.NoOutside word c = list_modes (λ m. record m { no_outsi
 list_letter plus letter.TopicLocked word c = list_modes (λ m. record m { topic_locked = plus }) c
 list_letter plus letter.Private word c = list_modes (λ m. record m { privacy = private_changed plus m.privacy }) c
 list_letter plus letter.Secret word c = list_modes (λ m. record m { privacy = secret_changed plus m.privacy }) c
-list_letter true letter.Key (Some word) c = list_modes (λ m. record m { key = Some word }) c
+list_letter true letter.Key (Some word) c = list_modes (λ m. record m { key = key_changed true (Some word) m.key }) c
 list_letter false letter.Key word c = list_modes (λ m. record m { key = None }) c
-list_letter true letter.Limit (Some word) c = list_modes (λ m. record m { limit = Some (number_of word) }) c
+list_letter true letter.Limit (Some word) c = list_modes (λ m. record m { limit = limit_changed true (Some word) m.limit }) c
 list_letter false letter.Limit word c = list_modes (λ m. record m { limit = None }) c
 list_letter plus letter.Ban (Some word) c = list_modes (λ m. record m { bans = bans_changed plus word m.bans }) c
 list_letter plus letter.Operator (Some word) c = list_member word (λ f. record f { op = plus }) c
