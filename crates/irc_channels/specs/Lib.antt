@@ -2,5 +2,6 @@ pub mod Texts
 pub mod Bans
 pub mod Channels
 pub mod ManyChanges
+pub mod ChannelTable
 pub mod ModeWords
 pub mod ModeLimits

@@ -3,6 +3,8 @@
 
 mod bans;
 mod channel;
+mod channels;
+mod fault;
 mod flags;
 mod key;
 mod limit;
@@ -11,10 +13,13 @@ mod mode_changing;
 mod mode_word;
 mod mode_words;
 mod modes;
+mod row_changes;
 mod words;
 
 pub use bans::BanList;
 pub use channel::Channel;
+pub use channels::Channels;
+pub use fault::ChannelsFault;
 pub use flags::Flags;
 pub use key::Key;
 pub use limit::read_limit;

@@ -1,0 +1,201 @@
+//! The channels of a room, by name.
+ghost use Rattle.std.specs.Prelude.{◌≡◌, Some, None, OnOk, OnErr, is_some, map, unwrap_or};
+ghost use Rattle.std.specs.Option.{option_copied, option_map, option_and_then};
+ghost use Rattle.std.specs.Result.{result_err};
+ghost use Rattle.std.specs.FinMap.{empty, entries};
+ghost use Rattle.irc_names.specs.Fold.{key};
+ghost use Rattle.irc_names.specs.Tables.{row, alter, each};
+ghost use Rattle.irc_tables.specs.RowViews.{row_entry};
+ghost use Rattle.irc_channels.specs.Channels.{new_channel, joined, left, without_user, renamed, invited_too, uninvited, with_topic, all_changed};
+ghost use Rattle.irc_channels.specs.ChannelTable.{members_in, channel_fault, leaving_fault, IsOwedOrMemory};
+
+use crate::channel::Channel;
+use crate::fault::ChannelsFault;
+use crate::flags::Flags;
+use crate::modes::ModeChange;
+use crate::row_changes::{
+    Changing, Forgetting, Inviting, Joining, Leaving, Renaming, TopicSetting, Uninviting,
+};
+use crate::words::Words;
+use irc_names::{ChannelName, Nick};
+use irc_tables::{NameTable, Row};
+use std::alloc::{AllocError, Global};
+use std::marker::Model;
+
+/// Channels, no two of which have one name by the fold.
+#[derive(Debug, Drop)]
+pub struct Channels {
+    alloc: Global,
+    rows: NameTable<Channel>,
+}
+
+/// In a clause it is the table of its channels, each under the fold of its name.
+impl Model for Channels {
+    ghost use Rattle.irc_names.specs.Tables.{Table};
+    ghost use Rattle.irc_tables.specs.FoldedRows.{coded_name};
+    ghost use Rattle.irc_channels.specs.declared.channel.Channel.{Channel};
+    ghost use Rattle.irc_channels.specs.contracts.channel.Channel as channel;
+    ghost use Rattle.std.specs.FinMap.{code};
+
+    ghost Value = { Table Channel };
+
+    ghost coded = { code coded_name channel.the_row.coded };
+
+    ghost view = { λ channels. channels.rows };
+}
+
+impl Channels {
+    /// No channels.
+    pub fn new(alloc: Global) -> Self
+        ensures { result ≡ empty }
+    {
+        Channels {
+            alloc,
+            rows: NameTable::new(alloc),
+        }
+    }
+
+    /// The channel of a name, if there is one.
+    pub fn find(&self, name: &[u8]) -> Option<&Channel>
+        ensures { option_copied result ≡ row self.now (key name.now) }
+    {
+        self.rows.get(name)
+    }
+
+    /// Whether there is a channel of a name.
+    pub fn has(&self, name: &ChannelName) -> bool
+        ensures { result ≡ is_some (row self.now (key name.now)) }
+    {
+        self.find(name.as_bytes()).is_some()
+    }
+
+    /// All channels, in folded order of their names.
+    pub fn as_slice(&self) -> &[Row<Channel>]
+        ensures { map row_entry result.now ≡ entries self.now }
+    {
+        self.rows.as_slice()
+    }
+
+    /// The members of a channel, in folded order of their nicknames; none where there is no such channel.
+    pub fn members(&self, name: &[u8]) -> &[Row<Flags>]
+        ensures { map row_entry result.now ≡ members_in (row self.now (key name.now)) }
+    {
+        match self.rows.get(name) {
+            Some(channel) => channel.members.as_slice(),
+            None => &[],
+        }
+    }
+
+    /// A user joins a channel, which is made where it is not there, as it is spelled here (RFC 2812 section 3.2.1). One who is a
+    /// member already changes nothing.
+    pub fn join(
+        &mut self,
+        nick: &Nick,
+        channel: &ChannelName,
+        op: bool,
+    ) -> Result<(), ChannelsFault>
+        ensures fault { IsOwedOrMemory None (result_err result) }
+        ensures ok { OnOk result (self.new ≡ alter (key channel.now) (λ c. Some (joined (key nick.now) op (unwrap_or c (new_channel channel.now)))) self.old) }
+        ensures refused { OnErr result (self.new ≡ self.old) }
+    {
+        if self.has(channel) {
+            self.rows
+                .try_at(channel.as_bytes(), &Joining { nick, op })?;
+            return Ok(());
+        }
+        let mut made = Channel::new(self.alloc, channel);
+        made.join(nick, op)?;
+        self.rows.insert(channel.as_bytes(), made)?;
+        Ok(())
+    }
+
+    /// A member leaves a channel, which ends with its last member (RFC 2811 section 3). It takes no memory.
+    pub fn part(&mut self, nick: &Nick, channel: &ChannelName) -> Result<(), ChannelsFault>
+        ensures fault { result_err result ≡ leaving_fault (key nick.now) (row self.old (key channel.now)) }
+        ensures ok { OnOk result (self.new ≡ alter (key channel.now) (option_and_then (left (key nick.now))) self.old) }
+        ensures refused { OnErr result (self.new ≡ self.old) }
+    {
+        let Some(found) = self.rows.get(channel.as_bytes()) else {
+            return Err(ChannelsFault::NoSuchChannel);
+        };
+        if !found.has_member(nick) {
+            return Err(ChannelsFault::NotMember);
+        }
+        self.rows.change_at(channel.as_bytes(), &Leaving { nick });
+        Ok(())
+    }
+
+    /// Changes modes of a channel and of its members, one after another (RFC 2811 section 4).
+    pub fn change(
+        &mut self,
+        channel: &ChannelName,
+        changes: &[ModeChange],
+    ) -> Result<(), ChannelsFault>
+        ensures fault { IsOwedOrMemory (channel_fault (row self.old (key channel.now))) (result_err result) }
+        ensures ok { OnOk result (self.new ≡ alter (key channel.now) (option_map (all_changed changes.now)) self.old) }
+        ensures refused { OnErr result (self.new ≡ self.old) }
+    {
+        if !self.has(channel) {
+            return Err(ChannelsFault::NoSuchChannel);
+        }
+        self.rows
+            .try_at(channel.as_bytes(), &Changing { changes })?;
+        Ok(())
+    }
+
+    /// Gives a channel another topic. It takes no memory.
+    pub fn set_topic(&mut self, channel: &ChannelName, topic: &Words) -> Result<(), ChannelsFault>
+        ensures fault { result_err result ≡ channel_fault (row self.old (key channel.now)) }
+        ensures ok { OnOk result (self.new ≡ alter (key channel.now) (option_map (with_topic topic.now)) self.old) }
+        ensures refused { OnErr result (self.new ≡ self.old) }
+    {
+        if !self.has(channel) {
+            return Err(ChannelsFault::NoSuchChannel);
+        }
+        self.rows
+            .change_at(channel.as_bytes(), &TopicSetting { topic });
+        Ok(())
+    }
+
+    /// Invites a user to a channel.
+    pub fn invite(&mut self, nick: &Nick, channel: &ChannelName) -> Result<(), ChannelsFault>
+        ensures fault { IsOwedOrMemory (channel_fault (row self.old (key channel.now))) (result_err result) }
+        ensures ok { OnOk result (self.new ≡ alter (key channel.now) (option_map (invited_too (key nick.now))) self.old) }
+        ensures refused { OnErr result (self.new ≡ self.old) }
+    {
+        if !self.has(channel) {
+            return Err(ChannelsFault::NoSuchChannel);
+        }
+        self.rows.try_at(channel.as_bytes(), &Inviting { nick })?;
+        Ok(())
+    }
+
+    /// Takes the invitation of a user to a channel back; where there is none nothing changes. It takes no memory.
+    pub fn uninvite(&mut self, nick: &Nick, channel: &ChannelName) -> Result<(), ChannelsFault>
+        ensures fault { result_err result ≡ channel_fault (row self.old (key channel.now)) }
+        ensures ok { OnOk result (self.new ≡ alter (key channel.now) (option_map (uninvited (key nick.now))) self.old) }
+        ensures refused { OnErr result (self.new ≡ self.old) }
+    {
+        if !self.has(channel) {
+            return Err(ChannelsFault::NoSuchChannel);
+        }
+        self.rows
+            .change_at(channel.as_bytes(), &Uninviting { nick });
+        Ok(())
+    }
+
+    /// A user has another nickname, and its memberships and invitations with it. It takes no memory.
+    pub fn rename_member(&mut self, nick: &Nick, new: &Nick)
+        ensures { self.new ≡ each (λ c. Some (renamed (key nick.now) (key new.now) c)) self.old }
+    {
+        self.rows.change_each(&Renaming { nick, new });
+    }
+
+    /// A user is gone from all channels, and its invitations with it; each channel that it was the last member of ends. It takes no
+    /// memory.
+    pub fn remove_user(&mut self, nick: &Nick)
+        ensures { self.new ≡ each (without_user (key nick.now)) self.old }
+    {
+        self.rows.change_each(&Forgetting { nick });
+    }
+}

@@ -1,0 +1,128 @@
+//! What the calls on the channels do to one of them.
+ghost use Rattle.std.specs.Prelude.{Some};
+ghost use Rattle.irc_names.specs.Fold.{key};
+ghost use Rattle.irc_channels.specs.Channels.{joined, left, without_user, renamed, invited_too, uninvited, with_topic, all_changed};
+
+use crate::channel::Channel;
+use crate::modes::ModeChange;
+use crate::words::Words;
+use irc_names::Nick;
+use irc_tables::{RowAttempt, RowChange};
+use std::alloc::AllocError;
+
+/// A user joins.
+#[derive(Drop)]
+pub(crate) struct Joining<'a> {
+    pub nick: &'a Nick,
+    pub op: bool,
+}
+
+impl<'a> RowAttempt<Channel> for Joining<'a> {
+    ghost tried = { λ joining channel. joined (key joining.nick.now) joining.op channel };
+
+    fn attempt(&self, channel: &mut Channel) -> Result<(), AllocError> {
+        channel.join(self.nick, self.op)
+    }
+}
+
+/// A member leaves.
+#[derive(Drop)]
+pub(crate) struct Leaving<'a> {
+    pub nick: &'a Nick,
+}
+
+impl<'a> RowChange<Channel> for Leaving<'a> {
+    ghost changed = { λ leaving channel. left (key leaving.nick.now) channel };
+
+    fn change(&self, channel: &mut Channel) -> bool {
+        channel.leave(self.nick)
+    }
+}
+
+/// A user is gone.
+#[derive(Drop)]
+pub(crate) struct Forgetting<'a> {
+    pub nick: &'a Nick,
+}
+
+impl<'a> RowChange<Channel> for Forgetting<'a> {
+    ghost changed = { λ forgetting channel. without_user (key forgetting.nick.now) channel };
+
+    fn change(&self, channel: &mut Channel) -> bool {
+        channel.forget(self.nick)
+    }
+}
+
+/// A user has another nickname.
+#[derive(Drop)]
+pub(crate) struct Renaming<'a> {
+    pub nick: &'a Nick,
+    pub new: &'a Nick,
+}
+
+impl<'a> RowChange<Channel> for Renaming<'a> {
+    ghost changed = { λ renaming channel. Some (renamed (key renaming.nick.now) (key renaming.new.now) channel) };
+
+    fn change(&self, channel: &mut Channel) -> bool {
+        channel.rename(self.nick, self.new);
+        true
+    }
+}
+
+/// A user is invited.
+#[derive(Drop)]
+pub(crate) struct Inviting<'a> {
+    pub nick: &'a Nick,
+}
+
+impl<'a> RowAttempt<Channel> for Inviting<'a> {
+    ghost tried = { λ inviting channel. invited_too (key inviting.nick.now) channel };
+
+    fn attempt(&self, channel: &mut Channel) -> Result<(), AllocError> {
+        channel.invite(self.nick)
+    }
+}
+
+/// An invitation is taken back.
+#[derive(Drop)]
+pub(crate) struct Uninviting<'a> {
+    pub nick: &'a Nick,
+}
+
+impl<'a> RowChange<Channel> for Uninviting<'a> {
+    ghost changed = { λ uninviting channel. Some (uninvited (key uninviting.nick.now) channel) };
+
+    fn change(&self, channel: &mut Channel) -> bool {
+        channel.uninvite(self.nick);
+        true
+    }
+}
+
+/// The topic is another.
+#[derive(Drop)]
+pub(crate) struct TopicSetting<'a> {
+    pub topic: &'a Words,
+}
+
+impl<'a> RowChange<Channel> for TopicSetting<'a> {
+    ghost changed = { λ setting channel. Some (with_topic setting.topic.now channel) };
+
+    fn change(&self, channel: &mut Channel) -> bool {
+        channel.set_topic(self.topic);
+        true
+    }
+}
+
+/// Modes are changed.
+#[derive(Drop)]
+pub(crate) struct Changing<'a> {
+    pub changes: &'a [ModeChange],
+}
+
+impl<'a> RowAttempt<Channel> for Changing<'a> {
+    ghost tried = { λ changing channel. all_changed changing.changes.now channel };
+
+    fn attempt(&self, channel: &mut Channel) -> Result<(), AllocError> {
+        channel.change(self.changes)
+    }
+}
