@@ -14,3 +14,5 @@ pub mod ExamplesProved
 pub mod Refusals
 pub mod WrittenChanges
 pub mod RowValues
+pub mod Keeping
+pub mod ToldLaw

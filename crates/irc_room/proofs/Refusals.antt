@@ -3,9 +3,14 @@ use Rattle.std.proofs.Common.{◌≡◌, ℕ, Bool, true, false, cond, not, Opti
 use Rattle.std.specs.List.{list_all}
 use Rattle.std.specs.Option.{option_map_or}
 use Rattle.arrayvec.specs.ArrayVec.{ArrayVec}
+use Rattle.irc_names.specs.Tables.{Table}
+use Rattle.irc_users.specs.declared.user.User.{User}
+use Rattle.irc_channels.specs.declared.channel.Channel.{Channel}
 use Rattle.irc_room.specs.declared.effect.Effect.{Effect}
 use Rattle.irc_room.specs.declared.fault.RoomFault.{RoomFault}
 use Rattle.irc_room.specs.declared.fault.RoomFault.TheVariants.{NoSuchUser, NoSuchChannel, Memory, Failed}
+use Rattle.irc_room.specs.Room.{Room}
+use Rattle.irc_room.specs.After.{after}
 use Rattle.irc_room.specs.Effects.{has_user, has_channel, needs_users, needs_channel}
 use Rattle.irc_room.specs.Applying.{Kept, room_fault, Applied}
 
@@ -28,3 +33,41 @@ refused old effect out NoSuchUser is = (sym is, refl, refl)
 refused old effect out NoSuchChannel is = (sym is, refl, refl)
 refused old effect out Memory is = absurd (never_memory old effect (sym is))
 refused old effect out Failed is = (sym is, refl, refl)
+
+-- what is so where an effect is not refused
+pub record IsServed (kept : Kept) (effect : Effect) : Type 0 where
+  pub alive : kept.failed ≡ false
+  pub users_there : list_all (has_user kept.room) (needs_users effect) ≡ true
+  pub channel_there : option_map_or (has_channel kept.room) (needs_channel effect) true ≡ true
+
+not_so : (b : Bool) → not b ≡ false → b ≡ true
+not_so true e = refl
+not_so false e = cc
+
+no_cause : (failed no_user no_channel : Bool)
+    → cond failed (Some Failed) (cond no_user (Some NoSuchUser) (cond no_channel (Some NoSuchChannel) None)) ≡ None
+    → (failed ≡ false) × (no_user ≡ false) × (no_channel ≡ false)
+no_cause true no_user no_channel is = cc
+no_cause false true no_channel is = cc
+no_cause false false true is = cc
+no_cause false false false is = (refl, refl, refl)
+
+pub served : (kept : Kept) (effect : Effect) → room_fault kept effect ≡ None → IsServed kept effect
+served kept effect is =
+    let parts = no_cause kept.failed (not (list_all (has_user kept.room) (needs_users effect))) (not (option_map_or (has_channel kept.room) (needs_channel effect) true)) is in
+    record { alive = parts.0; users_there = not_so _ parts.1; channel_there = not_so _ parts.2 }
+
+-- a room that was changed, or was not for want of memory, field by field
+pub kept_changed : (inside now : Kept) (room : Room) (effect : Effect) → inside ≡ now → inside.failed ≡ false → room ≡ after inside.room effect
+    → record { own = inside.own; failed = false; room = room } ≡ record now { room = after now.room effect }
+kept_changed inside now room effect is alive changed =
+    ap (λ f. record { own = inside.own; failed = f; room = room }) (sym alive)
+    ∙ ap (λ (r : Room). record { own = inside.own; failed = inside.failed; room = r }) changed
+    ∙ ap (λ (k : Kept). record k { room = after k.room effect }) is
+
+pub kept_refused : (inside now : Kept) (users : Table User) (channels : Table Channel) → inside ≡ now → users ≡ inside.room.users → channels ≡ inside.room.channels
+    → record { own = inside.own; failed = true; room = record { users = users; channels = channels } } ≡ record now { failed = true }
+kept_refused inside now users channels is same_users same_channels =
+    ap (λ (u : Table User). record { own = inside.own; failed = true; room = record { users = u; channels = channels } }) same_users
+    ∙ ap (λ (t : Table Channel). record { own = inside.own; failed = true; room = record { users = inside.room.users; channels = t } }) same_channels
+    ∙ ap (λ (k : Kept). record k { failed = true }) is

@@ -10,3 +10,4 @@ pub mod Codes
 pub mod Signs
 pub mod LineViews
 pub mod RoomParts
+pub mod Telling

@@ -1,6 +1,7 @@
 //! One room: what changes it, and who is shown what.
 #![tactic(auto)]
 
+mod changing;
 mod effect;
 mod effect_lines;
 pub mod examples;
@@ -12,6 +13,7 @@ mod refusing;
 mod room;
 mod room_parts;
 mod seeing;
+mod showing;
 
 pub use effect::{By, Effect, ModeChanges, Target};
 pub use fault::RoomFault;

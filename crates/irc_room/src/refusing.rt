@@ -9,16 +9,15 @@ ghost use Rattle.irc_room.specs.Effects.{has_user, has_channel, needs_users, nee
 
 use crate::effect::{By, Effect, Target};
 use crate::fault::RoomFault;
-use irc_channels::Channel;
+use irc_channels::Channels;
 use irc_names::{ChannelName, Nick};
-use irc_tables::NameTable;
 use irc_users::Users;
 
 /// Why a room with these users and channels refuses an effect, if it does.
 pub(crate) fn refusal(
     failed: bool,
     users: &Users,
-    channels: &NameTable<Channel>,
+    channels: &Channels,
     effect: &Effect,
 ) -> Option<RoomFault>
     ensures { (own : List ℕ) → result ≡ room_fault (record { own = own; failed = failed; room = record { users = users.now; channels = channels.now } }) effect.now }
@@ -81,14 +80,14 @@ fn users_there(users: &Users, effect: &Effect) -> bool
 }
 
 /// Whether a channel has a name.
-fn is_channel(channels: &NameTable<Channel>, name: &ChannelName) -> bool
+fn is_channel(channels: &Channels, name: &ChannelName) -> bool
     ensures { result ≡ is_some (row channels.now (key name.now)) }
 {
-    channels.get(name.as_bytes()).is_some()
+    channels.has(name)
 }
 
 /// Whether the channel is there that an effect needs, if it needs one.
-fn channel_there(channels: &NameTable<Channel>, effect: &Effect) -> bool
+fn channel_there(channels: &Channels, effect: &Effect) -> bool
     ensures { result ≡ option_map_or (λ name. is_some (row channels.now (key name))) (needs_channel effect.now) true }
 {
     match effect {

@@ -12,11 +12,11 @@ ghost use Rattle.irc_room.specs.Room.{IsWellFormed};
 
 use crate::effect::Effect;
 use crate::fault::RoomFault;
+use crate::changing::perform;
 use crate::refusing::refusal;
-use irc_channels::{Channel, Flags};
+use irc_channels::{Channel, Channels, Flags};
 use irc_line::Text;
 use irc_names::{Nick, ServerName};
-use irc_tables::NameTable;
 use irc_users::{User, Users};
 use std::alloc::{AllocError, Global};
 use std::marker::Model;
@@ -27,7 +27,8 @@ pub struct Room {
     own: ServerName,
     failed: bool,
     users: Users,
-    channels: NameTable<Channel>,
+    channels: Channels,
+    alloc: Global,
 }
 
 /// In a clause it is whose room it is, whether memory ran out, and the room, which is well formed.
@@ -56,7 +57,8 @@ impl Room {
             own,
             failed: false,
             users: Users::new(alloc),
-            channels: NameTable::new(alloc),
+            channels: Channels::new(alloc),
+            alloc,
         }
     }
 
@@ -79,14 +81,14 @@ impl Room {
     pub fn channel(&self, name: &[u8]) -> Option<&Channel>
         ensures { option_copied result ≡ channel_at self.now.room (key name.now) }
     {
-        self.channels.get(name)
+        self.channels.find(name)
     }
 
     /// The flags of the user of a nickname in the channel of a name, where it is a member.
     pub fn member(&self, nick: &[u8], channel: &[u8]) -> Option<Flags>
         ensures { result ≡ flags_at self.now.room (key nick.now) (key channel.now) }
     {
-        match self.channels.get(channel) {
+        match self.channels.find(channel) {
             Some(channel) => flags_in(channel, nick),
             None => None,
         }
@@ -96,7 +98,7 @@ impl Room {
     pub fn invited(&self, nick: &[u8], channel: &[u8]) -> bool
         ensures { result ≡ is_invited_at self.now.room (key nick.now) (key channel.now) }
     {
-        match self.channels.get(channel) {
+        match self.channels.find(channel) {
             Some(channel) => channel.invited.get(nick).is_some(),
             None => false,
         }
@@ -119,8 +121,25 @@ impl Room {
         if let Some(fault) = refusal(self.failed, &self.users, &self.channels, effect) {
             return Err(fault);
         }
+        let before = out.len();
         self.failed = true;
-        Err(RoomFault::Memory)
+        match perform(
+            self.alloc,
+            self.own.as_bytes(),
+            &mut self.users,
+            &mut self.channels,
+            effect,
+            out,
+        ) {
+            Ok(()) => {
+                self.failed = false;
+                Ok(())
+            }
+            Err(_) => {
+                out.truncate(before);
+                Err(RoomFault::Memory)
+            }
+        }
     }
 }
 

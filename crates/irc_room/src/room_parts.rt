@@ -11,10 +11,9 @@ ghost use Rattle.irc_room.specs.RoomParts.{room_of};
 
 use crate::effect::{By, Target};
 use crate::lines::full_prefix;
-use irc_channels::Channel;
+use irc_channels::{Channel, Channels};
 use irc_line::Prefix;
 use irc_names::{ChannelName, Nick};
-use irc_tables::NameTable;
 use irc_users::Users;
 
 /// A room, by its two tables.
@@ -23,7 +22,7 @@ pub(crate) struct RoomParts<'a> {
     /// The users, by nickname.
     pub users: &'a Users,
     /// The channels, by name.
-    pub channels: &'a NameTable<Channel>,
+    pub channels: &'a Channels,
 }
 
 /// The prefix of a line that comes from the user with a nickname, where it is there.
@@ -60,7 +59,7 @@ pub(crate) fn stored_nick<'a>(parts: RoomParts<'a>, nick: &'a Nick) -> &'a [u8]
 pub(crate) fn stored_channel<'a>(parts: RoomParts<'a>, channel: &'a ChannelName) -> &'a [u8]
     ensures { result.now ≡ stored_channel (room_of parts.entry) channel.now }
 {
-    match parts.channels.get(channel.as_bytes()) {
+    match parts.channels.find(channel.as_bytes()) {
         Some(found) => found.name.as_bytes(),
         None => channel.as_bytes(),
     }
@@ -80,14 +79,14 @@ pub(crate) fn target_name<'a>(parts: RoomParts<'a>, target: &'a Target) -> &'a [
 pub(crate) fn has_channel(parts: RoomParts<'_>, channel: &ChannelName) -> bool
     ensures { result ≡ has_channel (room_of parts.entry) channel.now }
 {
-    parts.channels.get(channel.as_bytes()).is_some()
+    parts.channels.find(channel.as_bytes()).is_some()
 }
 
 /// Whether a user is a member of a channel.
 pub(crate) fn is_member(parts: RoomParts<'_>, nick: &Nick, channel: &ChannelName) -> bool
     ensures { result ≡ is_member (room_of parts.entry) nick.now channel.now }
 {
-    match parts.channels.get(channel.as_bytes()) {
+    match parts.channels.find(channel.as_bytes()) {
         Some(channel) => has_member(channel, nick),
         None => false,
     }

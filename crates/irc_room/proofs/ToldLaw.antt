@@ -1,0 +1,130 @@
+-- What an effect shows to the users of one server, user by user, is what it shows there.
+use Rattle.std.proofs.Common.{◌≡◌, ℕ, Bool, true, false, cond, ◌&&◌, T, Option, Some, None, List, [], ◌∷◌, ◌++◌, refl, sym, ◌∙◌, ap, subst, map, filter, filter_map, if◌then◌else◌, option_map, nat_eq}
+use Rattle.std.proofs.lemmas.List.{append_assoc}
+use Rattle.std.specs.Cmp.Lexicographic.{pointwise, nat_list_cmp_total, bytes_decides}
+use Rattle.std.specs.List.{AllByRecursion, cons_option, flat_map}
+use Rattle.std.specs.Option.{option_map_or}
+use Rattle.std.specs.FinMap.{entries, entries_sorted, values, find, is_sorted, get-entries}
+use Rattle.arrayvec.specs.ArrayVec.{ArrayVec}
+use Rattle.irc_names.specs.Fold.{key}
+use Rattle.irc_names.specs.Tables.{Table, fold_cmp, row}
+use Rattle.irc_tables.proofs.OrderedEntries.{find-there, sorted-below}
+use Rattle.irc_users.specs.declared.user.User.{User}
+use Rattle.irc_users.specs.UserTable.{is_home}
+use Rattle.irc_room.specs.declared.effect.Effect.{Effect}
+use Rattle.irc_room.specs.Room.{Room}
+use Rattle.irc_room.specs.Effects.{is_idle}
+use Rattle.irc_room.specs.Seen.{Showing, seen, shown_to, shown_line, sees}
+use Rattle.irc_room.specs.Applying.{Kept, is_own, handed}
+use Rattle.irc_room.specs.RoomParts.{ShowsAt}
+use Rattle.irc_room.specs.Telling.{shown_at, told, AreNamed}
+use Rattle.irc_room.proofs.Rows.{if_true, if_not}
+
+true_is : (b : Bool) → T b → b ≡ true
+true_is true h = refl
+true_is false h = absurd h
+
+-- each user of a table is found by its own nickname
+abbrev IsStored : Table User → List ℕ × User → Type 0
+IsStored users e = row users (key e.1.nick) ≡ Some e.1
+
+all_stored : (users : Table User) → AreNamed users → (front es : List (List ℕ × User)) → front ++ es ≡ entries users → AllByRecursion (IsStored users) es
+all_stored users named front [] is = tt
+all_stored users named front (e ∷ es) is =
+    let sorted : is_sorted fold_cmp (front ++ e ∷ es) ≡ true = ap (is_sorted fold_cmp) is ∙ true_is _ (entries_sorted users) in
+    let at : row users e.0 ≡ Some e.1 =
+    get-entries users e.0 ∙ ap (find fold_cmp e.0) (sym is)
+    ∙ find-there nat_list_cmp_total e.0 e.1 front es (sorted-below nat_list_cmp_total e.0 e.1 front es sorted) in
+    (ap (row users) (named e.0 e.1 at) ∙ at, all_stored users named (front ++ e ∷ []) es (append_assoc front (e ∷ []) es ∙ is))
+
+module _ (own : List ℕ) (room : Room) (effect : Effect) (line : Option (List ℕ)) (shows : ShowsAt room effect own line) where
+  abbrev kept : Kept
+  kept = record { own = own; failed = false; room = room }
+
+  -- the line, if there is one, for a user
+  abbrev told_line : Option (List ℕ) → User → List (List ℕ × ArrayVec ℕ)
+  told_line None user = []
+  told_line (Some l) user = told own room effect l user
+
+  abbrev here : List Showing → List (List ℕ × ArrayVec ℕ)
+  here showings = map handed (filter (is_own kept) showings)
+
+  abbrev showing : User → List ℕ → Showing
+  showing user l = record { viewer = user.nick; line = l }
+
+  untold : (user : User) (b : Bool) → (is_home own user && sees room effect user.nick) ≡ b → b ≡ false → (l : Option (List ℕ)) → told_line l user ≡ []
+  untold user b is out None = refl
+  untold user b is out (Some l) = ap (λ t. if t then (user.nick, record { items = l }) ∷ [] else []) (is ∙ out)
+
+  both_false : (b c : Bool) → c ≡ false → (b && c) ≡ false
+  both_false true c e = e
+  both_false false c e = refl
+
+  -- a showing to a user stays just where the user is one of the server
+  kept_or_not : (user : User) → row room.users (key user.nick) ≡ Some user → (l : List ℕ) (rest : List Showing) (b : Bool) → is_home own user ≡ b
+      → here (showing user l ∷ rest) ≡ cond b ((user.nick, record { items = l }) ∷ here rest) (here rest)
+  kept_or_not user at l rest true home =
+      ap (λ t. map handed (cond t (showing user l ∷ filter (is_own kept) rest) (filter (is_own kept) rest))) (ap (λ o. option_map_or (is_home own) o false) at ∙ home)
+  kept_or_not user at l rest false far =
+      ap (λ t. map handed (cond t (showing user l ∷ filter (is_own kept) rest) (filter (is_own kept) rest))) (ap (λ o. option_map_or (is_home own) o false) at ∙ far)
+
+  by_line : (user : User) → row room.users (key user.nick) ≡ Some user → sees room effect user.nick ≡ true → (rest : List Showing) → is_home own user ≡ true
+      → (l : Option (List ℕ)) → here (cons_option (option_map (showing user) l) rest) ≡ told_line l user ++ here rest
+  by_line user at seen rest home None = refl
+  by_line user at seen rest home (Some l) =
+      kept_or_not user at l rest true home
+      ∙ ap (λ t. (if t then (user.nick, record { items = l }) ∷ [] else []) ++ here rest) (sym (ap (λ b. b && sees room effect user.nick) home ∙ seen))
+
+  far_line : (user : User) → row room.users (key user.nick) ≡ Some user → (rest : List Showing) → is_home own user ≡ false
+      → (l : Option (List ℕ)) → here (cons_option (option_map (showing user) l) rest) ≡ here rest
+  far_line user at rest far None = refl
+  far_line user at rest far (Some l) = kept_or_not user at l rest false far
+
+  by_home : (user : User) → row room.users (key user.nick) ≡ Some user → sees room effect user.nick ≡ true → (rest : List Showing) (b : Bool) → is_home own user ≡ b
+      → here (cons_option (option_map (showing user) (shown_line room effect user)) rest) ≡ told_line line user ++ here rest
+  by_home user at seen rest true home =
+      ap (λ l. here (cons_option (option_map (showing user) l) rest)) (shows user ((bytes_decides user.home own).0 home))
+      ∙ by_line user at seen rest home line
+  by_home user at seen rest false far =
+      far_line user at rest far (shown_line room effect user)
+      ∙ ap (λ t. t ++ here rest) (sym (untold user _ refl (ap (λ b. b && sees room effect user.nick) far) line))
+
+  one_told : (user : User) → row room.users (key user.nick) ≡ Some user → (rest : List Showing)
+      → here (cons_option (shown_to room effect user) rest) ≡ told_line line user ++ here rest
+  one_told user at rest = by_sight (sees room effect user.nick) refl
+    where
+      by_sight : (b : Bool) → sees room effect user.nick ≡ b → here (cons_option (shown_to room effect user) rest) ≡ told_line line user ++ here rest
+      by_sight true seen =
+          ap (λ t. here (cons_option (if t then option_map (showing user) (shown_line room effect user) else None) rest)) seen
+          ∙ by_home user at seen rest (is_home own user) refl
+      by_sight false unseen =
+          ap (λ t. here (cons_option (if t then option_map (showing user) (shown_line room effect user) else None) rest)) unseen
+          ∙ ap (λ t. t ++ here rest) (sym (untold user _ refl (both_false (is_home own user) _ unseen) line))
+
+  all_told : (es : List (List ℕ × User)) → AllByRecursion (IsStored room.users) es
+      → here (filter_map (shown_to room effect) (map (λ e. e.1) es)) ≡ flat_map (told_line line) (map (λ e. e.1) es)
+  all_told [] stored = refl
+  all_told (e ∷ es) stored =
+      one_told e.1 stored.0 (filter_map (shown_to room effect) (map (λ e. e.1) es))
+      ∙ ap (λ t. told_line line e.1 ++ t) (all_told es stored.1)
+
+  pub shown_is_told : AreNamed room.users → is_idle room effect ≡ false → shown_at own room effect ≡ flat_map (told_line line) (values room.users)
+  unfolding seen
+  shown_is_told named busy =
+      ap (λ b. here (if b then [] else filter_map (shown_to room effect) (values room.users))) busy
+      ∙ all_told (entries room.users) (all_stored room.users named [] (entries room.users) refl)
+
+-- an idle effect shows nothing
+pub idle_tells_nothing : (own : List ℕ) (room : Room) (effect : Effect) → is_idle room effect ≡ true → shown_at own room effect ≡ []
+unfolding seen
+idle_tells_nothing own room effect idle =
+    ap (λ b. map handed (filter (is_own (record { own = own; failed = false; room = room })) (if b then [] else filter_map (shown_to room effect) (values room.users)))) idle
+
+none_told : {X : Type 0} (f : User → List X) → ((user : User) → f user ≡ []) → (users : List User) → flat_map f users ≡ []
+none_told f none [] = refl
+none_told f none (user ∷ users) = ap (λ t. t ++ flat_map f users) (none user) ∙ none_told f none users
+
+-- nor does one without a line
+pub no_line_tells_nothing : (own : List ℕ) (room : Room) (effect : Effect) → ShowsAt room effect own None → AreNamed room.users → is_idle room effect ≡ false
+    → shown_at own room effect ≡ []
+no_line_tells_nothing own room effect shows named busy = shown_is_told own room effect None shows named busy ∙ none_told _ (λ user. refl) (values room.users)

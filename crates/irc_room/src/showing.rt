@@ -1,0 +1,72 @@
+//! What an effect shows to the users of one server.
+ghost use Rattle.std.specs.Prelude.{◌≡◌, ◌++◌, length, take, OnOk, OnErr};
+ghost use Rattle.std.specs.List.{flat_map};
+ghost use Rattle.std.specs.FinMap.{values};
+ghost use Rattle.irc_room.specs.RoomParts.{room_of};
+ghost use Rattle.irc_room.specs.Telling.{shown_at, told, AreNamed};
+
+use crate::effect::Effect;
+use crate::effect_lines::effect_line;
+use crate::room_parts::RoomParts;
+use crate::seeing::{is_idle, sees};
+use irc_line::Text;
+use irc_names::{Nick, copied};
+use irc_users::User;
+use std::alloc::{AllocError, Global};
+
+/// Appends what an effect shows to the users of the server of this name, in folded order. Whatever comes of it, what was there stays
+/// at the front.
+pub(crate) fn show(
+    alloc: Global,
+    own: &[u8],
+    parts: RoomParts<'_>,
+    effect: &Effect,
+    out: &mut Vec<(Nick, Text), Global>,
+) -> Result<(), AllocError>
+    requires { AreNamed parts.users.now }
+    ensures ok { OnOk result (out.new.items ≡ out.old.items ++ shown_at own.now (room_of parts.entry) effect.now) }
+    ensures front { take (length out.old.items) out.new.items ≡ out.old.items }
+{
+    if is_idle(parts, effect) {
+        return Ok(());
+    }
+    match effect_line(alloc, own, parts, effect)? {
+        Some(line) => tell_all(own, parts, effect, &line, out),
+        None => Ok(()),
+    }
+}
+
+/// Appends a line for each user of the server that sees an effect.
+fn tell_all(
+    own: &[u8],
+    parts: RoomParts<'_>,
+    effect: &Effect,
+    line: &Text,
+    out: &mut Vec<(Nick, Text), Global>,
+) -> Result<(), AllocError>
+    ensures ok { OnOk result (out.new.items ≡ out.old.items ++ flat_map (told own.now (room_of parts.entry) effect.now line.now.items) (values parts.entry.users.now)) }
+    ensures front { take (length out.old.items) out.new.items ≡ out.old.items }
+{
+    for user in parts.users.as_slice() {
+        tell(own, parts, effect, line, user, out)?;
+    }
+    Ok(())
+}
+
+/// Appends a line for a user, if it is one of the server and sees an effect.
+fn tell(
+    own: &[u8],
+    parts: RoomParts<'_>,
+    effect: &Effect,
+    line: &Text,
+    user: &User,
+    out: &mut Vec<(Nick, Text), Global>,
+) -> Result<(), AllocError>
+    ensures ok { OnOk result (out.new.items ≡ out.old.items ++ told own.now (room_of parts.entry) effect.now line.now.items user.now) }
+    ensures refused { OnErr result (out.new.items ≡ out.old.items) }
+{
+    if user.home.as_bytes() == own && sees(parts, effect, &user.nick) {
+        out.push((user.nick.copy(), copied(line.as_slice())))?;
+    }
+    Ok(())
+}
