@@ -16,3 +16,4 @@ pub mod WrittenChanges
 pub mod RowValues
 pub mod Keeping
 pub mod ToldLaw
+pub mod KeptRows

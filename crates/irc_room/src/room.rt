@@ -1,9 +1,12 @@
 //! One room.
-ghost use Rattle.std.specs.Prelude.{◌≡◌, ℕ, Bool, false, true, map, IfOk};
+ghost use Rattle.std.specs.Prelude.{◌≡◌, false, true, filter, map, IfOk};
 ghost use Rattle.std.specs.Option.{option_copied};
-ghost use Rattle.std.specs.FinMap.{empty, values};
+ghost use Rattle.std.specs.FinMap.{empty, entries, values};
 ghost use Rattle.irc_names.specs.Fold.{key};
 ghost use Rattle.irc_names.specs.Tables.{row};
+ghost use Rattle.irc_tables.specs.RowViews.{row_entry};
+ghost use Rattle.irc_channels.specs.Channels.{has_member};
+ghost use Rattle.irc_channels.specs.ChannelTable.{members_in};
 ghost use Rattle.irc_room.specs.Applying.{Kept, Applied};
 ghost use Rattle.irc_room.specs.Effects.{brings_free};
 ghost use Rattle.irc_room.specs.Laws.{no_room};
@@ -17,6 +20,7 @@ use crate::refusing::refusal;
 use irc_channels::{Channel, Channels, Flags};
 use irc_line::Text;
 use irc_names::{Nick, ServerName};
+use irc_tables::Row;
 use irc_users::{User, Users};
 use std::alloc::{AllocError, Global};
 use std::marker::Model;
@@ -104,6 +108,45 @@ impl Room {
         }
     }
 
+    /// All users, in folded order of their nicknames.
+    ///
+    /// # Errors
+    /// Where memory runs out.
+    pub fn users(&self, alloc: Global) -> Result<Vec<&User, Global>, AllocError>
+        ensures { IfOk result (λ found. map (λ user. user.now) found.items ≡ values self.now.room.users) }
+    {
+        self.users.as_slice().iter().collect(alloc)
+    }
+
+    /// All channels, in folded order of their names.
+    pub fn channels(&self) -> &[Row<Channel>]
+        ensures { map row_entry result.now ≡ entries self.now.room.channels }
+    {
+        self.channels.as_slice()
+    }
+
+    /// The channels that the user of a nickname is a member of, in folded order of their names.
+    ///
+    /// # Errors
+    /// Where memory runs out.
+    pub fn channels_of(
+        &self,
+        alloc: Global,
+        nick: &[u8],
+    ) -> Result<Vec<&Row<Channel>, Global>, AllocError>
+        ensures { IfOk result (λ found. map (λ row. row_entry row.now) found.items ≡ filter (λ e. has_member (key nick.now) e.1) (entries self.now.room.channels)) }
+    {
+        with_member(self.channels.as_slice(), alloc, nick)
+    }
+
+    /// The members of the channel of a name with their flags, in folded order of their nicknames; none where there is no such
+    /// channel.
+    pub fn members_of(&self, channel: &[u8]) -> &[Row<Flags>]
+        ensures { map row_entry result.now ≡ members_in (channel_at self.now.room (key channel.now)) }
+    {
+        self.channels.members(channel)
+    }
+
     /// Applies an effect: the room is the one after it, and what it shows to the server's own users is appended to `out`, in
     /// folded order of the viewers.
     ///
@@ -141,6 +184,26 @@ impl Room {
             }
         }
     }
+}
+
+/// Those of some rows whose channel the user of a nickname is a member of.
+fn with_member<'a>(
+    rows: &'a [Row<Channel>],
+    alloc: Global,
+    nick: &[u8],
+) -> Result<Vec<&'a Row<Channel>, Global>, AllocError>
+    ensures { IfOk result (λ found. map (λ row. row.now) found.items ≡ filter (λ row. has_member (key nick.now) row.value) rows.now) }
+{
+    rows.iter()
+        .filter(|row| is_in(&row.value, nick))
+        .collect(alloc)
+}
+
+/// Whether the user of a nickname is a member of a channel.
+fn is_in(channel: &Channel, nick: &[u8]) -> bool
+    ensures { result ≡ has_member (key nick.now) channel.now }
+{
+    channel.members.get(nick).is_some()
 }
 
 /// The flags of the user of a nickname in a channel.
