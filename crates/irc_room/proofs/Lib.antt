@@ -17,3 +17,4 @@ pub mod RowValues
 pub mod Keeping
 pub mod ToldLaw
 pub mod KeptRows
+pub mod AudienceLaw

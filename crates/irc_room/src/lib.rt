@@ -1,6 +1,7 @@
 //! One room: what changes it, and who is shown what.
 #![tactic(auto)]
 
+mod audience;
 mod changing;
 mod effect;
 mod effect_lines;

@@ -12,11 +12,14 @@ ghost use Rattle.irc_room.specs.Effects.{brings_free};
 ghost use Rattle.irc_room.specs.Laws.{no_room};
 ghost use Rattle.irc_room.specs.Readers.{user_at, channel_at, flags_at, is_invited_at};
 ghost use Rattle.irc_room.specs.Room.{IsWellFormed};
+ghost use Rattle.irc_room.specs.Seen.{seen};
 
 use crate::effect::Effect;
 use crate::fault::RoomFault;
+use crate::audience::audience;
 use crate::changing::perform;
 use crate::refusing::refusal;
+use crate::room_parts::RoomParts;
 use irc_channels::{Channel, Channels, Flags};
 use irc_line::Text;
 use irc_names::{Nick, ServerName};
@@ -145,6 +148,24 @@ impl Room {
         ensures { map row_entry result.now ≡ members_in (channel_at self.now.room (key channel.now)) }
     {
         self.channels.members(channel)
+    }
+
+    /// The nicknames of all who see an effect, on whichever server, in folded order (RFC 2812 section 3).
+    ///
+    /// # Errors
+    /// Where memory runs out.
+    pub fn audience(
+        &self,
+        alloc: Global,
+        effect: &Effect,
+    ) -> Result<Vec<Nick, Global>, AllocError>
+        ensures { IfOk result (λ viewers. viewers.items ≡ map (λ s. s.viewer) (seen self.now.room effect.now)) }
+    {
+        let parts = RoomParts {
+            users: &self.users,
+            channels: &self.channels,
+        };
+        audience(alloc, parts, effect)
     }
 
     /// Applies an effect: the room is the one after it, and what it shows to the server's own users is appended to `out`, in
