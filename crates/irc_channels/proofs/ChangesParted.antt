@@ -9,7 +9,7 @@ use Rattle.irc_channels.specs.declared.modes.Modes.{Modes}
 use Rattle.irc_channels.specs.declared.modes.ModeChange.{ModeChange}
 use Rattle.irc_channels.specs.declared.modes.ModeLetter.{ModeLetter}
 use Rattle.irc_channels.specs.declared.modes.ModeLetter.TheVariants as letter
-use Rattle.irc_channels.specs.Channels.{mode_changed, letter_changed, changed, all_changed}
+use Rattle.irc_channels.specs.Channels.{mode_changed, letter_changed, all_changed}
 use Rattle.irc_channels.specs.ManyChanges.{mode_step, modes_after, members_changed, members_step, members_after}
 
 -- a channel with other modes and members

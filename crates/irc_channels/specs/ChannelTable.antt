@@ -1,7 +1,6 @@
 -- The channels of a room by name: which calls are refused, and what the members of a channel are.
-use Rattle.std.specs.Prelude.{◌≡◌, ℕ, ⊤, Option, Some, None, List, [], is_some, if◌then◌else◌}
+use Rattle.std.specs.Prelude.{◌≡◌, ℕ, ⊤, Option, Some, None, List, [], if◌then◌else◌}
 use Rattle.std.specs.FinMap.{entries}
-use Rattle.irc_names.specs.Tables.{Table, row}
 use Rattle.irc_channels.specs.declared.channel.Channel.{Channel}
 use Rattle.irc_channels.specs.declared.flags.Flags.{Flags}
 use Rattle.irc_channels.specs.declared.fault.ChannelsFault.{ChannelsFault}

@@ -7,9 +7,9 @@ use Rattle.std.specs.Ordering.{is_lt}
 use Rattle.std.specs.FinMap.{empty, keys}
 use Rattle.irc_names.specs.Fold.{key, same, name_cmp}
 use Rattle.irc_names.specs.Names.{fits, is_key, is_mask}
-use Rattle.irc_names.specs.Tables.{Table, row, alter, moved}
-use Rattle.irc_channels.specs.declared.channel.Channel.{Channel}
+use Rattle.irc_names.specs.Tables.{row, alter, moved}
 use Rattle.irc_channels.specs.declared.TheConstants.{MAX_LIMIT, MAX_LIMIT_DIGITS}
+use Rattle.irc_channels.specs.declared.channel.Channel.{Channel}
 use Rattle.irc_channels.specs.declared.flags.Flags.{Flags}
 use Rattle.irc_channels.specs.declared.modes.Privacy.{Privacy}
 use Rattle.irc_channels.specs.declared.modes.Privacy.TheVariants.{Public, Private, Secret}

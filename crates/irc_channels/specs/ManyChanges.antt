@@ -1,5 +1,5 @@
 -- Many changes of modes, parted into those of the channel and those of its members.
-use Rattle.std.specs.Prelude.{ℕ, Bool, Option, Some, None, List, fold}
+use Rattle.std.specs.Prelude.{ℕ, Bool, Option, Some, List, fold}
 use Rattle.std.specs.Option.{option_map}
 use Rattle.irc_names.specs.Fold.{key}
 use Rattle.irc_names.specs.Tables.{Table, alter}

@@ -99,8 +99,7 @@ impl Channels {
         ensures refused { OnErr result (self.new ≡ self.old) }
     {
         if self.has(channel) {
-            self.rows
-                .try_at(channel.as_bytes(), &Joining { nick, op })?;
+            self.rows.try_at(channel.as_bytes(), &Joining { nick, op })?;
             return Ok(());
         }
         let mut made = Channel::new(self.alloc, channel);
@@ -138,8 +137,7 @@ impl Channels {
         if !self.has(channel) {
             return Err(ChannelsFault::NoSuchChannel);
         }
-        self.rows
-            .try_at(channel.as_bytes(), &Changing { changes })?;
+        self.rows.try_at(channel.as_bytes(), &Changing { changes })?;
         Ok(())
     }
 

@@ -45,4 +45,6 @@ pub const MAX_LIMIT: u16 = 65_535;
 pub const MAX_LIMIT_DIGITS: usize = 5;
 
 #[cfg(test)]
+mod channel_tests;
+#[cfg(test)]
 mod tests;

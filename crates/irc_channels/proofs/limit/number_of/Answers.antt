@@ -1,5 +1,4 @@
-use Rattle.std.proofs.Common.{◌≡◌, ◌∙◌, ◌≤◌, ◌<◌, sym, ap, refl, arith, ℕ, ◌+◌, ◌-◌, ◌*◌, get_or}
-use Rattle.irc_channels.specs.Channels.{number_of}
+use Rattle.std.proofs.Common.{◌∙◌, ◌<◌, sym, ap, refl, arith, ◌+◌, ◌-◌, ◌*◌, get_or}
 use Rattle.irc_channels.proofs.DigitSteps.{number_more, below_first, below_next}
 use Rattle.irc_channels.proofs.limit.number_of.Goals as goal
 

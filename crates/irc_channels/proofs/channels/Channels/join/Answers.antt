@@ -1,4 +1,4 @@
-use Rattle.std.proofs.Common.{◌≡◌, ◌∙◌, ap}
+use Rattle.std.proofs.Common.{◌∙◌, ap}
 use Rattle.irc_names.specs.Fold.{key}
 use Rattle.irc_channels.specs.Channels.{new_channel, joined}
 use Rattle.irc_channels.proofs.ChangesParted.{joined_there, joined_new}
