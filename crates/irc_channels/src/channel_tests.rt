@@ -29,11 +29,12 @@ fn change_alone(plus: bool, letter: ModeLetter) -> ModeChange {
     }
 }
 
-/// Whether these are the members, in this order, and which of them are operators.
-fn are_members(rows: &[Row<Flags>], want: &[(&[u8], bool)]) -> bool {
+/// Whether these are the members, in this order, and which of them are operators, and which may speak.
+fn are_members(rows: &[Row<Flags>], want: &[(&[u8], bool, bool)]) -> bool {
     rows.len() == want.len()
-        && rows.iter().zip(want).all(|(row, (nick, op))| row.name.as_slice() == *nick
-            && row.value.op == *op)
+        && rows.iter().zip(want).all(|(row, (nick, op, voice))| {
+            row.name.as_slice() == *nick && row.value.op == *op && row.value.voice == *voice
+        })
 }
 
 /// `al` made `#C`, and `Bo` joined it.
@@ -65,7 +66,12 @@ fn joins_and_makes_channels(rt: HostRuntime) -> Result<(), Fail> {
     let mut channels = two_members(&rt, rt.alloc())?;
     // One who is a member already stays what it was.
     channels.join(&nick(&rt, b"bO"), &name(&rt, b"#C"), true)?;
-    assert!(rt; are_members(channels.members(b"#c"), &[(b"al", true), (b"Bo", false)]));
+    assert!(rt;
+        are_members(
+            channels.members(b"#c"),
+            &[(b"al", true, false), (b"Bo", false, false)]
+        )
+    );
     assert!(rt; channels.members(b"#d").is_empty());
     channels.join(&nick(&rt, b"al"), &name(&rt, b"#A"), true)?;
     assert_eq!(rt; channels.as_slice().len(), 2);
@@ -142,10 +148,6 @@ fn changes_modes_in_turn(rt: HostRuntime) -> Result<(), Fail> {
         change(&rt, true, ModeLetter::Ban, b"A[!*@*"),
         change(&rt, true, ModeLetter::Ban, b"a{!*@*"),
         change(&rt, true, ModeLetter::Ban, b":x"),
-        change(&rt, true, ModeLetter::Operator, b"bo"),
-        change(&rt, false, ModeLetter::Operator, b"AL"),
-        change(&rt, true, ModeLetter::Voice, b"al"),
-        change(&rt, true, ModeLetter::Operator, b"nobody"),
     ];
     channels.change(&name(&rt, b"#c"), &changes)?;
     let found = channels.find(b"#c").expect(&rt, "the channel");
@@ -156,10 +158,21 @@ fn changes_modes_in_turn(rt: HostRuntime) -> Result<(), Fail> {
     assert_eq!(rt; modes.limit, Some(42));
     assert_eq!(rt; modes.bans.len(), 1);
     assert_eq!(rt; modes.bans.as_slice()[0].as_bytes(), b"A[!*@*".as_slice());
-    let members = channels.members(b"#c");
-    assert!(rt; are_members(members, &[(b"al", false), (b"Bo", true)]));
-    assert!(rt; members[0].value.voice);
-    assert!(rt; !members[1].value.voice);
+    Ok(())
+}
+
+#[test]
+fn changes_flags_in_turn(rt: HostRuntime) -> Result<(), Fail> {
+    let mut channels = two_members(&rt, rt.alloc())?;
+    let changes = [
+        change(&rt, true, ModeLetter::Operator, b"bo"),
+        change(&rt, false, ModeLetter::Operator, b"AL"),
+        change(&rt, true, ModeLetter::Voice, b"al"),
+        change(&rt, true, ModeLetter::Operator, b"nobody"),
+    ];
+    channels.change(&name(&rt, b"#c"), &changes)?;
+    let want = [(b"al".as_slice(), false, true), (b"Bo", true, false)];
+    assert!(rt; are_members(channels.members(b"#c"), &want));
     Ok(())
 }
 
@@ -236,14 +249,24 @@ fn follows_a_user(rt: HostRuntime) -> Result<(), Fail> {
     channels.invite(&nick(&rt, b"al"), &other)?;
     // Its own nickname in another spelling, and then another.
     channels.rename_member(&nick(&rt, b"al"), &nick(&rt, b"AL"));
-    assert!(rt; are_members(channels.members(b"#c"), &[(b"AL", true), (b"Bo", false)]));
+    assert!(rt;
+        are_members(
+            channels.members(b"#c"),
+            &[(b"AL", true, false), (b"Bo", false, false)]
+        )
+    );
     channels.rename_member(&nick(&rt, b"al"), &nick(&rt, b"zed"));
-    assert!(rt; are_members(channels.members(b"#c"), &[(b"Bo", false), (b"zed", true)]));
+    assert!(rt;
+        are_members(
+            channels.members(b"#c"),
+            &[(b"Bo", false, false), (b"zed", true, false)]
+        )
+    );
     let invited = &channels.find(b"#d").expect(&rt, "the channel").invited;
     assert!(rt; invited.get(b"zed").is_some());
     assert!(rt; invited.get(b"al").is_none());
     channels.remove_user(&nick(&rt, b"zed"));
-    assert!(rt; are_members(channels.members(b"#c"), &[(b"Bo", false)]));
+    assert!(rt; are_members(channels.members(b"#c"), &[(b"Bo", false, false)]));
     assert_eq!(rt;
         channels
             .find(b"#d")

@@ -80,7 +80,7 @@ impl Channels {
     pub fn members(&self, name: &[u8]) -> &[Row<Flags>]
         ensures { map row_entry result.now ≡ members_in (row self.now (key name.now)) }
     {
-        match self.rows.get(name) {
+        match self.find(name) {
             Some(channel) => channel.members.as_slice(),
             None => &[],
         }
@@ -114,7 +114,7 @@ impl Channels {
         ensures ok { OnOk result (self.new ≡ alter (key channel.now) (option_and_then (left (key nick.now))) self.old) }
         ensures refused { OnErr result (self.new ≡ self.old) }
     {
-        let Some(found) = self.rows.get(channel.as_bytes()) else {
+        let Some(found) = self.find(channel.as_bytes()) else {
             return Err(ChannelsFault::NoSuchChannel);
         };
         if !found.has_member(nick) {
