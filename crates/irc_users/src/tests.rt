@@ -71,6 +71,32 @@ fn tells_nicknames_by_the_fold(rt: HostRuntime) -> Result<(), Fail> {
 }
 
 #[test]
+fn finds_by_bytes_that_are_no_nickname(rt: HostRuntime) -> Result<(), Fail> {
+    let users = three(&rt, rt.alloc())?;
+    let found = users.find_named(b"{X").expect(&rt, "a user");
+    assert_eq!(rt; found.nick.as_bytes(), b"[x".as_slice());
+    for bytes in [b"".as_slice(), b"al", b"alice!", b"no nickname"] {
+        assert!(rt; users.find_named(bytes).is_none());
+    }
+    Ok(())
+}
+
+#[test]
+fn sets_mode_i(rt: HostRuntime) -> Result<(), Fail> {
+    let mut users = three(&rt, rt.alloc())?;
+    users.set_invisible(&nick(&rt, b"ALICE"), true);
+    users.set_invisible(&nick(&rt, b"{x"), true);
+    users.set_invisible(&nick(&rt, b"[X"), false);
+    users.set_invisible(&nick(&rt, b"nobody"), true);
+    assert_eq!(rt; users.len(), 3);
+    for (bytes, want) in [(b"Alice".as_slice(), true), (b"zed", false), (b"[x", false)] {
+        let found = users.find(&nick(&rt, bytes)).expect(&rt, "a user");
+        assert_eq!(rt; found.invisible, want);
+    }
+    Ok(())
+}
+
+#[test]
 fn renames(rt: HostRuntime) -> Result<(), Fail> {
     let mut users = three(&rt, rt.alloc())?;
     for (old, new, want) in [

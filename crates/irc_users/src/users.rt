@@ -51,7 +51,7 @@ impl Users {
     pub fn len(&self) -> usize
         ensures { result ≡ length (keys self.now) }
     {
-        self.rows.as_slice().len()
+        self.rows.len()
     }
 
     /// Adds a user, unless its nickname is taken.
@@ -109,10 +109,7 @@ impl Users {
     pub fn find(&self, nick: &Nick) -> Option<&User>
         ensures { option_copied result ≡ row self.now (key nick.now) }
     {
-        match place_of(&self.rows, nick) {
-            Ok(place) => Some(&self.rows[place]),
-            Err(_) => None,
-        }
+        self.find_named(nick.as_bytes())
     }
 
     /// The user whose nickname is the same as these bytes under the fold, which may be no nickname themselves.
