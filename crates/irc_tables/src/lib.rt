@@ -5,3 +5,5 @@ mod table;
 
 pub use table::{NameTable, Row, RowAttempt, RowChange};
 
+#[cfg(test)]
+mod tests;

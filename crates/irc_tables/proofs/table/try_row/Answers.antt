@@ -13,12 +13,12 @@ returns-clause-ok g c =
     let there = ap (λ r. key r.name.items) c.index_mut.ensures.value ∙ c.requires.at.named _ in
     ok_also c.attempt.result
     (λ is.
-        replaced-table row_entry c.args.rows.now.items fold c.args.place x x.value c.requires.ordered c.requires.at.within c.index_mut.ensures.value
-        (ap (λ k. (k, x.value)) there) _ w (ap (λ k. (k, w)) there)
-        ∙ alter_alike _ fold (λ _. Some w) (option_map (g.C.RowAttempt.tried c.args.change.now))
-        (sym (ap (option_map (g.C.RowAttempt.tried c.args.change.now))
-        (row-present row_entry c.args.rows.now.items fold c.args.place x x.value c.requires.ordered c.requires.at.within c.index_mut.ensures.value (ap (λ k. (k, x.value)) there))
-        ∙ ap Some (sym is))))
+    replaced-table row_entry c.args.rows.now.items fold c.args.place x x.value c.requires.ordered c.requires.at.within c.index_mut.ensures.value
+    (ap (λ k. (k, x.value)) there) _ w (ap (λ k. (k, w)) there)
+    ∙ alter_alike _ fold (λ _. Some w) (option_map (g.C.RowAttempt.tried c.args.change.now))
+    (sym (ap (option_map (g.C.RowAttempt.tried c.args.change.now))
+    (row-present row_entry c.args.rows.now.items fold c.args.place x x.value c.requires.ordered c.requires.at.within c.index_mut.ensures.value (ap (λ k. (k, x.value)) there))
+    ∙ ap Some (sym is))))
     c.attempt.ensures.ok
 
 pub returns-clause-ordered : goal.returns-clause-ordered
