@@ -23,20 +23,20 @@ module _ (users : List User) (fold : List ℕ) (i : ℕ) (user : User) (invisibl
   named : key user.nick ≡ fold
   named = ap (λ u. key u.nick) is ∙ at.named user
 
-  pub seen-sorted : IsInFoldedOrder entry (set users i (with_invisible invisible user))
-  seen-sorted =
+  pub mode-sorted : IsInFoldedOrder entry (set users i (with_invisible invisible user))
+  mode-sorted =
       replaced-sorted entry users fold i user user sorted at.within is (ap (λ k. (k, user)) named) (with_invisible invisible user) (with_invisible invisible user)
       (ap (λ k. (k, with_invisible invisible user)) named)
 
-  pub seen-table : table_of entry (set users i (with_invisible invisible user)) ≡ alter fold (option_map (with_invisible invisible)) (table_of entry users)
-  seen-table =
+  pub mode-table : table_of entry (set users i (with_invisible invisible user)) ≡ alter fold (option_map (with_invisible invisible)) (table_of entry users)
+  mode-table =
       replaced-table entry users fold i user user sorted at.within is (ap (λ k. (k, user)) named) (with_invisible invisible user) (with_invisible invisible user)
       (ap (λ k. (k, with_invisible invisible user)) named)
       ∙ alter_alike (table_of entry users) fold (λ _. Some (with_invisible invisible user)) (option_map (with_invisible invisible))
       (sym (ap (option_map (with_invisible invisible)) (row-stands entry users fold i user sorted at is)))
 
 -- where there is no user, there is nothing to set
-pub seen-absent : (table : Table User) (fold : List ℕ) (invisible : Bool) → row table fold ≡ None → table ≡ alter fold (option_map (with_invisible invisible)) table
-seen-absent table fold invisible none =
+pub mode-absent : (table : Table User) (fold : List ℕ) (invisible : Bool) → row table fold ≡ None → table ≡ alter fold (option_map (with_invisible invisible)) table
+mode-absent table fold invisible none =
     sym (alter-absent table fold none)
     ∙ alter_alike table fold (λ _. None) (option_map (with_invisible invisible)) (ap (option_map (with_invisible invisible)) (sym none))
