@@ -1,6 +1,5 @@
 -- Rows that are all changed, some of them taken out.
-use Rattle.std.specs.Prelude.{T}
-use Rattle.std.proofs.Common.{◌≡◌, ℕ, Bool, true, false, ◌&&◌, cond, List, [], ◌∷◌, map, refl, sym, ◌∙◌, ap, subst, Option, Some, None}
+use Rattle.std.proofs.Common.{◌≡◌, ℕ, Bool, true, false, cond, List, [], ◌∷◌, map, refl, sym, ◌∙◌, ap, Option, Some, None}
 use Rattle.std.proofs.lemmas.Bool.{and_parts, and_from}
 use Rattle.std.specs.List.Retain.{RetainsInTurn}
 use Rattle.std.specs.Option.{option_and_then}
@@ -8,7 +7,7 @@ use Rattle.std.specs.Ordering.{is_lt}
 use Rattle.std.specs.Cmp.Lexicographic.{nat_list_cmp_total}
 use Rattle.std.specs.FinMap.{find, is_sorted}
 use Rattle.std.specs.FinMap.Entries.{below_all}
-use Rattle.irc_names.specs.Tables.{Table, row, each, fold_cmp}
+use Rattle.irc_names.specs.Tables.{each, fold_cmp}
 use Rattle.irc_names.specs.TableLaws.{same_fold, one_fold, same_table, row-each}
 use Rattle.irc_tables.specs.FoldedRows.{table_of, IsInFoldedOrder}
 use Rattle.irc_tables.proofs.OrderedEntries.{above-is, find-above}

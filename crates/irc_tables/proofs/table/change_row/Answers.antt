@@ -1,4 +1,4 @@
-use Rattle.std.proofs.Common.{◌≡◌, ◌∙◌, ap, sym, subst, Some, None, cond, true, false, Option}
+use Rattle.std.proofs.Common.{◌∙◌, ap, sym, subst, Some, None}
 use Rattle.std.specs.Option.{option_and_then}
 use Rattle.irc_names.specs.Fold.{key}
 use Rattle.irc_tables.specs.FoldedRows.{table_of, IsInFoldedOrder}

@@ -1,4 +1,4 @@
-use Rattle.std.proofs.Common.{◌∙◌, ap, sym, subst, refl, cond, true, false, is_ok}
+use Rattle.std.proofs.Common.{◌∙◌, ap, sym, subst, cond, true, false, is_ok}
 use Rattle.std.specs.List.{insert}
 use Rattle.irc_names.specs.Fold.{key}
 use Rattle.irc_tables.specs.FoldedRows.{table_of, IsInFoldedOrder}

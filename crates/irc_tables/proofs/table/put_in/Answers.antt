@@ -1,4 +1,4 @@
-use Rattle.std.proofs.Common.{◌≡◌, ◌∙◌, ap, sym, subst, refl, List}
+use Rattle.std.proofs.Common.{◌∙◌, ap, subst}
 use Rattle.irc_names.specs.Fold.{key}
 use Rattle.irc_tables.specs.FoldedRows.{StandsAt}
 use Rattle.irc_tables.specs.RowViews.{row_entry}

@@ -1,7 +1,7 @@
-use Rattle.std.proofs.Common.{◌≡◌, ◌∙◌, ap, sym, subst, None}
+use Rattle.std.proofs.Common.{◌∙◌, ap, sym, subst, None}
 use Rattle.std.specs.Option.{option_and_then}
 use Rattle.irc_names.specs.Fold.{key}
-use Rattle.irc_names.specs.Tables.{row, alter}
+use Rattle.irc_names.specs.Tables.{row}
 use Rattle.irc_tables.specs.FoldedRows.{BelongsAt}
 use Rattle.irc_tables.specs.RowViews.{row_entry}
 use Rattle.irc_tables.proofs.RowsAsTable.{row-absent, alter-absent, alter_alike}

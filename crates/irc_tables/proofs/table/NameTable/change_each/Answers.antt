@@ -1,4 +1,4 @@
-use Rattle.std.proofs.Common.{rules, ◌≡◌, refl, ◌∙◌, ap, sym}
+use Rattle.std.proofs.Common.{rules, ◌≡◌, refl, ◌∙◌, ap}
 use Rattle.irc_names.specs.Tables.{each}
 use Rattle.irc_tables.specs.RowViews.{row_entry}
 use Rattle.irc_tables.proofs.ChangedRows.{retained-sorted, retained-table}

@@ -1,5 +1,5 @@
-use Rattle.std.proofs.Common.{◌∙◌, ap, sym, map, length}
-use Rattle.std.specs.FinMap.{entries, keys}
+use Rattle.std.proofs.Common.{◌∙◌, ap, sym, length}
+use Rattle.std.specs.FinMap.{keys}
 use Rattle.irc_tables.specs.RowViews.{row_entry}
 use Rattle.irc_tables.proofs.RowsAsTable.{length-keys}
 use Rattle.irc_tables.proofs.table.NameTable.len.Goals as goal
