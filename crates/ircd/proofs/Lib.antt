@@ -1,0 +1,3 @@
+pub mod NumbersWritten
+pub mod LineEnds
+pub mod ScriptSteps

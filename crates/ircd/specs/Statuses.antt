@@ -1,0 +1,22 @@
+-- How the program ends: the exit status, and what it says on standard error.
+use Rattle.std.specs.Prelude.{ℕ, List, ◌++◌, codes, decimal, Result, Ok, Err}
+use Rattle.ircd.specs.declared.fault.SimFault.{SimFault}
+use Rattle.ircd.specs.declared.fault.SimFault.TheVariants as fault
+use Rattle.ircd.specs.declared.fault.Stop.{Stop}
+use Rattle.ircd.specs.declared.fault.Stop.TheVariants as stop
+
+abbrev pub stop_of : SimFault → Stop
+stop_of (fault.BadScript line) = stop.BadScript line
+stop_of fault.Failed = stop.Failed
+stop_of fault.Device = stop.Failed
+
+abbrev pub status_of : Stop → ℕ
+status_of stop.Usage = 2
+status_of (stop.BadScript line) = 3
+status_of stop.Failed = 4
+
+-- the line that is written
+abbrev pub told : Stop → List ℕ
+told stop.Usage = codes "ircd: usage: ircd sim | ircd serve FILE [TURNS]\n"
+told (stop.BadScript line) = codes "ircd: line " ++ decimal line ++ codes ": bad script\n"
+told stop.Failed = codes "ircd: failed\n"

@@ -1,0 +1,90 @@
+//! Why the program ends before its work is done, what it says then, and its exit status.
+ghost use Rattle.std.specs.Prelude.{◌≡◌, OnOk};
+ghost use Rattle.std.specs.Io.KnownBytes.{Appends};
+ghost use Rattle.ircd.specs.declared.fault.SimFault.TheVariants.{Failed};
+ghost use Rattle.ircd.specs.Statuses.{status_of, told, stop_of};
+
+use std::alloc::AllocError;
+use std::io;
+use std::io::Write;
+use thiserror::Error;
+
+/// Why a script is not run to its end.
+#[derive(Clone, Copy, Debug, Drop, Error, PartialEq, Eq)]
+pub enum SimFault {
+    /// A line is none that a script can have: the first such line, counted from 1. Nothing was run.
+    #[error("line {0}: bad script")]
+    BadScript(u64),
+    /// Memory ran out.
+    #[error("out of memory")]
+    Failed,
+    /// A read or a write failed, or the script did not end.
+    #[error("the device failed")]
+    Device,
+}
+
+impl From<AllocError> for SimFault {
+    ghost from_gives = { λ _ fault. fault ≡ Failed };
+
+    fn from(_error: AllocError) -> Self {
+        SimFault::Failed
+    }
+}
+
+/// Why the program ends with another status than 0.
+#[derive(Clone, Copy, Debug, Drop, PartialEq, Eq)]
+pub enum Stop {
+    /// The words of the command line ask for nothing that the program does.
+    Usage,
+    /// This line of the script, counted from 1, is bad.
+    BadScript(u64),
+    /// Memory ran out, or a read or a write failed.
+    Failed,
+}
+
+impl From<SimFault> for Stop {
+    ghost from_gives = { λ fault stop. stop ≡ stop_of fault };
+
+    fn from(fault: SimFault) -> Self {
+        match fault {
+            SimFault::BadScript(line) => Stop::BadScript(line),
+            SimFault::Failed | SimFault::Device => Stop::Failed,
+        }
+    }
+}
+
+/// The exit status where the words are wrong.
+const STATUS_OF_USAGE: u8 = 2;
+
+/// The exit status where the script is bad.
+const STATUS_OF_BAD_SCRIPT: u8 = 3;
+
+/// The exit status where the program failed.
+const STATUS_OF_FAILURE: u8 = 4;
+
+impl Stop {
+    /// The exit status.
+    pub fn status(self) -> u8
+        ensures { result ≡ status_of self }
+    {
+        match self {
+            Stop::Usage => STATUS_OF_USAGE,
+            Stop::BadScript(_) => STATUS_OF_BAD_SCRIPT,
+            Stop::Failed => STATUS_OF_FAILURE,
+        }
+    }
+
+    /// Says why the program ends, in one line.
+    ///
+    /// # Errors
+    /// Where the write fails.
+    pub fn tell<E: Write>(self, errors: &mut E) -> io::Result<()>
+        ensures { OnOk result (Appends (E.contents errors.old) (E.contents errors.new) (told self)) }
+    {
+        match self {
+            Stop::Usage => errors.write_all(b"ircd: usage: ircd sim | ircd serve FILE [TURNS]\n"),
+            Stop::BadScript(line) => writeln!(errors, "ircd: line {line}: bad script"),
+            Stop::Failed => errors.write_all(b"ircd: failed\n"),
+        }
+    }
+}
