@@ -5,3 +5,5 @@ pub mod Scripts
 pub mod ScriptViews
 pub mod Events
 pub mod Printing
+pub mod Runs
+pub mod Endings

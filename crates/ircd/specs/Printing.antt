@@ -9,7 +9,7 @@ use Rattle.irc_server.specs.declared.event.ServerFault.TheVariants.{Memory, Fail
 
 -- a text without the CR LF at its end, if it has one
 abbrev pub body_of : List ℕ → List ℕ
-body_of text = let front = length text - 2 in if bytes_eq (drop front text) crlf then take front text else text
+body_of text = let front = length text - 2 in if bytes_eq crlf (drop front text) then take front text else text
 
 -- the number of the client, a space, the line
 abbrev pub printed_line : ℕ → List ℕ → List ℕ

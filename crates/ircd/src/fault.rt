@@ -2,12 +2,30 @@
 ghost use Rattle.std.specs.Prelude.{◌≡◌, OnOk};
 ghost use Rattle.std.specs.Io.KnownBytes.{Appends};
 ghost use Rattle.ircd.specs.declared.fault.SimFault.TheVariants.{Failed};
-ghost use Rattle.ircd.specs.Statuses.{status_of, told, stop_of};
+ghost use Rattle.ircd.specs.declared.fault.Trouble.TheVariants.{Memory};
+ghost use Rattle.ircd.specs.Statuses.{status_of, told, stop_of, fault_of};
 
 use std::alloc::AllocError;
 use std::io;
 use std::io::Write;
 use thiserror::Error;
+
+/// What can go wrong with any script.
+#[derive(Clone, Copy, Debug, Drop, PartialEq, Eq)]
+pub enum Trouble {
+    /// Memory ran out.
+    Memory,
+    /// A read or a write failed, or the script did not end.
+    Device,
+}
+
+impl From<AllocError> for Trouble {
+    ghost from_gives = { λ _ trouble. trouble ≡ Memory };
+
+    fn from(_error: AllocError) -> Self {
+        Trouble::Memory
+    }
+}
 
 /// Why a script is not run to its end.
 #[derive(Clone, Copy, Debug, Drop, Error, PartialEq, Eq)]
@@ -19,7 +37,7 @@ pub enum SimFault {
     #[error("out of memory")]
     Failed,
     /// A read or a write failed, or the script did not end.
-    #[error("the device failed")]
+    #[error("a read or a write failed")]
     Device,
 }
 
@@ -28,6 +46,17 @@ impl From<AllocError> for SimFault {
 
     fn from(_error: AllocError) -> Self {
         SimFault::Failed
+    }
+}
+
+impl From<Trouble> for SimFault {
+    ghost from_gives = { λ trouble fault. fault ≡ fault_of trouble };
+
+    fn from(trouble: Trouble) -> Self {
+        match trouble {
+            Trouble::Memory => SimFault::Failed,
+            Trouble::Device => SimFault::Device,
+        }
     }
 }
 

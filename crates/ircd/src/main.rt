@@ -1,16 +1,31 @@
-//! `ircd sim`: runs a script of commands on one server.
+//! `ircd sim` runs a script of clients on one IRC server.
 #![tactic(auto)]
 
 mod events;
 mod fault;
 mod number;
 mod printing;
+mod program;
 mod script;
+mod sim;
+mod stage;
 mod words;
 
+use program::{run, stop_with};
 use std::process::ExitCode;
+use words::words_given;
 
 fn main(rt: HostRuntime) -> ExitCode {
-    let _alloc = rt.alloc();
-    ExitCode::from(0)
+    let mut errors = rt.stderr();
+    let status = match words_given(&rt) {
+        Ok(words) => run(
+            &rt,
+            &words,
+            &mut rt.stdin(),
+            &mut rt.stdout(),
+            &mut errors,
+        ),
+        Err(stop) => stop_with(stop, &mut errors),
+    };
+    ExitCode::from(status)
 }

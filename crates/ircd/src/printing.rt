@@ -4,7 +4,7 @@ ghost use Rattle.std.specs.Io.KnownBytes.{Appends};
 ghost use Rattle.std.specs.List.{flat_map};
 ghost use Rattle.ircd.specs.Printing.{printed, printed_line, refusal_line, refusal_number, body_of};
 
-use crate::fault::SimFault;
+use crate::fault::Trouble;
 use arrayvec::ArrayVec;
 use irc_line::limits::MAX_TEXT;
 use irc_line::{Text, body};
@@ -36,7 +36,7 @@ pub fn refusal_number(fault: ServerFault) -> Option<u64>
 }
 
 /// Prints each line to a client that was put out, in order.
-pub fn print_lines<W: Write>(outs: &[Out], output: &mut W) -> Result<(), SimFault>
+pub fn print_lines<W: Write>(outs: &[Out], output: &mut W) -> Result<(), Trouble>
     ensures { OnOk result (Appends (W.contents output.old) (W.contents output.new) (flat_map printed outs.now)) }
 {
     for out in outs {
@@ -46,7 +46,7 @@ pub fn print_lines<W: Write>(outs: &[Out], output: &mut W) -> Result<(), SimFaul
 }
 
 /// Prints a line to a client: the number of the client, a space, and the line. The end of a connection is not printed.
-fn print_out<W: Write>(out: &Out, output: &mut W) -> Result<(), SimFault>
+fn print_out<W: Write>(out: &Out, output: &mut W) -> Result<(), Trouble>
     ensures { OnOk result (Appends (W.contents output.old) (W.contents output.new) (printed out.now)) }
 {
     match out {
@@ -56,22 +56,23 @@ fn print_out<W: Write>(out: &Out, output: &mut W) -> Result<(), SimFault>
 }
 
 /// Prints the number of a refusal.
-pub fn print_refusal<W: Write>(number: u64, output: &mut W) -> Result<(), SimFault>
+pub fn print_refusal<W: Write>(number: u64, output: &mut W) -> Result<(), Trouble>
     ensures { OnOk result (Appends (W.contents output.old) (W.contents output.new) (refusal_line number)) }
 {
-    writeln!(output, "! {number}").map_err(|_| SimFault::Device)
+    writeln!(output, "! {number}").map_err(|_| Trouble::Device)
 }
 
-fn print<W: Write>(bytes: &[u8], output: &mut W) -> Result<(), SimFault>
+fn print<W: Write>(bytes: &[u8], output: &mut W) -> Result<(), Trouble>
     ensures { OnOk result (Appends (W.contents output.old) (W.contents output.new) bytes.now) }
 {
-    output.write_all(bytes).map_err(|_| SimFault::Device)
+    output.write_all(bytes).map_err(|_| Trouble::Device)
 }
 
 fn printed_line(client: u64, text: &Text) -> ArrayVec<u8, MAX_PRINTED>
     ensures { result.items ≡ printed_line client text.now.items }
 {
     let mut line = ArrayVec::new();
+    let _whole = text.as_slice();
     let _ = line.try_extend_from_slice(Buffer::new().format(client).as_bytes());
     let _ = line.try_extend_from_slice(b" ");
     let _ = line.try_extend_from_slice(line_body(text));
@@ -82,7 +83,7 @@ fn printed_line(client: u64, text: &Text) -> ArrayVec<u8, MAX_PRINTED>
 /// A text without its CR LF.
 fn line_body(text: &Text) -> &[u8]
     ensures value { result.now ≡ body_of text.now.items }
-    ensures fits { length result.now ≤ MAX_TEXT }
+    ensures fits { length result.now ≤ length text.now.items }
 {
     body(text)
 }

@@ -1,0 +1,48 @@
+-- What is appended in turn.
+use Rattle.std.proofs.Common.{◌≡◌, ℕ, ◌+◌, ◌<◌, Option, Some, None, List, [], ◌∷◌, ◌++◌, length, take, get_or, ap, sym, subst, refl, ◌∙◌, append_assoc, append-nil}
+use Rattle.std.specs.Io.KnownBytes.{Appends, Keeps, Consumes, IsAtEnd}
+use Rattle.std.specs.List.{flat_map}
+use Rattle.ircd.specs.Runs.{IsTextOf}
+use Rattle.std.proofs.lemmas.List.{take_more}
+use Rattle.std.proofs.lemmas.Grind.{flat_map-append}
+
+pub appends_nothing : (known : Option (List ℕ)) → Appends known known []
+appends_nothing None = tt
+appends_nothing (Some bytes) = sym (append-nil bytes)
+
+pub appends_both : (old middle new : Option (List ℕ)) (first more : List ℕ) → Appends old middle first → Appends middle new more → Appends old new (first ++ more)
+appends_both None middle new first more p q = tt
+appends_both (Some xs) None new first more p q = absurd p
+appends_both (Some xs) (Some ys) None first more p q = absurd q
+appends_both (Some xs) (Some ys) (Some zs) first more p q = q ∙ ap (λ bytes. bytes ++ more) p ∙ append_assoc xs first more
+
+-- one element more
+pub one_more : {X : Type 0} (f : X → List ℕ) (xs : List X) (i : ℕ) (d : X) → i < length xs → d ≡ get_or xs i d → flat_map f (take (i + 1) xs) ≡ flat_map f (take i xs) ++ f d
+one_more f xs i d within is =
+    ap (flat_map f) (take_more xs i d within) ∙ flat_map-append f (take i xs) (get_or xs i d ∷ [])
+    ∙ ap (λ last. flat_map f (take i xs) ++ last) (append-nil (f (get_or xs i d)))
+    ∙ ap (λ x. flat_map f (take i xs) ++ f x) (sym is)
+
+pub keeps_appended : (old middle new : Option (List ℕ)) (bytes : List ℕ) → Appends old middle bytes → Keeps middle new → Appends old new bytes
+keeps_appended None middle new bytes p q = tt
+keeps_appended (Some xs) None new bytes p q = absurd p
+keeps_appended (Some xs) (Some ys) None bytes p q = absurd q
+keeps_appended (Some xs) (Some ys) (Some zs) bytes p q = q ∙ p
+
+pub consumes_nothing : (known : Option (List ℕ)) → Consumes known known []
+consumes_nothing None = tt
+consumes_nothing (Some bytes) = refl
+
+pub consumes_both : (old middle new : Option (List ℕ)) (first more : List ℕ) → Consumes old middle first → Consumes middle new more → Consumes old new (first ++ more)
+consumes_both None middle new first more p q = tt
+consumes_both (Some xs) None new first more p q = absurd p
+consumes_both (Some xs) (Some ys) None first more p q = absurd q
+consumes_both (Some xs) (Some ys) (Some zs) first more p q = p ∙ ap (λ bytes. first ++ bytes) q ∙ sym (append_assoc first more zs)
+
+-- what was taken is all that there was
+pub consumes_all : (old middle new : Option (List ℕ)) (text last : List ℕ) → Consumes old middle text → Consumes middle new last → last ≡ [] → IsAtEnd new → IsTextOf text old
+consumes_all None middle new text last p q none end = tt
+consumes_all (Some xs) None new text last p q none end = absurd p
+consumes_all (Some xs) (Some ys) None text last p q none end = absurd q
+consumes_all (Some xs) (Some ys) (Some zs) text last p q none end =
+    sym (p ∙ ap (λ bytes. text ++ bytes) (q ∙ ap (λ bytes. bytes ++ zs) none ∙ end) ∙ append-nil text)

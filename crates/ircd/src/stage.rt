@@ -1,0 +1,152 @@
+//! The server of a script, and what the script does to it.
+ghost use Rattle.std.specs.Prelude.{◌≡◌, [], ◌∷◌, codes, IfOk, IsNone, IfSome, OnOk};
+ghost use Rattle.ircd.specs.Events.{events_of};
+ghost use Rattle.ircd.specs.Runs.{Played, next_if_taken, number_behind, first_client};
+ghost use Rattle.ircd.specs.ScriptViews.{request};
+
+use crate::events::events_of;
+use crate::fault::Trouble;
+use crate::printing::{NO_SUCH_CLIENT, print_lines, print_refusal, refusal_number};
+use crate::script::Command;
+use irc_names::ServerName;
+use irc_routes::Own;
+use irc_server::{Config, Event, Out, Server};
+use std::alloc::{AllocError, Global};
+use std::io::Write;
+use std::marker::Model;
+
+/// How each server of a script describes itself.
+const INFO: &[u8] = b"Test server";
+
+/// When each server of a script says that it was created.
+const CREATED: &[u8] = b"2024-01-01";
+
+/// The number of the first client.
+const FIRST_CLIENT: u64 = 1;
+
+/// The server of a script, if it has one.
+#[derive(Debug, Drop)]
+pub struct Stage {
+    alloc: Global,
+    server: Option<Server>,
+    next: u64,
+    out: Vec<Out, Global>,
+}
+
+/// In a clause it is the number for the next client.
+impl Model for Stage {
+    ghost use Rattle.std.specs.Prelude.{ℕ};
+
+    ghost Value = { ℕ };
+
+    ghost view = { λ stage. stage.next };
+}
+
+impl Stage {
+    /// A server with this name that no client is connected to, or no server.
+    ///
+    /// # Errors
+    /// Where memory runs out.
+    pub fn new(alloc: Global, name: Option<&ServerName>) -> Result<Self, Trouble>
+        ensures { IfOk result (λ stage. stage ≡ first_client) }
+    {
+        let server = match name {
+            Some(name) => Some(new_server(alloc, name)?),
+            None => None,
+        };
+        Ok(Stage {
+            alloc,
+            server,
+            next: FIRST_CLIENT,
+            out: Vec::new(alloc),
+        })
+    }
+
+    /// Gives the events of a command to the server, and prints what it answers to each.
+    ///
+    /// # Errors
+    /// Where memory runs out, and where the writer fails.
+    pub fn perform<W: Write>(
+        &mut self,
+        command: &Command<'_>,
+        output: &mut W,
+    ) -> Result<(), Trouble>
+        ensures { OnOk result (Played self.old (events_of self.old (request command.now)) self.new (W.contents output.old) (W.contents output.new)) }
+    {
+        let events = events_of(self.alloc, command, self.next)?;
+        for event in events {
+            self.give(event, output)?;
+        }
+        Ok(())
+    }
+
+    /// Gives one event to the server, and prints the lines that it puts out, or the number of its refusal.
+    fn give<W: Write>(&mut self, event: Event, output: &mut W) -> Result<(), Trouble>
+        ensures { OnOk result (Played self.old (event ∷ []) self.new (W.contents output.old) (W.contents output.new)) }
+    {
+        let next = next_if_taken(&event, self.next);
+        if let Some(number) = self.refused(event)? {
+            return print_refusal(number, output);
+        }
+        self.next = next;
+        print_lines(&self.out, output)
+    }
+
+    /// Lets the server handle an event. Says by which number the event is refused; else `out` is what the server put out.
+    fn refused(&mut self, event: Event) -> Result<Option<u64>, Trouble>
+        ensures { self.new ≡ self.old }
+    {
+        self.out.clear();
+        let Some(server) = &mut self.server else {
+            return Ok(Some(NO_SUCH_CLIENT));
+        };
+        match server.handle(event, &mut self.out) {
+            Ok(()) => Ok(None),
+            Err(fault) => match refusal_number(fault) {
+                Some(number) => Ok(Some(number)),
+                None => Err(Trouble::Memory),
+            },
+        }
+    }
+}
+
+/// The number for the next client, once an event was not refused.
+fn next_if_taken(event: &Event, next: u64) -> u64
+    ensures { result ≡ next_if_taken event.now next }
+{
+    match event {
+        Event::Connect(_, _) => number_behind(next),
+        Event::Line(_, _) | Event::Gone(_) => next,
+    }
+}
+
+/// The number behind a client's. At the greatest number it stays.
+fn number_behind(number: u64) -> u64
+    ensures { result ≡ number_behind number }
+{
+    number.saturating_add(1)
+}
+
+/// A server of a script, with this name.
+fn new_server(alloc: Global, name: &ServerName) -> Result<Server, Trouble> {
+    let config = config(alloc, name)?;
+    Server::new(alloc, config).map_err(|_| Trouble::Memory)
+}
+
+/// What a server of a script is configured to be.
+fn config(alloc: Global, name: &ServerName) -> Result<Config, AllocError>
+    ensures name { IfOk result (λ config. config.own.name.items ≡ name.now) }
+    ensures info { IfOk result (λ config. config.own.info.items ≡ codes "Test server") }
+    ensures created { IfOk result (λ config. config.own.created.items ≡ codes "2024-01-01") }
+    ensures peers { IfOk result (λ config. config.peers.items ≡ []) }
+{
+    let own = Own {
+        name: Vec::from_slice(alloc, name.as_bytes())?,
+        info: Vec::from_slice(alloc, INFO)?,
+        created: Vec::from_slice(alloc, CREATED)?,
+    };
+    Ok(Config {
+        own,
+        peers: Vec::new(alloc),
+    })
+}
