@@ -9,6 +9,8 @@ mod program;
 mod script;
 mod sim;
 mod stage;
+#[cfg(test)]
+mod tests;
 mod words;
 
 use program::{run, stop_with};

@@ -211,7 +211,9 @@ fn statuses_and_their_texts(rt: HostRuntime) -> Result<(), Fail> {
 fn devices_that_fail(rt: HostRuntime) -> Result<(), Fail> {
     let alloc = rt.alloc();
     let mut output = Vec::new(alloc);
-    let mut breaking = Breaking { rest: AL };
+    let mut breaking = Breaking {
+        inner: ByteByByte { rest: AL },
+    };
     let ended = run_sim(alloc, &mut breaking, &mut output);
     assert!(rt; ended == Err(SimFault::Device) && output.is_empty());
     let ended = run_sim(alloc, &mut Endless, &mut output);
@@ -230,6 +232,7 @@ fn devices_that_fail(rt: HostRuntime) -> Result<(), Fail> {
 }
 
 /// A reader that gives one byte at a time.
+#[derive(Drop)]
 struct ByteByByte<'a> {
     rest: &'a [u8],
 }
@@ -249,23 +252,22 @@ impl Read for ByteByByte<'_> {
 }
 
 /// A reader that breaks where another would end.
-struct Breaking {
-    rest: &'static [u8],
+#[derive(Drop)]
+struct Breaking<'a> {
+    inner: ByteByByte<'a>,
 }
 
-impl Read for Breaking {
+impl Read for Breaking<'_> {
     fn read(&mut self, buf: &mut [u8]) -> io::Result<usize> {
-        let mut reader = ByteByByte { rest: self.rest };
-        let count = reader.read(buf)?;
-        self.rest = reader.rest;
-        if count == 0 {
-            return Err(io::Error::from(ErrorKind::Other));
+        match self.inner.read(buf) {
+            Ok(0) => Err(io::Error::from(ErrorKind::Other)),
+            other => other,
         }
-        Ok(count)
     }
 }
 
 /// A reader that never ends.
+#[derive(Drop)]
 struct Endless;
 
 impl Read for Endless {
@@ -279,6 +281,7 @@ impl Read for Endless {
 }
 
 /// A writer that takes some lines, and breaks then.
+#[derive(Drop)]
 struct Filling {
     lines: usize,
 }
