@@ -1,5 +1,5 @@
 -- When a word is a number.
-use Rattle.std.proofs.Common.{◌≡◌, ℕ, ◌<◌, ◌^◌, ◌&&◌, Bool, true, false, cond, nat_lt, Some, None, List, ap, ◌∙◌, refl, arith, decimal}
+use Rattle.std.proofs.Common.{◌≡◌, ℕ, ◌<◌, ◌^◌, ◌&&◌, true, false, cond, nat_lt, Some, None, List, ap, ◌∙◌, refl, arith, decimal}
 use Rattle.std.proofs.lemmas.Bool.Decides.{nat_tests}
 use Rattle.std.proofs.lemmas.Fmt.{decimal_is_IsNumeral}
 use Rattle.std.proofs.lemmas.Slice.Eq.{bytes_eq-Decides}
@@ -20,8 +20,8 @@ not_written word none =
     let n = digits_value 10 word in
     elim (nat_lt n (2 ^ 64)) as (λ b. nat_lt n (2 ^ 64) ≡ b → cond (b && writes n word) (Some n) None ≡ None) [
       | true ↦ λ small. elim (writes n word) as (λ b. writes n word ≡ b → cond b (Some n) None ≡ None) [
-          | true ↦ λ same. absurd (none n (grind (arith, nat_tests)) ((bytes_eq-Decides word (decimal n)).0 same))
-          | false ↦ λ _. refl
-        ] refl
+        | true ↦ λ same. absurd (none n (grind (arith, nat_tests)) ((bytes_eq-Decides word (decimal n)).0 same))
+        | false ↦ λ _. refl
+      ] refl
       | false ↦ λ _. refl
     ] refl

@@ -1,5 +1,5 @@
 -- What was played, put together.
-use Rattle.std.proofs.Common.{◌≡◌, ℕ, ◌+◌, ◌<◌, get_or, ◌-◌, Bool, true, false, cond, Option, Some, None, Result, Ok, Err, OnOk, IfOk, List, [], ◌∷◌, ◌++◌, length, take, drop, map, ap, sym, subst, refl, ◌∙◌, append_assoc}
+use Rattle.std.proofs.Common.{◌≡◌, ℕ, ◌+◌, ◌<◌, get_or, Option, Result, Ok, Err, OnOk, IfOk, List, [], ◌∷◌, ◌++◌, length, take, map, ap, sym, subst, refl, ◌∙◌, append_assoc}
 use Rattle.std.proofs.lemmas.List.{append-nil}
 use Rattle.std.specs.Io.KnownBytes.{Appends, Keeps}
 use Rattle.std.specs.List.{flat_map}
@@ -12,10 +12,9 @@ use Rattle.ircd.specs.declared.fault.SimFault.{SimFault}
 use Rattle.ircd.specs.declared.fault.SimFault.TheVariants.{BadScript, Failed, Device}
 use Rattle.ircd.specs.declared.fault.Trouble.{Trouble}
 use Rattle.ircd.specs.declared.fault.Trouble.TheVariants.{Memory, Device as DeviceTrouble}
-use Rattle.ircd.specs.declared.script.Script.{Script}
 use Rattle.ircd.specs.Events.{line_event, events_of}
 use Rattle.ircd.specs.Printing.{printed, refusal_line}
-use Rattle.ircd.specs.Runs.{Answer, puts_out, refuses, answer_text, next_if_taken, next_after, Plays, nothing, event, Runs, end, request, Played, HasRun, IsTextOf, Refused, Ran}
+use Rattle.ircd.specs.Runs.{Answer, puts_out, refuses, answer_text, next_if_taken, next_after, Plays, nothing, event, Runs, end, request, Played, HasRun, IsTextOf, Ran}
 use Rattle.ircd.specs.Scripts.{Request}
 use Rattle.ircd.specs.ScriptViews.{IsReadAs, requests, request as request_now}
 use Rattle.ircd.specs.declared.script.Command.{Command}

@@ -1,5 +1,5 @@
 -- What a script does: which events it gives to the server, in which order, and what is printed. What the server answers is left open here.
-use Rattle.std.specs.Prelude.{◌≡◌, ℕ, ◌+◌, ◌-◌, ◌^◌, Option, Some, None, Result, Ok, Err, List, [], ◌∷◌, ◌++◌, nat_lt, ⊤, IfSome, if◌then◌else◌}
+use Rattle.std.specs.Prelude.{◌≡◌, ℕ, ◌+◌, ◌-◌, ◌^◌, Option, Result, Ok, Err, List, [], ◌∷◌, ◌++◌, nat_lt, ⊤, IfSome, if◌then◌else◌}
 use Rattle.std.specs.Io.KnownBytes.{Appends}
 use Rattle.std.specs.List.{flat_map}
 use Rattle.irc_server.specs.declared.event.Event.{Event}

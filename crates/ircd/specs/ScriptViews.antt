@@ -1,5 +1,5 @@
 -- What the code's scripts and commands say.
-use Rattle.std.specs.Prelude.{◌≡◌, ℕ, Option, Some, None, Result, Ok, Err, List, map, ⊤}
+use Rattle.std.specs.Prelude.{◌≡◌, ℕ, Option, Result, Ok, Err, List, map, ⊤}
 use Rattle.std.specs.Option.{option_copied}
 use Rattle.ircd.specs.declared.fault.SimFault.{SimFault}
 use Rattle.ircd.specs.declared.fault.SimFault.TheVariants.{BadScript, Failed, Device}

@@ -20,13 +20,7 @@ use words::words_given;
 fn main(rt: HostRuntime) -> ExitCode {
     let mut errors = rt.stderr();
     let status = match words_given(&rt) {
-        Ok(words) => run(
-            &rt,
-            &words,
-            &mut rt.stdin(),
-            &mut rt.stdout(),
-            &mut errors,
-        ),
+        Ok(words) => run(&rt, &words, &mut rt.stdin(), &mut rt.stdout(), &mut errors),
         Err(stop) => stop_with(stop, &mut errors),
     };
     ExitCode::from(status)

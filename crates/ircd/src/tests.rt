@@ -9,8 +9,7 @@ use std::io::{ErrorKind, Read, Write};
 use std::test::Fail;
 
 /// A server and its first client, which is registered as al.
-const AL: &[u8] =
-    b"server a.net\nconnect a.net h\nsay 1 NICK al\nsay 1 USER u 0 * :Al\n";
+const AL: &[u8] = b"server a.net\nconnect a.net h\nsay 1 NICK al\nsay 1 USER u 0 * :Al\n";
 
 /// What al receives as it is registered.
 const WELCOME_AL: &[u8] = b"1 :a.net 001 al :Welcome to the Internet Relay Network al!u@h\n\
@@ -71,15 +70,23 @@ fn scripts_without_a_server(rt: HostRuntime) -> Result<(), Fail> {
 #[test]
 fn clients_that_are_not_there(rt: HostRuntime) -> Result<(), Fail> {
     let alloc = rt.alloc();
-    let lines = b"say 0 PING x\nsay 2 PING x\ngone 18446744073709551615\ngone 1\ngone 1\nsay 1 PING x\n";
-    assert!(rt; prints(alloc, &[AL, lines], &[WELCOME_AL, b"! 3\n! 3\n! 3\n! 3\n! 3\n"])?);
+    let lines =
+        b"say 0 PING x\nsay 2 PING x\ngone 18446744073709551615\ngone 1\ngone 1\nsay 1 PING x\n";
+    assert!(rt;
+        prints(
+            alloc,
+            &[AL, lines],
+            &[WELCOME_AL, b"! 3\n! 3\n! 3\n! 3\n! 3\n"]
+        )?
+    );
     Ok(())
 }
 
 #[test]
 fn two_clients_want_one_nickname(rt: HostRuntime) -> Result<(), Fail> {
     let alloc = rt.alloc();
-    let connected = b"server a.net\nconnect a.net h\nconnect a.net h\nsay 1 NICK al\nsay 2 NICK al\n";
+    let connected =
+        b"server a.net\nconnect a.net h\nconnect a.net h\nsay 1 NICK al\nsay 2 NICK al\n";
     let users = b"say 1 USER u 0 * :Al\nsay 2 USER u 0 * :Bo\nsay 2 NICK bo\n";
     let taken = b"2 :a.net 433 * al :Nickname is already in use\n";
     assert!(rt; prints(alloc, &[connected, users], &[WELCOME_AL, taken, WELCOME_BO])?);
@@ -165,7 +172,10 @@ fn bad_scripts_are_named_by_their_line(rt: HostRuntime) -> Result<(), Fail> {
         let mut input: &[u8] = script;
         let mut output = Vec::new(alloc);
         let ended = run_sim(alloc, &mut input, &mut output);
-        assert!(rt; ended == Err(SimFault::BadScript(line)), "wanted line {line}");
+        assert!(rt;
+            ended == Err(SimFault::BadScript(line)),
+            "wanted line {line}"
+        );
         assert!(rt; output.is_empty(), "printed at line {line}");
     }
     Ok(())
@@ -221,7 +231,10 @@ fn devices_that_fail(rt: HostRuntime) -> Result<(), Fail> {
     for lines in 0..5 {
         let mut input = AL;
         let mut full = Filling { lines };
-        assert!(rt; run_sim(alloc, &mut input, &mut full) == Err(SimFault::Device), "after {lines}");
+        assert!(rt;
+            run_sim(alloc, &mut input, &mut full) == Err(SimFault::Device),
+            "after {lines}"
+        );
     }
     let mut errors = Vec::new(alloc);
     let words = [String::from_str(alloc, "sim")?];

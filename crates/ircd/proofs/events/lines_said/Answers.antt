@@ -1,4 +1,4 @@
-use Rattle.std.proofs.Common.{◌≡◌, ◌∙◌, ap, map, append-nil}
+use Rattle.std.proofs.Common.{◌≡◌, ◌∙◌, ap, map}
 use Rattle.irc_server.specs.declared.event.Event.TheVariants.{Line}
 use Rattle.ircd.specs.Events.{line_event, lines_said}
 use Rattle.ircd.proofs.Playing.{if_ok, events_of_lines}
