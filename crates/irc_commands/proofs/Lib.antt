@@ -1,6 +1,10 @@
+pub mod ByTest
 pub mod CommaLists
-pub mod OneTarget
 pub mod ManyTargets
+pub mod SaidSteps
 pub mod SmallRooms
 pub mod RegisterRows
-pub mod FindingUsers
+pub mod DecideCases
+pub mod RegisterCases
+pub mod PossibleLaws
+pub mod ComingLaws

@@ -6,5 +6,6 @@ pub mod Say
 pub mod Decide
 pub mod Register
 pub mod Examples
-pub mod RoomOfUsers
 pub mod CodeViews
+pub mod Possible
+pub mod Comings

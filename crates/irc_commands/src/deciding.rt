@@ -8,19 +8,17 @@ ghost use Rattle.irc_commands.specs.CodeViews.{decided_of};
 ghost use Rattle.irc_commands.specs.Commands.{command_of};
 ghost use Rattle.irc_commands.specs.Decisions.{does};
 ghost use Rattle.irc_commands.specs.Quit.{quit_decided};
-ghost use Rattle.irc_commands.specs.RoomOfUsers.{room_of};
 ghost use Rattle.irc_commands.specs.Decide.{decide, row_of, is_from};
 ghost use Rattle.irc_commands.specs.Ping.{ping_steps};
 
 use crate::command::Command;
 use crate::decision::{Act, Decision};
-use crate::finding::find_user;
 use crate::lines::{client_words, error, pong, reason_given};
 use crate::saying::say;
 use irc_line::Message;
 use irc_names::{Nick, same};
 use irc_numerics::Reply;
-use irc_room::Effect;
+use irc_room::{Effect, Room};
 use irc_routes::Routes;
 use irc_users::User;
 use std::alloc::{AllocError, Global};
@@ -59,16 +57,16 @@ pub(crate) fn ping(
 #[tactic(auto, unfolding(crate::specs::Decide::decide))]
 pub fn decide(
     alloc: Global,
-    users: &[User],
+    room: &Room,
     routes: &Routes,
     who: &Nick,
     message: &Message<'_>,
 ) -> Result<Decision, AllocError>
-    ensures { IfOk result (λ d. decided_of d ≡ decide (room_of users.now) routes.now who.now (parsed message.now)) }
+    ensures { IfOk result (λ d. decided_of d ≡ decide room.now.room routes.now who.now (parsed message.now)) }
 {
-    match find_user(users, who.as_bytes()) {
+    match room.user(who.as_bytes()) {
         Some(me) if is_own(message.prefix, Some(&me.nick)) => decide_for(
-            alloc, users, routes, me, message,
+            alloc, room, routes, me, message,
         ),
         _ => Ok(does(Vec::new(alloc))),
     }
@@ -77,12 +75,12 @@ pub fn decide(
 /// The row of the command table that the line of a user fits.
 fn decide_for(
     alloc: Global,
-    users: &[User],
+    room: &Room,
     routes: &Routes,
     me: &User,
     message: &Message<'_>,
 ) -> Result<Decision, AllocError>
-    ensures { IfOk result (λ d. decided_of d ≡ row_of (room_of users.now) routes.now me.now (parsed message.now) (command_of message.now.command.now)) }
+    ensures { IfOk result (λ d. decided_of d ≡ row_of room.now.room routes.now me.now (parsed message.now) (command_of message.now.command.now)) }
 {
     let params = message.params.as_slice();
     match Command::read(message.command) {
@@ -91,8 +89,8 @@ fn decide_for(
         Some(Command::Motd) => answer(alloc, Reply::NoMotd),
         Some(Command::Ping) => Ok(does(ping(alloc, routes, params)?)),
         Some(Command::Quit) => quit(alloc, me, params),
-        Some(Command::Privmsg) => Ok(does(say(alloc, users, me, false, params)?)),
-        Some(Command::Notice) => Ok(does(say(alloc, users, me, true, params)?)),
+        Some(Command::Privmsg) => Ok(does(say(alloc, room, me, false, params)?)),
+        Some(Command::Notice) => Ok(does(say(alloc, room, me, true, params)?)),
         Some(Command::Nick) | None => {
             let command = client_words(message.command);
             answer(alloc, Reply::UnknownCommand { command })

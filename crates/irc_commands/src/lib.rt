@@ -5,18 +5,18 @@ mod command;
 mod deciding;
 mod decision;
 pub mod examples;
-mod finding;
+pub mod laws;
 mod lines;
 mod pending;
 mod registering;
 mod saying;
+mod speaking;
 #[cfg(test)]
 mod tests;
 
 pub use command::Command;
 pub use deciding::decide;
 pub use decision::{Act, Decision};
-pub use finding::find_user;
 pub use pending::{Pending, Registration};
 pub use registering::register;
 

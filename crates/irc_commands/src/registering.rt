@@ -5,21 +5,19 @@ ghost use Rattle.irc_commands.specs.declared.decision.Act.TheVariants.{Answer};
 ghost use Rattle.irc_line.specs.MessageViews.{optional_now, params_now, parsed};
 ghost use Rattle.irc_line.specs.PartViews.{words_now};
 ghost use Rattle.irc_commands.specs.CodeViews.{registered_of};
-ghost use Rattle.irc_commands.specs.RoomOfUsers.{room_of};
 ghost use Rattle.irc_commands.specs.Decide.{is_from};
 ghost use Rattle.irc_commands.specs.Register.{register, replies, complete, nick_chosen, nick_row, user_row, quit_row, welcomed, reply_name};
 
 use crate::command::Command;
 use crate::deciding::{is_own, ping};
 use crate::decision::Act;
-use crate::finding::find_user;
 use crate::lines::{client_words, error, reason_given};
 use crate::pending::{Pending, Registration};
 use irc_channels::Words;
 use irc_line::Message;
 use irc_names::{Nick, copied};
 use irc_numerics::Reply;
-use irc_room::Effect;
+use irc_room::{Effect, Room};
 use irc_routes::Routes;
 use irc_users::{RealName, User, UserName};
 use std::alloc::{AllocError, Global};
@@ -79,16 +77,16 @@ fn welcome(alloc: Global, routes: &Routes, user: User) -> Result<Vec<Act, Global
 /// connection has none.
 fn complete(
     alloc: Global,
-    users: &[User],
+    room: &Room,
     routes: &Routes,
     pending: Pending,
 ) -> Result<Registration, AllocError>
-    ensures { IfOk result (λ r. registered_of r ≡ complete (room_of users.now) routes.now pending) }
+    ensures { IfOk result (λ r. registered_of r ≡ complete room.now.room routes.now pending) }
 {
     let (Some(nick), Some(user)) = (&pending.nick, &pending.user) else {
         return Ok(replied(pending, Vec::new(alloc)));
     };
-    if find_user(users, nick.as_bytes()).is_some() {
+    if room.user(nick.as_bytes()).is_some() {
         let taken = nick.copy();
         let without = Pending {
             nick: None,
@@ -115,12 +113,12 @@ fn complete(
 /// Takes a nickname that is not empty.
 fn choose_nick(
     alloc: Global,
-    users: &[User],
+    room: &Room,
     routes: &Routes,
     pending: Pending,
     given: &[u8],
 ) -> Result<Registration, AllocError>
-    ensures { IfOk result (λ r. registered_of r ≡ nick_chosen (room_of users.now) routes.now pending given.now) }
+    ensures { IfOk result (λ r. registered_of r ≡ nick_chosen room.now.room routes.now pending given.now) }
 {
     let Some(nick) = Nick::read(given) else {
         return answered(
@@ -131,28 +129,28 @@ fn choose_nick(
             },
         );
     };
-    if find_user(users, given).is_some() {
+    if room.user(given).is_some() {
         return answered(alloc, pending, Reply::NicknameInUse { nick });
     }
     let chosen = Pending {
         nick: Some(nick),
         ..pending
     };
-    complete(alloc, users, routes, chosen)
+    complete(alloc, room, routes, chosen)
 }
 
 /// NICK: a nickname, which may be in use.
 fn take_nick(
     alloc: Global,
-    users: &[User],
+    room: &Room,
     routes: &Routes,
     pending: Pending,
     params: &[&[u8]],
 ) -> Result<Registration, AllocError>
-    ensures { IfOk result (λ r. registered_of r ≡ nick_row (room_of users.now) routes.now pending (words_now params.now)) }
+    ensures { IfOk result (λ r. registered_of r ≡ nick_row room.now.room routes.now pending (words_now params.now)) }
 {
     match params.first() {
-        Some(given) if !given.is_empty() => choose_nick(alloc, users, routes, pending, given),
+        Some(given) if !given.is_empty() => choose_nick(alloc, room, routes, pending, given),
         _ => answered(alloc, pending, Reply::NoNicknameGiven),
     }
 }
@@ -160,12 +158,12 @@ fn take_nick(
 /// USER: a user name and a real name. An earlier USER is replaced.
 fn take_user(
     alloc: Global,
-    users: &[User],
+    room: &Room,
     routes: &Routes,
     pending: Pending,
     params: &[&[u8]],
 ) -> Result<Registration, AllocError>
-    ensures { IfOk result (λ r. registered_of r ≡ user_row (room_of users.now) routes.now pending (words_now params.now)) }
+    ensures { IfOk result (λ r. registered_of r ≡ user_row room.now.room routes.now pending (words_now params.now)) }
 {
     if params.len() < USER_PARAMETERS {
         let command = client_words(b"USER");
@@ -176,7 +174,7 @@ fn take_user(
         real: RealName::cut(params[3]),
         ..pending
     };
-    complete(alloc, users, routes, named)
+    complete(alloc, room, routes, named)
 }
 
 /// QUIT before registration: nobody sees it.
@@ -205,12 +203,12 @@ fn give_up(alloc: Global, pending: Pending, params: &[&[u8]]) -> Result<Registra
 #[tactic(auto, unfolding(crate::specs::Register::register))]
 pub fn register(
     alloc: Global,
-    users: &[User],
+    room: &Room,
     routes: &Routes,
     pending: &Pending,
     message: &Message<'_>,
 ) -> Result<Registration, AllocError>
-    ensures { IfOk result (λ r. registered_of r ≡ register (room_of users.now) routes.now pending.now (parsed message.now)) }
+    ensures { IfOk result (λ r. registered_of r ≡ register room.now.room routes.now pending.now (parsed message.now)) }
 {
     let params = message.params.as_slice();
     let now = pending.copy();
@@ -219,8 +217,8 @@ pub fn register(
     }
     match Command::read(message.command) {
         Some(Command::Pass | Command::Pong) => Ok(replied(now, Vec::new(alloc))),
-        Some(Command::Nick) => take_nick(alloc, users, routes, now, params),
-        Some(Command::User) => take_user(alloc, users, routes, now, params),
+        Some(Command::Nick) => take_nick(alloc, room, routes, now, params),
+        Some(Command::User) => take_user(alloc, room, routes, now, params),
         Some(Command::Ping) => Ok(replied(now, ping(alloc, routes, params)?)),
         Some(Command::Quit) => give_up(alloc, now, params),
         _ => answered(alloc, now, Reply::NotRegistered),

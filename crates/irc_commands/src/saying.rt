@@ -3,19 +3,22 @@ ghost use Rattle.std.specs.Prelude.{◌≡◌, ℕ, ◌+◌, ◌≤◌, ◌<◌,
 ghost use Rattle.std.specs.List.{list_any};
 ghost use Rattle.irc_line.specs.Bytes.{begins};
 ghost use Rattle.irc_line.specs.PartViews.{words_now};
-ghost use Rattle.irc_commands.specs.RoomOfUsers.{room_of};
+ghost use Rattle.irc_names.specs.Fold.{key};
+ghost use Rattle.irc_numerics.specs.declared.replies.Reply.TheVariants.{NoSuchNick};
+ghost use Rattle.irc_room.specs.Readers.{channel_at, user_at};
+ghost use Rattle.irc_commands.specs.Decisions.{client_words};
 ghost use Rattle.irc_commands.specs.declared.decision.Act.TheVariants.{Answer};
-ghost use Rattle.irc_commands.specs.Say.{is_comma, is_channel_target, entries, said_text, to_one, say_to, say_steps, unless_notice, say_command};
+ghost use Rattle.irc_commands.specs.Say.{is_comma, is_channel_target, entries, said_text, to_one, to_channel, to_user, say_to, say_steps, unless_notice, say_command};
 
 use crate::MAX_TARGETS;
 use crate::decision::Act;
-use crate::finding::find_user;
 use crate::lines::client_words;
+use crate::speaking::may_speak;
 use irc_line::Line;
 use irc_line::limits::MAX_LINE;
 use irc_names::{MAX_CHANNEL, copied, first_bytes};
 use irc_numerics::Reply;
-use irc_room::{Effect, Target};
+use irc_room::{Effect, Room, Target};
 use irc_users::User;
 use std::alloc::{AllocError, Global};
 
@@ -78,29 +81,63 @@ fn said_text(me: &User, notice: bool, to: &[u8], words: &[u8]) -> Line
 const SEPARATORS: usize = 7;
 
 /// What a message to one target does.
-fn to_target(users: &[User], me: &User, notice: bool, words: &[u8], name: &[u8]) -> Act
-    ensures { to_one (room_of users.now) me.now notice words.now name.now ≡ result ∷ [] }
+fn to_target(room: &Room, me: &User, notice: bool, words: &[u8], name: &[u8]) -> Act
+    ensures { to_one room.now.room me.now notice words.now name.now ≡ result ∷ [] }
 {
-    let missing = Act::Answer(Reply::NoSuchNick {
-        name: client_words(name),
-    });
     if is_channel_target(name) {
-        return missing;
+        to_channel(room, me, notice, words, name)
+    } else {
+        to_user(room, me, notice, words, name)
     }
-    match find_user(users, name) {
-        None => missing,
-        Some(user) => Act::Do(Effect::Say {
-            by: me.nick.copy(),
-            notice,
-            target: Target::User(user.nick.copy()),
-            text: said_text(me, notice, user.nick.as_bytes(), words),
-        }),
+}
+
+/// What a message to a channel does.
+fn to_channel(room: &Room, me: &User, notice: bool, words: &[u8], name: &[u8]) -> Act
+    ensures { to_channel me.now notice name.now words.now (channel_at room.now.room (key name.now)) ≡ result ∷ [] }
+{
+    let Some(channel) = room.channel(name) else {
+        return missing(name);
+    };
+    if !may_speak(me, channel) {
+        return Act::Answer(Reply::CannotSendToChan {
+            channel: channel.name.copy(),
+        });
     }
+    Act::Do(Effect::Say {
+        by: me.nick.copy(),
+        notice,
+        target: Target::Channel(channel.name.copy()),
+        text: said_text(me, notice, channel.name.as_bytes(), words),
+    })
+}
+
+/// What a message to a user does.
+fn to_user(room: &Room, me: &User, notice: bool, words: &[u8], name: &[u8]) -> Act
+    ensures { to_user me.now notice name.now words.now (user_at room.now.room (key name.now)) ≡ result ∷ [] }
+{
+    let Some(user) = room.user(name) else {
+        return missing(name);
+    };
+    Act::Do(Effect::Say {
+        by: me.nick.copy(),
+        notice,
+        target: Target::User(user.nick.copy()),
+        text: said_text(me, notice, user.nick.as_bytes(), words),
+    })
+}
+
+/// A target that is not there is named as it was given.
+fn missing(name: &[u8]) -> Act
+    ensures { result ≡ Answer (NoSuchNick (client_words name.now)) }
+{
+    Act::Answer(Reply::NoSuchNick {
+        name: client_words(name),
+    })
 }
 
 const HASH: u8 = b'#';
 
-/// Whether a target stands for a channel. No channel is there yet.
+/// Whether a target stands for a channel.
 fn is_channel_target(name: &[u8]) -> bool
     ensures { result ≡ is_channel_target name.now }
 {
@@ -124,13 +161,13 @@ fn push(steps: &mut Vec<Act, Global>, notice: bool, act: Act) -> Result<(), Allo
 /// What a message to a comma list of targets does.
 fn say_to(
     alloc: Global,
-    users: &[User],
+    room: &Room,
     me: &User,
     notice: bool,
     targets: &[u8],
     words: &[u8],
 ) -> Result<Vec<Act, Global>, AllocError>
-    ensures { IfOk result (λ steps. steps.items ≡ unless_notice notice (say_to (room_of users.now) me.now notice targets.now words.now)) }
+    ensures { IfOk result (λ steps. steps.items ≡ unless_notice notice (say_to room.now.room me.now notice targets.now words.now)) }
 {
     let mut steps = Vec::new(alloc);
     let mut rest = targets;
@@ -148,7 +185,7 @@ fn say_to(
         push(
             &mut steps,
             notice,
-            to_target(users, me, notice, words, target),
+            to_target(room, me, notice, words, target),
         )?;
         served += 1;
         rest = behind;
@@ -159,19 +196,19 @@ fn say_to(
 /// What a PRIVMSG or a NOTICE does.
 pub(crate) fn say(
     alloc: Global,
-    users: &[User],
+    room: &Room,
     me: &User,
     notice: bool,
     params: &[&[u8]],
 ) -> Result<Vec<Act, Global>, AllocError>
-    ensures { IfOk result (λ steps. steps.items ≡ say_steps (room_of users.now) me.now notice (words_now params.now)) }
+    ensures { IfOk result (λ steps. steps.items ≡ say_steps room.now.room me.now notice (words_now params.now)) }
 {
     let Some((targets, more)) = params.split_first() else {
         let command = client_words(say_command(notice));
         return refuse(alloc, notice, Reply::NoRecipient { command });
     };
     match more.first() {
-        Some(words) if !words.is_empty() => say_to(alloc, users, me, notice, targets, words),
+        Some(words) if !words.is_empty() => say_to(alloc, room, me, notice, targets, words),
         _ => refuse(alloc, notice, Reply::NoTextToSend),
     }
 }

@@ -1,6 +1,5 @@
 use Rattle.std.proofs.Common.{◌≡◌, ◌≤◌, ◌-◌, ◌++◌, length}
 use Rattle.irc_commands.specs.declared.TheConstants.{MAX_TARGETS}
-use Rattle.irc_commands.specs.RoomOfUsers.{room_of}
 use Rattle.irc_commands.specs.Say.{entries, say_to, unless_notice}
 use Rattle.irc_commands.proofs.ManyTargets.{to_entries}
 use Rattle.irc_commands.proofs.saying.say_to.Given as goal
@@ -9,8 +8,8 @@ use Rattle.irc_commands.proofs.saying.say_to.Given as goal
 abbrev pub invariant-loop-target : goal.invariant-loop-target
 invariant-loop-target l = record {
   room : l.served ≤ MAX_TARGETS;
-  said : l.steps.items ++ unless_notice l.notice (to_entries (room_of l.users) l.me l.notice l.words (MAX_TARGETS - l.served) (entries l.rest))
-      ≡ unless_notice l.notice (say_to (room_of l.users) l.me l.notice l.targets l.words);
+  said : l.steps.items ++ unless_notice l.notice (to_entries l.room.room l.me l.notice l.words (MAX_TARGETS - l.served) (entries l.rest))
+      ≡ unless_notice l.notice (say_to l.room.room l.me l.notice l.targets l.words);
 }
 
 abbrev pub decreases-loop-target : goal.decreases-loop-target

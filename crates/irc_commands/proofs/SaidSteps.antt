@@ -1,0 +1,83 @@
+-- What is so of each answer and of each text that is said is so of every step of a message.
+use Rattle.std.proofs.Common.{◌≡◌, ℕ, Bool, true, false, cond, Option, Some, None, List, [], ◌∷◌, ◌++◌, filter, take, drop, refl}
+use Rattle.std.specs.List.{AllByRecursion, flat_map}
+use Rattle.irc_names.specs.Fold.{key}
+use Rattle.irc_names.specs.Tables.{row}
+use Rattle.irc_users.specs.declared.user.User.{User}
+use Rattle.irc_channels.specs.declared.channel.Channel.{Channel}
+use Rattle.irc_numerics.specs.declared.replies.Reply.{Reply}
+use Rattle.irc_numerics.specs.declared.replies.Reply.TheVariants.{CannotSendToChan}
+use Rattle.irc_room.specs.declared.effect.Target.TheVariants as target
+use Rattle.irc_room.specs.declared.effect.Effect.TheVariants.{Say}
+use Rattle.irc_room.specs.Room.{Room}
+use Rattle.irc_commands.specs.declared.TheConstants.{MAX_TARGETS}
+use Rattle.irc_commands.specs.declared.decision.Act.{Act}
+use Rattle.irc_commands.specs.declared.decision.Act.TheVariants.{Answer, Do}
+use Rattle.irc_commands.specs.Decisions.{kept}
+use Rattle.irc_commands.proofs.ByTest.{by_test}
+use Rattle.irc_commands.specs.Say.{entries, may_speak, is_channel_target, says, to_channel, to_user, to_one, too_many, is_answer, unless_notice, say_to, say_steps}
+
+-- so it is of an answer, and of a text to a user or a channel that is there
+pub record IsSoWhereSaid (room : Room) (me : User) (P : Act → Type 0) : Type 0 where
+  pub answers : (reply : Reply) → P (Answer reply)
+  pub to_users : (name : List ℕ) (other : User) (notice : Bool) (words : List ℕ) → row room.users (key name) ≡ Some other
+      → P (Do (Say me.nick notice (target.User other.nick) (kept words)))
+  pub to_channels : (name : List ℕ) (channel : Channel) (notice : Bool) (words : List ℕ) → row room.channels (key name) ≡ Some channel
+      → P (Do (Say me.nick notice (target.Channel channel.name) (kept words)))
+
+all_appended : (P : Act → Type 0) (a b : List Act) → AllByRecursion P a → AllByRecursion P b → AllByRecursion P (a ++ b)
+all_appended P [] b all more = more
+all_appended P (x ∷ a) b all more = (all.0, all_appended P a b all.1 more)
+
+all_kept : (P : Act → Type 0) (keep : Act → Bool) (acts : List Act) → AllByRecursion P acts → AllByRecursion P (filter keep acts)
+all_kept P keep [] all = all
+all_kept P keep (x ∷ acts) all =
+    let rest = all_kept P keep acts all.1 in
+    by_test (AllByRecursion P) (keep x) (x ∷ filter keep acts) (filter keep acts) (λ kept. (all.0, rest)) (λ dropped. rest)
+
+all_flat : (P : Act → Type 0) (steps : List ℕ → List Act) (names : List (List ℕ)) → ((name : List ℕ) → AllByRecursion P (steps name))
+    → AllByRecursion P (flat_map steps names)
+all_flat P steps [] each = tt
+all_flat P steps (name ∷ names) each = all_appended P (steps name) (flat_map steps names) (each name) (all_flat P steps names each)
+
+unless_all : (P : Act → Type 0) (notice : Bool) (acts : List Act) → AllByRecursion P acts → AllByRecursion P (unless_notice notice acts)
+unless_all P true acts all = all_kept P _ acts all
+unless_all P false acts all = all
+
+channel_all : (room : Room) (me : User) (P : Act → Type 0) → IsSoWhereSaid room me P → (notice : Bool) (words name : List ℕ) (found : Option Channel)
+    → row room.channels (key name) ≡ found → AllByRecursion P (to_channel me notice name words found)
+channel_all room me P so notice words name None is = (so.answers _, tt)
+channel_all room me P so notice words name (Some channel) is =
+    by_test (AllByRecursion P) (may_speak me channel) (says me notice (target.Channel channel.name) channel.name words) (Answer (CannotSendToChan channel.name) ∷ [])
+    (λ may. (so.to_channels name channel notice _ is, tt)) (λ may_not. (so.answers _, tt))
+
+user_all : (room : Room) (me : User) (P : Act → Type 0) → IsSoWhereSaid room me P → (notice : Bool) (words name : List ℕ) (found : Option User)
+    → row room.users (key name) ≡ found → AllByRecursion P (to_user me notice name words found)
+user_all room me P so notice words name None is = (so.answers _, tt)
+user_all room me P so notice words name (Some other) is = (so.to_users name other notice _ is, tt)
+
+one_all : (room : Room) (me : User) (P : Act → Type 0) → IsSoWhereSaid room me P → (notice : Bool) (words name : List ℕ) → AllByRecursion P (to_one room me notice words name)
+one_all room me P so notice words name =
+    by_test (AllByRecursion P) (is_channel_target name)
+    (to_channel me notice name words (row room.channels (key name))) (to_user me notice name words (row room.users (key name)))
+    (λ is. channel_all room me P so notice words name (row room.channels (key name)) refl)
+    (λ is_not. user_all room me P so notice words name (row room.users (key name)) refl)
+
+too_many_all : (room : Room) (me : User) (P : Act → Type 0) → IsSoWhereSaid room me P → (names : List (List ℕ)) → AllByRecursion P (too_many names)
+too_many_all room me P so [] = tt
+too_many_all room me P so (name ∷ names) = (so.answers _, tt)
+
+say_to_all : (room : Room) (me : User) (P : Act → Type 0) → IsSoWhereSaid room me P → (notice : Bool) (targets words : List ℕ) → AllByRecursion P (say_to room me notice targets words)
+say_to_all room me P so notice targets words =
+    all_appended P (flat_map (to_one room me notice words) (take MAX_TARGETS (entries targets))) (too_many (drop MAX_TARGETS (entries targets)))
+    (all_flat P (to_one room me notice words) (take MAX_TARGETS (entries targets)) (one_all room me P so notice words))
+    (too_many_all room me P so (drop MAX_TARGETS (entries targets)))
+
+one_answer : (room : Room) (me : User) (P : Act → Type 0) → IsSoWhereSaid room me P → (notice : Bool) (reply : Reply) → AllByRecursion P (unless_notice notice (Answer reply ∷ []))
+one_answer room me P so notice reply = unless_all P notice (Answer reply ∷ []) (so.answers reply, tt)
+
+pub said_all : (room : Room) (me : User) (P : Act → Type 0) → IsSoWhereSaid room me P → (notice : Bool) (params : List (List ℕ)) → AllByRecursion P (say_steps room me notice params)
+said_all room me P so notice [] = one_answer room me P so notice _
+said_all room me P so notice (targets ∷ []) = one_answer room me P so notice _
+said_all room me P so notice (targets ∷ [] ∷ more) = one_answer room me P so notice _
+said_all room me P so notice (targets ∷ (b ∷ bytes) ∷ more) = unless_all P notice (say_to room me notice targets (b ∷ bytes)) (say_to_all room me P so notice targets (b ∷ bytes))

@@ -1,0 +1,80 @@
+-- Which steps say who is a user: it is one from when it registers to when it quits.
+use Rattle.std.specs.Prelude.{◌≡◌, ℕ, Bool, true, false, Option, Some, None, List, [], ◌∷◌}
+use Rattle.std.specs.List.{list_any}
+use Rattle.irc_names.specs.Fold.{key}
+use Rattle.irc_names.specs.Tables.{row}
+use Rattle.irc_line.specs.Messages.{Parsed}
+use Rattle.irc_users.specs.declared.user.User.{User}
+use Rattle.irc_room.specs.declared.effect.Effect.{Effect}
+use Rattle.irc_room.specs.declared.effect.Effect.TheVariants.{AddUser, Rename, Quit, Say}
+use Rattle.irc_room.specs.Room.{Room}
+use Rattle.irc_routes.specs.Place.{Place}
+use Rattle.irc_commands.specs.declared.decision.Act.{Act}
+use Rattle.irc_commands.specs.declared.decision.Act.TheVariants.{Answer, Raw, Do}
+use Rattle.irc_commands.specs.declared.pending.Pending.{Pending}
+use Rattle.irc_commands.specs.Decide.{decide}
+use Rattle.irc_commands.specs.Register.{register}
+
+-- whether a step brings a nickname: a user comes, or one takes another nickname
+abbrev pub brings_nick : Act → Bool
+brings_nick (Do (AddUser user)) = true
+brings_nick (Do (Rename nick new)) = true
+brings_nick other = false
+
+-- whether a step makes somebody a user, or another user, or none
+abbrev pub changes_users : Act → Bool
+changes_users (Do (Quit nick text)) = true
+changes_users act = brings_nick act
+
+-- whether a step is a change of the room, or a text that is said in it
+abbrev pub is_effect : Act → Bool
+is_effect (Do effect) = true
+is_effect other = false
+
+-- A line of a user brings no nickname.
+abbrev pub DecidedBringsNobody : Type 0
+DecidedBringsNobody = (room : Room) (place : Place) (who : List ℕ) (message : Parsed) → list_any brings_nick (decide room place who message).steps ≡ false
+
+-- While the client stays, who is a user stays.
+abbrev pub WhoStaysIsUser : Type 0
+WhoStaysIsUser = (room : Room) (place : Place) (who : List ℕ) (message : Parsed)
+    → (decide room place who message).close ≡ false → list_any changes_users (decide room place who message).steps ≡ false
+
+-- these steps are a Quit of the user of a nickname, and then nothing that changes the room
+pub record QuitFirst (room : Room) (who : List ℕ) (steps : List Act) : Type 0 where
+  pub me : User
+  pub reason : List ℕ
+  pub behind : List Act
+  pub is_user : row room.users (key who) ≡ Some me
+  pub steps_are : steps ≡ Do (Quit me.nick reason) ∷ behind
+  pub no_more : list_any is_effect behind ≡ false
+
+-- A client that is closed has quit.
+abbrev pub WhoIsClosedQuits : Type 0
+WhoIsClosedQuits = (room : Room) (place : Place) (who : List ℕ) (message : Parsed)
+    → (decide room place who message).close ≡ true → QuitFirst room who (decide room place who message).steps
+
+-- these steps add a user of this server whose nickname this is, and then change the room no more
+pub record AddsFirst (place : Place) (nick : Option (List ℕ)) (steps : List Act) : Type 0 where
+  pub user : User
+  pub behind : List Act
+  pub steps_are : steps ≡ Do (AddUser user) ∷ behind
+  pub is_home : user.home ≡ place.name
+  pub is_nick : nick ≡ Some (user.nick)
+  pub no_more : list_any is_effect behind ≡ false
+
+-- A connection that is registered becomes a user of its server, with the nickname that it has then.
+abbrev pub RegisteredIsAdded : Type 0
+RegisteredIsAdded = (room : Room) (place : Place) (pending : Pending) (message : Parsed)
+    → (register room place pending message).registered ≡ true
+    → AddsFirst place (register room place pending message).pending.nick (register room place pending message).steps
+
+-- One that is not registered changes nothing of the room.
+abbrev pub UnregisteredChangesNothing : Type 0
+UnregisteredChangesNothing = (room : Room) (place : Place) (pending : Pending) (message : Parsed)
+    → (register room place pending message).registered ≡ false → list_any is_effect (register room place pending message).steps ≡ false
+
+-- One that is registered is not closed.
+abbrev pub RegisteredStays : Type 0
+RegisteredStays = (room : Room) (place : Place) (pending : Pending) (message : Parsed)
+    → (register room place pending message).registered ≡ true → (register room place pending message).close ≡ false

@@ -1,0 +1,53 @@
+//! What holds of all that is decided. Each law is a function that does nothing, and its contract is the law: the check proves it, and
+//! a crate above may cite it.
+ghost use Rattle.irc_commands.specs.Possible.{DecidedIsPossible, RegisteringIsPossible};
+ghost use Rattle.irc_commands.specs.Comings.{
+  DecidedBringsNobody,
+  RegisteredIsAdded,
+  RegisteredStays,
+  UnregisteredChangesNothing,
+  WhoIsClosedQuits,
+  WhoStaysIsUser,
+};
+
+/// Each effect that a user's line is decided to have is possible when its turn comes, in any well-formed room: whom and what it
+/// names is there.
+pub fn decided_is_possible()
+    ensures { DecidedIsPossible }
+{}
+
+/// The same of a line of a connection that is not registered: the nickname of a user that is added is free.
+pub fn registering_is_possible()
+    ensures { RegisteringIsPossible }
+{}
+
+/// No line of a user makes somebody a user, or gives anybody another nickname.
+pub fn decided_brings_nobody()
+    ensures { DecidedBringsNobody }
+{}
+
+/// A line after which its client stays makes nobody a user, nor a user nobody.
+pub fn who_stays_is_user()
+    ensures { WhoStaysIsUser }
+{}
+
+/// A line after which its client is closed is a Quit of that client's user, and changes nothing else.
+pub fn who_is_closed_quits()
+    ensures { WhoIsClosedQuits }
+{}
+
+/// A connection that is registered by a line becomes a user of its server, with the nickname that it has given, and nothing else
+/// changes.
+pub fn registered_is_added()
+    ensures { RegisteredIsAdded }
+{}
+
+/// A line of a connection by which it is not registered changes nothing of the room.
+pub fn unregistered_changes_nothing()
+    ensures { UnregisteredChangesNothing }
+{}
+
+/// A connection that is registered by a line is not closed by it.
+pub fn registered_stays()
+    ensures { RegisteredStays }
+{}
