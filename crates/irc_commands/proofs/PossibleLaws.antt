@@ -72,7 +72,7 @@ decided_is_possible room place who message well =
       answered = λ reply. tt;
       told = λ line. tt;
       said = λ me notice params is.
-      harmless_possible room (say_steps room me notice params) (said_all room me (IsHarmless room) (sayable room well me (stored_there room well (key who) me is)) notice params);
+          harmless_possible room (say_steps room me notice params) (said_all room me (IsHarmless room) (sayable room well me (stored_there room well (key who) me is)) notice params);
       quits = λ me reason line is. record {
         now = record { users_there = one_there room me.nick (stored_there room well (key who) me is); channel_there = refl; nick_free = refl };
         later = tt;

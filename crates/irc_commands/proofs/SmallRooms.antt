@@ -1,5 +1,5 @@
--- What is found in a room with one user, and the examples that follow.
-use Rattle.std.proofs.Common.{◌≡◌, ℕ, true, false, cond, Option, Some, None, List, [], ◌∷◌, ◌++◌, refl, ◌∙◌, ap, codes, is_some}
+-- What is found in small rooms, and the examples that follow.
+use Rattle.std.proofs.Common.{◌≡◌, ℕ, true, false, cond, not, ◌&&◌, ◌||◌, Option, Some, None, List, [], ◌∷◌, ◌++◌, refl, ◌∙◌, ap, codes, is_some}
 use Rattle.std.specs.FinMap.{empty, get-empty}
 use Rattle.irc_names.specs.Fold.{fold, fold_table, key}
 use Rattle.irc_names.specs.Tables.{fold_cmp, row}
@@ -9,16 +9,19 @@ use Rattle.irc_line.specs.Bytes.{cut}
 use Rattle.irc_line.specs.Messages.{line_text}
 use Rattle.irc_users.specs.Users.{clean_user, cut_real}
 use Rattle.irc_users.specs.declared.user.User.{User}
+use Rattle.irc_channels.specs.declared.flags.Flags.{Flags}
+use Rattle.irc_channels.specs.declared.channel.Channel.{Channel}
 use Rattle.irc_channels.specs.Texts.{cut_words}
-use Rattle.irc_numerics.specs.declared.replies.Reply.TheVariants.{NicknameInUse, TooManyTargets}
+use Rattle.irc_room.specs.declared.effect.Target.TheVariants as target
+use Rattle.irc_numerics.specs.declared.replies.Reply.TheVariants.{NicknameInUse, CannotSendToChan, TooManyTargets}
 use Rattle.irc_commands.specs.declared.decision.Act.{Act}
 use Rattle.irc_commands.specs.declared.decision.Act.TheVariants.{Answer}
 use Rattle.irc_commands.specs.declared.pending.Pending.{Pending}
-use Rattle.irc_commands.specs.Decisions.{Registered, does, client_words}
+use Rattle.irc_commands.specs.Decisions.{Decided, Registered, does, client_words}
 use Rattle.irc_commands.specs.Decide.{decide, decide_for}
 use Rattle.irc_commands.specs.Register.{register, replies, complete, welcomed, user_of}
-use Rattle.irc_commands.specs.Say.{entries, to_user, unless_notice}
-use Rattle.irc_commands.specs.Examples.{al, al_alone, a_net, line, newcomer, UnknownTarget, FifthTarget, SilentNotice, QuitWithText, UnknownWord, ForeignPrefix, EarlyJoin, TakenByFold, TakenMeanwhile}
+use Rattle.irc_commands.specs.Say.{entries, is_banned, is_raised, says, to_channel, to_user, unless_notice}
+use Rattle.irc_commands.specs.Examples.{al, al_alone, a_net, line, newcomer, UnknownTarget, FifthTarget, SilentNotice, QuitWithText, UnknownWord, ForeignPrefix, EarlyJoin, TakenByFold, TakenMeanwhile, bo, als_channel, with_channel, to_channel_line, MemberIsHeard, OutsiderIsKeptOut}
 
 al_there : row al_alone.users (key (codes "al")) ≡ Some al
 al_there = row-alter_same (key (codes "al")) (λ _. Some al) empty
@@ -84,3 +87,44 @@ unfolding register clean_user cut_real
 taken_meanwhile =
     ap (λ o. cond (is_some o) (replies (record given { nick = None }) (Answer (NicknameInUse (codes "al")) ∷ []))
     (registered_now given (welcomed a_net (user_of a_net given (codes "al") (codes "u"))))) al_there
+
+al_with_channel : row with_channel.users (key (codes "al")) ≡ Some al
+unfolding fold fold_table
+al_with_channel = row-alter_other (key (codes "bo")) (λ _. Some bo) al_alone.users (key (codes "al")) refl ∙ al_there
+
+bo_with_channel : row with_channel.users (key (codes "bo")) ≡ Some bo
+bo_with_channel = row-alter_same (key (codes "bo")) (λ _. Some bo) al_alone.users
+
+channel_there : row with_channel.channels (key (codes "#RUST")) ≡ Some als_channel
+unfolding fold fold_table
+channel_there = row-alter_same (key (codes "#Rust")) (λ _. Some als_channel) empty
+
+al_member : row als_channel.members (key (codes "al")) ≡ Some (record { op = false; voice = false })
+al_member = row-alter_same (key (codes "al")) (λ _. Some (record { op = false; voice = false })) empty
+
+bo_outside : row als_channel.members (key (codes "bo")) ≡ None
+unfolding fold fold_table
+bo_outside = row-alter_other (key (codes "al")) (λ _. Some (record { op = false; voice = false })) empty (key (codes "bo")) refl ∙ get-empty fold_cmp (key (codes "bo"))
+
+-- what comes of the line, by the channel that is found and by the flags of who says it
+abbrev in_channel : User → Option Channel → Decided
+in_channel me found = does ((to_channel me false (codes "#RUST") (codes "hi") found ++ []) ++ [])
+
+abbrev with_flags : User → Option Flags → Decided
+with_flags me flags =
+    does ((cond ((not als_channel.modes.no_outside || is_some flags) && (not als_channel.modes.moderated || is_raised flags) && (is_raised flags || not (is_banned me als_channel)))
+    (says me false (target.Channel als_channel.name) als_channel.name (codes "hi")) (Answer (CannotSendToChan als_channel.name) ∷ []) ++ []) ++ [])
+
+pub member_is_heard : MemberIsHeard
+unfolding decide entries
+member_is_heard =
+    ap (decide_for with_channel a_net to_channel_line) al_with_channel
+    ∙ ap (in_channel al) channel_there
+    ∙ ap (with_flags al) al_member
+
+pub outsider_is_kept_out : OutsiderIsKeptOut
+unfolding decide entries
+outsider_is_kept_out =
+    ap (decide_for with_channel a_net to_channel_line) bo_with_channel
+    ∙ ap (in_channel bo) channel_there
+    ∙ ap (with_flags bo) bo_outside

@@ -1,11 +1,13 @@
--- Lines of a client, and what they do, in a room with one user (RFC 2812 section 3).
+-- Lines of a client, and what they do, in small rooms (RFC 2812 section 3).
 use Rattle.std.specs.Prelude.{◌≡◌, ℕ, true, false, Option, Some, None, List, [], ◌∷◌, codes}
 use Rattle.std.specs.FinMap.{empty}
 use Rattle.irc_names.specs.Fold.{key}
 use Rattle.irc_names.specs.Tables.{alter}
 use Rattle.irc_line.specs.Messages.{Parsed}
 use Rattle.irc_users.specs.declared.user.User.{User}
-use Rattle.irc_numerics.specs.declared.replies.Reply.TheVariants.{NoSuchNick, TooManyTargets, UnknownCommand, NotRegistered, NicknameInUse}
+use Rattle.irc_channels.specs.declared.channel.Channel.{Channel}
+use Rattle.irc_channels.specs.Channels.{no_modes}
+use Rattle.irc_numerics.specs.declared.replies.Reply.TheVariants.{NoSuchNick, CannotSendToChan, TooManyTargets, UnknownCommand, NotRegistered, NicknameInUse}
 use Rattle.irc_room.specs.declared.effect.Target.TheVariants as target
 use Rattle.irc_room.specs.declared.effect.Effect.TheVariants.{Quit, Say}
 use Rattle.irc_room.specs.Room.{Room}
@@ -33,6 +35,38 @@ line command params = record { prefix = None; command = command; params = params
 -- al says something to itself
 abbrev pub to_itself : Act
 to_itself = Do (Say (codes "al") false (target.User (codes "al")) (kept (codes "x")))
+
+abbrev pub bo : User
+bo = record { nick = codes "bo"; user = codes "u"; host = codes "h"; real = codes "Bo"; home = codes "a.net"; invisible = false }
+
+-- a channel with mode n, whose only member is al
+abbrev pub als_channel : Channel
+als_channel = record {
+  name = codes "#Rust";
+  modes = record no_modes { no_outside = true };
+  topic = [];
+  members = alter (key (codes "al")) (λ _. Some (record { op = false; voice = false })) empty;
+  invited = empty;
+}
+
+-- al and bo on a.net, and that channel
+abbrev pub with_channel : Room
+with_channel = record {
+  users = alter (key (codes "bo")) (λ _. Some bo) al_alone.users;
+  channels = alter (key (codes "#Rust")) (λ _. Some als_channel) empty;
+}
+
+abbrev pub to_channel_line : Parsed
+to_channel_line = line (codes "PRIVMSG") (codes "#RUST" ∷ codes "hi" ∷ [])
+
+-- what a member says to its channel is said to the channel as stored
+abbrev pub MemberIsHeard : Type 0
+MemberIsHeard = decide with_channel a_net (codes "al") to_channel_line
+    ≡ does (Do (Say (codes "al") false (target.Channel (codes "#Rust")) (kept (codes "hi"))) ∷ [])
+
+-- an outsider is kept out under mode n
+abbrev pub OutsiderIsKeptOut : Type 0
+OutsiderIsKeptOut = decide with_channel a_net (codes "bo") to_channel_line ≡ does (Answer (CannotSendToChan (codes "#Rust")) ∷ [])
 
 -- whoever is not there is named as it was given
 abbrev pub UnknownTarget : Type 0

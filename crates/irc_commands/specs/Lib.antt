@@ -1,3 +1,4 @@
+pub mod Marks
 pub mod Commands
 pub mod Decisions
 pub mod Ping

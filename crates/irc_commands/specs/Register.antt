@@ -16,13 +16,14 @@ use Rattle.irc_commands.specs.declared.command.Command.{Command}
 use Rattle.irc_commands.specs.declared.command.Command.TheVariants as command
 use Rattle.irc_commands.specs.Commands.{command_of}
 use Rattle.irc_commands.specs.Decisions.{Registered, kept, client_words}
+use Rattle.irc_commands.specs.Marks.{asterisk}
 use Rattle.irc_commands.specs.Ping.{ping_steps}
 use Rattle.irc_commands.specs.Quit.{error_line, reason_given}
 use Rattle.irc_commands.specs.Decide.{is_from}
 
 -- the name that replies are sent to: the nickname chosen so far, or `*`
 abbrev pub reply_name : Pending → List ℕ
-reply_name pending = unwrap_or pending.nick (42 ∷ [])
+reply_name pending = unwrap_or pending.nick (asterisk ∷ [])
 
 -- these steps, and nothing else changes
 abbrev pub replies : Pending → List Act → Registered

@@ -19,9 +19,10 @@ use Rattle.irc_commands.specs.declared.TheConstants.{MAX_TARGETS}
 use Rattle.irc_commands.specs.declared.decision.Act.{Act}
 use Rattle.irc_commands.specs.declared.decision.Act.TheVariants.{Answer, Do}
 use Rattle.irc_commands.specs.Decisions.{kept, client_words}
+use Rattle.irc_commands.specs.Marks.{comma, hash}
 
 abbrev pub is_comma : ℕ → Bool
-is_comma b = nat_eq b 44
+is_comma b = nat_eq b comma
 
 -- the entries of a comma list, without the empty ones
 unfoldable pub entries : List ℕ → List (List ℕ)
@@ -29,7 +30,7 @@ entries list = filter (λ entry. not (is_nil entry)) (slice_split is_comma list)
 
 abbrev pub is_channel_target : List ℕ → Bool
 is_channel_target [] = false
-is_channel_target (b ∷ bytes) = nat_eq b 35
+is_channel_target (b ∷ bytes) = nat_eq b hash
 
 -- nick!user@host, against which bans are held (RFC 2811 section 4.3)
 abbrev pub mask_of : User → List ℕ

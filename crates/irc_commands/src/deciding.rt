@@ -73,7 +73,7 @@ pub fn decide(
 }
 
 /// The row of the command table that the line of a user fits.
-fn decide_for(
+pub(crate) fn decide_for(
     alloc: Global,
     room: &Room,
     routes: &Routes,

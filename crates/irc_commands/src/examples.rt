@@ -1,5 +1,5 @@
 //! Lines of a client by example. Each is a function that does nothing, and its contract is the example, which the check proves.
-ghost use Rattle.irc_commands.specs.Examples.{UnknownTarget, FifthTarget, SilentNotice, QuitWithText, UnknownWord, ForeignPrefix, EarlyJoin, TakenByFold, TakenMeanwhile};
+ghost use Rattle.irc_commands.specs.Examples.{MemberIsHeard, OutsiderIsKeptOut, UnknownTarget, FifthTarget, SilentNotice, QuitWithText, UnknownWord, ForeignPrefix, EarlyJoin, TakenByFold, TakenMeanwhile};
 
 /// A target that is not there is named as it was given.
 pub fn unknown_target_is_answered()
@@ -44,4 +44,14 @@ pub fn nickname_is_taken_under_the_fold()
 /// A nickname that somebody registered with meanwhile is lost as the registration completes.
 pub fn nickname_is_looked_up_twice()
     ensures { TakenMeanwhile }
+{}
+
+/// What a member says to its channel is said to the channel as its maker spelled it.
+pub fn member_is_heard()
+    ensures { MemberIsHeard }
+{}
+
+/// An outsider says nothing to a channel with mode n.
+pub fn outsider_is_kept_out()
+    ensures { OutsiderIsKeptOut }
 {}

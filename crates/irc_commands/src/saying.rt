@@ -1,11 +1,10 @@
 //! PRIVMSG and NOTICE (RFC 2812 section 3.3).
 ghost use Rattle.std.specs.Prelude.{◌≡◌, ℕ, ◌+◌, ◌≤◌, ◌<◌, Bool, false, not, List, [], ◌∷◌, ◌++◌, length, take, drop, IfOk, OnOk, MatchOption};
 ghost use Rattle.std.specs.List.{list_any};
+ghost use Rattle.std.specs.Option.{option_copied};
 ghost use Rattle.irc_line.specs.Bytes.{begins};
 ghost use Rattle.irc_line.specs.PartViews.{words_now};
-ghost use Rattle.irc_names.specs.Fold.{key};
 ghost use Rattle.irc_numerics.specs.declared.replies.Reply.TheVariants.{NoSuchNick};
-ghost use Rattle.irc_room.specs.Readers.{channel_at, user_at};
 ghost use Rattle.irc_commands.specs.Decisions.{client_words};
 ghost use Rattle.irc_commands.specs.declared.decision.Act.TheVariants.{Answer};
 ghost use Rattle.irc_commands.specs.Say.{is_comma, is_channel_target, entries, said_text, to_one, to_channel, to_user, say_to, say_steps, unless_notice, say_command};
@@ -14,6 +13,7 @@ use crate::MAX_TARGETS;
 use crate::decision::Act;
 use crate::lines::client_words;
 use crate::speaking::may_speak;
+use irc_channels::Channel;
 use irc_line::Line;
 use irc_line::limits::MAX_LINE;
 use irc_names::{MAX_CHANNEL, copied, first_bytes};
@@ -70,10 +70,9 @@ fn said_text(me: &User, notice: bool, to: &[u8], words: &[u8]) -> Line
     ensures { result.items ≡ said_text me.now notice to.now words.now }
 {
     let sender = me.nick.as_bytes().len() + me.user.as_bytes().len() + me.host.as_bytes().len();
-    let command = if notice { 6 } else { 7 };
     copied(first_bytes(
         words,
-        MAX_LINE.saturating_sub(sender + command + to.len() + SEPARATORS),
+        MAX_LINE.saturating_sub(sender + say_command(notice).len() + to.len() + SEPARATORS),
     ))
 }
 
@@ -85,17 +84,23 @@ fn to_target(room: &Room, me: &User, notice: bool, words: &[u8], name: &[u8]) ->
     ensures { to_one room.now.room me.now notice words.now name.now ≡ result ∷ [] }
 {
     if is_channel_target(name) {
-        to_channel(room, me, notice, words, name)
+        to_channel(room.channel(name), me, notice, words, name)
     } else {
-        to_user(room, me, notice, words, name)
+        to_user(room.user(name), me, notice, words, name)
     }
 }
 
-/// What a message to a channel does.
-fn to_channel(room: &Room, me: &User, notice: bool, words: &[u8], name: &[u8]) -> Act
-    ensures { to_channel me.now notice name.now words.now (channel_at room.now.room (key name.now)) ≡ result ∷ [] }
+/// What a message does to the channel that was found under a name, if one was.
+pub(crate) fn to_channel(
+    found: Option<&Channel>,
+    me: &User,
+    notice: bool,
+    words: &[u8],
+    name: &[u8],
+) -> Act
+    ensures { to_channel me.now notice name.now words.now (option_copied found.entry) ≡ result ∷ [] }
 {
-    let Some(channel) = room.channel(name) else {
+    let Some(channel) = found else {
         return missing(name);
     };
     if !may_speak(me, channel) {
@@ -111,11 +116,17 @@ fn to_channel(room: &Room, me: &User, notice: bool, words: &[u8], name: &[u8]) -
     })
 }
 
-/// What a message to a user does.
-fn to_user(room: &Room, me: &User, notice: bool, words: &[u8], name: &[u8]) -> Act
-    ensures { to_user me.now notice name.now words.now (user_at room.now.room (key name.now)) ≡ result ∷ [] }
+/// What a message does to the user that was found under a name, if one was.
+pub(crate) fn to_user(
+    found: Option<&User>,
+    me: &User,
+    notice: bool,
+    words: &[u8],
+    name: &[u8],
+) -> Act
+    ensures { to_user me.now notice name.now words.now (option_copied found.entry) ≡ result ∷ [] }
 {
-    let Some(user) = room.user(name) else {
+    let Some(user) = found else {
         return missing(name);
     };
     Act::Do(Effect::Say {
