@@ -19,3 +19,6 @@ mod showing;
 pub use effect::{By, Effect, ModeChanges, Target};
 pub use fault::RoomFault;
 pub use room::Room;
+
+#[cfg(test)]
+mod room_tests;
