@@ -1,12 +1,12 @@
 -- Who is a user after what is decided.
-use Rattle.std.proofs.Common.{◌≡◌, ℕ, Bool, true, false, ◌||◌, Some, List, [], ◌∷◌, refl, sym, ◌∙◌, ap}
+use Rattle.std.proofs.Common.{◌≡◌, ℕ, Bool, true, false, ◌||◌, List, [], ◌∷◌, refl, ◌∙◌, ap}
 use Rattle.std.specs.List.{AllByRecursion, list_any}
 use Rattle.irc_users.specs.declared.user.User.{User}
 use Rattle.irc_room.specs.Room.{Room}
 use Rattle.irc_commands.specs.declared.decision.Act.{Act}
 use Rattle.irc_commands.specs.Say.{say_steps}
 use Rattle.irc_commands.specs.Comings.{brings_nick, changes_users, is_effect, QuitFirst, AddsFirst, DecidedBringsNobody, WhoStaysIsUser, WhoIsClosedQuits, RegisteredIsAdded, UnregisteredChangesNothing, RegisteredStays}
-use Rattle.irc_commands.proofs.SaidSteps.{IsSoWhereSaid, said_all}
+use Rattle.irc_commands.proofs.SaidSteps.{said_all}
 use Rattle.irc_commands.proofs.DecideCases.{decided_so}
 use Rattle.irc_commands.proofs.RegisterCases.{registering_so}
 

@@ -1,5 +1,5 @@
 -- What can come of a line of a connection that is not registered, case by case.
-use Rattle.std.proofs.Common.{◌≡◌, ℕ, Bool, true, false, cond, not, Option, Some, None, List, [], ◌∷◌, refl}
+use Rattle.std.proofs.Common.{◌≡◌, ℕ, true, false, cond, not, Option, Some, None, List, [], ◌∷◌, refl}
 use Rattle.arrayvec.specs.ArrayVec.{ArrayVec}
 use Rattle.irc_names.specs.Names.{is_nick}
 use Rattle.irc_line.specs.Messages.{Parsed}

@@ -1,5 +1,5 @@
 -- What is so of each answer and of each text that is said is so of every step of a message.
-use Rattle.std.proofs.Common.{◌≡◌, ℕ, Bool, true, false, cond, Option, Some, None, List, [], ◌∷◌, ◌++◌, filter, take, drop, refl}
+use Rattle.std.proofs.Common.{◌≡◌, ℕ, Bool, true, false, Option, Some, None, List, [], ◌∷◌, ◌++◌, filter, take, drop, refl}
 use Rattle.std.specs.List.{AllByRecursion, flat_map}
 use Rattle.irc_names.specs.Fold.{key}
 use Rattle.irc_names.specs.Tables.{row}
@@ -15,7 +15,7 @@ use Rattle.irc_commands.specs.declared.decision.Act.{Act}
 use Rattle.irc_commands.specs.declared.decision.Act.TheVariants.{Answer, Do}
 use Rattle.irc_commands.specs.Decisions.{kept}
 use Rattle.irc_commands.proofs.ByTest.{by_test}
-use Rattle.irc_commands.specs.Say.{entries, may_speak, is_channel_target, says, to_channel, to_user, to_one, too_many, is_answer, unless_notice, say_to, say_steps}
+use Rattle.irc_commands.specs.Say.{entries, may_speak, is_channel_target, says, to_channel, to_user, to_one, too_many, unless_notice, say_to, say_steps}
 
 -- so it is of an answer, and of a text to a user or a channel that is there
 pub record IsSoWhereSaid (room : Room) (me : User) (P : Act → Type 0) : Type 0 where

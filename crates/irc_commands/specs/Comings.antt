@@ -1,16 +1,15 @@
 -- Which steps say who is a user: it is one from when it registers to when it quits.
-use Rattle.std.specs.Prelude.{◌≡◌, ℕ, Bool, true, false, Option, Some, None, List, [], ◌∷◌}
+use Rattle.std.specs.Prelude.{◌≡◌, ℕ, Bool, true, false, Option, Some, List, ◌∷◌}
 use Rattle.std.specs.List.{list_any}
 use Rattle.irc_names.specs.Fold.{key}
 use Rattle.irc_names.specs.Tables.{row}
 use Rattle.irc_line.specs.Messages.{Parsed}
 use Rattle.irc_users.specs.declared.user.User.{User}
-use Rattle.irc_room.specs.declared.effect.Effect.{Effect}
-use Rattle.irc_room.specs.declared.effect.Effect.TheVariants.{AddUser, Rename, Quit, Say}
+use Rattle.irc_room.specs.declared.effect.Effect.TheVariants.{AddUser, Rename, Quit}
 use Rattle.irc_room.specs.Room.{Room}
 use Rattle.irc_routes.specs.Place.{Place}
 use Rattle.irc_commands.specs.declared.decision.Act.{Act}
-use Rattle.irc_commands.specs.declared.decision.Act.TheVariants.{Answer, Raw, Do}
+use Rattle.irc_commands.specs.declared.decision.Act.TheVariants.{Do}
 use Rattle.irc_commands.specs.declared.pending.Pending.{Pending}
 use Rattle.irc_commands.specs.Decide.{decide}
 use Rattle.irc_commands.specs.Register.{register}

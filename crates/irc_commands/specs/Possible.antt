@@ -7,7 +7,7 @@ use Rattle.irc_room.specs.Effects.{IsPossible}
 use Rattle.irc_room.specs.After.{after}
 use Rattle.irc_routes.specs.Place.{Place}
 use Rattle.irc_commands.specs.declared.decision.Act.{Act}
-use Rattle.irc_commands.specs.declared.decision.Act.TheVariants.{Answer, Raw, Do}
+use Rattle.irc_commands.specs.declared.decision.Act.TheVariants.{Do}
 use Rattle.irc_commands.specs.declared.pending.Pending.{Pending}
 use Rattle.irc_commands.specs.Decide.{decide}
 use Rattle.irc_commands.specs.Register.{register}
