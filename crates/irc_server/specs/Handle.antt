@@ -1,6 +1,7 @@
 -- What one event does to one server: the view after it, and what is put out, in order.
 use Rattle.std.specs.Prelude.{ℕ, Bool, true, false, Option, Some, None, Result, Ok, Err, List, [], ◌∷◌, ◌++◌, map, codes, if◌then◌else◌}
 use Rattle.std.specs.List.{flat_map, filter_map}
+use Rattle.std.specs.Option.{option_map}
 use Rattle.irc_names.specs.Fold.{key, same}
 use Rattle.irc_line.specs.declared.reading.LineFault.{LineFault}
 use Rattle.irc_line.specs.Messages.{Parsed}
@@ -9,18 +10,25 @@ use Rattle.irc_users.specs.declared.user.User.{User}
 use Rattle.irc_numerics.specs.Replies.{reply_text}
 use Rattle.irc_room.specs.declared.effect.Effect.{Effect}
 use Rattle.irc_room.specs.declared.effect.Effect.TheVariants.{Quit, Rename}
+use Rattle.irc_room.specs.Room.{Room}
 use Rattle.irc_room.specs.After.{after}
 use Rattle.irc_room.specs.Seen.{Showing, seen}
 use Rattle.irc_commands.specs.declared.decision.Act.{Act}
 use Rattle.irc_commands.specs.declared.decision.Act.TheVariants.{Answer, Raw, Do}
-use Rattle.irc_commands.specs.Decisions.{Decided, Registered, kept}
+use Rattle.irc_commands.specs.Decisions.{Decided, kept}
+use Rattle.irc_commands.specs.Decisions.{Registered as Given}
 use Rattle.irc_commands.specs.Decide.{decide}
 use Rattle.irc_commands.specs.Register.{register}
+use Rattle.irc_server.specs.declared.event.Event.{Event}
+use Rattle.irc_server.specs.declared.event.Event.TheVariants.{Connect, Line, Gone}
 use Rattle.irc_server.specs.declared.event.Out.{Out}
 use Rattle.irc_server.specs.declared.event.Out.TheVariants.{ToClient, CloseClient}
 use Rattle.irc_server.specs.declared.event.ServerFault.{ServerFault}
 use Rattle.irc_server.specs.declared.event.ServerFault.TheVariants.{NoSuchConnection, ConnectionThere}
-use Rattle.irc_server.specs.View.{Client, registering, registered, Connected, connected, View, client_of, with_new_client, with_client, without_client}
+use Rattle.irc_server.specs.declared.clients.Client.{Client}
+use Rattle.irc_server.specs.declared.clients.Client.TheVariants.{Registering, Registered}
+use Rattle.irc_server.specs.declared.clients.Connected.{Connected}
+use Rattle.irc_server.specs.View.{connected, View, client_of, with_new_client, with_client, without_client}
 
 -- what happens to a server; of a line, what it is read as
 pub data Happening : Type 0 where
@@ -34,8 +42,8 @@ pub record Handled : Type 0 where
 
 -- whether a client is the user with a nickname
 abbrev pub is_client : List ℕ → Client → Bool
-is_client nick (registering pending) = false
-is_client nick (registered name) = same name nick
+is_client nick (Registering pending) = false
+is_client nick (Registered name) = same name nick
 
 -- a line to the viewer, where it is a client of this server
 abbrev pub to_viewer : List Connected → Showing → List Out
@@ -43,12 +51,11 @@ to_viewer clients showing =
     filter_map (λ c. if is_client showing.viewer c.client then Some (ToClient c.conn (kept showing.line)) else None) clients
 
 -- a client whose user takes another nickname is that user still
-abbrev pub client_renamed : List ℕ → List ℕ → Client → Client
-client_renamed old new (registering pending) = registering pending
-client_renamed old new (registered name) = registered (if same old name then new else name)
+abbrev pub renamed_in : List ℕ → List ℕ → Connected → Connected
+renamed_in old new c = if is_client old c.client then connected c.conn (Registered new) else c
 
 abbrev pub clients_after : Effect → List Connected → List Connected
-clients_after (Rename nick new) clients = map (λ c. connected c.conn (client_renamed nick new c.client)) clients
+clients_after (Rename nick new) clients = map (renamed_in nick new) clients
 clients_after effect clients = clients
 
 -- An effect changes the room, and is shown to the viewers that are clients of this server.
@@ -83,12 +90,12 @@ abbrev pub decided : View → ℕ → Option (List ℕ) → Decided → Handled
 decided view conn name decision = closing decision.close conn (all_stepped conn name decision.steps (unchanged view))
 
 -- what a connection is after a line before registration
-abbrev pub client_after : Registered → Option (List ℕ) → Client
-client_after registration None = registering registration.pending
-client_after registration (Some nick) = if registration.registered then registered nick else registering registration.pending
+abbrev pub client_after : Given → Option (List ℕ) → Client
+client_after registration None = Registering registration.pending
+client_after registration (Some nick) = if registration.registered then Registered nick else Registering registration.pending
 
 -- replies go to the nickname that the connection has then
-abbrev pub pending_decided : View → ℕ → Registered → Handled
+abbrev pub pending_decided : View → ℕ → Given → Handled
 pending_decided view conn registration =
     let name = registration.pending.nick in
     closing registration.close conn
@@ -100,8 +107,8 @@ user_decided view conn (Some user) message = decided view conn (Some user.nick) 
 
 abbrev pub said_by : View → ℕ → Option Client → Parsed → Handled
 said_by view conn None message = unchanged view
-said_by view conn (Some (registering pending)) message = pending_decided view conn (register view.room view.place pending message)
-said_by view conn (Some (registered nick)) message = user_decided view conn (row view.room.users (key nick)) message
+said_by view conn (Some (Registering pending)) message = pending_decided view conn (register view.room view.place pending message)
+said_by view conn (Some (Registered nick)) message = user_decided view conn (row view.room.users (key nick)) message
 
 -- an empty line, and a prefix alone, are ignored (our own choice)
 abbrev pub read_as : View → ℕ → Result Parsed LineFault → Handled
@@ -112,26 +119,30 @@ read_as view conn (Err fault) = unchanged view
 abbrev pub lost_text : List ℕ
 lost_text = codes "Connection closed"
 
-abbrev pub user_gone : Option User → Handled → Handled
-user_gone None before = before
-user_gone (Some user) before = with_effect (Quit user.nick lost_text) before
+-- the nickname, as it is stored, of the user that a client is
+abbrev pub user_of : Room → Option Client → Option (List ℕ)
+user_of room None = None
+user_of room (Some (Registering pending)) = None
+user_of room (Some (Registered nick)) = option_map (λ (user : User). user.nick) (row room.users (key nick))
+
+abbrev pub quits : Option (List ℕ) → Handled → Handled
+quits None before = before
+quits (Some nick) before = with_effect (Quit nick lost_text) before
 
 -- the client is one no more, and it is told nothing
 abbrev pub gone : View → ℕ → Option Client → Handled
-gone view conn None = unchanged view
-gone view conn (Some (registering pending)) = unchanged (without_client view conn)
-gone view conn (Some (registered nick)) = user_gone (row view.room.users (key nick)) (unchanged (without_client view conn))
+gone view conn client = quits (user_of view.room client) (unchanged (without_client view conn))
 
 -- a connection that has given nothing
 abbrev pub fresh : List ℕ → Client
-fresh host = registering (record { nick = None; user = None; real = []; host = host })
+fresh host = Registering (record { nick = None; user = None; real = []; host = host })
 
 unfoldable pub handled : View → Happening → Handled
 handled view (connects conn host) = unchanged (with_new_client view conn (fresh host))
 handled view (says conn read) = read_as view conn read
 handled view (goes conn) = gone view conn (client_of view conn)
 
--- the cause for which an event is refused, if it has one
+-- the cause for which an event is refused, if it has one; it is the same whatever a line is read as
 abbrev pub there : Option Client → Option ServerFault
 there None = None
 there (Some client) = Some ConnectionThere
@@ -140,7 +151,7 @@ abbrev pub not_there : Option Client → Option ServerFault
 not_there None = Some NoSuchConnection
 not_there (Some client) = None
 
-abbrev pub fault_of : View → Happening → Option ServerFault
-fault_of view (connects conn host) = there (client_of view conn)
-fault_of view (says conn read) = not_there (client_of view conn)
-fault_of view (goes conn) = not_there (client_of view conn)
+abbrev pub fault_of : View → Event → Option ServerFault
+fault_of view (Connect conn host) = there (client_of view conn)
+fault_of view (Line conn line) = not_there (client_of view conn)
+fault_of view (Gone conn) = not_there (client_of view conn)

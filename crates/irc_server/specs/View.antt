@@ -1,18 +1,11 @@
 -- What a server is, to those above: its configuration, its clients, its room. No index, queue or link is in it.
-use Rattle.std.specs.Prelude.{ℕ, not, Option, Some, None, List, [], ◌∷◌, ◌++◌, filter, map, nat_eq, if◌then◌else◌}
+use Rattle.std.specs.Prelude.{ℕ, Bool, not, Option, List, [], ◌∷◌, ◌++◌, filter, map, nat_eq, if◌then◌else◌}
+use Rattle.std.specs.List.{find}
+use Rattle.std.specs.Option.{option_map}
 use Rattle.irc_routes.specs.Place.{Place}
 use Rattle.irc_room.specs.Room.{Room}
-use Rattle.irc_commands.specs.declared.pending.Pending.{Pending}
-
--- a connection: it has not registered, or it is the user with this nickname
-pub data Client : Type 0 where
-  registering : Pending → Client
-  registered : List ℕ → Client
-
--- a client, under the number of its connection
-pub record Connected : Type 0 where
-  pub conn : ℕ
-  pub client : Client
+use Rattle.irc_server.specs.declared.clients.Client.{Client}
+use Rattle.irc_server.specs.declared.clients.Connected.{Connected}
 
 -- Clients stand in the order in which they connected, each number once.
 pub record View : Type 0 where
@@ -22,8 +15,7 @@ pub record View : Type 0 where
 
 -- the client of a connection: the first with this number
 abbrev pub client_in : List Connected → ℕ → Option Client
-client_in [] conn = None
-client_in (c ∷ clients) conn = if nat_eq c.conn conn then Some (c.client) else client_in clients conn
+client_in clients conn = option_map (λ (c : Connected). c.client) (find (λ (c : Connected). nat_eq c.conn conn) clients)
 
 abbrev pub client_of : View → ℕ → Option Client
 client_of view conn = client_in view.clients conn

@@ -1,0 +1,16 @@
+-- What is put out grows.
+use Rattle.std.proofs.Common.{◌≡◌, List, [], ◌∷◌, ◌++◌, sym, ◌∙◌, ap, append-nil, append_assoc}
+use Rattle.irc_server.specs.declared.event.Out.{Out}
+use Rattle.irc_server.specs.Grown.{Grew}
+
+pub grew_none : (old : List Out) → Grew old old
+grew_none old = record { more = []; new_is = sym (append-nil old) }
+
+pub grew_by : (old more new : List Out) → new ≡ old ++ more → Grew old new
+grew_by old more new is = record { more = more; new_is = is }
+
+pub grew_twice : (a b c : List Out) → Grew a b → Grew b c → Grew a c
+grew_twice a b c first second = record {
+  more = first.more ++ second.more;
+  new_is = second.new_is ∙ ap (λ l. l ++ second.more) first.new_is ∙ append_assoc a first.more second.more;
+}

@@ -1,0 +1,176 @@
+-- What each event does, from what the functions below do.
+use Rattle.std.proofs.Common.{◌≡◌, ℕ, Bool, true, ◌&&◌, Option, Some, None, Result, Ok, Err, List, [], ◌∷◌, ◌++◌, length, take, is_some, refl, sym, ◌∙◌, ap, subst, append-nil, option_map, OnOk}
+use Rattle.std.proofs.Math.Seq.{take-append_seam}
+use Rattle.std.specs.Borrow.{Bor}
+use Rattle.std.specs.Option.{option_copied}
+use Rattle.arrayvec.specs.ArrayVec.{ArrayVec}
+use Rattle.irc_line.specs.declared.reading.LineFault.{LineFault}
+use Rattle.irc_line.specs.Grammar.{IsReadAs}
+use Rattle.irc_line.specs.Messages.{Parsed}
+use Rattle.irc_line.specs.MessageViews.{optional_now}
+use Rattle.irc_names.specs.Fold.{key}
+use Rattle.irc_names.specs.Tables.{row}
+use Rattle.irc_channels.specs.Texts.{cut_words}
+use Rattle.irc_users.specs.declared.user.User.{User}
+use Rattle.irc_room.specs.declared.effect.Effect.TheVariants.{Quit}
+use Rattle.irc_room.specs.Room.{Room, IsWellFormed}
+use Rattle.irc_room.specs.Effects.{IsPossible}
+use Rattle.irc_room.proofs.Rows.{same_some}
+use Rattle.irc_routes.specs.Place.{Place}
+use Rattle.irc_commands.specs.declared.decision.Act.{Act}
+use Rattle.irc_commands.specs.declared.pending.Pending.{Pending}
+use Rattle.irc_commands.specs.Comings.{DecidedBringsNobody, RegisteredIsAdded, UnregisteredChangesNothing}
+use Rattle.irc_commands.specs.Decide.{decide}
+use Rattle.irc_commands.specs.Register.{register}
+use Rattle.irc_server.specs.declared.clients.Client.{Client}
+use Rattle.irc_server.specs.declared.clients.Client.TheVariants.{Registering, Registered}
+use Rattle.irc_server.specs.declared.event.Event.{Event}
+use Rattle.irc_server.specs.declared.event.Event.TheVariants.{Connect, Line, Gone}
+use Rattle.irc_server.specs.declared.event.Out.{Out}
+use Rattle.irc_server.specs.declared.event.ServerFault.{ServerFault}
+use Rattle.irc_server.specs.declared.event.ServerFault.TheVariants.{Memory, Failed, NoSuchConnection, ConnectionThere, NoSuchLink, LinkThere}
+use Rattle.irc_server.specs.View.{View, client_of, with_new_client}
+use Rattle.irc_server.specs.Handle.{Happening, Handled, connects, says, goes, handled, fault_of, there, not_there, fresh, gone, read_as, unchanged, closing, all_stepped, decided, user_decided, user_of, quits, lost_text, with_effect}
+use Rattle.irc_server.specs.Happening.{IsSaid, Happens, Is, Does, IsHandled}
+use Rattle.irc_server.specs.Grown.{Grew}
+use Rattle.irc_server.specs.Stage.{behind, BringHome}
+use Rattle.irc_server.proofs.Steps.{nothing_behind, carried_behind, effect_behind, bring_nobody, register_home}
+
+pub on_ok : {E : Type 0} (result : Result (Unit {0}) E) (P Q : Type 0) → (P → Q) → OnOk result P → OnOk result Q
+on_ok (Ok done) P Q then holds = then holds
+on_ok (Err e) P Q then holds = tt
+
+pub copied_now : (o : Option (Bor (List ℕ))) → optional_now o ≡ option_copied o
+copied_now None = refl
+copied_now (Some bytes) = refl
+
+-- a decision that is carried out
+pub carried : (after : Handled) (conn : ℕ) (name name' : Option (List ℕ)) (acts acts' : List Act) (close close' : Bool) (view view' : View) (out : List Out)
+    → name ≡ name' → acts ≡ acts' → close ≡ close' → view ≡ view'
+    → after ≡ closing close conn (all_stepped conn name acts (record { view = view; out = out }))
+    → after ≡ behind out (closing close' conn (all_stepped conn name' acts' (unchanged view')))
+carried after conn name name' acts acts' close close' view view' out name_is acts_are close_is view_is is =
+    is
+    ∙ ap (λ n. closing close conn (all_stepped conn n acts (record { view = view; out = out }))) name_is
+    ∙ ap (λ a. closing close conn (all_stepped conn name' a (record { view = view; out = out }))) acts_are
+    ∙ ap (λ b. closing b conn (all_stepped conn name' acts' (record { view = view; out = out }))) close_is
+    ∙ ap (λ (v : View). closing close' conn (all_stepped conn name' acts' (record { view = v; out = out }))) view_is
+    ∙ carried_behind out conn name' acts' close' view'
+
+pub decided_by_name : (view : View) (conn : ℕ) (o : Option User) (name : List ℕ) (message : Parsed) → option_map (λ (user : User). user.nick) o ≡ Some name
+    → decided view conn (Some name) (decide view.room view.place name message) ≡ user_decided view conn o message
+decided_by_name view conn None name message is = cc is
+decided_by_name view conn (Some user) name message is =
+    ap (λ n. decided view conn (Some n) (decide view.room view.place n message)) (sym (same_some (user.nick) name is))
+
+pub obeyed_home : DecidedBringsNobody → (own : List ℕ) (room : Room) (place : Place) (who : List ℕ) (message : Parsed) (acts : List Act)
+    → acts ≡ (decide room place who message).steps → BringHome own acts
+obeyed_home brings_nobody own room place who message acts are =
+    subst (BringHome own) (sym are) (bring_nobody own (decide room place who message).steps (brings_nobody room place who message))
+
+pub registering_home : RegisteredIsAdded → UnregisteredChangesNothing → (own : List ℕ) (room : Room) (place : Place) (pending : Pending) (message : Parsed) (acts : List Act)
+    → own ≡ place.name → acts ≡ (register room place pending message).steps → BringHome own acts
+registering_home added changes_nothing own room place pending message acts own_is are =
+    subst (BringHome own) (sym are)
+    (subst (λ h. BringHome h (register room place pending message).steps) (sym own_is) (register_home added changes_nothing room place pending message))
+
+-- the user that a client is can quit
+pub quit_possible : (room : Room) → IsWellFormed room → (client : Option Client) (nick text : List ℕ) → user_of room client ≡ Some nick → IsPossible room (Quit nick text)
+quit_possible room well None nick text is = absurd (cc is)
+quit_possible room well (Some (Registering pending)) nick text is = absurd (cc is)
+quit_possible room well (Some (Registered name)) nick text is = by_row (row room.users (key name)) refl is
+  where
+    by_row : (o : Option User) → row room.users (key name) ≡ o → option_map (λ (user : User). user.nick) o ≡ Some nick → IsPossible room (Quit nick text)
+    by_row None there none = absurd (cc none)
+    by_row (Some user) there some = record {
+      users_there =
+        ap (λ q. is_some (row room.users q) && true) (sym (ap key (same_some (user.nick) nick some)) ∙ well.users_named (key name) user there)
+        ∙ ap (λ o. is_some o && true) there;
+      channel_there = refl;
+      nick_free = refl;
+    }
+
+pub lost_is_whole : cut_words lost_text ≡ lost_text
+unfolding cut_words
+lost_is_whole = refl
+
+-- what each kind of event does
+
+pub connected_does : (old new : View) (event : Event) (out : List Out) (conn : ℕ) (host : List ℕ) → event ≡ Connect conn host
+    → new ≡ with_new_client old conn (fresh host) → Does old event out new out
+unfolding handled
+connected_does old new event out conn host event_is new_is =
+    subst (λ (e : Event). Does old e out new out) (sym event_is)
+    (record { happening = connects conn host; is = record { happens = refl; only = λ other happens. happens }; view_is = new_is; out_is = sym (append-nil out) })
+
+pub gone_does : (old new : View) (event : Event) (out out_after : List Out) (conn : ℕ) → event ≡ Gone conn
+    → record { view = new; out = out_after } ≡ behind out (gone old conn (client_of old conn)) → Does old event out new out_after
+unfolding handled
+gone_does old new event out out_after conn event_is is =
+    subst (λ (e : Event). Does old e out new out_after) (sym event_is)
+    (record {
+      happening = goes conn;
+      is = record { happens = refl; only = λ other happens. happens };
+      view_is = ap (λ (h : Handled). h.view) is;
+      out_is = ap (λ (h : Handled). h.out) is;
+    })
+
+one_reading : (conn : ℕ) (line : ArrayVec ℕ) (bytes : List ℕ) (read : Result Parsed LineFault) → bytes ≡ line.items → IsReadAs bytes read
+    → ((other : Result Parsed LineFault) → IsReadAs bytes other → read ≡ other) → Is (Line conn line) (says conn read)
+one_reading conn line bytes read bytes_are is_read only = record {
+  happens = record { read = read; is_read = subst (λ l. IsReadAs l read) bytes_are is_read; is = refl };
+  only = λ other happens. happens.is ∙ ap (says conn) (sym (only happens.read (subst (λ l. IsReadAs l happens.read) (sym bytes_are) happens.is_read)));
+}
+
+pub said_does : (old new : View) (event : Event) (out out_after : List Out) (conn : ℕ) (line : ArrayVec ℕ) (bytes : List ℕ) (read : Result Parsed LineFault)
+    → event ≡ Line conn line → bytes ≡ line.items → IsReadAs bytes read → ((other : Result Parsed LineFault) → IsReadAs bytes other → read ≡ other)
+    → record { view = new; out = out_after } ≡ behind out (read_as old conn read) → Does old event out new out_after
+unfolding handled
+said_does old new event out out_after conn line bytes read event_is bytes_are is_read only is =
+    subst (λ (e : Event). Does old e out new out_after) (sym event_is)
+    (record {
+      happening = says conn read;
+      is = one_reading conn line bytes read bytes_are is_read only;
+      view_is = ap (λ (h : Handled). h.view) is;
+      out_is = ap (λ (h : Handled). h.out) is;
+    })
+
+-- what comes of each way out of `handle`
+
+pub failed_stays : (now : Option View) (event : Event) (out : List Out) → now ≡ None → IsHandled now event out (Err Failed) now out
+failed_stays now event out is = subst (λ (v : Option View). IsHandled v event out (Err Failed) v out) (sym is) (refl, refl)
+
+never_there : (client : Option Client) → there client ≡ Some Memory → ⊥
+never_there None is = cc is
+never_there (Some client) is = cc is
+
+never_not_there : (client : Option Client) → not_there client ≡ Some Memory → ⊥
+never_not_there None is = cc is
+never_not_there (Some client) is = cc is
+
+never_memory : (view : View) (event : Event) → fault_of view event ≡ Some Memory → ⊥
+never_memory view (Connect conn host) is = never_there (client_of view conn) is
+never_memory view (Line conn line) is = never_not_there (client_of view conn) is
+never_memory view (Gone conn) is = never_not_there (client_of view conn) is
+
+refuses : (view : View) (event : Event) (out : List Out) (fault : ServerFault) → fault_of view event ≡ Some fault
+    → IsHandled (Some view) event out (Err fault) (Some view) out
+refuses view event out Memory is = absurd (never_memory view event is)
+refuses view event out Failed is = (is, refl, refl)
+refuses view event out NoSuchConnection is = (is, refl, refl)
+refuses view event out ConnectionThere is = (is, refl, refl)
+refuses view event out NoSuchLink is = (is, refl, refl)
+refuses view event out LinkThere is = (is, refl, refl)
+
+pub refused : (now : Option View) (view : View) (event : Event) (out : List Out) (fault : ServerFault) → now ≡ Some view → fault_of view event ≡ Some fault
+    → IsHandled now event out (Err fault) now out
+refused now view event out fault now_is is =
+    subst (λ (v : Option View). IsHandled v event out (Err fault) v out) (sym now_is) (refuses view event out fault is)
+
+cut_back : (out new : List Out) (n : ℕ) → Grew out new → n ≡ length out → take n new ≡ out
+cut_back out new n grew n_is = ap (λ m. take m new) n_is ∙ ap (take (length out)) grew.new_is ∙ take-append_seam out grew.more
+
+pub ran_out : (now : Option View) (view : View) (event : Event) (out new : List Out) (n : ℕ) → now ≡ Some view → fault_of view event ≡ None → Grew out new
+    → n ≡ length out → IsHandled now event out (Err Memory) None (take n new)
+ran_out now view event out new n now_is none grew n_is =
+    subst (λ (v : Option View). IsHandled v event out (Err Memory) None (take n new)) (sym now_is) (none, refl, cut_back out new n grew n_is)

@@ -1,0 +1,24 @@
+use Rattle.std.proofs.Common.{◌≡◌, Some, ap, ◌∙◌, sym, refl}
+use Rattle.irc_line.specs.MessageViews.{parsed}
+use Rattle.irc_names.specs.Fold.{key}
+use Rattle.irc_names.specs.Tables.{row}
+use Rattle.irc_commands.specs.Decisions.{Decided}
+use Rattle.irc_server.specs.Stage.{behind, view_of}
+use Rattle.irc_server.proofs.WhatEventsDo.{on_ok, carried, decided_by_name, obeyed_home}
+use Rattle.irc_server.proofs.acting.obey.Goals as goal
+
+pub carry_out-requires-clause-home : goal.carry_out-requires-clause-home
+carry_out-requires-clause-home c =
+    obeyed_home c.decided_brings_nobody.ensures c.args.stage.now.room.own c.args.stage.now.room.room c.args.stage.now.routes c.in-Some.name (parsed c.args.message.now) _
+    (c.deref.ensures.value ∙ ap (λ (d : Decided). d.steps) c.in_ok-decision.ensures)
+
+pub returns-clause-ok : goal.returns-clause-ok
+returns-clause-ok c =
+    let view = view_of c.args.stage.now in
+    let message = parsed c.args.message.now in
+    on_ok c.carry_out.result _ _
+    (λ is. carried _ c.args.conn (Some c.in-Some.name) (Some c.in-Some.name) _ _ _ _ view view c.args.out.now.items refl
+    (c.deref.ensures.value ∙ ap (λ (d : Decided). d.steps) c.in_ok-decision.ensures) (ap (λ (d : Decided). d.close) c.in_ok-decision.ensures) refl is
+    ∙ ap (behind c.args.out.now.items)
+    (decided_by_name view c.args.conn (row c.args.stage.now.room.room.users (key c.args.nick.now)) c.in-Some.name message (sym c.stored_nick.ensures ∙ c.in-Some.is)))
+    c.carry_out.ensures.ok

@@ -1,0 +1,17 @@
+use Rattle.std.proofs.Common.{◌≡◌, ◌<◌, ◌∙◌, length, get_or, ap, sym, subst, arith}
+use Rattle.irc_server.specs.Handle.{renamed_in}
+use Rattle.irc_server.proofs.ClientLoops.{client_changed, client_behind}
+use Rattle.irc_server.proofs.clients.rename.Goals as goal
+
+pub loop-connected-preserved : goal.loop-connected-preserved
+loop-connected-preserved c =
+    let old = c.deref_mut-connected-items.result.now in
+    let now = c.loop-connected.connected-items in
+    let i = c.loop-connected.connected-index in
+    let d = c.connected-item.result in
+    let within_old : i < length old = c.loop-connected-test.true in
+    let within : i < length now = subst (λ n. i < n) (sym c.loop-connected.auto.connected-items) within_old in
+    record {
+      changed = client_changed (renamed_in c.args.old.now c.args.new.now) old now i d _ within within_old c.rename_one.ensures c.loop-connected.invariant.changed c.loop-connected.invariant.same;
+      same = client_behind old now i d _ within within_old c.loop-connected.invariant.same;
+    }

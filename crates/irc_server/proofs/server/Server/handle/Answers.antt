@@ -1,0 +1,24 @@
+use Rattle.std.proofs.Common.{◌≡◌, Option, Some, None, Err, ap, subst, ◌∙◌, sym, if◌then◌else◌}
+use Rattle.irc_server.specs.declared.event.ServerFault.TheVariants.{Memory}
+use Rattle.irc_server.specs.View.{View}
+use Rattle.irc_server.specs.Happening.{IsHandled}
+use Rattle.irc_server.specs.Stage.{view_of}
+use Rattle.irc_server.proofs.WhatEventsDo.{failed_stays, refused, ran_out}
+use Rattle.irc_server.proofs.server.Server.handle.Goals as goal
+
+pub returns-then-self : goal.returns-then-self
+returns-then-self c =
+    failed_stays c.args.self.now c.args.event c.args.out.now.items
+    (sym c.self.view_is ∙ ap (λ b. if b then None else Some (view_of c.self.inside.stage)) c.if-self.true)
+
+pub returns-in-Some : goal.returns-in-Some
+returns-in-Some c =
+    refused c.args.self.now (view_of c.self.inside.stage) c.args.event c.args.out.now.items c.in-Some.fault
+    (sym c.self.view_is ∙ ap (λ b. if b then None else Some (view_of c.self.inside.stage)) c.if-self.false) (sym c.fault_of.ensures ∙ c.in-Some.is)
+
+pub returns-in-Err : goal.returns-in-Err
+returns-in-Err c =
+    let kept = ran_out c.args.self.now (view_of c.self.inside.stage) c.args.event c.args.out.now.items c.act.new.out.items c.len-before.result
+    (sym c.self.view_is ∙ ap (λ b. if b then None else Some (view_of c.self.inside.stage)) c.if-self.false) (sym c.fault_of.ensures ∙ c.in_default.is)
+    c.act.ensures.grew (c.len-before.ensures ∙ c.args.out.now.ok.0) in
+    subst (λ l. IsHandled c.args.self.now c.args.event c.args.out.now.items (Err Memory) None l) (sym c.truncate.ensures.items) kept

@@ -1,0 +1,65 @@
+-- Which configurations a server is made of.
+use Rattle.std.specs.Prelude.{◌≡◌, ℕ, Bool, true, false, not, ◌&&◌, ◌||◌, Option, Some, None, Result, Ok, Err, List, [], ◌∷◌, length, nat_eq, nat_le, if◌then◌else◌}
+use Rattle.std.specs.List.{list_any, list_all}
+use Rattle.std.specs.Char.{is_ascii_graphic}
+use Rattle.std.specs.Cmp.Lexicographic.{pointwise}
+use Rattle.irc_names.specs.declared.TheConstants.{MAX_INFO, MAX_CREATED}
+use Rattle.irc_names.specs.Names.{is_server, is_one_of, fits, starts_without_colon}
+use Rattle.irc_room.specs.Laws.{no_room}
+use Rattle.irc_routes.specs.declared.own.Own.{Own}
+use Rattle.irc_routes.specs.Place.{alone}
+use Rattle.irc_server.specs.declared.config.TheConstants.{MAX_PASSWORD}
+use Rattle.irc_server.specs.declared.config.Peer.{Peer}
+use Rattle.irc_server.specs.declared.config.Config.{Config}
+use Rattle.irc_server.specs.declared.config.ConfigFault.{ConfigFault}
+use Rattle.irc_server.specs.declared.config.ConfigFault.TheVariants.{BadName, DoubleName, Memory}
+use Rattle.irc_server.specs.View.{View}
+
+-- NUL, CR and LF are in no text
+abbrev pub is_text_byte : ℕ → Bool
+is_text_byte byte = not (is_one_of (0x00 ∷ 0x0D ∷ 0x0A ∷ []) byte)
+
+abbrev pub is_text : List ℕ → Bool
+is_text bytes = list_all is_text_byte bytes
+
+abbrev pub is_some_text : List ℕ → Bool
+is_some_text [] = false
+is_some_text (first ∷ rest) = is_text (first ∷ rest)
+
+-- a server's name, how it describes itself, and when it was created
+abbrev pub is_own : Own → Bool
+is_own own =
+    is_server own.name.items && (is_text own.info.items && fits MAX_INFO own.info.items)
+    && (is_some_text own.created.items && fits MAX_CREATED own.created.items)
+
+-- bytes from 0x21 to 0x7E of which the first is no colon, so that a password can stand as a middle parameter
+abbrev pub is_password : List ℕ → Bool
+is_password bytes = starts_without_colon bytes && list_all is_ascii_graphic bytes && fits MAX_PASSWORD bytes
+
+abbrev pub is_peer : Peer → Bool
+is_peer peer = is_server peer.name.items && is_password peer.password.items
+
+-- whether a peer has this name; servers' names have one spelling
+abbrev pub is_among : List ℕ → List Peer → Bool
+is_among name peers = list_any (λ peer. pointwise nat_eq peer.name.items name) peers
+
+-- whether two of these have one name
+abbrev pub has_double : List Peer → Bool
+has_double [] = false
+has_double (peer ∷ peers) = is_among peer.name.items peers || has_double peers
+
+-- why no server is made of a configuration, if one is not: the causes in the order in which they are looked for
+abbrev pub config_fault : Config → Option ConfigFault
+config_fault config =
+    if not (is_own config.own && list_all is_peer config.peers.items) then Some BadName
+    else (if is_among config.own.name.items config.peers.items || has_double config.peers.items then Some DoubleName else None)
+
+-- a server without clients, linked to none, in an empty room
+abbrev pub new_view : Own → View
+new_view own = record { place = alone own.name.items own.info.items own.created.items; clients = []; room = no_room }
+
+-- what comes of a configuration
+abbrev pub IsMade : Config → Result (Option View) ConfigFault → Type 0
+IsMade config (Ok server) = (config_fault config ≡ None) × (server ≡ Some (new_view config.own))
+IsMade config (Err Memory) = config_fault config ≡ None
+IsMade config (Err fault) = config_fault config ≡ Some fault

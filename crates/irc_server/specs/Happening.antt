@@ -1,0 +1,66 @@
+-- What an event is, what it does, and what comes of asking a server for it.
+use Rattle.std.specs.Prelude.{◌≡◌, ℕ, Option, Some, None, Result, Ok, Err, List, [], ◌∷◌, ◌++◌, ◌⊎◌}
+use Rattle.irc_line.specs.declared.reading.LineFault.{LineFault}
+use Rattle.irc_line.specs.Grammar.{IsReadAs}
+use Rattle.irc_line.specs.Messages.{Parsed}
+use Rattle.irc_server.specs.declared.event.Event.{Event}
+use Rattle.irc_server.specs.declared.event.Event.TheVariants.{Connect, Line, Gone}
+use Rattle.irc_server.specs.declared.event.Out.{Out}
+use Rattle.irc_server.specs.declared.event.ServerFault.{ServerFault}
+use Rattle.irc_server.specs.declared.event.ServerFault.TheVariants.{Memory, Failed}
+use Rattle.irc_server.specs.View.{View}
+use Rattle.irc_server.specs.Handle.{Happening, connects, says, goes, handled, fault_of}
+
+-- a line of a client, as what it is read as
+pub record IsSaid (line : List ℕ) (conn : ℕ) (happening : Happening) : Type 0 where
+  pub read : Result Parsed LineFault
+  pub is_read : IsReadAs line read
+  pub is : happening ≡ says conn read
+
+-- what happens by an event
+abbrev pub Happens : Event → Happening → Type 0
+Happens (Connect conn host) happening = happening ≡ connects conn host
+Happens (Line conn line) happening = IsSaid line.items conn happening
+Happens (Gone conn) happening = happening ≡ goes conn
+
+-- the one thing that happens by an event
+pub record Is (event : Event) (happening : Happening) : Type 0 where
+  pub happens : Happens event happening
+  pub only : (other : Happening) → Happens event other → other ≡ happening
+
+-- an event is handled: the server is the one after it, and what it puts out is appended
+pub record Does (old : View) (event : Event) (out : List Out) (new : View) (out_after : List Out) : Type 0 where
+  pub happening : Happening
+  pub is : Is event happening
+  pub view_is : new ≡ (handled old happening).view
+  pub out_is : out_after ≡ out ++ (handled old happening).out
+
+-- What comes of asking a server for an event. A server for which memory ran out is no view: it has failed for good. Where an event is
+-- refused nothing changes.
+abbrev pub IsHandled : Option View → Event → List Out → Result (Unit {0}) ServerFault → Option View → List Out → Type 0
+IsHandled (Some view) event out (Ok done) (Some after) out_after = (fault_of view event ≡ None) × Does view event out after out_after
+IsHandled (Some view) event out (Ok done) None out_after = ⊥
+IsHandled (Some view) event out (Err Memory) new out_after = (fault_of view event ≡ None) × (new ≡ None) × (out_after ≡ out)
+IsHandled (Some view) event out (Err fault) new out_after = (fault_of view event ≡ Some fault) × (new ≡ Some view) × (out_after ≡ out)
+IsHandled None event out (Err Failed) new out_after = (new ≡ None) × (out_after ≡ out)
+IsHandled None event out result new out_after = ⊥
+
+-- an event is refused, and those behind it are not looked at
+pub record StopsAt (old : Option View) (event : Event) (out : List Out) (result : Result (Unit {0}) ServerFault) (new : Option View) (out_after : List Out) : Type 0 where
+  pub fault : ServerFault
+  pub result_is : result ≡ Err fault
+  pub is_refused : IsHandled old event out (Err fault) new out_after
+
+-- an event is handled, and then what is left
+pub record GoesOn (old : Option View) (event : Event) (out : List Out) (left : Option View → List Out → Type 0) : Type 0 where
+  pub between : Option View
+  pub out_between : List Out
+  pub is_handled : IsHandled old event out (Ok tt) between out_between
+  pub left_is : left between out_between
+
+-- what comes of asking a server for these events, one after another
+abbrev pub AreHandled : Option View → List Event → List Out → Result (Unit {0}) ServerFault → Option View → List Out → Type 0
+AreHandled old [] out result new out_after = (result ≡ Ok tt) × (new ≡ old) × (out_after ≡ out)
+AreHandled old (event ∷ events) out result new out_after =
+    StopsAt old event out result new out_after
+    ⊎ GoesOn old event out (λ between out_between. AreHandled between events out_between result new out_after)

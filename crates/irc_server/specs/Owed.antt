@@ -1,0 +1,41 @@
+-- What each connection is owed over a list of events: the lines to it that the room machine's steps put out, in order.
+use Rattle.std.specs.Prelude.{◌≡◌, ℕ, ⊤, Option, Some, None, List, [], ◌∷◌, ◌++◌, nat_eq, if◌then◌else◌}
+use Rattle.std.specs.List.{filter_map}
+use Rattle.irc_server.specs.declared.event.Event.{Event}
+use Rattle.irc_server.specs.declared.event.Out.{Out}
+use Rattle.irc_server.specs.declared.event.Out.TheVariants.{ToClient, CloseClient}
+use Rattle.irc_server.specs.View.{View}
+use Rattle.irc_server.specs.Handle.{Happening, handled}
+use Rattle.irc_server.specs.Happening.{Is}
+
+-- a line, where it is one to this connection
+abbrev pub line_to : ℕ → Out → Option (List ℕ)
+line_to conn (ToClient to line) = if nat_eq to conn then Some (line.items) else None
+line_to conn (CloseClient to) = None
+
+-- what a connection receives of what is put out
+abbrev pub lines_to : ℕ → List Out → List (List ℕ)
+lines_to conn out = filter_map (line_to conn) out
+
+-- the server after these happenings
+abbrev pub after_all : View → List Happening → View
+after_all view [] = view
+after_all view (happening ∷ happenings) = after_all (handled view happening).view happenings
+
+-- what a connection is owed by them
+abbrev pub owed : ℕ → View → List Happening → List (List ℕ)
+owed conn view [] = []
+owed conn view (happening ∷ happenings) = lines_to conn (handled view happening).out ++ owed conn (handled view happening).view happenings
+
+-- what happens by each of these events
+abbrev pub AllAre : List Event → List Happening → Type 0
+AllAre [] [] = ⊤
+AllAre (event ∷ events) (happening ∷ happenings) = Is event happening × AllAre events happenings
+AllAre events happenings = ⊥
+
+-- From one view of a server to another by these events, each connection has received what it is owed.
+pub record Receives (old : View) (events : List Event) (out : List Out) (new : Option View) (out_after : List Out) : Type 0 where
+  pub happenings : List Happening
+  pub are : AllAre events happenings
+  pub view_is : new ≡ Some (after_all old happenings)
+  pub received : (conn : ℕ) → lines_to conn out_after ≡ lines_to conn out ++ owed conn old happenings

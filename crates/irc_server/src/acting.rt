@@ -1,0 +1,185 @@
+//! What each event does to a server.
+ghost use Rattle.std.specs.Prelude.{◌≡◌, ℕ, Result, OnOk, IfOk};
+ghost use Rattle.std.specs.Option.{option_map};
+ghost use Rattle.irc_line.specs.Messages.{Parsed};
+ghost use Rattle.irc_line.specs.MessageViews.{parsed};
+ghost use Rattle.irc_names.specs.Fold.{key};
+ghost use Rattle.irc_names.specs.Tables.{row};
+ghost use Rattle.irc_commands.specs.CodeViews.{registered_of};
+ghost use Rattle.irc_commands.specs.Possible.{ArePossible};
+ghost use Rattle.irc_server.specs.Handle.{client_after, fresh, gone, lost_text, pending_decided, said_by, user_decided, user_of};
+ghost use Rattle.irc_server.specs.Happening.{Does};
+ghost use Rattle.irc_server.specs.View.{client_of, with_client, with_new_client, without_client};
+ghost use Rattle.irc_server.specs.Grown.{Grew};
+ghost use Rattle.irc_server.specs.Stage.{behind, so_far, view_of, IsReady, BringHome};
+
+use crate::clients::{Client, Connected, client_of, replace, take_out};
+use crate::event::{Event, Out};
+use crate::stage::{Stage, apply, carry_out};
+use irc_channels::Words;
+use irc_commands::{Pending, Registration, decide, laws, register};
+use irc_line::{Message, parse};
+use irc_names::{Host, Nick};
+use irc_room::Effect;
+use std::alloc::{AllocError, Global};
+
+/// The text of a registered user's Quit whose connection is lost (our own).
+const LOST: &[u8] = b"Connection closed";
+
+/// A client connects, and has given nothing.
+fn connect(stage: &mut Stage, conn: u64, host: Host) -> Result<(), AllocError>
+    ensures ok { OnOk result (view_of stage.new ≡ with_new_client (view_of stage.old) conn (fresh host)) }
+    ensures room { stage.new.room ≡ stage.old.room }
+    ensures routes { stage.new.routes ≡ stage.old.routes }
+{
+    stage.clients.push(Connected {
+        conn,
+        client: Client::Registering(Pending::new(host)),
+    })?;
+    Ok(())
+}
+
+/// What a connection is after a line before registration.
+fn client_after(given: &Registration) -> Client
+    ensures { result ≡ client_after (registered_of given.now) given.now.pending.nick }
+{
+    match &given.pending.nick {
+        Some(nick) if given.registered => Client::Registered(nick.copy()),
+        _ => Client::Registering(given.pending.copy()),
+    }
+}
+
+/// What a line of a connection does that is not registered.
+fn settle(
+    stage: &mut Stage,
+    conn: u64,
+    given: &Registration,
+    out: &mut Vec<Out, Global>,
+) -> Result<(), AllocError>
+    requires ready { IsReady stage.old }
+    requires possible { ArePossible stage.old.room.room given.now.steps.items }
+    requires home { BringHome stage.old.room.own given.now.steps.items }
+    ensures ok { OnOk result (so_far stage.new out.new.items ≡ behind out.old.items (pending_decided (view_of stage.old) conn (registered_of given.now))) }
+    ensures ready { OnOk result (IsReady stage.new) }
+    ensures grew { Grew out.old.items out.new.items }
+{
+    replace(&mut stage.clients, conn, &client_after(given));
+    let name = given.pending.nick.as_ref();
+    carry_out(stage, conn, name, &given.steps, given.close, out)
+}
+
+/// What a line of a user does, by the nickname that its client is known by.
+fn obey(
+    stage: &mut Stage,
+    conn: u64,
+    nick: &Nick,
+    message: &Message<'_>,
+    out: &mut Vec<Out, Global>,
+) -> Result<(), AllocError>
+    requires ready { IsReady stage.old }
+    ensures ok { OnOk result (so_far stage.new out.new.items ≡ behind out.old.items (user_decided (view_of stage.old) conn (row stage.old.room.room.users (key nick.now)) (parsed message.now))) }
+    ensures ready { OnOk result (IsReady stage.new) }
+    ensures grew { Grew out.old.items out.new.items }
+{
+    laws::decided_is_possible();
+    laws::decided_brings_nobody();
+    let Some(name) = stored_nick(stage, nick) else {
+        return Ok(());
+    };
+    let alloc = *stage.clients.allocator();
+    let decision = decide(alloc, &stage.room, &stage.routes, &name, message)?;
+    carry_out(
+        stage,
+        conn,
+        Some(&name),
+        &decision.steps,
+        decision.close,
+        out,
+    )
+}
+
+/// The nickname of a user as it is spelled, if there is such a user.
+fn stored_nick(stage: &Stage, nick: &Nick) -> Option<Nick>
+    ensures { result ≡ option_map (λ user. user.nick) (row stage.now.room.room.users (key nick.now)) }
+{
+    match stage.room.user(nick.as_bytes()) {
+        Some(user) => Some(user.nick.copy()),
+        None => None,
+    }
+}
+
+/// What a message does.
+fn hear(
+    stage: &mut Stage,
+    conn: u64,
+    message: &Message<'_>,
+    out: &mut Vec<Out, Global>,
+) -> Result<(), AllocError>
+    requires ready { IsReady stage.old }
+    ensures ok { OnOk result (so_far stage.new out.new.items ≡ behind out.old.items (said_by (view_of stage.old) conn (client_of (view_of stage.old) conn) (parsed message.now))) }
+    ensures ready { OnOk result (IsReady stage.new) }
+    ensures grew { Grew out.old.items out.new.items }
+{
+    laws::registering_is_possible();
+    laws::registered_is_added();
+    laws::unregistered_changes_nothing();
+    let alloc = *stage.clients.allocator();
+    match client_of(&stage.clients, conn) {
+        None => Ok(()),
+        Some(Client::Registering(pending)) => {
+            let given = register(alloc, &stage.room, &stage.routes, pending, message)?;
+            settle(stage, conn, &given, out)
+        }
+        Some(Client::Registered(nick)) => {
+            let nick = nick.copy();
+            obey(stage, conn, &nick, message, out)
+        }
+    }
+}
+
+/// The user that a client is, as its nickname is spelled.
+fn user_of(stage: &Stage, conn: u64) -> Option<Nick>
+    ensures { result ≡ user_of stage.now.room.room (client_of (view_of stage.now) conn) }
+{
+    match client_of(&stage.clients, conn) {
+        Some(Client::Registered(nick)) => stored_nick(stage, nick),
+        _ => None,
+    }
+}
+
+/// A client is gone: its user quits, and it is told nothing.
+fn go(stage: &mut Stage, conn: u64, out: &mut Vec<Out, Global>) -> Result<(), AllocError>
+    requires ready { IsReady stage.old }
+    ensures ok { OnOk result (so_far stage.new out.new.items ≡ behind out.old.items (gone (view_of stage.old) conn (client_of (view_of stage.old) conn))) }
+    ensures ready { OnOk result (IsReady stage.new) }
+    ensures grew { Grew out.old.items out.new.items }
+{
+    let user = user_of(stage, conn);
+    take_out(&mut stage.clients, conn);
+    let Some(nick) = user else {
+        return Ok(());
+    };
+    let text = Words::cut(LOST);
+    apply(stage, &Effect::Quit { nick, text }, out)
+}
+
+/// What an event does for which no fault is owed.
+pub(crate) fn act(
+    stage: &mut Stage,
+    event: Event,
+    out: &mut Vec<Out, Global>,
+) -> Result<(), AllocError>
+    requires ready { IsReady stage.old }
+    ensures ok { OnOk result (Does (view_of stage.old) event out.old.items (view_of stage.new) out.new.items) }
+    ensures ready { OnOk result (IsReady stage.new) }
+    ensures grew { Grew out.old.items out.new.items }
+{
+    match event {
+        Event::Connect(conn, host) => connect(stage, conn, host),
+        Event::Line(conn, line) => match parse(&line) {
+            Ok(message) => hear(stage, conn, &message, out),
+            Err(_) => Ok(()),
+        },
+        Event::Gone(conn) => go(stage, conn, out),
+    }
+}

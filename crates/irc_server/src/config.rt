@@ -1,0 +1,146 @@
+//! What a server is configured to be.
+ghost use Rattle.std.specs.Prelude.{◌≡◌};
+ghost use Rattle.std.specs.List.{list_all};
+ghost use Rattle.std.specs.Char.{is_ascii_graphic};
+ghost use Rattle.irc_server.specs.Configuring.{config_fault, has_double, is_among, is_own, is_password, is_peer, is_text_byte};
+
+use irc_names::{MAX_CREATED, MAX_INFO, is_server};
+use irc_routes::Own;
+use std::alloc::Global;
+use thiserror::Error;
+
+/// The most bytes of a password (our own choice).
+pub const MAX_PASSWORD: usize = 20;
+
+const NUL: u8 = 0;
+
+const CR: u8 = b'\r';
+
+const LF: u8 = b'\n';
+
+const COLON: u8 = b':';
+
+/// A server that may be linked to.
+#[derive(Debug, Drop)]
+pub struct Peer {
+    /// Its name, which [`irc_names::is_server`] takes.
+    pub name: Vec<u8, Global>,
+    /// The password that both give each other: 1 to [`MAX_PASSWORD`] bytes from 0x21 to 0x7E, the first no `:`.
+    pub password: Vec<u8, Global>,
+}
+
+/// What a server is configured to be.
+#[derive(Debug, Drop)]
+pub struct Config {
+    /// The server itself.
+    pub own: Own,
+    /// The servers that may be linked to.
+    pub peers: Vec<Peer, Global>,
+}
+
+/// Why no server is made of a configuration, in the order in which causes are looked for.
+#[derive(Clone, Copy, Debug, Drop, Error, PartialEq, Eq)]
+pub enum ConfigFault {
+    /// A name, a text or a password is outside its limits.
+    #[error("a name, text or password outside its limits")]
+    BadName,
+    /// A peer is there twice, or the server is its own peer.
+    #[error("a peer is there twice")]
+    DoubleName,
+    /// Memory ran out.
+    #[error("out of memory")]
+    Memory,
+}
+
+/// Whether a byte may stand in a text.
+fn is_text_byte(byte: u8) -> bool
+    ensures { result ≡ is_text_byte byte }
+{
+    byte != NUL && byte != CR && byte != LF
+}
+
+/// Whether bytes are a text.
+fn is_text(bytes: &[u8]) -> bool
+    ensures { result ≡ list_all is_text_byte bytes.now }
+{
+    bytes.iter().all(|byte| is_text_byte(*byte))
+}
+
+/// Whether a server's own row keeps its limits.
+fn is_own(own: &Own) -> bool
+    ensures { result ≡ is_own own.now }
+{
+    is_server(&own.name)
+        && is_text(&own.info)
+        && own.info.len() <= MAX_INFO
+        && is_text(&own.created)
+        && !own.created.is_empty()
+        && own.created.len() <= MAX_CREATED
+}
+
+/// Whether all bytes may stand in a password.
+fn are_password_bytes(bytes: &[u8]) -> bool
+    ensures { result ≡ list_all is_ascii_graphic bytes.now }
+{
+    bytes.iter().all(|byte| byte.is_ascii_graphic())
+}
+
+/// Whether bytes are a password (our own choice: so it can stand as a middle parameter).
+fn is_password(bytes: &[u8]) -> bool
+    ensures { result ≡ is_password bytes.now }
+{
+    match bytes.first() {
+        None => false,
+        Some(first) => {
+            *first != COLON && are_password_bytes(bytes) && bytes.len() <= MAX_PASSWORD
+        }
+    }
+}
+
+/// Whether a peer keeps its limits.
+fn is_peer(peer: &Peer) -> bool
+    ensures { result ≡ is_peer peer.now }
+{
+    is_server(&peer.name) && is_password(&peer.password)
+}
+
+/// Whether all peers keep their limits.
+fn are_peers(peers: &[Peer]) -> bool
+    ensures { result ≡ list_all is_peer peers.now }
+{
+    peers.iter().all(is_peer)
+}
+
+/// Whether a peer has a name.
+fn is_among(name: &[u8], peers: &[Peer]) -> bool
+    ensures { result ≡ is_among name.now peers.now }
+{
+    peers.iter().any(|peer| peer.name.as_slice() == name)
+}
+
+/// Whether two peers have one name.
+fn has_double(peers: &[Peer]) -> bool
+    ensures { result ≡ has_double peers.now }
+{
+    let mut rest = peers;
+    while let Some((peer, more)) = rest.split_first() {
+        if is_among(&peer.name, more) {
+            return true;
+        }
+        rest = more;
+    }
+    false
+}
+
+/// Why no server is made of a configuration, if it is not for want of memory.
+pub(crate) fn config_fault(config: &Config) -> Option<ConfigFault>
+    ensures { result ≡ config_fault config.now }
+{
+    if !(is_own(&config.own) && are_peers(&config.peers)) {
+        Some(ConfigFault::BadName)
+    } else if is_among(&config.own.name, &config.peers) || has_double(&config.peers) {
+        Some(ConfigFault::DoubleName)
+    } else {
+        None
+    }
+}

@@ -1,0 +1,161 @@
+//! One server while an event is handled: what each step of a decision does to it, and what it puts out.
+ghost use Rattle.std.specs.Prelude.{◌≡◌, [], ◌∷◌, OnOk, IfOk, map};
+ghost use Rattle.irc_line.specs.MessageViews.{optional_now};
+ghost use Rattle.irc_room.specs.After.{after};
+ghost use Rattle.irc_room.specs.Effects.{IsPossible};
+ghost use Rattle.irc_room.specs.Seen.{seen};
+ghost use Rattle.irc_commands.specs.Possible.{ArePossible};
+ghost use Rattle.irc_server.specs.Handle.{all_stepped, clients_after, closing, stepped, with_effect};
+ghost use Rattle.irc_server.specs.Grown.{Grew};
+ghost use Rattle.irc_server.specs.Stage.{so_far, shown_of, IsReady, IsSound, BringsHome, BringHome};
+
+use crate::clients::{Connected, rename, show_all, take_out};
+use crate::event::Out;
+use irc_commands::Act;
+use irc_line::Text;
+use irc_names::{Nick, copied};
+use irc_numerics::reply_line;
+use irc_room::{Effect, Room, RoomFault, laws};
+use irc_routes::Routes;
+use std::alloc::{AllocError, Global};
+
+/// What a server is made of.
+#[derive(Debug, Drop)]
+pub(crate) struct Stage {
+    /// Its own row, and the servers that it knows.
+    pub routes: Routes,
+    /// Its clients, in the order in which they connected.
+    pub clients: Vec<Connected, Global>,
+    /// Its room.
+    pub room: Room,
+}
+
+/// Applies an effect to a room in which it is possible, and gives what it shows.
+fn happen(
+    alloc: Global,
+    room: &mut Room,
+    effect: &Effect,
+) -> Result<Vec<(Nick, Text), Global>, AllocError>
+    requires sound { IsSound room.old }
+    requires possible { IsPossible room.old.room effect.now }
+    requires home { BringsHome room.old.own effect.now }
+    ensures after { OnOk result (room.new ≡ record room.old { room = after room.old.room effect.now }) }
+    ensures shown { IfOk result (λ shown. map shown_of shown.items ≡ seen room.old.room effect.now) }
+    ensures sound { OnOk result (IsSound room.new) }
+{
+    laws::after_is_well_formed();
+    let mut shown = Vec::new(alloc);
+    match room.apply(effect, &mut shown) {
+        Ok(()) => Ok(shown),
+        Err(RoomFault::Memory) => Err(AllocError),
+        Err(_) => unreachable!(),
+    }
+}
+
+/// Clients whose user takes another nickname by an effect are that user still.
+fn follow(clients: &mut Vec<Connected, Global>, effect: &Effect)
+    ensures { clients.new.items ≡ clients_after effect.now clients.old.items }
+{
+    match effect {
+        Effect::Rename { nick, new } => rename(clients, nick, new),
+        _ => {}
+    }
+}
+
+/// An effect changes the room, and is shown to its viewers.
+pub(crate) fn apply(
+    stage: &mut Stage,
+    effect: &Effect,
+    out: &mut Vec<Out, Global>,
+) -> Result<(), AllocError>
+    requires ready { IsReady stage.old }
+    requires possible { IsPossible stage.old.room.room effect.now }
+    requires home { BringsHome stage.old.room.own effect.now }
+    ensures ok { OnOk result (so_far stage.new out.new.items ≡ with_effect effect.now (so_far stage.old out.old.items)) }
+    ensures ready { OnOk result (IsReady stage.new) }
+    ensures own { OnOk result (stage.new.room.own ≡ stage.old.room.own) }
+    ensures grew { Grew out.old.items out.new.items }
+{
+    let alloc = *stage.clients.allocator();
+    let shown = happen(alloc, &mut stage.room, effect)?;
+    show_all(&stage.clients, &shown, out)?;
+    follow(&mut stage.clients, effect);
+    Ok(())
+}
+
+/// One step of a decision. Replies are sent to this name.
+fn step(
+    stage: &mut Stage,
+    conn: u64,
+    name: Option<&Nick>,
+    act: &Act,
+    out: &mut Vec<Out, Global>,
+) -> Result<(), AllocError>
+    requires ready { IsReady stage.old }
+    requires possible { ArePossible stage.old.room.room (act.now ∷ []) }
+    requires home { BringHome stage.old.room.own (act.now ∷ []) }
+    ensures ok { OnOk result (so_far stage.new out.new.items ≡ stepped conn (optional_now name.entry) act.now (so_far stage.old out.old.items)) }
+    ensures ready { OnOk result (IsReady stage.new) }
+    ensures own { OnOk result (stage.new.room.own ≡ stage.old.room.own) }
+    ensures grew { Grew out.old.items out.new.items }
+{
+    match act {
+        Act::Answer(reply) => {
+            let line = reply_line(stage.routes.name(), name, reply);
+            out.push(Out::ToClient(conn, line))?;
+            Ok(())
+        }
+        Act::Raw(line) => {
+            out.push(Out::ToClient(conn, copied(line)))?;
+            Ok(())
+        }
+        Act::Do(effect) => apply(stage, effect, out),
+    }
+}
+
+/// The steps of a decision, one after another.
+fn take_steps(
+    stage: &mut Stage,
+    conn: u64,
+    name: Option<&Nick>,
+    steps: &[Act],
+    out: &mut Vec<Out, Global>,
+) -> Result<(), AllocError>
+    requires ready { IsReady stage.old }
+    requires possible { ArePossible stage.old.room.room steps.now }
+    requires home { BringHome stage.old.room.own steps.now }
+    ensures ok { OnOk result (so_far stage.new out.new.items ≡ all_stepped conn (optional_now name.entry) steps.now (so_far stage.old out.old.items)) }
+    ensures ready { OnOk result (IsReady stage.new) }
+    ensures own { OnOk result (stage.new.room.own ≡ stage.old.room.own) }
+    ensures grew { Grew out.old.items out.new.items }
+{
+    for act in steps {
+        step(stage, conn, name, act, out)?;
+    }
+    Ok(())
+}
+
+/// A decision is carried out: its steps, and then the client is closed where it says so.
+pub(crate) fn carry_out(
+    stage: &mut Stage,
+    conn: u64,
+    name: Option<&Nick>,
+    steps: &[Act],
+    close: bool,
+    out: &mut Vec<Out, Global>,
+) -> Result<(), AllocError>
+    requires ready { IsReady stage.old }
+    requires possible { ArePossible stage.old.room.room steps.now }
+    requires home { BringHome stage.old.room.own steps.now }
+    ensures ok { OnOk result (so_far stage.new out.new.items ≡ closing close conn (all_stepped conn (optional_now name.entry) steps.now (so_far stage.old out.old.items))) }
+    ensures ready { OnOk result (IsReady stage.new) }
+    ensures own { OnOk result (stage.new.room.own ≡ stage.old.room.own) }
+    ensures grew { Grew out.old.items out.new.items }
+{
+    take_steps(stage, conn, name, steps, out)?;
+    if close {
+        take_out(&mut stage.clients, conn);
+        out.push(Out::CloseClient(conn))?;
+    }
+    Ok(())
+}
