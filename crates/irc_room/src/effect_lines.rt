@@ -8,9 +8,7 @@ use crate::lines::{
     invite_line, join_line, kick_line, mode_line, nick_line, part_line, quit_line, say_line,
     topic_line, user_mode_line,
 };
-use crate::room_parts::{
-    RoomParts, from_by, from_nick, stored_channel, stored_nick, target_name,
-};
+use crate::room_parts::{RoomParts, from_by, from_nick, stored_channel, stored_nick, target_name};
 use irc_line::Text;
 use std::alloc::{AllocError, Global};
 
@@ -24,7 +22,11 @@ pub(crate) fn effect_line(
     ensures { IfOk result (λ line. ShowsAt (room_of parts.entry) effect.now own.now (line_bytes line)) }
 {
     match effect {
-        Effect::ChangeModes { by, channel, changes } => mode_line(
+        Effect::ChangeModes {
+            by,
+            channel,
+            changes,
+        } => mode_line(
             alloc,
             from_by(own, parts, by),
             stored_channel(parts, channel),
@@ -49,12 +51,21 @@ fn member_line(parts: RoomParts<'_>, effect: &Effect) -> Option<Text>
             from_nick(parts, nick),
             stored_channel(parts, channel),
         ),
-        Effect::Part { nick, channel, text } => part_line(
+        Effect::Part {
+            nick,
+            channel,
+            text,
+        } => part_line(
             from_nick(parts, nick),
             stored_channel(parts, channel),
             text.as_bytes(),
         ),
-        Effect::Kick { by, channel, nick, text } => kick_line(
+        Effect::Kick {
+            by,
+            channel,
+            nick,
+            text,
+        } => kick_line(
             from_nick(parts, by),
             stored_channel(parts, channel),
             stored_nick(parts, nick),
@@ -78,7 +89,12 @@ fn user_line(parts: RoomParts<'_>, effect: &Effect) -> Option<Text>
         Effect::AddUser(_) => None,
         Effect::Rename { nick, new } => nick_line(from_nick(parts, nick), new.as_bytes()),
         Effect::Quit { nick, text } => quit_line(from_nick(parts, nick), text.as_bytes()),
-        Effect::Say { by, notice, target, text } => say_line(
+        Effect::Say {
+            by,
+            notice,
+            target,
+            text,
+        } => say_line(
             from_nick(parts, by),
             *notice,
             target_name(parts, target),

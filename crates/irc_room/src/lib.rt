@@ -22,3 +22,4 @@ pub use room::Room;
 
 #[cfg(test)]
 mod room_tests;
+mod tests;

@@ -129,11 +129,7 @@ pub(crate) fn invite_line<'a>(
 }
 
 /// A user's mode i changes (RFC 2812 section 3.1.5).
-pub(crate) fn user_mode_line(
-    doer: Option<Prefix<'_>>,
-    nick: &[u8],
-    invisible: bool,
-) -> Option<Text>
+pub(crate) fn user_mode_line(doer: Option<Prefix<'_>>, nick: &[u8], invisible: bool) -> Option<Text>
     ensures { line_bytes result ≡ line_of (codes "MODE") (nick.now ∷ (if invisible then codes "+i" else codes "-i") ∷ []) None (option_map sender doer.entry) }
 {
     let mode = if invisible { b"+i" } else { b"-i" };

@@ -35,7 +35,10 @@ fn sign_byte(plus: bool) -> u8
 }
 
 /// The letters of changes in order, with a sign before the first and wherever it differs from the one before.
-pub(crate) fn letters_text(alloc: Global, changes: &[ModeChange]) -> Result<Vec<u8, Global>, AllocError>
+pub(crate) fn letters_text(
+    alloc: Global,
+    changes: &[ModeChange],
+) -> Result<Vec<u8, Global>, AllocError>
     ensures { IfOk result (λ letters. letters.items ≡ letters_text changes.now) }
 {
     let mut letters = Vec::new(alloc);

@@ -67,7 +67,5 @@ fn share_channel(parts: RoomParts<'_>, one: &Nick, other: &Nick) -> bool
 fn share_one_of(channels: &[Row<Channel>], one: &Nick, other: &Nick) -> bool
     ensures { result ≡ list_any (λ row. has_member (key one.now) row.value && has_member (key other.now) row.value) channels.now }
 {
-    channels
-        .iter()
-        .any(|row| has_member(&row.value, one) && has_member(&row.value, other))
+    channels.iter().any(|row| has_member(&row.value, one) && has_member(&row.value, other))
 }
