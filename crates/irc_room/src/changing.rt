@@ -53,11 +53,7 @@ pub(crate) fn perform(
 /// # Errors
 /// Where memory runs out; nothing has changed then.
 #[tactic(auto, unfolding(crate::specs::After::after))]
-fn change(
-    users: &mut Users,
-    channels: &mut Channels,
-    effect: &Effect,
-) -> Result<(), AllocError>
+fn change(users: &mut Users, channels: &mut Channels, effect: &Effect) -> Result<(), AllocError>
     requires free { brings_free (record { users = users.old; channels = channels.old }) effect.now ≡ true }
     requires there { list_all (λ nick. is_some (row users.old (key nick))) (needs_users effect.now) ≡ true }
     ensures ok { OnOk result (record { users = users.new; channels = channels.new } ≡ after (record { users = users.old; channels = channels.old }) effect.now) }
@@ -81,7 +77,9 @@ fn change(
             Ok(())
         }
         Effect::ChangeModes {
-            channel, changes, ..
+            channel,
+            changes,
+            ..
         } => change_modes(channels, channel, changes),
         Effect::SetTopic { channel, text, .. } => {
             set_topic(channels, channel, text);
