@@ -22,4 +22,5 @@ pub use room::Room;
 
 #[cfg(test)]
 mod room_tests;
+#[cfg(test)]
 mod tests;

@@ -14,10 +14,10 @@ ghost use Rattle.irc_room.specs.Readers.{user_at, channel_at, flags_at, is_invit
 ghost use Rattle.irc_room.specs.Room.{IsWellFormed};
 ghost use Rattle.irc_room.specs.Seen.{seen};
 
-use crate::effect::Effect;
-use crate::fault::RoomFault;
 use crate::audience::audience;
 use crate::changing::perform;
+use crate::effect::Effect;
+use crate::fault::RoomFault;
 use crate::refusing::refusal;
 use crate::room_parts::RoomParts;
 use irc_channels::{Channel, Channels, Flags};
@@ -154,11 +154,7 @@ impl Room {
     ///
     /// # Errors
     /// Where memory runs out.
-    pub fn audience(
-        &self,
-        alloc: Global,
-        effect: &Effect,
-    ) -> Result<Vec<Nick, Global>, AllocError>
+    pub fn audience(&self, alloc: Global, effect: &Effect) -> Result<Vec<Nick, Global>, AllocError>
         ensures { IfOk result (λ viewers. viewers.items ≡ map (λ s. s.viewer) (seen self.now.room effect.now)) }
     {
         let parts = RoomParts {
@@ -178,7 +174,11 @@ impl Room {
     /// [`RoomFault::NoSuchChannel`] where the channel that it names is not there, but for a Join, which makes it, and an Invite.
     /// Nothing has changed then. [`RoomFault::Memory`] where memory runs out: `out` is as it was, and the room answers Failed from
     /// then on.
-    pub fn apply(&mut self, effect: &Effect, out: &mut Vec<(Nick, Text), Global>) -> Result<(), RoomFault>
+    pub fn apply(
+        &mut self,
+        effect: &Effect,
+        out: &mut Vec<(Nick, Text), Global>,
+    ) -> Result<(), RoomFault>
         requires { brings_free self.old.room effect.now ≡ true }
         ensures { Applied self.old effect.now out.old.items result self.new out.new.items }
     {

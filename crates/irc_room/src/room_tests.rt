@@ -58,10 +58,8 @@ fn three(rt: &impl Abort, alloc: Global) -> Result<Room, Fail> {
 /// Whether this and nothing else was shown.
 fn are(shown: &[(Nick, Text)], want: &[(&[u8], &[u8])]) -> bool {
     shown.len() == want.len()
-        && shown
-            .iter()
-            .zip(want)
-            .all(|(shown, want)| shown.0.as_bytes() == want.0 && shown.1.as_slice() == want.1)
+        && shown.iter().zip(want).all(|(shown, want)| shown.0.as_bytes() == want.0
+            && shown.1.as_slice() == want.1)
 }
 
 #[test]

@@ -29,9 +29,10 @@ each_entry : (P : List ℕ → User → Type 0) (es : List (List ℕ × User)) �
     → ((q : List ℕ) (user : User) → find fold_cmp q es ≡ Some user → P q user) → AllByRecursion (λ (e : List ℕ × User). P e.0 e.1) es
 each_entry P [] rise holds = tt
 each_entry P (e ∷ es) rise holds =
-    let parts = both_true _ _ rise in
-    (holds e.0 e.1 (ap (λ b. cond b (Some e.1) (find fold_cmp e.0 es)) (same_fold-refl e.0)),
-    each_entry P es parts.1 (λ q user is. holds q user (later q user parts.0 is (same_fold q e.0) refl)))
+    let parts = both_true _ _ rise in (
+      holds e.0 e.1 (ap (λ b. cond b (Some e.1) (find fold_cmp e.0 es)) (same_fold-refl e.0)),
+      each_entry P es parts.1 (λ q user is. holds q user (later q user parts.0 is (same_fold q e.0) refl)),
+    )
   where
     later : (q : List ℕ) (user : User) → T (below_all fold_cmp e.0 es) → find fold_cmp q es ≡ Some user → (b : Bool) → same_fold q e.0 ≡ b
         → cond (same_fold q e.0) (Some e.1) (find fold_cmp q es) ≡ Some user
@@ -46,6 +47,7 @@ filter_shown shown test (e ∷ es) pass = by_shown (shown e.1) refl (filter_show
   where
     rest : List Showing
     rest = filter_map shown (map (λ e. e.1) es)
+
     by_shown : (o : Option Showing) → shown e.1 ≡ o → filter test (filter_map shown (map (λ e. e.1) es)) ≡ filter_map shown (map (λ e. e.1) es)
         → filter test (cons_option o (filter_map shown (map (λ e. e.1) es))) ≡ cons_option o (filter_map shown (map (λ e. e.1) es))
     by_shown None is later = later
@@ -107,6 +109,7 @@ moved_home home old new change users keeps at_home q user is = by_row (row users
     by_folds x there true c is = sym (ap (λ (u : User). u.home) (same_some (change x) user is)) ∙ keeps x ∙ at_home old x there
     by_folds x there false true is = cc is
     by_folds x there false false is = at_home q user is
+
     by_row : (o : Option User) → row users old ≡ o → user.home ≡ home
     by_row None none = at_home q user (sym (row-moved_none old new change users none q) ∙ is)
     by_row (Some x) there = by_folds x there (same_fold q new) (same_fold q old) (sym (row-moved old new change users x there q) ∙ is)

@@ -84,8 +84,8 @@ quit_possible room well (Some (Registered name)) nick text is = by_row (row room
     by_row None there none = absurd (cc none)
     by_row (Some user) there some = record {
       users_there =
-        ap (λ q. is_some (row room.users q) && true) (sym (ap key (same_some (user.nick) nick some)) ∙ well.users_named (key name) user there)
-        ∙ ap (λ o. is_some o && true) there;
+          ap (λ q. is_some (row room.users q) && true) (sym (ap key (same_some (user.nick) nick some)) ∙ well.users_named (key name) user there)
+          ∙ ap (λ o. is_some o && true) there;
       channel_there = refl;
       nick_free = refl;
     }

@@ -74,9 +74,18 @@ fn is_put_out(out: &[Out], expected: &[Expected<'_>]) -> bool {
 const AL: [(u64, &[u8]); 2] = [(1, b"NICK al"), (1, b"USER u 0 * :Al")];
 
 const WELCOME: [Expected<'static>; 5] = [
-    (1, Some(b":a.net 001 al :Welcome to the Internet Relay Network al!u@h")),
-    (1, Some(b":a.net 002 al :Your host is a.net, running version treeircd-1")),
-    (1, Some(b":a.net 003 al :This server was created 2024-01-01")),
+    (
+        1,
+        Some(b":a.net 001 al :Welcome to the Internet Relay Network al!u@h"),
+    ),
+    (
+        1,
+        Some(b":a.net 002 al :Your host is a.net, running version treeircd-1"),
+    ),
+    (
+        1,
+        Some(b":a.net 003 al :This server was created 2024-01-01"),
+    ),
     (1, Some(b":a.net 004 al a.net treeircd-1 i biklmnopstv")),
     (1, Some(b":a.net 422 al :MOTD File is missing")),
 ];
@@ -121,7 +130,12 @@ fn the_second_to_register_is_refused_the_nickname(rt: HostRuntime) -> Result<(),
     assert!(rt; is_put_out(&out, &WELCOME));
     out.truncate(0);
     say(&mut server, &[(2, b"USER u 0 * :Bo")], &mut out)?;
-    assert!(rt; is_put_out(&out, &[(2, Some(b":a.net 433 * al :Nickname is already in use"))]));
+    assert!(rt;
+        is_put_out(
+            &out,
+            &[(2, Some(b":a.net 433 * al :Nickname is already in use"))]
+        )
+    );
     say(&mut server, &[(2, b"NICK bo")], &mut out)?;
     assert_eq!(rt; out.len(), 6);
     out.truncate(0);
@@ -143,7 +157,12 @@ fn a_nickname_is_in_use_under_the_fold(rt: HostRuntime) -> Result<(), Fail> {
     )?;
     out.truncate(0);
     say(&mut server, &[(2, b"NICK FOO{")], &mut out)?;
-    assert!(rt; is_put_out(&out, &[(2, Some(b":a.net 433 bo FOO{ :Nickname is already in use"))]));
+    assert!(rt;
+        is_put_out(
+            &out,
+            &[(2, Some(b":a.net 433 bo FOO{ :Nickname is already in use"))]
+        )
+    );
     Ok(())
 }
 
@@ -154,16 +173,24 @@ fn lines_that_are_not_served(rt: HostRuntime) -> Result<(), Fail> {
     connect(&mut server, 2, &mut out)?;
     say(
         &mut server,
-        &[(1, b":zz PING x"), (1, b""), (1, b":al"), (1, b"FOO"), (2, b"JOIN #c")],
+        &[
+            (1, b":zz PING x"),
+            (1, b""),
+            (1, b":al"),
+            (1, b"FOO"),
+            (2, b"JOIN #c"),
+        ],
         &mut out,
     )?;
-    assert!(rt; is_put_out(
-        &out,
-        &[
-            (1, Some(b":a.net 421 al FOO :Unknown command")),
-            (2, Some(b":a.net 451 * :You have not registered")),
-        ],
-    ));
+    assert!(rt;
+        is_put_out(
+            &out,
+            &[
+                (1, Some(b":a.net 421 al FOO :Unknown command")),
+                (2, Some(b":a.net 451 * :You have not registered")),
+            ],
+        )
+    );
     Ok(())
 }
 
@@ -188,7 +215,10 @@ fn who_is_gone_is_told_nothing(rt: HostRuntime) -> Result<(), Fail> {
     assert_eq!(rt; again, Err(ServerFault::ConnectionThere));
     server.handle(Event::Gone(1), &mut out)?;
     assert!(rt; is_put_out(&out, &[]));
-    assert_eq!(rt; server.handle(Event::Gone(1), &mut out), Err(ServerFault::NoSuchConnection));
+    assert_eq!(rt;
+        server.handle(Event::Gone(1), &mut out),
+        Err(ServerFault::NoSuchConnection)
+    );
     connect(&mut server, 1, &mut out)?;
     say(&mut server, &AL, &mut out)?;
     assert!(rt; is_put_out(&out, &WELCOME));
@@ -205,7 +235,11 @@ fn configurations_are_refused(rt: HostRuntime) -> Result<(), Fail> {
         (b"b.net", b"", Some(ConfigFault::BadName)),
         (b"b.net", b":pw", Some(ConfigFault::BadName)),
         (b"b.net", b"a word", Some(ConfigFault::BadName)),
-        (b"b.net", b"123456789012345678901", Some(ConfigFault::BadName)),
+        (
+            b"b.net",
+            b"123456789012345678901",
+            Some(ConfigFault::BadName),
+        ),
         (b"a.net", b"pw", Some(ConfigFault::DoubleName)),
         (b"c.net", b"pw", Some(ConfigFault::DoubleName)),
     ] {
@@ -221,6 +255,9 @@ fn configurations_are_refused(rt: HostRuntime) -> Result<(), Fail> {
     }
     let mut unnamed = config(alloc)?;
     unnamed.own.created = Vec::new(alloc);
-    assert_eq!(rt; Server::new(alloc, unnamed).err(), Some(ConfigFault::BadName));
+    assert_eq!(rt;
+        Server::new(alloc, unnamed).err(),
+        Some(ConfigFault::BadName)
+    );
     Ok(())
 }

@@ -31,16 +31,18 @@ invariant_of-self c =
 pub returns-in-Ok : goal.returns-in-Ok
 returns-in-Ok c =
     let kept : Kept = record { own = c.self.inside.own; failed = c.self.inside.failed; room = record { users = c.self.inside.users; channels = c.self.inside.channels } } in
-    let none = sym (c.refusal.ensures c.self.inside.own) ∙ c.in_default.is in
-    (ap (λ k. room_fault k c.args.effect.now) (sym c.self.view_is) ∙ none,
-    kept_changed kept c.args.self.now _ c.args.effect.now c.self.view_is (served kept c.args.effect.now none).alive c.in-Ok.ensures.changed,
-    c.in-Ok.ensures.shown
-    ∙ ap (λ own. c.args.out.now.items ++ shown_at own kept.room c.args.effect.now) c.as_bytes.ensures.value
-    ∙ ap (λ k. c.args.out.now.items ++ shown_here k c.args.effect.now) c.self.view_is)
+    let none = sym (c.refusal.ensures c.self.inside.own) ∙ c.in_default.is in (
+      ap (λ k. room_fault k c.args.effect.now) (sym c.self.view_is) ∙ none,
+      kept_changed kept c.args.self.now _ c.args.effect.now c.self.view_is (served kept c.args.effect.now none).alive c.in-Ok.ensures.changed,
+      c.in-Ok.ensures.shown
+          ∙ ap (λ own. c.args.out.now.items ++ shown_at own kept.room c.args.effect.now) c.as_bytes.ensures.value
+          ∙ ap (λ k. c.args.out.now.items ++ shown_here k c.args.effect.now) c.self.view_is,
+    )
 
 pub returns-in-Err : goal.returns-in-Err
 returns-in-Err c =
-    let kept : Kept = record { own = c.self.inside.own; failed = c.self.inside.failed; room = record { users = c.self.inside.users; channels = c.self.inside.channels } } in
-    (ap (λ k. room_fault k c.args.effect.now) (sym c.self.view_is) ∙ sym (c.refusal.ensures c.self.inside.own) ∙ c.in_default.is,
-    kept_refused kept c.args.self.now _ _ c.self.view_is c.in-Err.ensures.refused.0 c.in-Err.ensures.refused.1,
-    c.truncate.ensures.items ∙ ap (λ n. take n c.perform.new.out.items) (c.len-before.ensures ∙ c.args.out.now.ok.0) ∙ c.in-Err.ensures.front)
+    let kept : Kept = record { own = c.self.inside.own; failed = c.self.inside.failed; room = record { users = c.self.inside.users; channels = c.self.inside.channels } } in (
+      ap (λ k. room_fault k c.args.effect.now) (sym c.self.view_is) ∙ sym (c.refusal.ensures c.self.inside.own) ∙ c.in_default.is,
+      kept_refused kept c.args.self.now _ _ c.self.view_is c.in-Err.ensures.refused.0 c.in-Err.ensures.refused.1,
+      c.truncate.ensures.items ∙ ap (λ n. take n c.perform.new.out.items) (c.len-before.ensures ∙ c.args.out.now.ok.0) ∙ c.in-Err.ensures.front,
+    )
