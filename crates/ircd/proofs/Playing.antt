@@ -1,5 +1,5 @@
 -- What was played, put together.
-use Rattle.std.proofs.Common.{◌≡◌, ℕ, ◌+◌, ◌<◌, get_or, Option, Result, Ok, Err, OnOk, IfOk, List, [], ◌∷◌, ◌++◌, length, take, map, ap, sym, subst, refl, ◌∙◌, append_assoc}
+use Rattle.std.proofs.Common.{◌≡◌, ℕ, ◌+◌, ◌<◌, get_or, Option, Some, None, Result, Ok, Err, OnOk, IfOk, List, [], ◌∷◌, ◌++◌, length, take, map, ap, sym, subst, refl, ◌∙◌, append_assoc}
 use Rattle.std.proofs.lemmas.List.{append-nil}
 use Rattle.std.specs.Io.KnownBytes.{Appends, Keeps}
 use Rattle.std.specs.List.{flat_map}
@@ -8,13 +8,17 @@ use Rattle.irc_line.specs.Framed.{bytes_of}
 use Rattle.irc_server.specs.declared.event.Event.{Event}
 use Rattle.irc_server.specs.declared.event.Event.TheVariants.{Line}
 use Rattle.irc_server.specs.declared.event.Out.{Out}
+use Rattle.irc_server.specs.declared.event.ServerFault.{ServerFault}
+use Rattle.irc_server.specs.declared.event.ServerFault.TheVariants.{Memory as MemoryFault, Failed as FailedFault, NoSuchConnection, ConnectionThere, NoSuchLink, LinkThere}
+use Rattle.irc_server.specs.View.{View}
+use Rattle.irc_server.specs.Happening.{IsHandled}
 use Rattle.ircd.specs.declared.fault.SimFault.{SimFault}
 use Rattle.ircd.specs.declared.fault.SimFault.TheVariants.{BadScript, Failed, Device}
 use Rattle.ircd.specs.declared.fault.Trouble.{Trouble}
 use Rattle.ircd.specs.declared.fault.Trouble.TheVariants.{Memory, Device as DeviceTrouble}
 use Rattle.ircd.specs.Events.{line_event, events_of}
-use Rattle.ircd.specs.Printing.{printed, refusal_line}
-use Rattle.ircd.specs.Runs.{Answer, puts_out, refuses, answer_text, next_if_taken, next_after, Plays, nothing, event, Runs, end, request, Played, HasRun, IsTextOf, Ran}
+use Rattle.ircd.specs.Printing.{printed, refusal_line, refusal_number}
+use Rattle.ircd.specs.Runs.{Standing, AnswersAt, Answer, puts_out, refuses, answer_text, next_after, Plays, nothing, event, Runs, end, request, Played, HasRun, IsTextOf, Ran}
 use Rattle.ircd.specs.Scripts.{Request}
 use Rattle.ircd.specs.ScriptViews.{IsReadAs, requests, request as request_now}
 use Rattle.ircd.specs.declared.script.Command.{Command}
@@ -36,14 +40,14 @@ pub events_of_lines : (client : ℕ) (lines : List (ArrayVec ℕ)) → map (λ l
 events_of_lines client [] = refl
 events_of_lines client (line ∷ lines) = ap (λ events. Line client line ∷ events) (events_of_lines client lines)
 
-plays_both : {a b c : ℕ} {xs ys : List Event} {s t : List ℕ} → Plays a xs b s → Plays b ys c t → Plays a (xs ++ ys) c (s ++ t)
+plays_both : {a b c : Standing} {xs ys : List Event} {s t : List ℕ} → Plays a xs b s → Plays b ys c t → Plays a (xs ++ ys) c (s ++ t)
 plays_both nothing q = q
-plays_both {t = t} (event answer e p) q = event answer (ap (λ bytes. bytes ++ t) e ∙ append_assoc (answer_text answer) _ t) (plays_both p q)
+plays_both {t = t} (event answer at next e p) q = event answer at next (ap (λ bytes. bytes ++ t) e ∙ append_assoc (answer_text answer) _ t) (plays_both p q)
 
-pub played_nothing : (next : ℕ) (known : Option (List ℕ)) → Played next [] next known known
-played_nothing next known = record { text = []; plays = nothing; appended = appends_nothing known }
+pub played_nothing : (first : Standing) (known : Option (List ℕ)) → Played first [] first known known
+played_nothing first known = record { text = []; plays = nothing; appended = appends_nothing known }
 
-pub played_both : {a b c : ℕ} {xs ys : List Event} {old middle new : Option (List ℕ)} → Played a xs b old middle → Played b ys c middle new → Played a (xs ++ ys) c old new
+pub played_both : {a b c : Standing} {xs ys : List Event} {old middle new : Option (List ℕ)} → Played a xs b old middle → Played b ys c middle new → Played a (xs ++ ys) c old new
 played_both {old = old} {middle = middle} {new = new} p q = record {
   text = p.text ++ q.text;
   plays = plays_both p.plays q.plays;
@@ -51,30 +55,44 @@ played_both {old = old} {middle = middle} {new = new} p q = record {
 }
 
 -- one event, by its answer
-played_one : (next : ℕ) (e : Event) (answer : Answer) (old new : Option (List ℕ)) → Appends old new (answer_text answer) → Played next (e ∷ []) (next_after e answer next) old new
-played_one next e answer old new p = record { text = answer_text answer; plays = event answer (sym (append-nil (answer_text answer))) nothing; appended = p }
+pub played_one : (first last : Standing) (e : Event) (answer : Answer) (old new : Option (List ℕ)) → AnswersAt first.server e answer last.server
+    → last.next ≡ next_after e answer first.next → Appends old new (answer_text answer) → Played first (e ∷ []) last old new
+played_one first last e answer old new at next p =
+    record { text = answer_text answer; plays = event answer at next (sym (append-nil (answer_text answer))) nothing; appended = p }
 
-pub refused_one : (next same : ℕ) (e : Event) (number : ℕ) (old new : Option (List ℕ)) → same ≡ next → Appends old new (refusal_line number) → Played next (e ∷ []) same old new
-refused_one next same e number old new is p = subst (λ n. Played next (e ∷ []) n old new) (sym is) (played_one next e (refuses number) old new p)
+-- an event is handled by a server from which nothing was put out yet
+pub handled_answer : (old new : Option View) (e : Event) (start outs : List Out) → start ≡ [] → IsHandled old e start (Ok tt) new outs
+    → AnswersAt (Some old) e (puts_out outs) (Some new)
+handled_answer old new e start outs is h = subst (λ out. IsHandled old e out (Ok tt) new outs) is h
 
-pub taken_one : (next last : ℕ) (e : Event) (outs : List Out) (old new : Option (List ℕ)) → last ≡ next_if_taken e next → Appends old new (flat_map printed outs) → Played next (e ∷ []) last old new
-taken_one next last e outs old new is p = subst (λ n. Played next (e ∷ []) n old new) (sym is) (played_one next e (puts_out outs) old new p)
+pub refused_answer : (old new : Option View) (e : Event) (start outs : List Out) (fault : ServerFault) (number : ℕ) → refusal_number fault ≡ Some number
+    → IsHandled old e start (Err fault) new outs → AnswersAt (Some old) e (refuses number) (Some new)
+refused_answer old new e start outs MemoryFault number is h = cc
+refused_answer old new e start outs FailedFault number is h = cc
+refused_answer (Some view) new e start outs NoSuchConnection number is h = record { fault = NoSuchConnection; number_is = is; is_refused = (h.0, h.1, refl) }
+refused_answer (Some view) new e start outs ConnectionThere number is h = record { fault = ConnectionThere; number_is = is; is_refused = (h.0, h.1, refl) }
+refused_answer (Some view) new e start outs NoSuchLink number is h = record { fault = NoSuchLink; number_is = is; is_refused = (h.0, h.1, refl) }
+refused_answer (Some view) new e start outs LinkThere number is h = record { fault = LinkThere; number_is = is; is_refused = (h.0, h.1, refl) }
+refused_answer None new e start outs NoSuchConnection number is h = absurd h
+refused_answer None new e start outs ConnectionThere number is h = absurd h
+refused_answer None new e start outs NoSuchLink number is h = absurd h
+refused_answer None new e start outs LinkThere number is h = absurd h
 
-runs_both : {a b c : ℕ} {xs ys : List Request} {s t : List ℕ} → Runs a xs b s → Runs b ys c t → Runs a (xs ++ ys) c (s ++ t)
+runs_both : {a b c : Standing} {xs ys : List Request} {s t : List ℕ} → Runs a xs b s → Runs b ys c t → Runs a (xs ++ ys) c (s ++ t)
 runs_both end q = q
-runs_both {t = t} (request {first = first} e p r) q = request (ap (λ bytes. bytes ++ t) e ∙ append_assoc first _ t) p (runs_both r q)
+runs_both {t = t} (request {start = start} e p r) q = request (ap (λ bytes. bytes ++ t) e ∙ append_assoc start _ t) p (runs_both r q)
 
-pub has_run_nothing : (next : ℕ) (known : Option (List ℕ)) → HasRun next [] next known known
-has_run_nothing next known = record { text = []; runs = end; appended = appends_nothing known }
+pub has_run_nothing : (first : Standing) (known : Option (List ℕ)) → HasRun first [] first known known
+has_run_nothing first known = record { text = []; runs = end; appended = appends_nothing known }
 
-pub has_run_more : (r : Request) {a b c : ℕ} {xs : List Request} {old middle new : Option (List ℕ)} → HasRun a xs b old middle → Played b (events_of b r) c middle new → HasRun a (xs ++ r ∷ []) c old new
+pub has_run_more : (r : Request) {a b c : Standing} {xs : List Request} {old middle new : Option (List ℕ)} → HasRun a xs b old middle → Played b (events_of b.next r) c middle new → HasRun a (xs ++ r ∷ []) c old new
 has_run_more r {old = old} {middle = middle} {new = new} p q = record {
   text = p.text ++ q.text;
   runs = runs_both p.runs (request (sym (append-nil q.text)) q.plays end);
   appended = appends_both old middle new p.text q.text p.appended q.appended;
 }
 
-pub has_run_kept : {a c : ℕ} {xs : List Request} {old middle new : Option (List ℕ)} → HasRun a xs c old middle → Keeps middle new → HasRun a xs c old new
+pub has_run_kept : {a c : Standing} {xs : List Request} {old middle new : Option (List ℕ)} → HasRun a xs c old middle → Keeps middle new → HasRun a xs c old new
 has_run_kept {old = old} {middle = middle} {new = new} p q = record { text = p.text; runs = p.runs; appended = keeps_appended old middle new p.text p.appended q }
 
 -- one command more

@@ -7,3 +7,4 @@ pub mod Events
 pub mod Printing
 pub mod Runs
 pub mod Endings
+pub mod Codes

@@ -1,15 +1,21 @@
--- What a script does: which events it gives to the server, in which order, and what is printed. What the server answers is left open here.
-use Rattle.std.specs.Prelude.{◌≡◌, ℕ, ◌+◌, ◌-◌, ◌^◌, Option, Result, Ok, Err, List, [], ◌∷◌, ◌++◌, nat_lt, ⊤, IfSome, if◌then◌else◌}
+-- What a script does: which events it gives to the server, in which order, what the server answers to each, and what is printed.
+use Rattle.std.specs.Prelude.{◌≡◌, ℕ, ◌+◌, ◌-◌, ◌^◌, Option, Some, None, Result, Ok, Err, List, [], ◌∷◌, ◌++◌, codes, nat_lt, ⊤, IfSome, if◌then◌else◌}
 use Rattle.std.specs.Io.KnownBytes.{Appends}
 use Rattle.std.specs.List.{flat_map}
 use Rattle.irc_server.specs.declared.event.Event.{Event}
 use Rattle.irc_server.specs.declared.event.Event.TheVariants.{Connect, Line, Gone}
 use Rattle.irc_server.specs.declared.event.Out.{Out}
+use Rattle.irc_server.specs.declared.event.ServerFault.{ServerFault}
+use Rattle.irc_server.specs.declared.event.ServerFault.TheVariants.{NoSuchConnection}
+use Rattle.irc_server.specs.View.{View}
+use Rattle.irc_server.specs.Happening.{IsHandled}
+use Rattle.irc_routes.specs.Place.{alone}
+use Rattle.irc_room.specs.Laws.{no_room}
 use Rattle.ircd.specs.declared.fault.SimFault.{SimFault}
 use Rattle.ircd.specs.declared.fault.SimFault.TheVariants.{BadScript, Failed, Device}
 use Rattle.ircd.specs.Scripts.{Request, Asked, script_read}
 use Rattle.ircd.specs.Events.{events_of}
-use Rattle.ircd.specs.Printing.{printed, refusal_line}
+use Rattle.ircd.specs.Printing.{printed, refusal_line, refusal_number}
 
 -- what an event comes to: the server puts something out, or refuses it
 pub data Answer : Type 0 where
@@ -35,27 +41,51 @@ abbrev pub next_after : Event → Answer → ℕ → ℕ
 next_after e (puts_out outs) next = next_if_taken e next
 next_after e (refuses number) next = next
 
--- Events are given one after another, and after each its answer is printed. `next` is the number for the next client.
-pub data Plays : ℕ → List Event → ℕ → List ℕ → Type 0 where
-  nothing : {next : ℕ} → Plays next [] next []
-  event : {next last : ℕ} {e : Event} {events : List Event} {more text : List ℕ} (answer : Answer)
-      → text ≡ answer_text answer ++ more → Plays (next_after e answer next) events last more → Plays next (e ∷ events) last text
+-- where a script stands: the number for the next client, and the server, if the script has one
+pub record Standing : Type 0 where
+  pub next : ℕ
+  pub server : Option (Option View)
+
+-- an answer as the code has it: the number of a refusal, or what was put out
+abbrev pub answer_by : Option ℕ → List Out → Answer
+answer_by None outs = puts_out outs
+answer_by (Some number) outs = refuses number
+
+-- a server refuses an event, by the number of a fault
+pub record IsRefused (old : Option View) (e : Event) (number : ℕ) (new : Option View) : Type 0 where
+  pub fault : ServerFault
+  pub number_is : refusal_number fault ≡ Some number
+  pub is_refused : IsHandled old e [] (Err fault) new []
+
+-- What an event comes to: what the server makes of it, as its definition says. Where there is no server, no client is there.
+abbrev pub AnswersAt : Option (Option View) → Event → Answer → Option (Option View) → Type 0
+AnswersAt (Some old) e (puts_out outs) (Some new) = IsHandled old e [] (Ok tt) new outs
+AnswersAt (Some old) e (refuses number) (Some new) = IsRefused old e number new
+AnswersAt None e (refuses number) None = refusal_number NoSuchConnection ≡ Some number
+AnswersAt old e answer new = ⊥
+
+-- Events are given one after another, and after each its answer is printed.
+pub data Plays : Standing → List Event → Standing → List ℕ → Type 0 where
+  nothing : {first : Standing} → Plays first [] first []
+  event : {first middle last : Standing} {e : Event} {events : List Event} {more text : List ℕ} (answer : Answer)
+      → AnswersAt first.server e answer middle.server → middle.next ≡ next_after e answer first.next
+      → text ≡ answer_text answer ++ more → Plays middle events last more → Plays first (e ∷ events) last text
 
 -- The same of what a script asks for.
-pub data Runs : ℕ → List Request → ℕ → List ℕ → Type 0 where
-  end : {next : ℕ} → Runs next [] next []
-  request : {next middle last : ℕ} {r : Request} {requests : List Request} {first more text : List ℕ}
-      → text ≡ first ++ more → Plays next (events_of next r) middle first → Runs middle requests last more → Runs next (r ∷ requests) last text
+pub data Runs : Standing → List Request → Standing → List ℕ → Type 0 where
+  end : {first : Standing} → Runs first [] first []
+  request : {first middle last : Standing} {r : Request} {requests : List Request} {start more text : List ℕ}
+      → text ≡ start ++ more → Plays first (events_of first.next r) middle start → Runs middle requests last more → Runs first (r ∷ requests) last text
 
 -- what was played, and printed behind what was there
-pub record Played (next : ℕ) (events : List Event) (last : ℕ) (old new : Option (List ℕ)) : Type 0 where
+pub record Played (first : Standing) (events : List Event) (last : Standing) (old new : Option (List ℕ)) : Type 0 where
   pub text : List ℕ
-  pub plays : Plays next events last text
+  pub plays : Plays first events last text
   pub appended : Appends old new text
 
-pub record HasRun (next : ℕ) (requests : List Request) (last : ℕ) (old new : Option (List ℕ)) : Type 0 where
+pub record HasRun (first : Standing) (requests : List Request) (last : Standing) (old new : Option (List ℕ)) : Type 0 where
   pub text : List ℕ
-  pub runs : Runs next requests last text
+  pub runs : Runs first requests last text
   pub appended : Appends old new text
 
 -- the text is what a reader had, where that is known
@@ -66,14 +96,23 @@ IsTextOf text remaining = IfSome remaining (λ bytes. text ≡ bytes)
 abbrev pub first_client : ℕ
 first_client = 1
 
+-- the server of a script: nobody is connected to it, and its room is empty
+abbrev pub first_view : List ℕ → View
+first_view name = record { place = alone name (codes "Test server") (codes "2024-01-01"); clients = []; room = no_room }
+
+-- where a script begins, with a server of this name or with none
+abbrev pub first_standing : Option (List ℕ) → Standing
+first_standing None = record { next = first_client; server = None }
+first_standing (Some name) = record { next = first_client; server = Some (Some (first_view name)) }
+
 -- a script was run to its end
 pub record Finished (remaining old new : Option (List ℕ)) : Type 0 where
   pub text : List ℕ
   pub is_text : IsTextOf text remaining
   pub asked : Asked
   pub read : script_read text ≡ Ok asked
-  pub last : ℕ
-  pub run : HasRun first_client asked.requests last old new
+  pub last : Standing
+  pub run : HasRun (first_standing asked.server) asked.requests last old new
 
 -- a script was refused for this line, and nothing was printed
 pub record Refused (line : ℕ) (remaining old new : Option (List ℕ)) : Type 0 where

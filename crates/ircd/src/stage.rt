@@ -1,8 +1,8 @@
 //! The server of a script, and what the script does to it.
-ghost use Rattle.std.specs.Prelude.{◌≡◌, [], ◌∷◌, codes, IfOk, IsNone, IfSome, OnOk};
+ghost use Rattle.std.specs.Prelude.{◌≡◌, [], ◌∷◌, codes, Some, IfOk, OnOk};
 ghost use Rattle.ircd.specs.Events.{events_of};
-ghost use Rattle.ircd.specs.Runs.{Played, next_if_taken, number_behind, first_client};
-ghost use Rattle.ircd.specs.ScriptViews.{request};
+ghost use Rattle.ircd.specs.Runs.{AnswersAt, Played, answer_by, first_standing, first_view, next_if_taken, number_behind};
+ghost use Rattle.ircd.specs.ScriptViews.{name_now, request};
 
 use crate::events::events_of;
 use crate::fault::Trouble;
@@ -33,13 +33,17 @@ pub struct Stage {
     out: Vec<Out, Global>,
 }
 
-/// In a clause it is the number for the next client.
+/// In a clause it is the number for the next client, and the server, if there is one.
 impl Model for Stage {
-    ghost use Rattle.std.specs.Prelude.{ℕ};
+    ghost use Rattle.ircd.specs.Runs.{Standing};
+    ghost use Rattle.ircd.specs.Codes.{standing_code};
+    ghost use Rattle.irc_server.specs.contracts.server.Server.{the_row as server_row};
 
-    ghost Value = { ℕ };
+    ghost Value = { Standing };
 
-    ghost view = { λ stage. stage.next };
+    ghost coded = { standing_code server_row.coded };
+
+    ghost view = { λ stage. record { next = stage.next; server = stage.server } };
 }
 
 impl Stage {
@@ -48,7 +52,7 @@ impl Stage {
     /// # Errors
     /// Where memory runs out.
     pub fn new(alloc: Global, name: Option<&ServerName>) -> Result<Self, Trouble>
-        ensures { IfOk result (λ stage. stage ≡ first_client) }
+        ensures { IfOk result (λ stage. stage ≡ first_standing (name_now name.entry)) }
     {
         let server = match name {
             Some(name) => Some(new_server(alloc, name)?),
@@ -71,7 +75,7 @@ impl Stage {
         command: &Command<'_>,
         output: &mut W,
     ) -> Result<(), Trouble>
-        ensures { OnOk result (Played self.old (events_of self.old (request command.now)) self.new (W.contents output.old) (W.contents output.new)) }
+        ensures { OnOk result (Played self.old (events_of self.old.next (request command.now)) self.new (W.contents output.old) (W.contents output.new)) }
     {
         let events = events_of(self.alloc, command, self.next)?;
         for event in events {
@@ -85,28 +89,32 @@ impl Stage {
         ensures { OnOk result (Played self.old (event ∷ []) self.new (W.contents output.old) (W.contents output.new)) }
     {
         let next = next_if_taken(&event, self.next);
-        if let Some(number) = self.refused(event)? {
+        if let Some(number) = refusal_of(&mut self.server, event, &mut self.out)? {
             return print_refusal(number, output);
         }
         self.next = next;
         print_lines(&self.out, output)
     }
+}
 
-    /// Lets the server handle an event. Says by which number the event is refused; else `out` is what the server put out.
-    fn refused(&mut self, event: Event) -> Result<Option<u64>, Trouble>
-        ensures { self.new ≡ self.old }
-    {
-        self.out.clear();
-        let Some(server) = &mut self.server else {
-            return Ok(Some(NO_SUCH_CLIENT));
-        };
-        match server.handle(event, &mut self.out) {
-            Ok(()) => Ok(None),
-            Err(fault) => match refusal_number(fault) {
-                Some(number) => Ok(Some(number)),
-                None => Err(Trouble::Memory),
-            },
-        }
+/// Lets the server handle an event. Says by which number the event is refused; else `out` is what the server put out.
+fn refusal_of(
+    server: &mut Option<Server>,
+    event: Event,
+    out: &mut Vec<Out, Global>,
+) -> Result<Option<u64>, Trouble>
+    ensures { IfOk result (λ number. AnswersAt server.old event (answer_by number out.new.items) server.new) }
+{
+    out.clear();
+    let Some(server) = server else {
+        return Ok(Some(NO_SUCH_CLIENT));
+    };
+    match server.handle(event, out) {
+        Ok(()) => Ok(None),
+        Err(fault) => match refusal_number(fault) {
+            Some(number) => Ok(Some(number)),
+            None => Err(Trouble::Memory),
+        },
     }
 }
 
@@ -128,9 +136,14 @@ fn number_behind(number: u64) -> u64
 }
 
 /// A server of a script, with this name.
-fn new_server(alloc: Global, name: &ServerName) -> Result<Server, Trouble> {
+fn new_server(alloc: Global, name: &ServerName) -> Result<Server, Trouble>
+    ensures { IfOk result (λ server. server ≡ Some (first_view name.now)) }
+{
     let config = config(alloc, name)?;
-    Server::new(alloc, config).map_err(|_| Trouble::Memory)
+    match Server::new(alloc, config) {
+        Ok(server) => Ok(server),
+        Err(_) => Err(Trouble::Memory),
+    }
 }
 
 /// What a server of a script is configured to be.
