@@ -1,4 +1,4 @@
-use Rattle.std.proofs.Common.{Bool, ◌&&◌, map, ◌∙◌, ap}
+use Rattle.std.proofs.Common.{◌&&◌, map, ◌∙◌, ap}
 use Rattle.std.specs.List.{list_any}
 use Rattle.irc_names.specs.Fold.{key}
 use Rattle.irc_channels.specs.declared.channel.Channel.{Channel}
