@@ -1,4 +1,7 @@
-use crate::{By, Effect, ModeChanges, Room, Target};
+ghost use Rattle.std.specs.Prelude.{◌≡◌};
+ghost use Rattle.irc_room.specs.Effects.{brings_free};
+
+use crate::{By, Effect, ModeChanges, Room, RoomFault, Target};
 use irc_channels::{ModeChange, ModeLetter, ModeWord, Words};
 use irc_line::Text;
 use irc_names::{ChannelName, Host, Nick, ServerName, cut_copy};
@@ -31,6 +34,26 @@ fn user(rt: &impl Abort, bytes: &[u8], home: &[u8]) -> User {
     }
 }
 
+/// Whether the nickname that an effect brings is free, as whoever applies one has to know.
+fn brings_free(room: &Room, effect: &Effect) -> bool
+    ensures { result ≡ brings_free room.now.room effect.now }
+{
+    match effect {
+        Effect::AddUser(user) => room.user(user.nick.as_bytes()).is_none(),
+        Effect::Rename { nick, new } => room.user(new.as_bytes()).is_none() || nick == new,
+        _ => true,
+    }
+}
+
+/// Applies an effect whose nickname is free.
+fn apply(room: &mut Room, effect: &Effect, out: &mut Shown) -> Result<(), RoomFault> {
+    if brings_free(room, effect) {
+        room.apply(effect, out)
+    } else {
+        Err(RoomFault::Failed)
+    }
+}
+
 fn join(rt: &impl Abort, who: &[u8], name: &[u8], op: bool) -> Effect {
     Effect::Join {
         nick: nick(rt, who),
@@ -44,14 +67,18 @@ fn three(rt: &impl Abort, alloc: Global) -> Result<Room, Fail> {
     let own = ServerName::read(OWN).expect(rt, "a server");
     let mut room = Room::new(alloc, own);
     let mut out: Shown = Vec::new(alloc);
-    room.apply(&Effect::AddUser(user(rt, b"al", OWN)), &mut out)?;
-    room.apply(&Effect::AddUser(user(rt, b"bo", OWN)), &mut out)?;
-    room.apply(&Effect::AddUser(user(rt, b"cy", b"b.net")), &mut out)?;
-    room.apply(&join(rt, b"al", b"#c", true), &mut out)?;
-    room.apply(&join(rt, b"al", b"#d", true), &mut out)?;
-    room.apply(&join(rt, b"bo", b"#c", false), &mut out)?;
-    room.apply(&join(rt, b"bo", b"#d", false), &mut out)?;
-    room.apply(&join(rt, b"cy", b"#c", false), &mut out)?;
+    apply(&mut room, &Effect::AddUser(user(rt, b"al", OWN)), &mut out)?;
+    apply(&mut room, &Effect::AddUser(user(rt, b"bo", OWN)), &mut out)?;
+    apply(
+        &mut room,
+        &Effect::AddUser(user(rt, b"cy", b"b.net")),
+        &mut out,
+    )?;
+    apply(&mut room, &join(rt, b"al", b"#c", true), &mut out)?;
+    apply(&mut room, &join(rt, b"al", b"#d", true), &mut out)?;
+    apply(&mut room, &join(rt, b"bo", b"#c", false), &mut out)?;
+    apply(&mut room, &join(rt, b"bo", b"#d", false), &mut out)?;
+    apply(&mut room, &join(rt, b"cy", b"#c", false), &mut out)?;
     Ok(room)
 }
 
@@ -71,7 +98,7 @@ fn quit_is_seen_once(rt: HostRuntime) -> Result<(), Fail> {
         text: Words::cut(b"bye"),
     };
     assert_eq!(rt; room.audience(rt.alloc(), &quit)?.len(), 2);
-    room.apply(&quit, &mut out)?;
+    apply(&mut room, &quit, &mut out)?;
     assert!(rt; are(&out, &[(b"bo", b":al!u@h QUIT :bye\r\n")]));
     assert!(rt; room.user(b"al").is_none());
     assert!(rt; room.member(b"al", b"#c").is_none());
@@ -87,7 +114,7 @@ fn own_nickname_in_another_spelling(rt: HostRuntime) -> Result<(), Fail> {
         nick: nick(&rt, b"al"),
         new: nick(&rt, b"AL"),
     };
-    room.apply(&rename, &mut out)?;
+    apply(&mut room, &rename, &mut out)?;
     let line = b":al!u@h NICK AL\r\n".as_slice();
     assert!(rt; are(&out, &[(b"al", line), (b"bo", line)]));
     let al = room.user(b"al").expect(&rt, "a user");
@@ -107,7 +134,7 @@ fn channel_ends_with_its_last_member(rt: HostRuntime) -> Result<(), Fail> {
             channel: channel(&rt, b"#d"),
             text: Words::cut(who),
         };
-        room.apply(&part, &mut out)?;
+        apply(&mut room, &part, &mut out)?;
     }
     assert!(rt; room.channel(b"#d").is_none());
     assert_eq!(rt; room.channels().len(), 1);
@@ -131,27 +158,27 @@ fn each_effect_with_ample_memory(rt: HostRuntime) -> Result<(), Fail> {
         channel: channel(&rt, b"#c"),
         changes: ModeChanges::new(changes),
     };
-    room.apply(&modes, &mut out)?;
+    apply(&mut room, &modes, &mut out)?;
     let said = Effect::Say {
         by: nick(&rt, b"al"),
         notice: false,
         target: Target::Channel(channel(&rt, b"#C")),
         text: cut_copy(b"hi"),
     };
-    room.apply(&said, &mut out)?;
+    apply(&mut room, &said, &mut out)?;
     let invite = Effect::Invite {
         by: nick(&rt, b"bo"),
         nick: nick(&rt, b"cy"),
         channel: channel(&rt, b"#d"),
     };
-    room.apply(&invite, &mut out)?;
+    apply(&mut room, &invite, &mut out)?;
     let kick = Effect::Kick {
         by: nick(&rt, b"al"),
         channel: channel(&rt, b"#d"),
         nick: nick(&rt, b"bo"),
         text: Words::cut(b"out"),
     };
-    room.apply(&kick, &mut out)?;
+    apply(&mut room, &kick, &mut out)?;
     let mode = b":a.net MODE #c +b x!*@*\r\n".as_slice();
     let kicked = b":al!u@h KICK #d bo :out\r\n".as_slice();
     assert!(rt;
@@ -175,15 +202,15 @@ fn refusals_come_in_their_order(rt: HostRuntime) -> Result<(), Fail> {
     let mut room = three(&rt, rt.alloc())?;
     let mut out: Shown = Vec::new(rt.alloc());
     for (who, want) in [
-        (b"dan".as_slice(), crate::RoomFault::NoSuchUser),
-        (b"al", crate::RoomFault::NoSuchChannel),
+        (b"dan".as_slice(), RoomFault::NoSuchUser),
+        (b"al", RoomFault::NoSuchChannel),
     ] {
         let topic = Effect::SetTopic {
             by: By::User(nick(&rt, who)),
             channel: channel(&rt, b"#none"),
             text: Words::cut(b"hello"),
         };
-        assert_eq!(rt; room.apply(&topic, &mut out), Err(want));
+        assert_eq!(rt; apply(&mut room, &topic, &mut out), Err(want));
     }
     assert!(rt; out.is_empty());
     Ok(())
