@@ -6,6 +6,7 @@ use Rattle.irc_channels.specs.declared.mode_words.ModeItem.{ModeItem}
 use Rattle.irc_channels.specs.declared.mode_words.Reading.{Reading}
 use Rattle.irc_channels.specs.declared.mode_words.Limits.{Limits}
 use Rattle.irc_channels.specs.ModeWords.{next_word, letter_asks, mode_of, words_after, is_sign, reading, letters_read, counted}
+use Rattle.irc_channels.specs.Letters.{plus_byte}
 use Rattle.irc_channels.specs.ModeLimits.{Remembers, Judges}
 
 -- ---- which parameter is the next
@@ -53,18 +54,18 @@ begins letters words limits items room met none = record {
 }
 
 sign_read : (plus : Bool) (byte : ℕ) (letters : List ℕ) (words : List (List ℕ)) → is_sign byte ≡ true
-    → letters_read plus (byte ∷ letters) words ≡ letters_read (nat_eq byte 0x2B) letters words
+    → letters_read plus (byte ∷ letters) words ≡ letters_read (nat_eq byte plus_byte) letters words
 sign_read plus byte letters words is =
-    ap (λ b. cond b (letters_read (nat_eq byte 0x2B) letters words) (reading plus byte (next_word words) ∷ letters_read plus letters (words_after plus byte words))) is
+    ap (λ b. cond b (letters_read (nat_eq byte plus_byte) letters words) (reading plus byte (next_word words) ∷ letters_read plus letters (words_after plus byte words))) is
 
 letter_read : (plus : Bool) (byte : ℕ) (letters : List ℕ) (words : List (List ℕ)) → is_sign byte ≡ false
     → letters_read plus (byte ∷ letters) words ≡ reading plus byte (next_word words) ∷ letters_read plus letters (words_after plus byte words)
 letter_read plus byte letters words is =
-    ap (λ b. cond b (letters_read (nat_eq byte 0x2B) letters words) (reading plus byte (next_word words) ∷ letters_read plus letters (words_after plus byte words))) is
+    ap (λ b. cond b (letters_read (nat_eq byte plus_byte) letters words) (reading plus byte (next_word words) ∷ letters_read plus letters (words_after plus byte words))) is
 
 -- a sign was read
 pub after_sign : (plus next : Bool) (letters : List ℕ) (i : ℕ) (words : List (List ℕ)) (limits : Limits) (items whole : List ModeItem)
-    → i < length letters → is_sign (get_or letters i 0) ≡ true → next ≡ nat_eq (get_or letters i 0) 0x2B
+    → i < length letters → is_sign (get_or letters i 0) ≡ true → next ≡ nat_eq (get_or letters i 0) plus_byte
     → Standing plus (drop i letters) words limits items whole → Standing next (drop (i + 1) letters) words limits items whole
 after_sign plus next letters i words limits items whole within is sign standing = record {
   earlier = standing.earlier;

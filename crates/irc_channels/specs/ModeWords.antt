@@ -4,6 +4,7 @@
 use Rattle.std.specs.Prelude.{ℕ, Bool, true, false, not, ◌&&◌, ◌||◌, Option, Some, None, is_some, List, [], ◌∷◌, ◌++◌, drop, nat_eq, nat_lt, count_by, if◌then◌else◌}
 use Rattle.std.specs.List.{list_any}
 use Rattle.irc_channels.specs.Texts.{cut_mode_word}
+use Rattle.irc_channels.specs.Letters.{letter_byte, plus_byte, minus_byte}
 use Rattle.irc_channels.specs.declared.TheConstants.{MAX_MODE_PARAMETERS}
 use Rattle.irc_channels.specs.declared.modes.ModeLetter.{ModeLetter}
 use Rattle.irc_channels.specs.declared.modes.ModeLetter.TheVariants as letter
@@ -16,17 +17,17 @@ use Rattle.irc_channels.specs.declared.mode_words.Reading.{Reading}
 -- the mode that a letter names: one of imntpsklbov
 abbrev pub mode_of : ℕ → Option ModeLetter
 mode_of byte =
-    if nat_eq byte 0x69 then Some letter.InviteOnly
-    else (if nat_eq byte 0x6D then Some letter.Moderated
-    else (if nat_eq byte 0x6E then Some letter.NoOutside
-    else (if nat_eq byte 0x74 then Some letter.TopicLocked
-    else (if nat_eq byte 0x70 then Some letter.Private
-    else (if nat_eq byte 0x73 then Some letter.Secret
-    else (if nat_eq byte 0x6B then Some letter.Key
-    else (if nat_eq byte 0x6C then Some letter.Limit
-    else (if nat_eq byte 0x62 then Some letter.Ban
-    else (if nat_eq byte 0x6F then Some letter.Operator
-    else (if nat_eq byte 0x76 then Some letter.Voice
+    if nat_eq byte (letter_byte letter.InviteOnly) then Some letter.InviteOnly
+    else (if nat_eq byte (letter_byte letter.Moderated) then Some letter.Moderated
+    else (if nat_eq byte (letter_byte letter.NoOutside) then Some letter.NoOutside
+    else (if nat_eq byte (letter_byte letter.TopicLocked) then Some letter.TopicLocked
+    else (if nat_eq byte (letter_byte letter.Private) then Some letter.Private
+    else (if nat_eq byte (letter_byte letter.Secret) then Some letter.Secret
+    else (if nat_eq byte (letter_byte letter.Key) then Some letter.Key
+    else (if nat_eq byte (letter_byte letter.Limit) then Some letter.Limit
+    else (if nat_eq byte (letter_byte letter.Ban) then Some letter.Ban
+    else (if nat_eq byte (letter_byte letter.Operator) then Some letter.Operator
+    else (if nat_eq byte (letter_byte letter.Voice) then Some letter.Voice
     else None))))))))))
 
 -- ---- first, each letter takes its parameter
@@ -100,13 +101,13 @@ words_after plus byte words = if letter_asks plus (mode_of byte) then drop 1 wor
 
 -- `+` and `-` set the sign for the letters after them
 abbrev pub is_sign : ℕ → Bool
-is_sign byte = nat_eq byte 0x2B || nat_eq byte 0x2D
+is_sign byte = nat_eq byte plus_byte || nat_eq byte minus_byte
 
 -- the letters in turn, from a sign on
 abbrev pub letters_read : Bool → List ℕ → List (List ℕ) → List Reading
 letters_read plus [] words = []
 letters_read plus (byte ∷ letters) words =
-    if is_sign byte then letters_read (nat_eq byte 0x2B) letters words
+    if is_sign byte then letters_read (nat_eq byte plus_byte) letters words
     else reading plus byte (next_word words) ∷ letters_read plus letters (words_after plus byte words)
 
 -- ---- then the limits drop letters

@@ -1,5 +1,5 @@
 -- All who see an effect, user by user, are those to whom it is shown.
-use Rattle.std.proofs.Common.{◌≡◌, ℕ, Bool, true, false, Option, Some, None, List, [], ◌∷◌, ◌++◌, refl, sym, ◌∙◌, ap, map, filter_map, if◌then◌else◌, option_to_list}
+use Rattle.std.proofs.Common.{◌≡◌, ℕ, true, false, Option, Some, None, List, [], ◌∷◌, ◌++◌, refl, sym, ◌∙◌, ap, map, filter_map, if◌then◌else◌, option_to_list}
 use Rattle.std.specs.List.{cons_option, flat_map}
 use Rattle.std.specs.FinMap.{values}
 use Rattle.irc_users.specs.declared.user.User.{User}

@@ -1,15 +1,14 @@
 -- What the calls on the channels leave where they are refused.
 use Rattle.std.specs.Prelude.{OnOk, OnErr}
-use Rattle.std.proofs.Common.{if◌then◌else◌, ◌≡◌, ℕ, Bool, true, false, not, Option, Some, None, Result, Ok, Err, List, refl, sym, ◌∙◌, ap}
+use Rattle.std.proofs.Common.{◌≡◌, ℕ, Bool, true, false, not, Option, Some, None, Result, Ok, Err, List, refl, sym, ◌∙◌, ap}
 use Rattle.std.specs.Option.{option_map, option_and_then}
 use Rattle.std.specs.Result.{result_err}
-use Rattle.irc_names.specs.Tables.{Table, row, alter}
 use Rattle.irc_channels.specs.declared.channel.Channel.{Channel}
 use Rattle.irc_channels.specs.declared.fault.ChannelsFault.{ChannelsFault}
 use Rattle.irc_channels.specs.declared.fault.ChannelsFault.TheVariants.{NoSuchChannel, NotMember, Memory}
 use Rattle.irc_channels.specs.Channels.{has_member, left}
 use Rattle.irc_channels.specs.ChannelTable.{channel_fault, leaving_fault, IsOwedOrMemory}
-use Rattle.irc_room.proofs.Rows.{alter_same, not_none, if_true, if_not}
+use Rattle.irc_room.proofs.Rows.{not_none, if_true, if_not}
 
 -- whichever way a call went, the table is as the change makes it, where a refusal means that it makes nothing of it
 pub either_way : {U X : Type 0} (result : Result U ChannelsFault) (new old changed : X) → OnOk result (new ≡ changed) → OnErr result (new ≡ old)

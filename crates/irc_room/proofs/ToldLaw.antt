@@ -1,7 +1,7 @@
 -- What an effect shows to the users of one server, user by user, is what it shows there.
-use Rattle.std.proofs.Common.{◌≡◌, ℕ, Bool, true, false, cond, ◌&&◌, T, Option, Some, None, List, [], ◌∷◌, ◌++◌, refl, sym, ◌∙◌, ap, subst, map, filter, filter_map, if◌then◌else◌, option_map, nat_eq}
+use Rattle.std.proofs.Common.{◌≡◌, ℕ, Bool, true, false, cond, ◌&&◌, T, Option, Some, None, List, [], ◌∷◌, ◌++◌, refl, sym, ◌∙◌, ap, map, filter, filter_map, if◌then◌else◌, option_map}
 use Rattle.std.proofs.lemmas.List.{append_assoc}
-use Rattle.std.specs.Cmp.Lexicographic.{pointwise, nat_list_cmp_total, bytes_decides}
+use Rattle.std.specs.Cmp.Lexicographic.{nat_list_cmp_total, bytes_decides}
 use Rattle.std.specs.List.{AllByRecursion, cons_option, flat_map}
 use Rattle.std.specs.Option.{option_map_or}
 use Rattle.std.specs.FinMap.{entries, entries_sorted, values, find, is_sorted, get-entries}
@@ -18,7 +18,6 @@ use Rattle.irc_room.specs.Seen.{Showing, seen, shown_to, shown_line, sees}
 use Rattle.irc_room.specs.Applying.{Kept, is_own, handed}
 use Rattle.irc_room.specs.RoomParts.{ShowsAt}
 use Rattle.irc_room.specs.Telling.{shown_at, told, AreNamed}
-use Rattle.irc_room.proofs.Rows.{if_true, if_not}
 
 true_is : (b : Bool) → T b → b ≡ true
 true_is true h = refl

@@ -4,7 +4,8 @@ use Rattle.std.proofs.lemmas.List.{drop_more, drop_all, take_more}
 use Rattle.std.specs.List.{filter_map, cons_option}
 use Rattle.std.proofs.lemmas.List.Elements.{filter_map-append}
 use Rattle.irc_channels.specs.declared.modes.ModeChange.{ModeChange}
-use Rattle.irc_room.specs.Seen.{letter_byte, sign_byte, letters_behind, letters_text}
+use Rattle.irc_channels.specs.Letters.{letter_byte, sign_byte}
+use Rattle.irc_room.specs.Seen.{letters_behind, letters_text}
 use Rattle.irc_room.specs.Signs.{sign_between}
 
 -- the letters behind a sign, or those that no sign is before

@@ -1,5 +1,5 @@
 -- The room after an effect (RFC 2811 sections 2 to 4; RFC 2812 section 3). Each effect alters one row or each row of a table.
-use Rattle.std.specs.Prelude.{ℕ, Bool, Option, Some, None, List, unwrap_or}
+use Rattle.std.specs.Prelude.{ℕ, Option, Some, None, List, unwrap_or}
 use Rattle.std.specs.Option.{option_and_then, option_map}
 use Rattle.irc_names.specs.Fold.{key}
 use Rattle.irc_names.specs.Tables.{alter, each, moved}

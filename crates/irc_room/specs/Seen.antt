@@ -8,10 +8,9 @@ use Rattle.irc_names.specs.Tables.{row}
 use Rattle.irc_line.specs.Messages.{Sender, named, full, text}
 use Rattle.irc_users.specs.declared.user.User.{User}
 use Rattle.irc_channels.specs.declared.modes.ModeChange.{ModeChange}
-use Rattle.irc_channels.specs.declared.modes.ModeLetter.{ModeLetter}
-use Rattle.irc_channels.specs.declared.modes.ModeLetter.TheVariants as letter
 use Rattle.irc_channels.specs.declared.channel.Channel.{Channel}
 use Rattle.irc_channels.specs.Channels.{has_member}
+use Rattle.irc_channels.specs.Letters.{letter_byte, sign_byte}
 use Rattle.irc_room.specs.declared.effect.By.{By}
 use Rattle.irc_room.specs.declared.effect.By.TheVariants as by
 use Rattle.irc_room.specs.declared.effect.Target.{Target}
@@ -49,22 +48,6 @@ stored_channel room channel = option_map_or (λ (c : Channel). c.name) (row room
 
 -- Changes are written as their letters in order, with a sign before the first and wherever it differs from the one before, and then
 -- their parameters in order (RFC 2812 section 3.2.3).
-
-abbrev pub letter_byte : ModeLetter → ℕ
-letter_byte letter.InviteOnly = 105
-letter_byte letter.Moderated = 109
-letter_byte letter.NoOutside = 110
-letter_byte letter.TopicLocked = 116
-letter_byte letter.Private = 112
-letter_byte letter.Secret = 115
-letter_byte letter.Key = 107
-letter_byte letter.Limit = 108
-letter_byte letter.Ban = 98
-letter_byte letter.Operator = 111
-letter_byte letter.Voice = 118
-
-abbrev pub sign_byte : Bool → ℕ
-sign_byte plus = if plus then 43 else 45
 
 -- the letters behind a letter with this sign
 abbrev pub letters_behind : Bool → List ModeChange → List ℕ

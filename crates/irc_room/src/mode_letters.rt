@@ -2,7 +2,8 @@
 ghost use Rattle.std.specs.Prelude.{◌≡◌, [], ◌∷◌, ◌++◌, IfOk, OnOk, option_to_list};
 ghost use Rattle.std.specs.List.{filter_map};
 ghost use Rattle.irc_line.specs.PartViews.{words_now};
-ghost use Rattle.irc_room.specs.Seen.{letter_byte, letters_text, sign_byte};
+ghost use Rattle.irc_channels.specs.Letters.{letter_byte, sign_byte};
+ghost use Rattle.irc_room.specs.Seen.{letters_text};
 ghost use Rattle.irc_room.specs.Signs.{sign_between};
 
 use irc_channels::{ModeChange, ModeLetter};

@@ -1,7 +1,6 @@
 use Rattle.std.proofs.Common.{◌∙◌, sym}
 use Rattle.irc_names.specs.Fold.{key}
 use Rattle.irc_names.specs.Tables.{row}
-use Rattle.irc_channels.specs.declared.fault.ChannelsFault.TheVariants.{NoSuchChannel}
 use Rattle.irc_channels.specs.Channels.{all_changed}
 use Rattle.irc_room.proofs.Keeping.{owed_stays, none_is_memory}
 use Rattle.irc_room.proofs.Rows.{alter_same}

@@ -1,5 +1,5 @@
 use Rattle.std.specs.Prelude.{OnOk}
-use Rattle.std.proofs.Common.{◌≡◌, ◌∙◌, ap, sym, subst, [], ◌++◌}
+use Rattle.std.proofs.Common.{◌≡◌, ◌∙◌, ap, sym, subst, ◌++◌}
 use Rattle.std.proofs.lemmas.List.{append-nil}
 use Rattle.irc_room.specs.LineViews.{line_bytes}
 use Rattle.irc_room.specs.RoomParts.{room_of, ShowsAt}

@@ -1,7 +1,7 @@
-use Rattle.std.proofs.Common.{◌≡◌, ◌∙◌, ap, sym, subst, refl, true, take, ◌++◌}
+use Rattle.std.proofs.Common.{◌∙◌, ap, sym, subst, take, ◌++◌}
 use Rattle.irc_room.specs.Applying.{Kept, room_fault, shown_here}
 use Rattle.irc_room.specs.Effects.{brings_free}
-use Rattle.irc_room.specs.Room.{Room, IsWellFormed}
+use Rattle.irc_room.specs.Room.{IsWellFormed}
 use Rattle.irc_room.specs.Telling.{shown_at}
 use Rattle.irc_room.proofs.Refusals.{refused, served, kept_changed, kept_refused}
 use Rattle.irc_room.proofs.WellFormedLaw.{after_is_well_formed}
