@@ -1,5 +1,7 @@
 -- What a decision may know of the server that makes it.
-use Rattle.std.specs.Prelude.{ℕ, ◌≤◌, List, [], ◌∷◌, length}
+use Rattle.std.specs.Prelude.{ℕ, ◌≤◌, Option, List, [], ◌∷◌, length, nat_eq}
+use Rattle.std.specs.Cmp.Lexicographic.{pointwise}
+use Rattle.std.specs.List.{find}
 use Rattle.irc_names.specs.declared.TheConstants.{MAX_INFO, MAX_CREATED}
 use Rattle.irc_names.specs.Names.{IsServer}
 use Rattle.irc_routes.specs.declared.own.Own.{Own}
@@ -27,6 +29,10 @@ alone name info created = record {
   links = 0;
   servers = (record { name = name; info = info; distance = 0 }) ∷ [];
 }
+
+-- the server of a name, compared byte by byte
+abbrev pub server_named : Place → List ℕ → Option KnownServer
+server_named place name = find (λ server. pointwise nat_eq server.name name) place.servers
 
 -- the limits that a configuration keeps (our own choice)
 pub record KeepsLimits (own : Own) : Type 0 where

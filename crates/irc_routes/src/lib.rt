@@ -6,3 +6,6 @@ mod routes;
 
 pub use own::Own;
 pub use routes::Routes;
+
+#[cfg(test)]
+mod tests;
