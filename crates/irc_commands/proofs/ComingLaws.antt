@@ -1,18 +1,14 @@
 -- Who is a user after what is decided.
-use Rattle.std.proofs.Common.{◌≡◌, ℕ, Bool, true, false, ◌||◌, List, [], ◌∷◌, refl, ◌∙◌, ap}
-use Rattle.std.specs.List.{AllByRecursion, list_any}
-use Rattle.irc_users.specs.declared.user.User.{User}
-use Rattle.irc_room.specs.Room.{Room}
-use Rattle.irc_commands.specs.declared.decision.Act.{Act}
-use Rattle.irc_commands.specs.Say.{say_steps}
-use Rattle.irc_commands.specs.Comings.{brings_nick, changes_users, is_effect, QuitFirst, AddsFirst, DecidedBringsNobody, WhoStaysIsUser, WhoIsClosedQuits, RegisteredIsAdded, UnregisteredChangesNothing, RegisteredStays}
-use Rattle.irc_commands.proofs.SaidSteps.{said_all}
+use Rattle.std.proofs.Common.{◌≡◌, true, false, not, ◌||◌, refl, ap}
+use Rattle.std.specs.List.{list_any}
+use Rattle.irc_names.specs.Fold.{key}
+use Rattle.irc_names.specs.FoldLaws.{same-tells}
+use Rattle.irc_commands.specs.Comings.{adds_user, adds_or_ends, renames_other, is_effect, QuitFirst, AddsFirst, DecidedAddsNobody, OnlyItselfIsRenamed, WhoStaysIsUser, WhoIsClosedQuits, RegisteredIsAdded, UnregisteredChangesNothing, RegisteredStays}
+use Rattle.irc_commands.specs.Join.{own_channels}
+use Rattle.irc_commands.proofs.OwnSteps.{never_own, own_adds_nobody, own_ends_nobody, own_renames_nobody}
+use Rattle.irc_commands.proofs.LeavingAll.{none_leaving}
 use Rattle.irc_commands.proofs.DecideCases.{decided_so}
 use Rattle.irc_commands.proofs.RegisterCases.{registering_so}
-
-none_any : (test : Act → Bool) (acts : List Act) → AllByRecursion (λ act. test act ≡ false) acts → list_any test acts ≡ false
-none_any test [] all = refl
-none_any test (act ∷ acts) all = ap (λ b. b || list_any test acts) all.0 ∙ none_any test acts all.1
 
 never : {A : Type 0} → false ≡ true → A
 never e = cc
@@ -20,40 +16,33 @@ never e = cc
 never_not : {A : Type 0} → true ≡ false → A
 never_not e = cc
 
--- what is said changes no user
-said_brings : (room : Room) (me : User) (notice : Bool) (params : List (List ℕ)) → list_any brings_nick (say_steps room me notice params) ≡ false
-said_brings room me notice params =
-    none_any brings_nick (say_steps room me notice params) (said_all room me (λ act. brings_nick act ≡ false) (record {
-      answers = λ reply. refl;
-      to_users = λ name other notice words is. refl;
-      to_channels = λ name channel notice words is. refl;
-    }) notice params)
-
-said_changes : (room : Room) (me : User) (notice : Bool) (params : List (List ℕ)) → list_any changes_users (say_steps room me notice params) ≡ false
-said_changes room me notice params =
-    none_any changes_users (say_steps room me notice params) (said_all room me (λ act. changes_users act ≡ false) (record {
-      answers = λ reply. refl;
-      to_users = λ name other notice words is. refl;
-      to_channels = λ name channel notice words is. refl;
-    }) notice params)
-
-pub decided_brings_nobody : DecidedBringsNobody
-decided_brings_nobody room place who message =
-    decided_so room place who message (λ d. list_any brings_nick d.steps ≡ false) (record {
+pub decided_adds_nobody : DecidedAddsNobody
+decided_adds_nobody room place who message =
+    decided_so room place who message (λ d. list_any adds_user d.steps ≡ false) (record {
       silent = refl;
-      answered = λ reply. refl;
-      told = λ line. refl;
-      said = λ me notice params is. said_brings room me notice params;
+      own = λ me steps is own. never_own me adds_user (own_adds_nobody me) room steps own;
+      renamed = λ me nickname is free. refl;
+      leaves_all = λ me is. none_leaving me adds_user (own_channels room me) (λ channel. refl);
+      quits = λ me reason line is. refl;
+    })
+
+pub only_itself_is_renamed : OnlyItselfIsRenamed
+only_itself_is_renamed room place who message well =
+    decided_so room place who message (λ d. list_any (renames_other who) d.steps ≡ false) (record {
+      silent = refl;
+      own = λ me steps is own. never_own me (renames_other who) (own_renames_nobody me who) room steps own;
+      renamed = λ me nickname is free. ap (λ b. not b || false) ((same-tells me.nick who).1 (well.users_named (key who) me is));
+      leaves_all = λ me is. none_leaving me (renames_other who) (own_channels room me) (λ channel. refl);
       quits = λ me reason line is. refl;
     })
 
 pub who_stays_is_user : WhoStaysIsUser
 who_stays_is_user room place who message =
-    decided_so room place who message (λ d. d.close ≡ false → list_any changes_users d.steps ≡ false) (record {
+    decided_so room place who message (λ d. d.close ≡ false → list_any adds_or_ends d.steps ≡ false) (record {
       silent = λ stays. refl;
-      answered = λ reply stays. refl;
-      told = λ line stays. refl;
-      said = λ me notice params is stays. said_changes room me notice params;
+      own = λ me steps is own stays. never_own me adds_or_ends (own_ends_nobody me) room steps own;
+      renamed = λ me nickname is free stays. refl;
+      leaves_all = λ me is stays. none_leaving me adds_or_ends (own_channels room me) (λ channel. refl);
       quits = λ me reason line is stays. never_not stays;
     })
 
@@ -61,9 +50,9 @@ pub who_is_closed_quits : WhoIsClosedQuits
 who_is_closed_quits room place who message =
     decided_so room place who message (λ d. d.close ≡ true → QuitFirst room who d.steps) (record {
       silent = λ closed. never closed;
-      answered = λ reply closed. never closed;
-      told = λ line closed. never closed;
-      said = λ me notice params is closed. never closed;
+      own = λ me steps is own closed. never closed;
+      renamed = λ me nickname is free closed. never closed;
+      leaves_all = λ me is closed. never closed;
       quits = λ me reason line is closed. record { me = me; reason = reason; behind = _; is_user = is; steps_are = refl; no_more = refl };
     })
 

@@ -1,11 +1,11 @@
 -- The entries of a comma list, read from its front.
-use Rattle.std.proofs.Common.{◌≡◌, ◌≢◌, ℕ, ◌+◌, ◌-◌, ◌≤◌, ◌<◌, Bool, true, false, ◌||◌, not, cond, zero, suc, List, [], ◌∷◌, ◌++◌, length, take, drop, filter, get_or, refl, sym, ◌∙◌, ap, arith, take-append-drop, length-take, length-drop, eqb}
+use Rattle.std.proofs.Common.{◌≡◌, ◌≢◌, ℕ, ◌+◌, ◌-◌, ◌≤◌, ◌<◌, Bool, true, false, ◌||◌, not, cond, zero, suc, List, [], ◌∷◌, ◌++◌, length, take, drop, filter, get_or, refl, sym, ◌∙◌, ap, arith, take-append-drop, length-take, length-drop, append-nil, eqb}
 use Rattle.std.specs.List.{list_any, slice_split, onto_first}
 use Rattle.std.proofs.lemmas.Bool.{eqb-true}
-use Rattle.std.proofs.lemmas.List.{drop_more, drop_all, take_rest}
+use Rattle.std.proofs.lemmas.List.{drop_more, drop_all, take_all, take_rest}
 use Rattle.irc_line.specs.Bytes.{begins}
 use Rattle.irc_channels.specs.Channels.{is_nil}
-use Rattle.irc_commands.specs.Say.{is_comma, entries}
+use Rattle.irc_commands.specs.CommaLists.{is_comma, pieces, entries}
 
 -- a comma in front makes no difference
 after_comma : (b : ℕ) (list : List ℕ) → is_comma b ≡ true → entries (b ∷ list) ≡ entries list
@@ -95,3 +95,23 @@ entry_taken list behind n same starts shorter some none ends =
 pub none_behind : (list behind : List ℕ) → entries behind ≡ entries list → eqb (length behind) 0 ≡ true → entries list ≡ []
 none_behind list [] same none = sym same ∙ no_entries
 none_behind list (b ∷ behind) same none = absurd (omega (arith, eqb-true (length (b ∷ behind)) 0 none))
+
+-- ---- pieces, the empty too
+
+-- where no comma is in a list it is the one piece
+pub one_piece : (list : List ℕ) (n : ℕ) → n ≡ length list → list_any is_comma (take n list) ≡ false → pieces list ≡ list ∷ []
+unfolding behind_comma
+one_piece list n all none =
+    let whole : take n list ≡ list = take_all n list (omega (arith, all)) in
+    ap pieces (sym (append-nil list)) ∙ first_piece list [] (ap (list_any is_comma) (sym whole) ∙ none) refl
+
+-- else there is a piece in front of the comma, and others behind it
+pub more_pieces : (list : List ℕ) (n : ℕ) → n ≤ length list → n ≢ length list → list_any is_comma (take n list) ≡ false → begins (λ b. not (is_comma b)) (drop n list) ≡ false
+    → pieces list ≡ take n list ∷ pieces (take (length list - (n + 1)) (drop (n + 1) list))
+unfolding behind_comma
+more_pieces list n fits more none ends =
+    let within : n < length list = omega (arith, more) in
+    let comma_first : drop n list ≡ get_or list n 0 ∷ drop (n + 1) list = drop_more list n 0 within in
+    ap pieces (sym (take-append-drop n list)) ∙ first_piece (take n list) (drop n list) none ends
+    ∙ ap (λ rest. take n list ∷ behind_comma rest) comma_first
+    ∙ ap (λ rest. take n list ∷ pieces rest) (sym (take_rest list (n + 1)))

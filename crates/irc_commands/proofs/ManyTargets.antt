@@ -11,7 +11,8 @@ use Rattle.irc_commands.specs.declared.TheConstants.{MAX_TARGETS}
 use Rattle.irc_commands.specs.declared.decision.Act.{Act}
 use Rattle.irc_commands.specs.declared.decision.Act.TheVariants.{Answer}
 use Rattle.irc_commands.specs.Decisions.{client_words}
-use Rattle.irc_commands.specs.Say.{entries, to_one, too_many, say_to, say_steps, is_answer, unless_notice}
+use Rattle.irc_commands.specs.CommaLists.{entries}
+use Rattle.irc_commands.specs.Say.{to_one, too_many, say_to, say_steps, is_answer, unless_notice}
 
 -- what is said to these entries, where room is left for so many
 abbrev pub to_entries : Room → User → Bool → List ℕ → ℕ → List (List ℕ) → List Act

@@ -77,6 +77,10 @@ by_row room place pending Q so params (Some command.Quit) = so.closed _ _
 by_row room place pending Q so params (Some command.Motd) = so.answered _ _
 by_row room place pending Q so params (Some command.Privmsg) = so.answered _ _
 by_row room place pending Q so params (Some command.Notice) = so.answered _ _
+by_row room place pending Q so params (Some command.Join) = so.answered _ _
+by_row room place pending Q so params (Some command.Part) = so.answered _ _
+by_row room place pending Q so params (Some command.Topic) = so.answered _ _
+by_row room place pending Q so params (Some command.Names) = so.answered _ _
 by_row room place pending Q so params None = so.answered _ _
 
 pub registering_so : (room : Room) (place : Place) (pending : Pending) (message : Parsed) (Q : Registered → Type 0) → IsSoRegistering room place Q

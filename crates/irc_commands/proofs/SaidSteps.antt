@@ -15,7 +15,8 @@ use Rattle.irc_commands.specs.declared.decision.Act.{Act}
 use Rattle.irc_commands.specs.declared.decision.Act.TheVariants.{Answer, Do}
 use Rattle.irc_commands.specs.Decisions.{kept}
 use Rattle.irc_commands.proofs.ByTest.{by_test}
-use Rattle.irc_commands.specs.Say.{entries, may_speak, is_channel_target, says, to_channel, to_user, to_one, too_many, unless_notice, say_to, say_steps}
+use Rattle.irc_commands.specs.CommaLists.{entries}
+use Rattle.irc_commands.specs.Say.{may_speak, is_channel_target, says, to_channel, to_user, to_one, too_many, unless_notice, say_to, say_steps}
 
 -- so it is of an answer, and of a text to a user or a channel that is there
 pub record IsSoWhereSaid (room : Room) (me : User) (P : Act → Type 0) : Type 0 where
@@ -25,7 +26,7 @@ pub record IsSoWhereSaid (room : Room) (me : User) (P : Act → Type 0) : Type 0
   pub to_channels : (name : List ℕ) (channel : Channel) (notice : Bool) (words : List ℕ) → row room.channels (key name) ≡ Some channel
       → P (Do (Say me.nick notice (target.Channel channel.name) (kept words)))
 
-all_appended : (P : Act → Type 0) (a b : List Act) → AllByRecursion P a → AllByRecursion P b → AllByRecursion P (a ++ b)
+pub all_appended : (P : Act → Type 0) (a b : List Act) → AllByRecursion P a → AllByRecursion P b → AllByRecursion P (a ++ b)
 all_appended P [] b all more = more
 all_appended P (x ∷ a) b all more = (all.0, all_appended P a b all.1 more)
 
@@ -35,7 +36,7 @@ all_kept P keep (x ∷ acts) all =
     let rest = all_kept P keep acts all.1 in
     by_test (AllByRecursion P) (keep x) (x ∷ filter keep acts) (filter keep acts) (λ kept. (all.0, rest)) (λ dropped. rest)
 
-all_flat : (P : Act → Type 0) (steps : List ℕ → List Act) (names : List (List ℕ)) → ((name : List ℕ) → AllByRecursion P (steps name))
+pub all_flat : {E : Type 0} (P : Act → Type 0) (steps : E → List Act) (names : List E) → ((name : E) → AllByRecursion P (steps name))
     → AllByRecursion P (flat_map steps names)
 all_flat P steps [] each = tt
 all_flat P steps (name ∷ names) each = all_appended P (steps name) (flat_map steps names) (each name) (all_flat P steps names each)

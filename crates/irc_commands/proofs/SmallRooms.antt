@@ -20,7 +20,9 @@ use Rattle.irc_commands.specs.declared.pending.Pending.{Pending}
 use Rattle.irc_commands.specs.Decisions.{Decided, Registered, does, client_words}
 use Rattle.irc_commands.specs.Decide.{decide, decide_for}
 use Rattle.irc_commands.specs.Register.{register, replies, complete, welcomed, user_of}
-use Rattle.irc_commands.specs.Say.{entries, is_banned, is_raised, says, to_channel, to_user, unless_notice}
+use Rattle.irc_commands.specs.CommaLists.{entries}
+use Rattle.irc_commands.specs.Standing.{is_banned}
+use Rattle.irc_commands.specs.Say.{is_raised, says, to_channel, to_user, unless_notice}
 use Rattle.irc_commands.specs.Examples.{al, al_alone, a_net, line, newcomer, UnknownTarget, FifthTarget, SilentNotice, QuitWithText, UnknownWord, ForeignPrefix, EarlyJoin, TakenByFold, TakenMeanwhile, bo, als_channel, with_channel, to_channel_line, MemberIsHeard, OutsiderIsKeptOut}
 
 al_there : row al_alone.users (key (codes "al")) ≡ Some al

@@ -1,12 +1,12 @@
--- Which steps say who is a user: it is one from when it registers to when it quits.
-use Rattle.std.specs.Prelude.{◌≡◌, ℕ, Bool, true, false, Option, Some, List, ◌∷◌}
+-- Which steps say who is a user, and by which nickname: it is one from when it registers to when it quits.
+use Rattle.std.specs.Prelude.{◌≡◌, ℕ, Bool, true, false, not, Option, Some, List, ◌∷◌}
 use Rattle.std.specs.List.{list_any}
-use Rattle.irc_names.specs.Fold.{key}
+use Rattle.irc_names.specs.Fold.{key, same}
 use Rattle.irc_names.specs.Tables.{row}
 use Rattle.irc_line.specs.Messages.{Parsed}
 use Rattle.irc_users.specs.declared.user.User.{User}
 use Rattle.irc_room.specs.declared.effect.Effect.TheVariants.{AddUser, Rename, Quit}
-use Rattle.irc_room.specs.Room.{Room}
+use Rattle.irc_room.specs.Room.{Room, IsWellFormed}
 use Rattle.irc_routes.specs.Place.{Place}
 use Rattle.irc_commands.specs.declared.decision.Act.{Act}
 use Rattle.irc_commands.specs.declared.decision.Act.TheVariants.{Do}
@@ -14,30 +14,39 @@ use Rattle.irc_commands.specs.declared.pending.Pending.{Pending}
 use Rattle.irc_commands.specs.Decide.{decide}
 use Rattle.irc_commands.specs.Register.{register}
 
--- whether a step brings a nickname: a user comes, or one takes another nickname
-abbrev pub brings_nick : Act → Bool
-brings_nick (Do (AddUser user)) = true
-brings_nick (Do (Rename nick new)) = true
-brings_nick other = false
+-- whether a step makes somebody a user
+abbrev pub adds_user : Act → Bool
+adds_user (Do (AddUser user)) = true
+adds_user other = false
 
--- whether a step makes somebody a user, or another user, or none
-abbrev pub changes_users : Act → Bool
-changes_users (Do (Quit nick text)) = true
-changes_users act = brings_nick act
+-- whether a step makes somebody a user, or a user nobody
+abbrev pub adds_or_ends : Act → Bool
+adds_or_ends (Do (Quit nick text)) = true
+adds_or_ends act = adds_user act
+
+-- whether a step gives another nickname to a user who is not the user of this one
+abbrev pub renames_other : List ℕ → Act → Bool
+renames_other who (Do (Rename nick new)) = not (same nick who)
+renames_other who other = false
 
 -- whether a step is a change of the room, or a text that is said in it
 abbrev pub is_effect : Act → Bool
 is_effect (Do effect) = true
 is_effect other = false
 
--- A line of a user brings no nickname.
-abbrev pub DecidedBringsNobody : Type 0
-DecidedBringsNobody = (room : Room) (place : Place) (who : List ℕ) (message : Parsed) → list_any brings_nick (decide room place who message).steps ≡ false
+-- A line of a user makes nobody a user.
+abbrev pub DecidedAddsNobody : Type 0
+DecidedAddsNobody = (room : Room) (place : Place) (who : List ℕ) (message : Parsed) → list_any adds_user (decide room place who message).steps ≡ false
 
--- While the client stays, who is a user stays.
+-- It gives another nickname to nobody but that user.
+abbrev pub OnlyItselfIsRenamed : Type 0
+OnlyItselfIsRenamed = (room : Room) (place : Place) (who : List ℕ) (message : Parsed) → IsWellFormed room
+    → list_any (renames_other who) (decide room place who message).steps ≡ false
+
+-- While the client stays, its user does, and nobody else comes or goes.
 abbrev pub WhoStaysIsUser : Type 0
 WhoStaysIsUser = (room : Room) (place : Place) (who : List ℕ) (message : Parsed)
-    → (decide room place who message).close ≡ false → list_any changes_users (decide room place who message).steps ≡ false
+    → (decide room place who message).close ≡ false → list_any adds_or_ends (decide room place who message).steps ≡ false
 
 -- these steps are a Quit of the user of a nickname, and then nothing that changes the room
 pub record QuitFirst (room : Room) (who : List ℕ) (steps : List Act) : Type 0 where

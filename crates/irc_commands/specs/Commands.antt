@@ -20,7 +20,8 @@ named name command = record { name = name; command = command }
 abbrev pub names : List Named
 names =
     named (codes "PASS") command.Pass ∷ named (codes "NICK") command.Nick ∷ named (codes "USER") command.User ∷ named (codes "QUIT") command.Quit ∷ named (codes "PING") command.Ping
-    ∷ named (codes "PONG") command.Pong ∷ named (codes "MOTD") command.Motd ∷ named (codes "PRIVMSG") command.Privmsg ∷ named (codes "NOTICE") command.Notice ∷ []
+    ∷ named (codes "PONG") command.Pong ∷ named (codes "MOTD") command.Motd ∷ named (codes "PRIVMSG") command.Privmsg ∷ named (codes "NOTICE") command.Notice
+    ∷ named (codes "JOIN") command.Join ∷ named (codes "PART") command.Part ∷ named (codes "TOPIC") command.Topic ∷ named (codes "NAMES") command.Names ∷ []
 
 -- the first of these rows with this name
 abbrev pub found : List ℕ → List Named → Option Command

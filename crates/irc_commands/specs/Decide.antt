@@ -14,12 +14,17 @@ use Rattle.irc_commands.specs.Commands.{command_of}
 use Rattle.irc_commands.specs.Decisions.{Decided, client_words, nothing, does}
 use Rattle.irc_commands.specs.Ping.{ping_steps}
 use Rattle.irc_commands.specs.Quit.{quit_decided}
+use Rattle.irc_commands.specs.Join.{join_steps}
+use Rattle.irc_commands.specs.Names.{names_steps}
+use Rattle.irc_commands.specs.Nick.{nick_steps}
+use Rattle.irc_commands.specs.Part.{part_steps}
 use Rattle.irc_commands.specs.Say.{say_steps}
+use Rattle.irc_commands.specs.Topic.{topic_steps}
 
 abbrev pub unknown : List ℕ → Decided
 unknown word = does (Answer (UnknownCommand (client_words word)) ∷ [])
 
--- the row of a command; NICK has none yet
+-- the row of a command
 abbrev pub row_of : Room → Place → User → Parsed → Option Command → Decided
 row_of room place me message (Some command.Pass) = does (Answer AlreadyRegistered ∷ [])
 row_of room place me message (Some command.User) = does (Answer AlreadyRegistered ∷ [])
@@ -29,7 +34,11 @@ row_of room place me message (Some command.Ping) = does (ping_steps place messag
 row_of room place me message (Some command.Quit) = quit_decided me message.params
 row_of room place me message (Some command.Privmsg) = does (say_steps room me false message.params)
 row_of room place me message (Some command.Notice) = does (say_steps room me true message.params)
-row_of room place me message (Some command.Nick) = unknown message.command
+row_of room place me message (Some command.Nick) = does (nick_steps room me message.params)
+row_of room place me message (Some command.Join) = does (join_steps room me message.params)
+row_of room place me message (Some command.Part) = does (part_steps room me message.params)
+row_of room place me message (Some command.Topic) = does (topic_steps room me message.params)
+row_of room place me message (Some command.Names) = does (names_steps room me message.params)
 row_of room place me message None = unknown message.command
 
 -- A prefix must be the client's own nickname (our own choice: a line with another is ignored).

@@ -1,15 +1,13 @@
 -- PRIVMSG and NOTICE (RFC 2812 section 3.3).
 use Rattle.std.specs.Prelude.{ℕ, ◌-◌, Bool, true, false, not, ◌&&◌, ◌||◌, Option, Some, None, List, [], ◌∷◌, ◌++◌, codes, length, take, drop, filter, nat_eq, is_some, if◌then◌else◌}
-use Rattle.std.specs.List.{list_any, flat_map, slice_split}
+use Rattle.std.specs.List.{flat_map}
 use Rattle.irc_names.specs.Fold.{key}
-use Rattle.irc_names.specs.MaskLaws.{matches}
 use Rattle.irc_names.specs.Tables.{row}
 use Rattle.irc_line.specs.declared.limits.TheConstants.{MAX_LINE}
-use Rattle.irc_line.specs.Messages.{full, full_name, joined_text}
+use Rattle.irc_line.specs.Messages.{full, joined_text}
 use Rattle.irc_users.specs.declared.user.User.{User}
 use Rattle.irc_channels.specs.declared.flags.Flags.{Flags}
 use Rattle.irc_channels.specs.declared.channel.Channel.{Channel}
-use Rattle.irc_channels.specs.Channels.{is_nil}
 use Rattle.irc_numerics.specs.declared.replies.Reply.TheVariants.{NoRecipient, NoTextToSend, NoSuchNick, CannotSendToChan, TooManyTargets}
 use Rattle.irc_room.specs.declared.effect.Target.{Target}
 use Rattle.irc_room.specs.declared.effect.Target.TheVariants as target
@@ -19,25 +17,13 @@ use Rattle.irc_commands.specs.declared.TheConstants.{MAX_TARGETS}
 use Rattle.irc_commands.specs.declared.decision.Act.{Act}
 use Rattle.irc_commands.specs.declared.decision.Act.TheVariants.{Answer, Do}
 use Rattle.irc_commands.specs.Decisions.{kept, client_words}
-use Rattle.irc_commands.specs.Marks.{comma, hash}
-
-abbrev pub is_comma : ℕ → Bool
-is_comma b = nat_eq b comma
-
--- the entries of a comma list, without the empty ones
-unfoldable pub entries : List ℕ → List (List ℕ)
-entries list = filter (λ entry. not (is_nil entry)) (slice_split is_comma list)
+use Rattle.irc_commands.specs.Marks.{hash}
+use Rattle.irc_commands.specs.CommaLists.{entries}
+use Rattle.irc_commands.specs.Standing.{is_banned}
 
 abbrev pub is_channel_target : List ℕ → Bool
 is_channel_target [] = false
 is_channel_target (b ∷ bytes) = nat_eq b hash
-
--- nick!user@host, against which bans are held (RFC 2811 section 4.3)
-abbrev pub mask_of : User → List ℕ
-mask_of user = full_name user.nick user.user user.host
-
-abbrev pub is_banned : User → Channel → Bool
-is_banned user channel = list_any (λ ban. matches ban (mask_of user)) channel.modes.bans
 
 -- an operator, or a member with voice
 abbrev pub is_raised : Option Flags → Bool

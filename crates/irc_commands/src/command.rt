@@ -23,6 +23,14 @@ pub enum Command {
     Privmsg,
     /// NOTICE
     Notice,
+    /// JOIN
+    Join,
+    /// PART
+    Part,
+    /// TOPIC
+    Topic,
+    /// NAMES
+    Names,
 }
 
 impl Command {
@@ -48,6 +56,14 @@ impl Command {
             Some(Command::Privmsg)
         } else if is_word(word, b"NOTICE") {
             Some(Command::Notice)
+        } else if is_word(word, b"JOIN") {
+            Some(Command::Join)
+        } else if is_word(word, b"PART") {
+            Some(Command::Part)
+        } else if is_word(word, b"TOPIC") {
+            Some(Command::Topic)
+        } else if is_word(word, b"NAMES") {
+            Some(Command::Names)
         } else {
             None
         }

@@ -13,8 +13,13 @@ ghost use Rattle.irc_commands.specs.Ping.{ping_steps};
 
 use crate::command::Command;
 use crate::decision::{Act, Decision};
+use crate::joining::join;
 use crate::lines::{client_words, error, pong, reason_given};
+use crate::naming::names;
+use crate::parting::part;
+use crate::renaming::nick;
 use crate::saying::say;
+use crate::topics::topic;
 use irc_line::Message;
 use irc_names::{Nick, same};
 use irc_numerics::Reply;
@@ -91,7 +96,12 @@ pub(crate) fn decide_for(
         Some(Command::Quit) => quit(alloc, me, params),
         Some(Command::Privmsg) => Ok(does(say(alloc, room, me, false, params)?)),
         Some(Command::Notice) => Ok(does(say(alloc, room, me, true, params)?)),
-        Some(Command::Nick) | None => {
+        Some(Command::Nick) => Ok(does(nick(alloc, room, me, params)?)),
+        Some(Command::Join) => Ok(does(join(alloc, room, me, params)?)),
+        Some(Command::Part) => Ok(does(part(alloc, room, me, params)?)),
+        Some(Command::Topic) => Ok(does(topic(alloc, room, me, params)?)),
+        Some(Command::Names) => Ok(does(names(alloc, room, me, params)?)),
+        None => {
             let command = client_words(message.command);
             answer(alloc, Reply::UnknownCommand { command })
         }

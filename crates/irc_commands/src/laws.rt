@@ -2,7 +2,8 @@
 //! a crate above may cite it.
 ghost use Rattle.irc_commands.specs.Possible.{DecidedIsPossible, RegisteringIsPossible};
 ghost use Rattle.irc_commands.specs.Comings.{
-  DecidedBringsNobody,
+  DecidedAddsNobody,
+  OnlyItselfIsRenamed,
   RegisteredIsAdded,
   RegisteredStays,
   UnregisteredChangesNothing,
@@ -21,9 +22,14 @@ pub fn registering_is_possible()
     ensures { RegisteringIsPossible }
 {}
 
-/// No line of a user makes somebody a user, or gives anybody another nickname.
-pub fn decided_brings_nobody()
-    ensures { DecidedBringsNobody }
+/// No line of a user makes somebody a user.
+pub fn decided_adds_nobody()
+    ensures { DecidedAddsNobody }
+{}
+
+/// No line of a user gives another nickname to anybody but that user.
+pub fn only_itself_is_renamed()
+    ensures { OnlyItselfIsRenamed }
 {}
 
 /// A line after which its client stays makes nobody a user, nor a user nobody.

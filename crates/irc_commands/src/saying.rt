@@ -1,15 +1,14 @@
 //! PRIVMSG and NOTICE (RFC 2812 section 3.3).
-ghost use Rattle.std.specs.Prelude.{◌≡◌, ℕ, ◌+◌, ◌≤◌, ◌<◌, Bool, false, not, List, [], ◌∷◌, ◌++◌, length, take, drop, IfOk, OnOk, MatchOption};
-ghost use Rattle.std.specs.List.{list_any};
+ghost use Rattle.std.specs.Prelude.{◌≡◌, ℕ, ◌+◌, ◌≤◌, Bool, List, [], ◌∷◌, ◌++◌, length, IfOk, OnOk};
 ghost use Rattle.std.specs.Option.{option_copied};
-ghost use Rattle.irc_line.specs.Bytes.{begins};
 ghost use Rattle.irc_line.specs.PartViews.{words_now};
 ghost use Rattle.irc_numerics.specs.declared.replies.Reply.TheVariants.{NoSuchNick};
 ghost use Rattle.irc_commands.specs.Decisions.{client_words};
 ghost use Rattle.irc_commands.specs.declared.decision.Act.TheVariants.{Answer};
-ghost use Rattle.irc_commands.specs.Say.{is_comma, is_channel_target, entries, said_text, to_one, to_channel, to_user, say_to, say_steps, unless_notice, say_command};
+ghost use Rattle.irc_commands.specs.Say.{is_channel_target, said_text, to_one, to_channel, to_user, say_to, say_steps, unless_notice, say_command};
 
 use crate::MAX_TARGETS;
+use crate::comma_lists::next_entry;
 use crate::decision::Act;
 use crate::lines::client_words;
 use crate::speaking::may_speak;
@@ -21,48 +20,6 @@ use irc_numerics::Reply;
 use irc_room::{Effect, Room, Target};
 use irc_users::User;
 use std::alloc::{AllocError, Global};
-
-const COMMA: u8 = b',';
-
-/// The first entry of a comma list that is not empty, and the list behind it.
-fn next_entry(list: &[u8]) -> Option<(&[u8], &[u8])>
-    ensures { MatchOption result (entries list.now ≡ []) (λ e. (entries list.now ≡ e.0.now ∷ entries e.1.now) × (length e.1.now < length list.now)) }
-{
-    let behind = skip_commas(list);
-    if behind.is_empty() {
-        return None;
-    }
-    let end = entry_length(behind);
-    Some((&behind[..end], &behind[end..]))
-}
-
-/// The list behind the commas at its front.
-fn skip_commas(list: &[u8]) -> &[u8]
-    ensures same { entries result.now ≡ entries list.now }
-    ensures entry { begins is_comma result.now ≡ false }
-    ensures shorter { length result.now ≤ length list.now }
-{
-    for (i, byte) in list.iter().enumerate() {
-        if *byte != COMMA {
-            return &list[i..];
-        }
-    }
-    &[]
-}
-
-/// How long the entry at the front of a list is.
-fn entry_length(list: &[u8]) -> usize
-    ensures fits { result ≤ length list.now }
-    ensures no_comma { list_any is_comma (take result list.now) ≡ false }
-    ensures ends { begins (λ b. not (is_comma b)) (drop result list.now) ≡ false }
-{
-    for (i, byte) in list.iter().enumerate() {
-        if *byte == COMMA {
-            return i;
-        }
-    }
-    list.len()
-}
 
 /// What is said to a target, cut so that the line which its clients see is not.
 fn said_text(me: &User, notice: bool, to: &[u8], words: &[u8]) -> Line

@@ -168,14 +168,20 @@ fn lines_of_a_user_are_decided(rt: HostRuntime) -> Result<(), Fail> {
     let routes = Routes::new(own);
     let room = Room::new(alloc, routes.name().copy());
     let user = al().ok_or("no user")?;
-    let lines: [(&[u8], usize, bool); 8] = [
+    // The room does not know the user, so no names are in the list that a joiner is sent.
+    let lines: [(&[u8], usize, bool); 13] = [
         (b"PRIVMSG al :hi", 1, false),
         (b"PRIVMSG al,al,,al,al,zz :x", 5, false),
         (b"NOTICE bo :hi", 0, false),
         (b"ping x", 1, false),
         (b"PONG", 0, false),
         (b"MOTD", 1, false),
-        (b"JOIN #c", 1, false),
+        (b"JOIN #c,#C,c", 3, false),
+        (b"JOIN 0", 0, false),
+        (b"PART #c,#c", 2, false),
+        (b"TOPIC #c", 1, false),
+        (b"NAMES #c,#d", 2, false),
+        (b"NICK bo", 1, false),
         (b"QUIT :bye", 2, true),
     ];
     for (line, steps, close) in lines {

@@ -15,7 +15,7 @@ use Rattle.irc_commands.specs.declared.pending.Pending.{Pending}
 use Rattle.irc_commands.specs.Decisions.{kept}
 use Rattle.irc_commands.specs.Register.{register}
 use Rattle.irc_commands.specs.Possible.{ArePossible}
-use Rattle.irc_commands.specs.Comings.{brings_nick, is_effect, AddsFirst, RegisteredIsAdded, UnregisteredChangesNothing}
+use Rattle.irc_commands.specs.Comings.{adds_user, is_effect, AddsFirst, RegisteredIsAdded, UnregisteredChangesNothing}
 use Rattle.irc_server.specs.declared.event.Out.{Out}
 use Rattle.irc_server.specs.declared.event.Out.TheVariants.{ToClient, CloseClient}
 use Rattle.irc_server.specs.View.{View}
@@ -108,7 +108,7 @@ effect_behind out effect view = refl
 
 -- Whom decisions bring is at home.
 
-brings_none : (home : List ℕ) (effect : Effect) → brings_nick (Do effect) ≡ false → BringsHome home effect
+brings_none : (home : List ℕ) (effect : Effect) → adds_user (Do effect) ≡ false → BringsHome home effect
 brings_none home (AddUser user) none = absurd (cc none)
 brings_none home (Rename nick new) none = tt
 brings_none home (Quit nick text) none = tt
@@ -125,12 +125,12 @@ neither : (a b : Bool) → (a || b) ≡ false → (a ≡ false) × (b ≡ false)
 neither true b is = cc is
 neither false b is = (refl, is)
 
-pub bring_nobody : (home : List ℕ) (acts : List Act) → list_any brings_nick acts ≡ false → BringHome home acts
+pub bring_nobody : (home : List ℕ) (acts : List Act) → list_any adds_user acts ≡ false → BringHome home acts
 bring_nobody home [] none = tt
 bring_nobody home (Answer reply ∷ acts) none = bring_nobody home acts none
 bring_nobody home (Raw line ∷ acts) none = bring_nobody home acts none
 bring_nobody home (Do effect ∷ acts) none =
-    let both = neither (brings_nick (Do effect)) (list_any brings_nick acts) none in
+    let both = neither (adds_user (Do effect)) (list_any adds_user acts) none in
     (brings_none home effect both.0, bring_nobody home acts both.1)
 
 change_nothing : (home : List ℕ) (acts : List Act) → list_any is_effect acts ≡ false → BringHome home acts

@@ -19,7 +19,7 @@ use Rattle.irc_room.proofs.Rows.{same_some}
 use Rattle.irc_routes.specs.Place.{Place}
 use Rattle.irc_commands.specs.declared.decision.Act.{Act}
 use Rattle.irc_commands.specs.declared.pending.Pending.{Pending}
-use Rattle.irc_commands.specs.Comings.{DecidedBringsNobody, RegisteredIsAdded, UnregisteredChangesNothing}
+use Rattle.irc_commands.specs.Comings.{DecidedAddsNobody, RegisteredIsAdded, UnregisteredChangesNothing}
 use Rattle.irc_commands.specs.Decide.{decide}
 use Rattle.irc_commands.specs.Register.{register}
 use Rattle.irc_server.specs.declared.clients.Client.{Client}
@@ -63,10 +63,10 @@ decided_by_name view conn None name message is = cc is
 decided_by_name view conn (Some user) name message is =
     ap (λ n. decided view conn (Some n) (decide view.room view.place n message)) (sym (same_some (user.nick) name is))
 
-pub obeyed_home : DecidedBringsNobody → (own : List ℕ) (room : Room) (place : Place) (who : List ℕ) (message : Parsed) (acts : List Act)
+pub obeyed_home : DecidedAddsNobody → (own : List ℕ) (room : Room) (place : Place) (who : List ℕ) (message : Parsed) (acts : List Act)
     → acts ≡ (decide room place who message).steps → BringHome own acts
-obeyed_home brings_nobody own room place who message acts are =
-    subst (BringHome own) (sym are) (bring_nobody own (decide room place who message).steps (brings_nobody room place who message))
+obeyed_home adds_nobody own room place who message acts are =
+    subst (BringHome own) (sym are) (bring_nobody own (decide room place who message).steps (adds_nobody room place who message))
 
 pub registering_home : RegisteredIsAdded → UnregisteredChangesNothing → (own : List ℕ) (room : Room) (place : Place) (pending : Pending) (message : Parsed) (acts : List Act)
     → own ≡ place.name → acts ≡ (register room place pending message).steps → BringHome own acts

@@ -82,7 +82,7 @@ fn obey(
     ensures grew { Grew out.old.items out.new.items }
 {
     laws::decided_is_possible();
-    laws::decided_brings_nobody();
+    laws::decided_adds_nobody();
     let Some(name) = stored_nick(stage, nick) else {
         return Ok(());
     };

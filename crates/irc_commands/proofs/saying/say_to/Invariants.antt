@@ -1,6 +1,7 @@
 use Rattle.std.proofs.Common.{◌≡◌, ◌≤◌, ◌-◌, ◌++◌, length}
 use Rattle.irc_commands.specs.declared.TheConstants.{MAX_TARGETS}
-use Rattle.irc_commands.specs.Say.{entries, say_to, unless_notice}
+use Rattle.irc_commands.specs.CommaLists.{entries}
+use Rattle.irc_commands.specs.Say.{say_to, unless_notice}
 use Rattle.irc_commands.proofs.ManyTargets.{to_entries}
 use Rattle.irc_commands.proofs.saying.say_to.Given as goal
 

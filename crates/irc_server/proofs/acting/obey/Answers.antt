@@ -9,7 +9,7 @@ use Rattle.irc_server.proofs.acting.obey.Goals as goal
 
 pub carry_out-requires-clause-home : goal.carry_out-requires-clause-home
 carry_out-requires-clause-home c =
-    obeyed_home c.decided_brings_nobody.ensures c.args.stage.now.room.own c.args.stage.now.room.room c.args.stage.now.routes c.in-Some.name (parsed c.args.message.now) _
+    obeyed_home c.decided_adds_nobody.ensures c.args.stage.now.room.own c.args.stage.now.room.room c.args.stage.now.routes c.in-Some.name (parsed c.args.message.now) _
     (c.deref.ensures.value ∙ ap (λ (d : Decided). d.steps) c.in_ok-decision.ensures)
 
 pub returns-clause-ok : goal.returns-clause-ok

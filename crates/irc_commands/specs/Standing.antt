@@ -1,0 +1,49 @@
+-- How a user stands to a channel: what it is there, whether it is banned, and what it may know of it.
+use Rattle.std.specs.Prelude.{ℕ, Bool, true, false, not, ◌||◌, List, if◌then◌else◌}
+use Rattle.std.specs.List.{list_any}
+use Rattle.irc_names.specs.Fold.{key}
+use Rattle.irc_names.specs.MaskLaws.{matches}
+use Rattle.irc_line.specs.Messages.{full_name}
+use Rattle.irc_users.specs.declared.user.User.{User}
+use Rattle.irc_channels.specs.declared.flags.Flags.{Flags}
+use Rattle.irc_channels.specs.declared.modes.Privacy.{Privacy}
+use Rattle.irc_channels.specs.declared.modes.Privacy.TheVariants as privacy
+use Rattle.irc_channels.specs.declared.channel.Channel.{Channel}
+use Rattle.irc_channels.specs.Channels.{has_member}
+use Rattle.irc_numerics.specs.declared.replies.Mark.{Mark}
+use Rattle.irc_numerics.specs.declared.replies.Mark.TheVariants as mark
+use Rattle.irc_numerics.specs.declared.replies.Visibility.{Visibility}
+use Rattle.irc_numerics.specs.declared.replies.Visibility.TheVariants as visibility
+
+-- nick!user@host, against which bans are held (RFC 2811 section 4.3)
+abbrev pub mask_of : User → List ℕ
+mask_of user = full_name user.nick user.user user.host
+
+abbrev pub is_banned : User → Channel → Bool
+is_banned user channel = list_any (λ ban. matches ban (mask_of user)) channel.modes.bans
+
+-- what a member is shown as: an operator, else a member with voice, else a member
+abbrev pub mark_of : Flags → Mark
+mark_of flags = if flags.op then mark.Operator else (if flags.voice then mark.Voiced else mark.Plain)
+
+-- who may know of a channel (RFC 2811 section 4.2.6)
+abbrev pub visibility_of : Privacy → Visibility
+visibility_of privacy.Public = visibility.Public
+visibility_of privacy.Private = visibility.Private
+visibility_of privacy.Secret = visibility.Secret
+
+abbrev pub is_public : Privacy → Bool
+is_public privacy.Public = true
+is_public other = false
+
+abbrev pub is_secret : Privacy → Bool
+is_secret privacy.Secret = true
+is_secret other = false
+
+-- A channel is listed for its members, and for others where it is neither private nor secret (our own choice, after RFC 2811 section 4.2.6).
+abbrev pub is_listed : User → Channel → Bool
+is_listed user channel = has_member (key user.nick) channel || is_public channel.modes.privacy
+
+-- It is known to its members, and to others where it is not secret.
+abbrev pub is_known : User → Channel → Bool
+is_known user channel = has_member (key user.nick) channel || not (is_secret channel.modes.privacy)
