@@ -1,6 +1,8 @@
 //! `ircd sim` runs a script of clients on one IRC server.
 #![tactic(auto)]
 
+#[cfg(test)]
+mod channel_tests;
 mod events;
 mod fault;
 mod number;

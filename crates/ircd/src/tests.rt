@@ -9,23 +9,26 @@ use std::io::{ErrorKind, Read, Write};
 use std::test::Fail;
 
 /// A server and its first client, which is registered as al.
-const AL: &[u8] = b"server a.net\nconnect a.net h\nsay 1 NICK al\nsay 1 USER u 0 * :Al\n";
+pub(crate) const AL: &[u8] =
+    b"server a.net\nconnect a.net h\nsay 1 NICK al\nsay 1 USER u 0 * :Al\n";
 
 /// What al receives as it is registered.
-const WELCOME_AL: &[u8] = b"1 :a.net 001 al :Welcome to the Internet Relay Network al!u@h\n\
+pub(crate) const WELCOME_AL: &[u8] =
+    b"1 :a.net 001 al :Welcome to the Internet Relay Network al!u@h\n\
 1 :a.net 002 al :Your host is a.net, running version treeircd-1\n\
 1 :a.net 003 al :This server was created 2024-01-01\n\
 1 :a.net 004 al a.net treeircd-1 i biklmnopstv\n\
 1 :a.net 422 al :MOTD File is missing\n";
 
 /// What bo, the second client, receives as it is registered.
-const WELCOME_BO: &[u8] = b"2 :a.net 001 bo :Welcome to the Internet Relay Network bo!u@h\n\
+pub(crate) const WELCOME_BO: &[u8] =
+    b"2 :a.net 001 bo :Welcome to the Internet Relay Network bo!u@h\n\
 2 :a.net 002 bo :Your host is a.net, running version treeircd-1\n\
 2 :a.net 003 bo :This server was created 2024-01-01\n\
 2 :a.net 004 bo a.net treeircd-1 i biklmnopstv\n\
 2 :a.net 422 bo :MOTD File is missing\n";
 
-fn joined(alloc: Global, parts: &[&[u8]]) -> Result<Vec<u8>, AllocError> {
+pub(crate) fn joined(alloc: Global, parts: &[&[u8]]) -> Result<Vec<u8>, AllocError> {
     let mut whole = Vec::new(alloc);
     for part in parts {
         whole.extend_from_slice(part)?;
@@ -34,7 +37,7 @@ fn joined(alloc: Global, parts: &[&[u8]]) -> Result<Vec<u8>, AllocError> {
 }
 
 /// Whether a script is run to its end, and prints just this.
-fn prints(alloc: Global, script: &[&[u8]], expected: &[&[u8]]) -> Result<bool, Fail> {
+pub(crate) fn prints(alloc: Global, script: &[&[u8]], expected: &[&[u8]]) -> Result<bool, Fail> {
     let script = joined(alloc, script)?;
     let expected = joined(alloc, expected)?;
     let mut input = script.as_slice();
