@@ -1,11 +1,10 @@
 -- In a room whose users are all at home every viewer is, and effects leave it so.
-use Rattle.std.proofs.Common.{◌≡◌, ℕ, Bool, true, false, cond, not, T, Option, Some, None, List, [], ◌∷◌, refl, sym, ◌∙◌, ap, subst, map, filter, filter_map, if◌then◌else◌, option_map}
+use Rattle.std.proofs.Common.{◌≡◌, ℕ, Bool, true, false, cond, not, T, Option, Some, None, List, [], ◌∷◌, refl, sym, ◌∙◌, ap, map, filter, filter_map, if◌then◌else◌, option_map}
 use Rattle.std.specs.List.{AllByRecursion, cons_option, list_all}
 use Rattle.std.specs.Option.{option_map_or}
 use Rattle.std.specs.FinMap.{entries, entries_sorted, values, find, is_sorted, get-entries}
 use Rattle.std.specs.FinMap.Entries.{below_all}
-use Rattle.std.specs.Cmp.Lexicographic.{pointwise, bytes_decides}
-use Rattle.arrayvec.specs.ArrayVec.{ArrayVec}
+use Rattle.std.specs.Cmp.Lexicographic.{bytes_decides}
 use Rattle.irc_names.specs.Fold.{key}
 use Rattle.irc_names.specs.Tables.{Table, fold_cmp, row, alter, moved}
 use Rattle.irc_names.specs.TableLaws.{same_fold, same_fold-refl, one_fold, row-alter, row-moved, row-moved_none}
@@ -13,7 +12,6 @@ use Rattle.irc_users.specs.declared.user.User.{User}
 use Rattle.irc_users.specs.UserTable.{is_home, with_nick, with_invisible}
 use Rattle.irc_room.specs.declared.effect.Effect.{Effect}
 use Rattle.irc_room.specs.declared.effect.Effect.TheVariants.{AddUser, Rename, Quit, Join, Part, Kick, ChangeModes, SetTopic, Say, Invite, UserMode}
-use Rattle.irc_room.specs.declared.fault.RoomFault.{RoomFault}
 use Rattle.irc_room.specs.declared.fault.RoomFault.TheVariants.{NoSuchUser, NoSuchChannel, Failed}
 use Rattle.irc_room.specs.Room.{Room, IsWellFormed}
 use Rattle.irc_room.specs.Effects.{IsPossible, is_idle, has_user, has_channel, needs_users, needs_channel}
@@ -21,7 +19,7 @@ use Rattle.irc_room.specs.After.{after}
 use Rattle.irc_room.specs.Applying.{Kept, room_fault, is_own, handed, shown_here}
 use Rattle.irc_room.specs.Seen.{Showing, seen, shown_to}
 use Rattle.irc_room.proofs.Rows.{same_some}
-use Rattle.irc_room.proofs.ViewerLaws.{both_true, below_none, IsOwn, own_showing}
+use Rattle.irc_room.proofs.ViewerLaws.{both_true, below_none, own_showing}
 use Rattle.irc_server.specs.Stage.{shown_of, AtHome, IsSound, BringsHome}
 
 -- what holds of each row holds of each entry

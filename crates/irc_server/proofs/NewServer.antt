@@ -1,5 +1,5 @@
 -- A new server has an empty room of its own.
-use Rattle.std.proofs.Common.{◌≡◌, ℕ, false, Some, None, List, refl, sym, ◌∙◌, ap, subst}
+use Rattle.std.proofs.Common.{◌≡◌, ℕ, false, List, refl, sym, ◌∙◌, ap, subst}
 use Rattle.std.specs.FinMap.{get-empty}
 use Rattle.irc_names.specs.Tables.{fold_cmp}
 use Rattle.irc_users.specs.declared.user.User.{User}

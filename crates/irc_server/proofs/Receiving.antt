@@ -1,12 +1,12 @@
 -- Over a list of events each connection receives what it is owed.
-use Rattle.std.proofs.Common.{◌≡◌, ℕ, Option, Some, None, Result, Ok, Err, List, [], ◌∷◌, ◌++◌, refl, sym, ◌∙◌, ap, append-nil, append_assoc, ◌⊎◌, inl, inr, subst, OnOk}
+use Rattle.std.proofs.Common.{◌≡◌, Option, Some, None, Result, Ok, Err, List, [], ◌∷◌, ◌++◌, refl, sym, ◌∙◌, ap, append-nil, append_assoc, inl, inr, subst, OnOk}
 use Rattle.std.proofs.lemmas.List.Elements.{filter_map-append}
 use Rattle.irc_server.specs.declared.event.Event.{Event}
 use Rattle.irc_server.specs.declared.event.Out.{Out}
 use Rattle.irc_server.specs.declared.event.ServerFault.{ServerFault}
 use Rattle.irc_server.specs.View.{View}
 use Rattle.irc_server.specs.Handle.{handled}
-use Rattle.irc_server.specs.Happening.{Does, IsHandled, StopsAt, GoesOn, AreHandled}
+use Rattle.irc_server.specs.Happening.{Does, IsHandled, AreHandled}
 use Rattle.irc_server.specs.Owed.{line_to, lines_to, after_all, owed, Receives}
 
 receives_more : (view after : View) (event : Event) (events : List Event) (out out_between : List Out) (new : Option View) (out_after : List Out)

@@ -1,5 +1,5 @@
 -- What each event does, from what the functions below do.
-use Rattle.std.proofs.Common.{◌≡◌, ℕ, Bool, true, ◌&&◌, Option, Some, None, Result, Ok, Err, List, [], ◌∷◌, ◌++◌, length, take, is_some, refl, sym, ◌∙◌, ap, subst, append-nil, option_map, OnOk}
+use Rattle.std.proofs.Common.{◌≡◌, ℕ, Bool, true, ◌&&◌, Option, Some, None, Result, Ok, Err, List, length, take, is_some, refl, sym, ◌∙◌, ap, subst, append-nil, option_map, OnOk}
 use Rattle.std.proofs.Math.Seq.{take-append_seam}
 use Rattle.std.specs.Borrow.{Bor}
 use Rattle.std.specs.Option.{option_copied}
@@ -30,11 +30,11 @@ use Rattle.irc_server.specs.declared.event.Out.{Out}
 use Rattle.irc_server.specs.declared.event.ServerFault.{ServerFault}
 use Rattle.irc_server.specs.declared.event.ServerFault.TheVariants.{Memory, Failed, NoSuchConnection, ConnectionThere, NoSuchLink, LinkThere}
 use Rattle.irc_server.specs.View.{View, client_of, with_new_client}
-use Rattle.irc_server.specs.Handle.{Happening, Handled, connects, says, goes, handled, fault_of, there, not_there, fresh, gone, read_as, unchanged, closing, all_stepped, decided, user_decided, user_of, quits, lost_text, with_effect}
-use Rattle.irc_server.specs.Happening.{IsSaid, Happens, Is, Does, IsHandled}
+use Rattle.irc_server.specs.Handle.{Handled, connects, says, goes, handled, fault_of, there, not_there, fresh, gone, read_as, unchanged, closing, all_stepped, decided, user_decided, user_of, lost_text}
+use Rattle.irc_server.specs.Happening.{Is, Does, IsHandled}
 use Rattle.irc_server.specs.Grown.{Grew}
 use Rattle.irc_server.specs.Stage.{behind, BringHome}
-use Rattle.irc_server.proofs.Steps.{nothing_behind, carried_behind, effect_behind, bring_nobody, register_home}
+use Rattle.irc_server.proofs.Steps.{carried_behind, bring_nobody, register_home}
 
 pub on_ok : {E : Type 0} (result : Result (Unit {0}) E) (P Q : Type 0) → (P → Q) → OnOk result P → OnOk result Q
 on_ok (Ok done) P Q then holds = then holds

@@ -1,5 +1,5 @@
 -- A server as its code has it while an event is handled.
-use Rattle.std.specs.Prelude.{◌≡◌, ℕ, ⊤, false, Option, Some, List, [], ◌∷◌, ◌++◌, map}
+use Rattle.std.specs.Prelude.{◌≡◌, ℕ, ⊤, false, Some, List, [], ◌∷◌, ◌++◌, map}
 use Rattle.std.specs.List.{flat_map}
 use Rattle.arrayvec.specs.ArrayVec.{ArrayVec}
 use Rattle.irc_names.specs.Tables.{Table, row}

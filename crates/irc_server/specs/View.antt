@@ -1,5 +1,5 @@
 -- What a server is, to those above: its configuration, its clients, its room. No index, queue or link is in it.
-use Rattle.std.specs.Prelude.{ℕ, Bool, not, Option, List, [], ◌∷◌, ◌++◌, filter, map, nat_eq, if◌then◌else◌}
+use Rattle.std.specs.Prelude.{ℕ, not, Option, List, [], ◌∷◌, ◌++◌, filter, map, nat_eq, if◌then◌else◌}
 use Rattle.std.specs.List.{find}
 use Rattle.std.specs.Option.{option_map}
 use Rattle.irc_routes.specs.Place.{Place}

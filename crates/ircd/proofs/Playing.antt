@@ -2,7 +2,6 @@
 use Rattle.std.proofs.Common.{◌≡◌, ℕ, ◌+◌, ◌<◌, get_or, Option, Some, None, Result, Ok, Err, OnOk, IfOk, List, [], ◌∷◌, ◌++◌, length, take, map, ap, sym, subst, refl, ◌∙◌, append_assoc}
 use Rattle.std.proofs.lemmas.List.{append-nil}
 use Rattle.std.specs.Io.KnownBytes.{Appends, Keeps}
-use Rattle.std.specs.List.{flat_map}
 use Rattle.arrayvec.specs.ArrayVec.{ArrayVec}
 use Rattle.irc_line.specs.Framed.{bytes_of}
 use Rattle.irc_server.specs.declared.event.Event.{Event}
@@ -17,7 +16,7 @@ use Rattle.ircd.specs.declared.fault.SimFault.TheVariants.{BadScript, Failed, De
 use Rattle.ircd.specs.declared.fault.Trouble.{Trouble}
 use Rattle.ircd.specs.declared.fault.Trouble.TheVariants.{Memory, Device as DeviceTrouble}
 use Rattle.ircd.specs.Events.{line_event, events_of}
-use Rattle.ircd.specs.Printing.{printed, refusal_line, refusal_number}
+use Rattle.ircd.specs.Printing.{refusal_number}
 use Rattle.ircd.specs.Runs.{Standing, AnswersAt, Answer, puts_out, refuses, answer_text, next_after, Plays, nothing, event, Runs, end, request, Played, HasRun, IsTextOf, Ran}
 use Rattle.ircd.specs.Scripts.{Request}
 use Rattle.ircd.specs.ScriptViews.{IsReadAs, requests, request as request_now}

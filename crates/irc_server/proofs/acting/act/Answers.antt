@@ -1,4 +1,4 @@
-use Rattle.std.proofs.Common.{◌≡◌, ap, ◌∙◌, sym, refl}
+use Rattle.std.proofs.Common.{ap, ◌∙◌, sym}
 use Rattle.irc_line.specs.MessageViews.{parsed_result}
 use Rattle.irc_server.specs.Handle.{read_as}
 use Rattle.irc_server.specs.Stage.{behind, view_of}

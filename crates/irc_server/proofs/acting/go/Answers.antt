@@ -1,8 +1,7 @@
-use Rattle.std.proofs.Common.{◌≡◌, ap, ◌∙◌, sym, refl}
-use Rattle.irc_channels.specs.Texts.{cut_words}
+use Rattle.std.proofs.Common.{ap, ◌∙◌, sym}
 use Rattle.irc_room.specs.declared.effect.Effect.TheVariants.{Quit}
-use Rattle.irc_server.specs.View.{View, client_of, without_client}
-use Rattle.irc_server.specs.Handle.{Handled, quits, unchanged, with_effect, lost_text}
+use Rattle.irc_server.specs.View.{client_of, without_client}
+use Rattle.irc_server.specs.Handle.{quits, unchanged, with_effect}
 use Rattle.irc_server.specs.Stage.{behind, view_of}
 use Rattle.irc_server.proofs.Steps.{nothing_behind}
 use Rattle.irc_server.proofs.WhatEventsDo.{on_ok, quit_possible, lost_is_whole}

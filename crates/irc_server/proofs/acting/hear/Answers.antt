@@ -1,4 +1,4 @@
-use Rattle.std.proofs.Common.{◌≡◌, ap, sym, subst}
+use Rattle.std.proofs.Common.{ap, sym, subst}
 use Rattle.irc_commands.specs.Decisions.{Registered}
 use Rattle.irc_commands.specs.Possible.{ArePossible}
 use Rattle.irc_server.proofs.WhatEventsDo.{registering_home}

@@ -1,4 +1,4 @@
-use Rattle.std.proofs.Common.{◌≡◌, Some, ap, ◌∙◌, sym, refl}
+use Rattle.std.proofs.Common.{Some, ap, ◌∙◌, sym, refl}
 use Rattle.irc_line.specs.MessageViews.{parsed}
 use Rattle.irc_names.specs.Fold.{key}
 use Rattle.irc_names.specs.Tables.{row}

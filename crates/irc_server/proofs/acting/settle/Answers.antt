@@ -1,5 +1,5 @@
-use Rattle.std.proofs.Common.{◌≡◌, ap, ◌∙◌, map, refl}
-use Rattle.irc_server.specs.View.{View, replaced}
+use Rattle.std.proofs.Common.{ap, ◌∙◌, map, refl}
+use Rattle.irc_server.specs.View.{replaced}
 use Rattle.irc_server.proofs.WhatEventsDo.{on_ok, carried, copied_now}
 use Rattle.irc_server.proofs.acting.settle.Goals as goal
 

@@ -1,4 +1,4 @@
-use Rattle.std.proofs.Common.{◌≡◌, ◌<◌, ◌∙◌, length, get_or, ap, sym, subst, arith}
+use Rattle.std.proofs.Common.{◌<◌, length, sym, subst}
 use Rattle.irc_server.specs.Handle.{renamed_in}
 use Rattle.irc_server.proofs.ClientLoops.{client_changed, client_behind}
 use Rattle.irc_server.proofs.clients.rename.Goals as goal

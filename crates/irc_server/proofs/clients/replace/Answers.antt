@@ -1,4 +1,4 @@
-use Rattle.std.proofs.Common.{◌≡◌, ◌<◌, ◌∙◌, length, get_or, ap, sym, subst, arith}
+use Rattle.std.proofs.Common.{◌<◌, length, sym, subst}
 use Rattle.irc_server.specs.View.{replaced}
 use Rattle.irc_server.proofs.ClientLoops.{client_changed, client_behind}
 use Rattle.irc_server.proofs.clients.replace.Goals as goal

@@ -1,8 +1,7 @@
-use Rattle.std.proofs.Common.{◌≡◌, ◌++◌, List, map, sym, ◌∙◌, ap, subst}
-use Rattle.arrayvec.specs.ArrayVec.{ArrayVec}
+use Rattle.std.proofs.Common.{◌++◌, map, sym, ◌∙◌, ap, subst}
 use Rattle.irc_room.specs.Applying.{shown_here}
 use Rattle.irc_server.specs.Stage.{shown_of, IsSound}
-use Rattle.irc_server.proofs.HomeRoom.{all_handed_out, after_sound, never_refused}
+use Rattle.irc_server.proofs.HomeRoom.{all_handed_out, after_sound}
 use Rattle.irc_server.proofs.stage.happen.Goals as goal
 
 pub returns-in-Ok-clause-shown : goal.returns-in-Ok-clause-shown

@@ -1,6 +1,5 @@
-use Rattle.std.proofs.Common.{◌≡◌, Option, Some, None, Err, ap, subst, ◌∙◌, sym, if◌then◌else◌}
+use Rattle.std.proofs.Common.{Some, None, Err, ap, subst, ◌∙◌, sym, if◌then◌else◌}
 use Rattle.irc_server.specs.declared.event.ServerFault.TheVariants.{Memory}
-use Rattle.irc_server.specs.View.{View}
 use Rattle.irc_server.specs.Happening.{IsHandled}
 use Rattle.irc_server.specs.Stage.{view_of}
 use Rattle.irc_server.proofs.WhatEventsDo.{failed_stays, refused, ran_out}

@@ -1,4 +1,4 @@
-use Rattle.std.proofs.Common.{◌≡◌, ap, ◌∙◌, sym}
+use Rattle.std.proofs.Common.{◌∙◌}
 use Rattle.irc_server.proofs.NewServer.{is_ready}
 use Rattle.irc_server.proofs.server.Server.new.Goals as goal
 

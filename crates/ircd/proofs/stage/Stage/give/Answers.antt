@@ -1,4 +1,4 @@
-use Rattle.std.proofs.Common.{◌≡◌, ap, subst, sym, refl, [], ◌∷◌}
+use Rattle.std.proofs.Common.{subst, refl, [], ◌∷◌}
 use Rattle.std.specs.List.{flat_map}
 use Rattle.std.specs.Io.KnownBytes.{Appends}
 use Rattle.ircd.specs.Printing.{printed}
