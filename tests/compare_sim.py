@@ -6,7 +6,7 @@ Not part of the gate. The oracle is a folder with a `gen.py` and an `oracle.py`,
 malformed lines), with `--clean` (no CR inside a line), and with one byte changed, which often makes it a bad script. `oracle.py --sim
 --upto=..` says what has to be printed, with which status, and with what on standard error.
 
-    ORACLE=/path/to/oracle python3 tests/compare_sim.py [--scripts N] [--seed S] [--upto=first] [--program PATH]
+    ORACLE=/path/to/oracle python3 tests/compare_sim.py [--scripts N] [--seed S] [--upto=channels] [--program PATH]
 
 It prints how many scripts were compared, and the first that differs; the status is 1 where one differs.
 """
@@ -78,7 +78,7 @@ def main():
     parser = argparse.ArgumentParser(description="Compares `ircd sim` with the oracle on generated scripts of one server.")
     parser.add_argument("--scripts", type=int, default=2000)
     parser.add_argument("--seed", type=int, default=1)
-    parser.add_argument("--upto", default="first", help="how far the program is built; empty: whole")
+    parser.add_argument("--upto", default="channels", help="how far the program is built; empty: whole")
     parser.add_argument("--program", default=str(REPOSITORY / "crates/ircd/out/ircd"))
     options = parser.parse_args()
     oracle = os.environ.get("ORACLE", str(REPOSITORY.parent / "shared/oracle"))
