@@ -1,9 +1,9 @@
 #!/usr/bin/env python3
-"""Compares `irc_names::mask_matches` with the oracle's `matches` on generated pairs of a mask and a text.
+"""Compares `irc_names::mask_matches` with a model's `matches` on generated pairs of a mask and a text.
 
 Not part of the gate. It builds a small program over a copy of the crate in a temporary folder outside the repository, feeds it
-the pairs, and compares each answer with the oracle's. The oracle is a folder with a `model.py`, given as an argument, by the
-environment variable ORACLE, or as ../shared/oracle beside the repository.
+the pairs, and compares each answer with the model's, which is model.py beside this file, or that of a folder named as an argument
+or by the environment variable ORACLE.
 
     python3 tests/compare_masks.py [--pairs N] [--seed S] [ORACLE]
 
@@ -123,8 +123,8 @@ def answers(pairs):
 
 
 def main():
-    options = argparse.ArgumentParser(description="Compares mask_matches with the oracle's matches.")
-    options.add_argument("oracle", nargs="?", default=os.environ.get("ORACLE", REPOSITORY.parent / "shared" / "oracle"))
+    options = argparse.ArgumentParser(description="Compares mask_matches with a model's matches.")
+    options.add_argument("oracle", nargs="?", default=os.environ.get("ORACLE", REPOSITORY / "tests"))
     options.add_argument("--pairs", type=int, default=20000)
     options.add_argument("--seed", type=int, default=1)
     given = options.parse_args()
@@ -135,7 +135,7 @@ def main():
     wanted = [model.matches(mask, text) for mask, text in pairs]
     differing = [(pair, want) for pair, want, answer in zip(pairs, wanted, answers(pairs)) if want != answer]
     for (mask, text), want in differing[:10]:
-        print(f"mask {mask!r} text {text!r}: the oracle says {want}")
+        print(f"mask {mask!r} text {text!r}: the model says {want}")
     print(f"pairs={len(pairs)} matching={sum(wanted)} differing={len(differing)}")
     sys.exit(1 if differing else 0)
 
