@@ -1,235 +1,307 @@
-//! Scripts of clients that meet in channels (RFC 2812 section 3.2), and what they print. The expected texts are those of docs/PROFILE.md,
-//! none of them taken from the program.
-use crate::sim::run_sim;
-use crate::tests::{AL, WELCOME_AL, WELCOME_BO, joined, prints};
-use std::alloc::{AllocError, Global};
-use std::test::Fail;
+//! JOIN, TOPIC and NAMES (RFC 2812 sections 3.2.1, 3.2.4 and 3.2.5).
+use crate::tests::{add_text, is_run, prints};
+use std::alloc::Global;
+use std::io;
+use std::io::Write;
 
-/// The second client, which is registered as bo.
-const BO: &[u8] = b"connect a.net h\nsay 2 NICK bo\nsay 2 USER u 0 * :Bo\n";
+/// Each entry is judged by what those before have left. The channel is named as its maker spelled it, in a 366 as it was asked for.
+const JOINING: &str = "\
+> say 1 JOIN
+1 :a.net 461 al JOIN :Not enough parameters
+> say 1 JOIN :
+> say 1 JOIN #Rust
+1 :al!u@h JOIN #Rust
+1 :a.net 353 al = #Rust :@al
+1 :a.net 366 al #Rust :End of NAMES list
+> say 2 JOIN #rUST
+1 :bo!u@h JOIN #Rust
+2 :bo!u@h JOIN #Rust
+2 :a.net 353 bo = #Rust :@al bo
+2 :a.net 366 bo #rUST :End of NAMES list
+> say 2 JOIN #RUST
+> say 3 JOIN rust,#a:b,,#RUST,#rust,#own x,y,z
+3 :a.net 403 cy rust :No such channel
+3 :a.net 403 cy #a:b :No such channel
+1 :cy!u@h JOIN #Rust
+2 :cy!u@h JOIN #Rust
+3 :cy!u@h JOIN #Rust
+3 :a.net 353 cy = #Rust :@al bo cy
+3 :a.net 366 cy #RUST :End of NAMES list
+3 :cy!u@h JOIN #own
+3 :a.net 353 cy = #own :@cy
+3 :a.net 366 cy #own :End of NAMES list
+> say 3 JOIN #,0
+3 :cy!u@h JOIN #
+3 :a.net 353 cy = # :@cy
+3 :a.net 366 cy # :End of NAMES list
+3 :a.net 403 cy 0 :No such channel
+> say 3 JOIN #aaaaaaaaaabbbbbbbbbbccccccccccddddddddddeeeeeeeee
+3 :cy!u@h JOIN #aaaaaaaaaabbbbbbbbbbccccccccccddddddddddeeeeeeeee
+3 :a.net 353 cy = #aaaaaaaaaabbbbbbbbbbccccccccccddddddddddeeeeeeeee :@cy
+3 :a.net 366 cy #aaaaaaaaaabbbbbbbbbbccccccccccddddddddddeeeeeeeee :End of NAMES list
+> say 3 JOIN #aaaaaaaaaabbbbbbbbbbccccccccccddddddddddeeeeeeeeef
+3 :a.net 403 cy #aaaaaaaaaabbbbbbbbbbccccccccccddddddddddeeeeeeeeef :No such channel
+";
 
-/// Whether a script of al and bo is run to its end, and prints just this behind their welcome.
-fn shows(alloc: Global, script: &[u8], expected: &[u8]) -> Result<bool, Fail> {
-    prints(
-        alloc,
-        &[AL, BO, script],
-        &[WELCOME_AL, WELCOME_BO, expected],
+#[test]
+fn members_see_who_joins(rt: HostRuntime) {
+    assert!(rt; prints(rt.alloc(), 3, JOINING));
+}
+
+/// A channel that was left makes room for another.
+const JOINING_MANY: &str = "\
+> say 1 JOIN #0,#1,#2,#3,#4,#5,#6,#7,#8,#9,#k
+1 :al!u@h JOIN #0
+1 :a.net 353 al = #0 :@al
+1 :a.net 366 al #0 :End of NAMES list
+1 :al!u@h JOIN #1
+1 :a.net 353 al = #1 :@al
+1 :a.net 366 al #1 :End of NAMES list
+1 :al!u@h JOIN #2
+1 :a.net 353 al = #2 :@al
+1 :a.net 366 al #2 :End of NAMES list
+1 :al!u@h JOIN #3
+1 :a.net 353 al = #3 :@al
+1 :a.net 366 al #3 :End of NAMES list
+1 :al!u@h JOIN #4
+1 :a.net 353 al = #4 :@al
+1 :a.net 366 al #4 :End of NAMES list
+1 :al!u@h JOIN #5
+1 :a.net 353 al = #5 :@al
+1 :a.net 366 al #5 :End of NAMES list
+1 :al!u@h JOIN #6
+1 :a.net 353 al = #6 :@al
+1 :a.net 366 al #6 :End of NAMES list
+1 :al!u@h JOIN #7
+1 :a.net 353 al = #7 :@al
+1 :a.net 366 al #7 :End of NAMES list
+1 :al!u@h JOIN #8
+1 :a.net 353 al = #8 :@al
+1 :a.net 366 al #8 :End of NAMES list
+1 :al!u@h JOIN #9
+1 :a.net 353 al = #9 :@al
+1 :a.net 366 al #9 :End of NAMES list
+1 :a.net 405 al #k :You have joined too many channels
+> say 1 JOIN #5,c,#K
+1 :a.net 403 al c :No such channel
+1 :a.net 405 al #K :You have joined too many channels
+> say 1 PART #9
+1 :al!u@h PART #9 :al
+> say 1 JOIN #K
+1 :al!u@h JOIN #K
+1 :a.net 353 al = #K :@al
+1 :a.net 366 al #K :End of NAMES list
+";
+
+#[test]
+fn the_eleventh_channel_is_too_many(rt: HostRuntime) {
+    assert!(rt; prints(rt.alloc(), 1, JOINING_MANY));
+}
+
+/// A topic is cut to 160 bytes. The same topic is shown again, and an empty one clears it.
+const TOPICS: &str = "\
+> say 1 JOIN #Rust
+1 :al!u@h JOIN #Rust
+1 :a.net 353 al = #Rust :@al
+1 :a.net 366 al #Rust :End of NAMES list
+> say 2 TOPIC
+2 :a.net 461 bo TOPIC :Not enough parameters
+> say 2 TOPIC #No
+2 :a.net 403 bo #No :No such channel
+> say 2 TOPIC #no :mine
+2 :a.net 403 bo #no :No such channel
+> say 2 TOPIC rust
+2 :a.net 403 bo rust :No such channel
+> say 2 TOPIC #rust
+2 :a.net 331 bo #Rust :No topic is set
+> say 2 TOPIC #rust :mine
+2 :a.net 442 bo #Rust :You're not on that channel
+> say 1 TOPIC #RUST :hello
+1 :al!u@h TOPIC #Rust :hello
+> say 1 TOPIC #rust :hello
+1 :al!u@h TOPIC #Rust :hello
+> say 2 JOIN #rust
+1 :bo!u@h JOIN #Rust
+2 :bo!u@h JOIN #Rust
+2 :a.net 332 bo #Rust :hello
+2 :a.net 353 bo = #Rust :@al bo
+2 :a.net 366 bo #rust :End of NAMES list
+> say 3 TOPIC #rust
+3 :a.net 332 cy #Rust :hello
+> say 2 TOPIC #rust :
+1 :bo!u@h TOPIC #Rust :
+2 :bo!u@h TOPIC #Rust :
+> say 2 TOPIC #rust
+2 :a.net 331 bo #Rust :No topic is set
+> say 2 TOPIC #rust :
+1 :bo!u@h TOPIC #Rust :
+2 :bo!u@h TOPIC #Rust :
+> say 2 TOPIC #rust :%x
+1 :bo!u@h TOPIC #Rust :%
+2 :bo!u@h TOPIC #Rust :%
+> say 3 TOPIC #rust
+3 :a.net 332 cy #Rust :%
+";
+
+#[test]
+fn topics_are_set_and_told(rt: HostRuntime) {
+    assert!(rt; prints(rt.alloc(), 3, TOPICS));
+}
+
+/// Letters in either case stand before `[`. NAMES alone asks for all channels.
+const NAMING: &str = "\
+> say 1 NAMES
+1 :a.net 366 al * :End of NAMES list
+> say 1 JOIN #Rust
+1 :al!u@h JOIN #Rust
+1 :a.net 353 al = #Rust :@al
+1 :a.net 366 al #Rust :End of NAMES list
+> say 2 NICK [bo
+2 :bo!u@h NICK [bo
+> say 2 JOIN #rust
+1 :[bo!u@h JOIN #Rust
+2 :[bo!u@h JOIN #Rust
+2 :a.net 353 [bo = #Rust :@al [bo
+2 :a.net 366 [bo #rust :End of NAMES list
+> say 3 NICK Zed
+3 :cy!u@h NICK Zed
+> say 3 NAMES #RUST
+3 :a.net 353 Zed = #Rust :@al [bo
+3 :a.net 366 Zed #RUST :End of NAMES list
+> say 3 JOIN #rust
+1 :Zed!u@h JOIN #Rust
+3 :Zed!u@h JOIN #Rust
+2 :Zed!u@h JOIN #Rust
+3 :a.net 353 Zed = #Rust :@al Zed [bo
+3 :a.net 366 Zed #rust :End of NAMES list
+> say 1 NAMES #no
+1 :a.net 366 al #no :End of NAMES list
+> say 1 NAMES no
+1 :a.net 366 al no :End of NAMES list
+> say 1 NAMES ,#rust,,#No #b
+1 :a.net 353 al = #Rust :@al Zed [bo
+1 :a.net 366 al #rust :End of NAMES list
+1 :a.net 366 al #No :End of NAMES list
+> say 1 NAMES :
+> say 3 JOIN #b
+3 :Zed!u@h JOIN #b
+3 :a.net 353 Zed = #b :@Zed
+3 :a.net 366 Zed #b :End of NAMES list
+> say 1 NAMES
+1 :a.net 353 al = #b :@Zed
+1 :a.net 353 al = #Rust :@al Zed [bo
+1 :a.net 366 al * :End of NAMES list
+";
+
+#[test]
+fn names_stand_in_folded_order(rt: HostRuntime) {
+    assert!(rt; prints(rt.alloc(), 3, NAMING));
+}
+
+/// With its last member a channel ends: its topic, its operator and its spelling too.
+const ANEW: &str = "\
+> say 1 JOIN #C
+1 :al!u@h JOIN #C
+1 :a.net 353 al = #C :@al
+1 :a.net 366 al #C :End of NAMES list
+> say 1 TOPIC #c :hello
+1 :al!u@h TOPIC #C :hello
+> say 2 JOIN #c
+1 :bo!u@h JOIN #C
+2 :bo!u@h JOIN #C
+2 :a.net 332 bo #C :hello
+2 :a.net 353 bo = #C :@al bo
+2 :a.net 366 bo #c :End of NAMES list
+> say 1 PART #c
+1 :al!u@h PART #C :al
+2 :al!u@h PART #C :al
+> say 2 NAMES #c
+2 :a.net 353 bo = #C :bo
+2 :a.net 366 bo #c :End of NAMES list
+> say 2 PART #c
+2 :bo!u@h PART #C :bo
+> say 2 NAMES #c
+2 :a.net 366 bo #c :End of NAMES list
+> say 2 JOIN #c
+2 :bo!u@h JOIN #c
+2 :a.net 353 bo = #c :@bo
+2 :a.net 366 bo #c :End of NAMES list
+> say 1 JOIN #C
+1 :al!u@h JOIN #c
+2 :al!u@h JOIN #c
+1 :a.net 353 al = #c :al @bo
+1 :a.net 366 al #C :End of NAMES list
+> say 2 PART #c
+1 :bo!u@h PART #c :bo
+2 :bo!u@h PART #c :bo
+> say 1 NAMES #c
+1 :a.net 353 al = #c :al
+1 :a.net 366 al #c :End of NAMES list
+> say 1 QUIT
+1 ERROR :Closing link (al)
+> say 2 NAMES #c
+2 :a.net 366 bo #c :End of NAMES list
+> say 2 JOIN #C
+2 :bo!u@h JOIN #C
+2 :a.net 353 bo = #C :@bo
+2 :a.net 366 bo #C :End of NAMES list
+";
+
+#[test]
+fn an_ended_channel_is_made_anew(rt: HostRuntime) {
+    assert!(rt; prints(rt.alloc(), 2, ANEW));
+}
+
+/// Nicknames of clients that join `#c` one after another.
+const CROWD: &str =
+    "aa ab ac ad ae af ag ah ai aj ak al am an ao ap aq ar as at au av aw ax ay az ba bb bc bd be";
+
+/// A line names thirty members at most.
+const THIRTY: &str = "\
+> say 1 PING x
+1 :a.net PONG a.net :x
+> say 1 NAMES #c
+1 :a.net 353 aa = #c :@aa ab ac ad ae af ag ah ai aj ak al am an ao ap aq ar as at au av aw ax ay az ba bb bc bd
+1 :a.net 366 aa #c :End of NAMES list
+";
+
+const THIRTY_ONE: &str = "\
+> say 1 PING x
+1 :a.net PONG a.net :x
+> say 1 NAMES #c
+1 :a.net 353 aa = #c :@aa ab ac ad ae af ag ah ai aj ak al am an ao ap aq ar as at au av aw ax ay az ba bb bc bd
+1 :a.net 353 aa = #c :be
+1 :a.net 366 aa #c :End of NAMES list
+";
+
+/// Whether a text, behind the joining of so many clients, is run to its end, and what is printed ends as it says.
+fn crowd_ends(alloc: Global, members: usize, text: &str) -> bool {
+    let mut script = Vec::new(alloc);
+    let mut printed = Vec::new(alloc);
+    let mut output = Vec::new(alloc);
+    add_crowd(members, &mut script).is_ok()
+        && add_text(text, &mut script, &mut printed).is_ok()
+        && is_run(alloc, &script, usize::MAX, &mut output)
+        && output.ends_with(&printed)
+}
+
+fn add_crowd(members: usize, script: &mut Vec<u8>) -> io::Result<()> {
+    writeln!(script, "server a.net")?;
+    for (place, nick) in CROWD.split(' ').take(members).enumerate() {
+        add_member(place.saturating_add(1), nick, script)?;
+    }
+    Ok(())
+}
+
+fn add_member(client: usize, nick: &str, script: &mut Vec<u8>) -> io::Result<()> {
+    writeln!(
+        script,
+        "connect a.net h\nsay {client} NICK {nick}\nsay {client} USER u 0 * :x\nsay {client} JOIN #c"
     )
 }
 
-/// Whether a script is run to its end, and what it prints ends so.
-fn ends(alloc: Global, script: &[u8], expected: &[u8]) -> Result<bool, Fail> {
-    let mut input = script;
-    let mut output = Vec::new(alloc);
-    let ended = run_sim(alloc, &mut input, &mut output);
-    Ok(ended.is_ok() && output.as_slice().ends_with(expected))
-}
-
 #[test]
-fn nicknames_that_are_the_same_by_the_fold(rt: HostRuntime) -> Result<(), Fail> {
+fn thirty_names_stand_in_a_line(rt: HostRuntime) {
     let alloc = rt.alloc();
-    let script = b"say 1 NICK foo[\nsay 2 NICK FOO{\nsay 1 NICK FOO{\nsay 1 NICK FOO{\n";
-    let expected = b"1 :al!u@h NICK foo[\n\
-2 :a.net 433 bo FOO{ :Nickname is already in use\n\
-1 :foo[!u@h NICK FOO{\n";
-    assert!(rt; shows(alloc, script, expected)?);
-    Ok(())
-}
-
-#[test]
-fn a_renamed_client_is_told_by_its_new_nickname(rt: HostRuntime) -> Result<(), Fail> {
-    let alloc = rt.alloc();
-    let script = b"say 1 NICK cy\nsay 2 PRIVMSG cy,al :x\nsay 1 :cy NICK 9\nsay 1 :al PING x\n";
-    let expected = b"1 :al!u@h NICK cy\n\
-1 :bo!u@h PRIVMSG cy :x\n\
-2 :a.net 401 bo al :No such nick/channel\n\
-1 :a.net 432 cy 9 :Erroneous nickname\n";
-    assert!(rt; shows(alloc, script, expected)?);
-    Ok(())
-}
-
-#[test]
-fn a_long_text_is_cut_for_every_member(rt: HostRuntime) -> Result<(), Fail> {
-    let alloc = rt.alloc();
-    let third = b"connect a.net h\nsay 3 NICK cy\nsay 3 USER u 0 * :Cy\n";
-    let joins = b"say 1 JOIN #c\nsay 2 JOIN #c\nsay 1 PRIVMSG #c :";
-    let long = [b'x'; 498];
-    let script = joined(alloc, &[AL, BO, third, joins, &long, b"\n"])?;
-    let said = b"2 :bo!u@h JOIN #c\n\
-2 :a.net 353 bo = #c :@al bo\n\
-2 :a.net 366 bo #c :End of NAMES list\n\
-2 :al!u@h PRIVMSG #c :";
-    let expected = joined(alloc, &[said, &long[..490], b"\n"])?;
-    assert!(rt; ends(alloc, &script, &expected)?);
-    Ok(())
-}
-
-#[test]
-fn two_channels_in_one_join_and_all_left(rt: HostRuntime) -> Result<(), Fail> {
-    let alloc = rt.alloc();
-    let script = b"say 1 JOIN #A,#b\nsay 2 JOIN #a\nsay 1 JOIN 0\n";
-    let expected = b"1 :al!u@h JOIN #A\n\
-1 :a.net 353 al = #A :@al\n\
-1 :a.net 366 al #A :End of NAMES list\n\
-1 :al!u@h JOIN #b\n\
-1 :a.net 353 al = #b :@al\n\
-1 :a.net 366 al #b :End of NAMES list\n\
-1 :bo!u@h JOIN #A\n\
-2 :bo!u@h JOIN #A\n\
-2 :a.net 353 bo = #A :@al bo\n\
-2 :a.net 366 bo #a :End of NAMES list\n\
-1 :al!u@h PART #A :al\n\
-2 :al!u@h PART #A :al\n\
-1 :al!u@h PART #b :al\n";
-    assert!(rt; shows(alloc, script, expected)?);
-    Ok(())
-}
-
-#[test]
-fn each_entry_by_what_those_before_have_left(rt: HostRuntime) -> Result<(), Fail> {
-    let alloc = rt.alloc();
-    let script = b"say 1 JOIN #c,,#C,c\nsay 2 JOIN #c x,y\nsay 1 PART #c,#C :x\nsay 2 PART #c,#c\n";
-    let expected = b"1 :al!u@h JOIN #c\n\
-1 :a.net 353 al = #c :@al\n\
-1 :a.net 366 al #c :End of NAMES list\n\
-1 :a.net 403 al c :No such channel\n\
-1 :bo!u@h JOIN #c\n\
-2 :bo!u@h JOIN #c\n\
-2 :a.net 353 bo = #c :@al bo\n\
-2 :a.net 366 bo #c :End of NAMES list\n\
-1 :al!u@h PART #c :x\n\
-2 :al!u@h PART #c :x\n\
-1 :a.net 442 al #c :You're not on that channel\n\
-2 :bo!u@h PART #c :bo\n\
-2 :a.net 403 bo #c :No such channel\n";
-    assert!(rt; shows(alloc, script, expected)?);
-    Ok(())
-}
-
-#[test]
-fn topics(rt: HostRuntime) -> Result<(), Fail> {
-    let alloc = rt.alloc();
-    let script = b"say 1 JOIN #c\nsay 2 TOPIC #c\nsay 2 TOPIC #c :mine\nsay 1 TOPIC #C :hello\n\
-say 2 JOIN #c\nsay 2 TOPIC #c\nsay 2 TOPIC #c :\nsay 1 TOPIC #d\nsay 1 TOPIC\n";
-    let expected = b"1 :al!u@h JOIN #c\n\
-1 :a.net 353 al = #c :@al\n\
-1 :a.net 366 al #c :End of NAMES list\n\
-2 :a.net 331 bo #c :No topic is set\n\
-2 :a.net 442 bo #c :You're not on that channel\n\
-1 :al!u@h TOPIC #c :hello\n\
-1 :bo!u@h JOIN #c\n\
-2 :bo!u@h JOIN #c\n\
-2 :a.net 332 bo #c :hello\n\
-2 :a.net 353 bo = #c :@al bo\n\
-2 :a.net 366 bo #c :End of NAMES list\n\
-2 :a.net 332 bo #c :hello\n\
-1 :bo!u@h TOPIC #c :\n\
-2 :bo!u@h TOPIC #c :\n\
-1 :a.net 403 al #d :No such channel\n\
-1 :a.net 461 al TOPIC :Not enough parameters\n";
-    assert!(rt; shows(alloc, script, expected)?);
-    Ok(())
-}
-
-#[test]
-fn a_quit_is_seen_once(rt: HostRuntime) -> Result<(), Fail> {
-    let alloc = rt.alloc();
-    let script = b"say 1 JOIN #c,#d\nsay 2 JOIN #c,#d\nsay 1 QUIT\nsay 2 NAMES #c,#d\n";
-    let quit = b"2 :al!u@h QUIT :al\n\
-1 ERROR :Closing link (al)\n\
-2 :a.net 353 bo = #c :bo\n\
-2 :a.net 366 bo #c :End of NAMES list\n\
-2 :a.net 353 bo = #d :bo\n\
-2 :a.net 366 bo #d :End of NAMES list\n";
-    let entered = b"2 :a.net 366 bo #d :End of NAMES list\n";
-    let expected = joined(alloc, &[entered, quit])?;
-    assert!(rt; ends(alloc, &joined(alloc, &[AL, BO, script])?, &expected)?);
-    // One whose connection is lost is seen to quit, and is told nothing.
-    let lost = b"say 1 JOIN #c,#d\nsay 2 JOIN #c,#d\ngone 1\n";
-    let expected = joined(alloc, &[entered, b"2 :al!u@h QUIT :Connection closed\n"])?;
-    assert!(rt; ends(alloc, &joined(alloc, &[AL, BO, lost])?, &expected)?);
-    Ok(())
-}
-
-/// The nickname of the client with a number: `aa`, `ab` and so on, in folded order.
-fn nickname(client: u8) -> [u8; 2] {
-    if client < 26 {
-        [b'a', b'a' + client]
-    } else {
-        [b'b', b'a' + (client - 26) % 26]
-    }
-}
-
-/// Appends what a client with a number less than 100 says.
-fn says(script: &mut Vec<u8>, client: u8, words: &[&[u8]]) -> Result<(), AllocError> {
-    let number = client % 100;
-    script.extend_from_slice(b"say ")?;
-    script.extend_from_slice(
-        &[b'0' + number / 10, b'0' + number % 10][usize::from(number < 10)..],
-    )?;
-    for word in words {
-        script.extend_from_slice(word)?;
-    }
-    script.extend_from_slice(b"\n")
-}
-
-/// A script of so many clients that all join `#c`.
-fn crowd(alloc: Global, clients: u8) -> Result<Vec<u8>, AllocError> {
-    let mut script = joined(alloc, &[b"server a.net\n"])?;
-    for client in 0..clients {
-        script.extend_from_slice(b"connect a.net h\n")?;
-        let number = client.saturating_add(1);
-        says(&mut script, number, &[b" NICK ", &nickname(client)])?;
-        says(&mut script, number, &[b" USER u 0 * :r"])?;
-        says(&mut script, number, &[b" JOIN #c"])?;
-    }
-    Ok(script)
-}
-
-/// The names of the first of these clients, of which the very first is an operator.
-fn names(alloc: Global, clients: u8) -> Result<Vec<u8>, AllocError> {
-    let mut list = joined(alloc, &[b"@aa"])?;
-    for client in 1..clients {
-        list.extend_from_slice(b" ")?;
-        list.extend_from_slice(&nickname(client))?;
-    }
-    Ok(list)
-}
-
-/// Whether NAMES of the channel of so many clients ends so.
-fn lists(alloc: Global, clients: u8, expected: &[u8]) -> Result<bool, Fail> {
-    let mut script = crowd(alloc, clients)?;
-    script.extend_from_slice(b"say 1 NAMES #c\n")?;
-    ends(alloc, &script, expected)
-}
-
-#[test]
-fn thirty_names_a_line(rt: HostRuntime) -> Result<(), Fail> {
-    let alloc = rt.alloc();
-    let mut thirty = joined(alloc, &[b"1 :a.net 353 aa = #c :"])?;
-    thirty.extend_from_slice(&names(alloc, 30)?)?;
-    let end = b"\n1 :a.net 366 aa #c :End of NAMES list\n";
-    let mut expected = joined(alloc, &[&thirty])?;
-    expected.extend_from_slice(end)?;
-    assert!(rt; lists(alloc, 30, &expected)?);
-    thirty.extend_from_slice(b"\n1 :a.net 353 aa = #c :be")?;
-    thirty.extend_from_slice(end)?;
-    assert!(rt; lists(alloc, 31, &thirty)?);
-    Ok(())
-}
-
-#[test]
-fn the_channel_too_many(rt: HostRuntime) -> Result<(), Fail> {
-    let alloc = rt.alloc();
-    let ten = b"say 1 JOIN #0,#1,#2,#3,#4,#5,#6,#7,#8,#9\n";
-    let tenth = b"1 :al!u@h JOIN #9\n\
-1 :a.net 353 al = #9 :@al\n\
-1 :a.net 366 al #9 :End of NAMES list\n";
-    let too_many = b"1 :a.net 405 al #k :You have joined too many channels\n";
-    let script = joined(alloc, &[AL, ten, b"say 1 JOIN #k\n"])?;
-    assert!(rt; ends(alloc, &script, &joined(alloc, &[tenth, too_many])?)?);
-    let in_one = b"say 1 JOIN #0,#1,#2,#3,#4,#5,#6,#7,#8,#9,#k\n";
-    let script = joined(alloc, &[AL, in_one])?;
-    assert!(rt; ends(alloc, &script, &joined(alloc, &[tenth, too_many])?)?);
-    Ok(())
+    assert!(rt; crowd_ends(alloc, 30, THIRTY) && crowd_ends(alloc, 31, THIRTY_ONE));
 }

@@ -1,284 +1,392 @@
-//! Whole scripts and what they print. The expected texts are those of the RFC's replies in the wording of docs/PROFILE.md, none of
-//! them taken from the program.
+//! The program, and how the other tests run a script. What is expected is that of the RFC's replies in the wording of docs/PROFILE.md, none of
+//! it taken from the program.
+//!
+//! A text is a script and what it prints. A line behind `> ` is a line of the script, and below it stands what is printed there, in order;
+//! all that is printed is compared.
+//! `%` stands for 160 bytes `x`, which is the most of a topic and of the text of a PART or a QUIT.
 use crate::fault::SimFault;
+use crate::message_tests::LONG;
 use crate::program::run;
 use crate::sim::run_sim;
 use std::alloc::{AllocError, Global};
+use std::cmp::min;
 use std::io;
 use std::io::{ErrorKind, Read, Write};
-use std::test::Fail;
 
-/// A server and its first client, which is registered as al.
-pub(crate) const AL: &[u8] =
-    b"server a.net\nconnect a.net h\nsay 1 NICK al\nsay 1 USER u 0 * :Al\n";
+/// The first clients, each as it registers.
+static CLIENTS: [&str; 3] = [AL, BO, CY];
 
-/// What al receives as it is registered.
-pub(crate) const WELCOME_AL: &[u8] =
-    b"1 :a.net 001 al :Welcome to the Internet Relay Network al!u@h\n\
-1 :a.net 002 al :Your host is a.net, running version treeircd-1\n\
-1 :a.net 003 al :This server was created 2024-01-01\n\
-1 :a.net 004 al a.net treeircd-1 i biklmnopstv\n\
-1 :a.net 422 al :MOTD File is missing\n";
+const AL: &str = "\
+> server a.net
+> connect a.net h
+> say 1 NICK al
+> say 1 USER u 0 * :Al
+1 :a.net 001 al :Welcome to the Internet Relay Network al!u@h
+1 :a.net 002 al :Your host is a.net, running version treeircd-1
+1 :a.net 003 al :This server was created 2024-01-01
+1 :a.net 004 al a.net treeircd-1 i biklmnopstv
+1 :a.net 422 al :MOTD File is missing
+";
 
-/// What bo, the second client, receives as it is registered.
-pub(crate) const WELCOME_BO: &[u8] =
-    b"2 :a.net 001 bo :Welcome to the Internet Relay Network bo!u@h\n\
-2 :a.net 002 bo :Your host is a.net, running version treeircd-1\n\
-2 :a.net 003 bo :This server was created 2024-01-01\n\
-2 :a.net 004 bo a.net treeircd-1 i biklmnopstv\n\
-2 :a.net 422 bo :MOTD File is missing\n";
+const BO: &str = "\
+> connect a.net h
+> say 2 NICK bo
+> say 2 USER u 0 * :Bo
+2 :a.net 001 bo :Welcome to the Internet Relay Network bo!u@h
+2 :a.net 002 bo :Your host is a.net, running version treeircd-1
+2 :a.net 003 bo :This server was created 2024-01-01
+2 :a.net 004 bo a.net treeircd-1 i biklmnopstv
+2 :a.net 422 bo :MOTD File is missing
+";
 
-pub(crate) fn joined(alloc: Global, parts: &[&[u8]]) -> Result<Vec<u8>, AllocError> {
-    let mut whole = Vec::new(alloc);
-    for part in parts {
-        whole.extend_from_slice(part)?;
-    }
-    Ok(whole)
+const CY: &str = "\
+> connect a.net h
+> say 3 NICK cy
+> say 3 USER u 0 * :Cy
+3 :a.net 001 cy :Welcome to the Internet Relay Network cy!u@h
+3 :a.net 002 cy :Your host is a.net, running version treeircd-1
+3 :a.net 003 cy :This server was created 2024-01-01
+3 :a.net 004 cy a.net treeircd-1 i biklmnopstv
+3 :a.net 422 cy :MOTD File is missing
+";
+
+/// Whether the script of a text, behind the registration of so many clients, is run to its end and prints just what the text says.
+pub(crate) fn prints(alloc: Global, clients: usize, text: &str) -> bool {
+    prints_in_pieces(alloc, usize::MAX, clients, text)
 }
 
-/// Whether a script is run to its end, and prints just this.
-pub(crate) fn prints(alloc: Global, script: &[&[u8]], expected: &[&[u8]]) -> Result<bool, Fail> {
-    let script = joined(alloc, script)?;
-    let expected = joined(alloc, expected)?;
-    let mut input = script.as_slice();
+/// The same, where a read gives at most so many bytes.
+fn prints_in_pieces(alloc: Global, size: usize, clients: usize, text: &str) -> bool {
+    let mut script = Vec::new(alloc);
+    let mut printed = Vec::new(alloc);
     let mut output = Vec::new(alloc);
-    let ended = run_sim(alloc, &mut input, &mut output);
-    Ok(ended.is_ok() && output.as_slice() == expected.as_slice())
+    add_clients(clients, &mut script, &mut printed).is_ok()
+        && add_text(text, &mut script, &mut printed).is_ok()
+        && is_run(alloc, &script, size, &mut output)
+        && output == printed
 }
 
-#[test]
-fn a_client_registers_and_speaks_to_itself(rt: HostRuntime) -> Result<(), Fail> {
-    let alloc = rt.alloc();
-    let said = b"say 1 PRIVMSG al :hi\n";
-    let seen = b"1 :al!u@h PRIVMSG al :hi\n";
-    assert!(rt; prints(alloc, &[AL, said], &[WELCOME_AL, seen])?);
-    // The last line may go without its LF.
-    assert!(rt; prints(alloc, &[AL, b"say 1 PRIVMSG al :hi"], &[WELCOME_AL, seen])?);
-    // A CR ends a line too.
-    let twice = b"say 1 PRIVMSG al :hi\rPRIVMSG al :hi\r\n";
-    assert!(rt; prints(alloc, &[AL, twice], &[WELCOME_AL, seen, seen])?);
-    Ok(())
-}
-
-#[test]
-fn scripts_without_a_server(rt: HostRuntime) -> Result<(), Fail> {
-    let alloc = rt.alloc();
-    assert!(rt; prints(alloc, &[], &[])?);
-    assert!(rt; prints(alloc, &[b"say 1 NICK al\ngone 1\n"], &[b"! 3\n! 3\n"])?);
-    // What gives no line is no event.
-    assert!(rt; prints(alloc, &[b"say 1 \nsay 1 \r\r\n"], &[])?);
-    Ok(())
-}
-
-#[test]
-fn clients_that_are_not_there(rt: HostRuntime) -> Result<(), Fail> {
-    let alloc = rt.alloc();
-    let lines =
-        b"say 0 PING x\nsay 2 PING x\ngone 18446744073709551615\ngone 1\ngone 1\nsay 1 PING x\n";
-    assert!(rt;
-        prints(
-            alloc,
-            &[AL, lines],
-            &[WELCOME_AL, b"! 3\n! 3\n! 3\n! 3\n! 3\n"]
-        )?
-    );
-    Ok(())
-}
-
-#[test]
-fn two_clients_want_one_nickname(rt: HostRuntime) -> Result<(), Fail> {
-    let alloc = rt.alloc();
-    let connected =
-        b"server a.net\nconnect a.net h\nconnect a.net h\nsay 1 NICK al\nsay 2 NICK al\n";
-    let users = b"say 1 USER u 0 * :Al\nsay 2 USER u 0 * :Bo\nsay 2 NICK bo\n";
-    let taken = b"2 :a.net 433 * al :Nickname is already in use\n";
-    assert!(rt; prints(alloc, &[connected, users], &[WELCOME_AL, taken, WELCOME_BO])?);
-    Ok(())
-}
-
-#[test]
-fn lines_of_510_bytes(rt: HostRuntime) -> Result<(), Fail> {
-    let alloc = rt.alloc();
-    let long = [b'x'; 506];
-    let answer: [&[u8]; 4] = [WELCOME_AL, b"1 :a.net PONG a.net :", &long[..491], b"\n"];
-    for length in [505, 506] {
-        let said: [&[u8]; 4] = [AL, b"say 1 PING ", &long[..length], b"\n"];
-        assert!(rt; prints(alloc, &said, &answer)?, "with {length} bytes");
-        let script = joined(alloc, &said)?;
-        let mut pieces = ByteByByte { rest: &script };
-        let mut output = Vec::new(alloc);
-        assert!(rt; run_sim(alloc, &mut pieces, &mut output).is_ok());
-        let expected = joined(alloc, &answer)?;
-        assert!(rt; output.as_slice() == expected.as_slice(), "in pieces");
-    }
-    Ok(())
-}
-
-#[test]
-fn lines_that_are_ignored_or_refused(rt: HostRuntime) -> Result<(), Fail> {
-    let alloc = rt.alloc();
-    let lines = b"say 1 :zz PING x\nsay 1 FOO\nconnect a.net h\nsay 2 JOIN #c\nsay 2 QUIT\n";
-    let answers = b"1 :a.net 421 al FOO :Unknown command\n\
-2 :a.net 451 * :You have not registered\n\
-2 ERROR :Closing link (*)\n";
-    assert!(rt; prints(alloc, &[AL, lines], &[WELCOME_AL, answers])?);
-    let quit = b"say 1 QUIT :bye\nsay 1 PING x\n";
-    let closed = b"1 ERROR :Closing link (bye)\n! 3\n";
-    assert!(rt; prints(alloc, &[AL, quit], &[WELCOME_AL, closed])?);
-    Ok(())
-}
-
-#[test]
-fn messages_to_several_targets(rt: HostRuntime) -> Result<(), Fail> {
-    let alloc = rt.alloc();
-    let nobody = b"say 1 PRIVMSG bo :hi\n";
-    let no_such = b"1 :a.net 401 al bo :No such nick/channel\n";
-    assert!(rt; prints(alloc, &[AL, nobody], &[WELCOME_AL, no_such])?);
-    let five = b"say 1 PRIVMSG al,al,al,al,zz :x\n";
-    let seen = b"1 :al!u@h PRIVMSG al :x\n";
-    let too_many = b"1 :a.net 407 al zz :Too many targets\n";
-    let expected: [&[u8]; 6] = [WELCOME_AL, seen, seen, seen, seen, too_many];
-    assert!(rt; prints(alloc, &[AL, five], &expected)?);
-    Ok(())
-}
-
-#[test]
-fn bad_scripts_are_named_by_their_line(rt: HostRuntime) -> Result<(), Fail> {
-    let alloc = rt.alloc();
-    let scripts: [(&[u8], u64); 24] = [
-        (b"\n", 1),
-        (b"server a.net\n\n", 2),
-        (b"server a\n", 1),
-        (b"server A.net\n", 1),
-        (b"server a.net \n", 1),
-        (b"server a.net b.net\n", 1),
-        (b"server a.net\nserver b.net\n", 2),
-        (b"server a.net\nserver a.net\n", 2),
-        (b"gone 1\nserver a.net\n", 2),
-        (b"connect a.net h\n", 1),
-        (b"server a.net\nconnect b.net h\n", 2),
-        (b"server a.net\nconnect a.net\n", 2),
-        (b"server a.net\nconnect a.net :h\n", 2),
-        (b"server a.net\nconnect a.net h h\n", 2),
-        (b"server a.net\nconnect a.net h\nsay 1\n", 3),
-        (b"say 00 x\n", 1),
-        (b"say 01 x\n", 1),
-        (b"say +1 x\n", 1),
-        (b"say  x\n", 1),
-        (b"say 18446744073709551616 x\n", 1),
-        (b"gone 1 \n", 1),
-        (b"gone 1\nsettle", 2),
-        (b"gone 1\nGONE 1\n", 2),
-        (b"gone 1\r\n", 1),
-    ];
-    for (script, line) in scripts {
-        let mut input: &[u8] = script;
-        let mut output = Vec::new(alloc);
-        let ended = run_sim(alloc, &mut input, &mut output);
-        assert!(rt;
-            ended == Err(SimFault::BadScript(line)),
-            "wanted line {line}"
-        );
-        assert!(rt; output.is_empty(), "printed at line {line}");
-    }
-    Ok(())
-}
-
-/// The exit status, and what was written to standard output and to standard error.
-fn ran(
-    rt: &HostRuntime,
-    words: &[&str],
-    script: &[u8],
-) -> Result<(u8, Vec<u8>, Vec<u8>), AllocError> {
-    let alloc = rt.alloc();
-    let mut given = Vec::new(alloc);
-    for word in words {
-        given.push(String::from_str(alloc, word)?)?;
-    }
-    let mut input = script;
-    let mut output = Vec::new(alloc);
-    let mut errors = Vec::new(alloc);
-    let status = run(rt, &given, &mut input, &mut output, &mut errors);
-    Ok((status, output, errors))
-}
-
-#[test]
-fn statuses_and_their_texts(rt: HostRuntime) -> Result<(), Fail> {
-    let usage: &[u8] = b"ircd: usage: ircd sim | ircd serve FILE [TURNS]\n";
-    let wrong: [&[&str]; 5] = [&[], &["Sim"], &["sim", "sim"], &["serve", "file"], &[""]];
-    for words in wrong {
-        let (status, output, errors) = ran(&rt, words, AL)?;
-        assert_eq!(rt; status, 2);
-        assert!(rt; output.is_empty() && errors.as_slice() == usage);
-    }
-    let (status, output, errors) = ran(&rt, &["sim"], AL)?;
-    assert_eq!(rt; status, 0);
-    assert!(rt; output.as_slice() == WELCOME_AL && errors.is_empty());
-    let (status, output, errors) = ran(&rt, &["sim"], b"server a.net\nsay 1\n")?;
-    assert_eq!(rt; status, 3);
-    assert!(rt; output.is_empty() && errors.as_slice() == b"ircd: line 2: bad script\n".as_slice());
-    Ok(())
-}
-
-#[test]
-fn devices_that_fail(rt: HostRuntime) -> Result<(), Fail> {
-    let alloc = rt.alloc();
-    let mut output = Vec::new(alloc);
-    let mut breaking = Breaking {
-        inner: ByteByByte { rest: AL },
+/// Whether a script is run to its end, where a read gives at most so many bytes.
+pub(crate) fn is_run(alloc: Global, script: &[u8], size: usize, output: &mut Vec<u8>) -> bool {
+    let mut input = Pieces {
+        rest: script,
+        size,
+        breaks: false,
     };
-    let ended = run_sim(alloc, &mut breaking, &mut output);
-    assert!(rt; ended == Err(SimFault::Device) && output.is_empty());
-    let ended = run_sim(alloc, &mut Endless, &mut output);
-    assert!(rt; ended == Err(SimFault::Device) && output.is_empty());
-    for lines in 0..5 {
-        let mut input = AL;
-        let mut full = Filling { lines };
-        assert!(rt;
-            run_sim(alloc, &mut input, &mut full) == Err(SimFault::Device),
-            "after {lines}"
-        );
+    run_sim(alloc, &mut input, output).is_ok()
+}
+
+fn add_clients(
+    clients: usize,
+    script: &mut Vec<u8>,
+    printed: &mut Vec<u8>,
+) -> Result<(), AllocError> {
+    for client in CLIENTS.iter().take(clients) {
+        add_text(client, script, printed)?;
     }
-    let mut errors = Vec::new(alloc);
-    let words = [String::from_str(alloc, "sim")?];
-    let status = run(&rt, &words, &mut Endless, &mut output, &mut errors);
-    assert_eq!(rt; status, 4);
-    assert!(rt; errors.as_slice() == b"ircd: failed\n".as_slice());
     Ok(())
 }
 
-/// A reader that gives one byte at a time.
-#[derive(Drop)]
-struct ByteByByte<'a> {
-    rest: &'a [u8],
+/// Appends the two parts of a text.
+pub(crate) fn add_text(
+    text: &str,
+    script: &mut Vec<u8>,
+    printed: &mut Vec<u8>,
+) -> Result<(), AllocError> {
+    for line in text.split('\n') {
+        add_line(line.as_bytes(), script, printed)?;
+    }
+    Ok(())
 }
 
-impl Read for ByteByByte<'_> {
-    fn read(&mut self, buf: &mut [u8]) -> io::Result<usize> {
-        let Some((first, rest)) = self.rest.split_first() else {
-            return Ok(0);
-        };
-        if buf.is_empty() {
-            return Ok(0);
-        }
-        buf[0] = *first;
-        self.rest = rest;
-        Ok(1)
+/// Appends a line to the part that it belongs to. What follows the last LF is no line.
+fn add_line(line: &[u8], script: &mut Vec<u8>, printed: &mut Vec<u8>) -> Result<(), AllocError> {
+    if line.is_empty() {
+        return Ok(());
+    }
+    match line.strip_prefix(b"> ") {
+        Some(said) => spell_out(said, script),
+        None => spell_out(line, printed),
     }
 }
 
-/// A reader that breaks where another would end.
-#[derive(Drop)]
-struct Breaking<'a> {
-    inner: ByteByByte<'a>,
+fn spell_out(line: &[u8], part: &mut Vec<u8>) -> Result<(), AllocError> {
+    for byte in line {
+        spell_byte(*byte, part)?;
+    }
+    part.extend_from_slice(b"\n")
 }
 
-impl Read for Breaking<'_> {
-    fn read(&mut self, buf: &mut [u8]) -> io::Result<usize> {
-        match self.inner.read(buf) {
-            Ok(0) => Err(io::Error::from(ErrorKind::Other)),
-            other => other,
+fn spell_byte(byte: u8, part: &mut Vec<u8>) -> Result<(), AllocError> {
+    if byte == b'%' {
+        part.extend_from_slice(&[b'x'; 160])
+    } else {
+        part.extend_from_slice(&[byte])
+    }
+}
+
+#[test]
+fn a_script_may_come_in_pieces(rt: HostRuntime) {
+    let alloc = rt.alloc();
+    assert!(rt;
+        prints_in_pieces(alloc, 1, 3, LONG)
+            && prints_in_pieces(alloc, 2, 3, LONG)
+            && prints_in_pieces(alloc, 509, 3, LONG)
+    );
+}
+
+/// The first client is al, the second connects at the end.
+const NOBODY: &str = "\
+> say 0 PING x
+! 3
+> say 2 PING x
+! 3
+> gone 2
+! 3
+> gone 18446744073709551615
+! 3
+> connect a.net h
+> say 2 PING x
+2 :a.net PONG a.net :x
+";
+
+#[test]
+fn clients_that_are_not_there_are_refused(rt: HostRuntime) {
+    assert!(rt; prints(rt.alloc(), 1, NOBODY));
+}
+
+/// Scripts, each with its first line that no script can have.
+static BAD_SCRIPTS: [(&[u8], u64); 24] = [
+    (b"\n", 1),
+    (b"server a.net\n\n", 2),
+    (b"server a\n", 1),
+    (b"server A.net\n", 1),
+    (b"server a.net \n", 1),
+    (b"server a.net b.net\n", 1),
+    (b"server a.net\nserver b.net\n", 2),
+    (b"server a.net\nserver a.net\n", 2),
+    (b"gone 1\nserver a.net\n", 2),
+    (b"connect a.net h\n", 1),
+    (b"server a.net\nconnect b.net h\n", 2),
+    (b"server a.net\nconnect a.net\n", 2),
+    (b"server a.net\nconnect a.net :h\n", 2),
+    (b"server a.net\nconnect a.net h h\n", 2),
+    (b"server a.net\nconnect a.net h\nsay 1\n", 3),
+    (b"say 00 x\n", 1),
+    (b"say 01 x\n", 1),
+    (b"say +1 x\n", 1),
+    (b"say  x\n", 1),
+    (b"say 18446744073709551616 x\n", 1),
+    (b"gone 1 \n", 1),
+    (b"gone 1\nsettle", 2),
+    (b"gone 1\nGONE 1\n", 2),
+    (b"gone 1\r\n", 1),
+];
+
+/// Whether a script is refused for this line, and nothing is run.
+fn is_bad_at(alloc: Global, script: &[u8], line: u64) -> bool {
+    let mut input = Pieces {
+        rest: script,
+        size: usize::MAX,
+        breaks: false,
+    };
+    let mut output = Vec::new(alloc);
+    run_sim(alloc, &mut input, &mut output) == Err(SimFault::BadScript(line)) && output.is_empty()
+}
+
+fn are_bad(alloc: Global) -> bool {
+    for (script, line) in &BAD_SCRIPTS {
+        if !is_bad_at(alloc, script, *line) {
+            return false;
         }
+    }
+    true
+}
+
+#[test]
+fn bad_scripts_are_named_by_their_line(rt: HostRuntime) {
+    assert!(rt; are_bad(rt.alloc()));
+}
+
+/// What the program is given, and what comes of it.
+struct Run {
+    words: &'static [&'static str],
+    script: &'static [u8],
+    status: u8,
+    output: &'static [u8],
+    errors: &'static [u8],
+}
+
+const USAGE: &[u8] = b"ircd: usage: ircd sim | ircd serve FILE [TURNS]\n";
+
+const PING: &[u8] = b"server a.net\nconnect a.net h\nsay 1 PING x";
+
+static RUNS: [Run; 9] = [
+    Run {
+        words: &[],
+        script: PING,
+        status: 2,
+        output: b"",
+        errors: USAGE,
+    },
+    Run {
+        words: &["Sim"],
+        script: PING,
+        status: 2,
+        output: b"",
+        errors: USAGE,
+    },
+    Run {
+        words: &["sim", "sim"],
+        script: PING,
+        status: 2,
+        output: b"",
+        errors: USAGE,
+    },
+    Run {
+        words: &["serve", "file"],
+        script: PING,
+        status: 2,
+        output: b"",
+        errors: USAGE,
+    },
+    Run {
+        words: &[""],
+        script: PING,
+        status: 2,
+        output: b"",
+        errors: USAGE,
+    },
+    Run {
+        words: &["sim"],
+        script: b"server a.net\nsay 1\n",
+        status: 3,
+        output: b"",
+        errors: b"ircd: line 2: bad script\n",
+    },
+    // The last line may go without its LF.
+    Run {
+        words: &["sim"],
+        script: PING,
+        status: 0,
+        output: b"1 :a.net PONG a.net :x\n",
+        errors: b"",
+    },
+    Run {
+        words: &["sim"],
+        script: b"",
+        status: 0,
+        output: b"",
+        errors: b"",
+    },
+    // Without a server nobody is there, and what gives no line is no event.
+    Run {
+        words: &["sim"],
+        script: b"say 1 NICK al\nsay 1 \nsay 1 \r\r\ngone 1\n",
+        status: 0,
+        output: b"! 3\n! 3\n",
+        errors: b"",
+    },
+];
+
+/// Whether the program ends so on what it is given.
+fn ends_so(rt: &HostRuntime, row: &Run) -> bool {
+    let mut words = Vec::new(rt.alloc());
+    let mut input = Pieces {
+        rest: row.script,
+        size: usize::MAX,
+        breaks: false,
+    };
+    let mut output = Vec::new(rt.alloc());
+    let mut errors = Vec::new(rt.alloc());
+    add_words(rt.alloc(), row.words, &mut words).is_ok()
+        && run(rt, &words, &mut input, &mut output, &mut errors) == row.status
+        && output.as_slice() == row.output
+        && errors.as_slice() == row.errors
+}
+
+fn add_words(alloc: Global, texts: &[&str], words: &mut Vec<String>) -> Result<(), AllocError> {
+    for text in texts {
+        words.push(String::from_str(alloc, text)?)?;
+    }
+    Ok(())
+}
+
+fn end_so(rt: &HostRuntime) -> bool {
+    for row in &RUNS {
+        if !ends_so(rt, row) {
+            return false;
+        }
+    }
+    true
+}
+
+#[test]
+fn statuses_and_their_texts(rt: HostRuntime) {
+    assert!(rt; end_so(&rt));
+}
+
+/// Whether nothing is run where a read fails behind the whole script.
+fn breaks_unread(alloc: Global) -> bool {
+    let mut input = Pieces {
+        rest: PING,
+        size: 1,
+        breaks: true,
+    };
+    let mut output = Vec::new(alloc);
+    run_sim(alloc, &mut input, &mut output) == Err(SimFault::Device) && output.is_empty()
+}
+
+/// Whether a script without an end ends the program.
+fn endless_fails(rt: &HostRuntime) -> bool {
+    let mut words = Vec::new(rt.alloc());
+    let mut output = Vec::new(rt.alloc());
+    let mut errors = Vec::new(rt.alloc());
+    add_words(rt.alloc(), &["sim"], &mut words).is_ok()
+        && run(rt, &words, &mut Endless, &mut output, &mut errors) == 4
+        && output.is_empty()
+        && errors.as_slice() == b"ircd: failed\n".as_slice()
+}
+
+/// Whether the run fails with the write behind so many lines.
+fn breaks_unwritten(alloc: Global, lines: usize) -> bool {
+    let mut input: &[u8] = b"server a.net\nconnect a.net h\nsay 1 PING x\rPING y\rPING z\n";
+    let mut output = Filling { lines };
+    run_sim(alloc, &mut input, &mut output) == Err(SimFault::Device)
+}
+
+fn all_break(alloc: Global) -> bool {
+    for lines in 0..3 {
+        if !breaks_unwritten(alloc, lines) {
+            return false;
+        }
+    }
+    true
+}
+
+#[test]
+fn devices_that_fail(rt: HostRuntime) {
+    assert!(rt; breaks_unread(rt.alloc()) && endless_fails(&rt) && all_break(rt.alloc()));
+}
+
+/// A reader that gives at most so many bytes at a time, and ends or breaks behind the last.
+#[derive(Drop)]
+struct Pieces<'a> {
+    rest: &'a [u8],
+    size: usize,
+    breaks: bool,
+}
+
+impl Read for Pieces<'_> {
+    fn read(&mut self, buf: &mut [u8]) -> io::Result<usize> {
+        if self.breaks && self.rest.is_empty() {
+            return Err(io::Error::from(ErrorKind::Other));
+        }
+        let count = min(self.size, min(buf.len(), self.rest.len()));
+        let (piece, rest) = self.rest.split_at(count);
+        buf[..count].copy_from_slice(piece);
+        self.rest = rest;
+        Ok(count)
     }
 }
 

@@ -2,7 +2,7 @@ use Rattle.std.proofs.Common.{List, subst, sym, ◌∙◌}
 use Rattle.irc_relay.specs.Links.{part, IsForest}
 use Rattle.irc_relay.specs.NewsNet.{links_of}
 use Rattle.irc_relay.specs.declared.news.Edge.{Edge}
-use Rattle.irc_relay.proofs.news.tests.star.Goals as goal
+use Rattle.tests_rooms.proofs.relay.star.Goals as goal
 
 pub returns-clause-forest : goal.returns-clause-forest
 unfolding part

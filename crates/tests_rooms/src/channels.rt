@@ -1,0 +1,87 @@
+//! Members, invitations and modes of channels (RFC 2811, sections 2 to 4).
+use crate::script::room_holds;
+
+const MEMBERS: &str = "\
+user [x a.net h X =
+user zed a.net h Z =
+user Al a.net h A =
+users = Al zed [x
+make zed #[ = zed :zed!u@h JOIN #[
+make Al #b = Al :Al!u@h JOIN #b
+join Al #{ = Al zed :Al!u@h JOIN #[
+channels AL = #b #[
+invite zed [x #{ = [x :zed!u@h INVITE [x #[
+state #{ = #[ + : Al @zed ?[x
+join [x #[ = Al zed [x :[x!u@h JOIN #[
+state #[ = #[ + : Al @zed [x
+nick Al {y = Al zed [x :Al!u@h NICK {y
+state #[ = #[ + : @zed [x {y
+topic zed #[ hello = zed [x {y :zed!u@h TOPIC #[ :hello
+mode zed #[ +k pw = zed [x {y :zed!u@h MODE #[ +k pw
+state #[ = #[ + pw :hello @zed [x {y
+part zed #[ x = zed [x {y :zed!u@h PART #[ :x
+quit [x x = {y :[x!u@h QUIT :x
+invite {y zed #[ = zed :{y!u@h INVITE zed #[
+part {y #[ x = {y :{y!u@h PART #[ :x
+state #[ = none
+make zed #{ = zed :zed!u@h JOIN #{
+state #[ = #{ + : @zed
+channels zed = #{";
+
+const MODES: &str = "\
+user al a.net h Al =
+user Bo a.net h Bo =
+make al #c = al :al!u@h JOIN #c
+join Bo #c = al Bo :Bo!u@h JOIN #c
+mode * #c +p = al Bo :a.net MODE #c +p
+state #c = #c +p : @al Bo
+mode * #c +s = al Bo :a.net MODE #c +s
+mode * #c +p = al Bo :a.net MODE #c +p
+mode * #c -p = al Bo :a.net MODE #c -p
+state #c = #c +s : @al Bo
+mode * #c -s = al Bo :a.net MODE #c -s
+state #c = #c + : @al Bo
+mode * #c imnt = al Bo :a.net MODE #c +imnt
+state #c = #c +imnt : @al Bo
+mode * #c -m+k-n pw = al Bo :a.net MODE #c -m+k-n pw
+mode * #c +k no,key = al Bo :a.net MODE #c +k no,key
+mode * #c +l 00042 = al Bo :a.net MODE #c +l 00042
+mode * #c +l 65536 = al Bo :a.net MODE #c +l 65536
+mode * #c +l 0 = al Bo :a.net MODE #c +l 0
+mode * #c +l 000001 = al Bo :a.net MODE #c +l 000001
+mode * #c +l 4x = al Bo :a.net MODE #c +l 4x
+state #c = #c +it pw 42 : @al Bo
+mode * #c -kl = al Bo :a.net MODE #c -kl
+state #c = #c +it : @al Bo
+mode * #c +l 65535 = al Bo :a.net MODE #c +l 65535
+mode * #c +bbb A[!*@* a{!*@* :x = al Bo :a.net MODE #c +bbb A[!*@* a{!*@* :x
+mode * #c +b-t a!*@* = al Bo :a.net MODE #c +b-t a!*@*
+state #c = #c +i 65535 a!*@* A[!*@* : @al Bo
+mode * #c -bi+b a{!*@* b!*@* = al Bo :a.net MODE #c -bi+b a{!*@* b!*@*
+state #c = #c + 65535 a!*@* b!*@* : @al Bo
+mode * #c +o-o+v bo AL al = al Bo :a.net MODE #c +o-o+v bo AL al
+mode * #c +o nobody = al Bo :a.net MODE #c +o nobody
+state #c = #c + 65535 a!*@* b!*@* : +al @Bo";
+
+/// Which letters take a parameter, which of them count, and which letters count once.
+const READING: &str = "\
+user al a.net h Al =
+make al #c = al :al!u@h JOIN #c
+mode * #c +v-io+kx bo al pw +n = al :a.net MODE #c +v-io+k bo al pw
+mode * #c +bbbbbbib-i a b c d = al :a.net MODE #c +bbbi a b c
+mode * #c -k+lov-l = al :a.net MODE #c -k
+mode * #c +l-l 7 = al :a.net MODE #c +l 7
+mode * #c -lk x = al :a.net MODE #c -lk x
+mode * #c +ii-i+m = al :a.net MODE #c +im
+mode * #c +vvvv al bo cy di = al :a.net MODE #c +vvv al bo cy";
+
+#[test]
+fn members_come_and_go(rt: HostRuntime) {
+    assert!(rt; room_holds(&rt, rt.alloc(), MEMBERS));
+}
+
+#[test]
+fn modes_are_read_and_changed(rt: HostRuntime) {
+    assert!(rt; room_holds(&rt, rt.alloc(), MODES));
+    assert!(rt; room_holds(&rt, rt.alloc(), READING));
+}

@@ -1,0 +1,27 @@
+//! A server that is joined to none.
+use irc_names::is_server;
+use irc_routes::{Own, Routes};
+use std::alloc::Global;
+use std::test::Fail;
+
+/// Whether a server knows itself alone.
+fn knows_itself_alone(alloc: Global, routes: &Routes) -> bool {
+    let links = routes.links(alloc);
+    let servers = routes.servers(alloc);
+    match (&links, &servers) {
+        (Ok(links), Ok(servers)) => links.is_empty() && servers.len() == 1,
+        _ => false,
+    }
+}
+
+#[test]
+fn a_server_knows_itself_alone(rt: HostRuntime) -> Result<(), Fail> {
+    let own = Own {
+        name: Vec::from_slice(rt.alloc(), b"a.net")?,
+        info: Vec::new(rt.alloc()),
+        created: Vec::new(rt.alloc()),
+    };
+    assert!(rt; is_server(&own.name));
+    assert!(rt; knows_itself_alone(rt.alloc(), &Routes::new(own)));
+    Ok(())
+}

@@ -1,0 +1,326 @@
+//! A language of small scripts on one room, that of the server a.net.
+//!
+//! A line is a verb and its words, then ` =`, and what comes of it. What comes of an effect is who sees it, those of other
+//! servers in brackets, and the line that they are shown; or why it is refused.
+//!
+//! - `user NICK HOME HOST REAL`, `nick NICK NEW`, `quit NICK TEXT`, `make NICK CHANNEL`, `join NICK CHANNEL`,
+//!   `part NICK CHANNEL TEXT`, `kick BY CHANNEL NICK`, `mode BY CHANNEL MODES`, `topic BY CHANNEL TEXT`, `say BY TARGET TEXT`,
+//!   `note BY TARGET TEXT`, `invite BY NICK CHANNEL`, `set NICK +i` and `set NICK -i` are the effects. Who makes a channel is its
+//!   operator. A `*` that changes modes or a topic is a server.
+//! - `state CHANNEL` shows its modes, key, limit and bans, its topic behind a `:`, its members with their marks, and who is
+//!   invited behind a `?`.
+//! - `users` and `channels NICK` show all users, and the channels of one.
+ghost use Rattle.std.specs.Prelude.{◌≡◌};
+ghost use Rattle.irc_room.specs.Effects.{brings_free};
+
+use arrayvec::ArrayVec;
+use irc_channels::{Channel, ModeItem, Modes, Privacy, Words, read_modes};
+use irc_line::{Text, body};
+use irc_names::{ChannelName, Host, Nick, ServerName, cut_copy};
+use irc_room::{By, Effect, ModeChanges, Room, RoomFault, Target};
+use irc_users::{RealName, User, UserName};
+use itoa::Buffer;
+use std::alloc::Global;
+use std::process::Abort;
+
+/// What comes of a line.
+pub type Shown = ArrayVec<u8, 200>;
+
+/// A verb, two words, and the text behind them.
+#[derive(Clone, Copy)]
+pub struct Row<'a> {
+    pub verb: &'a str,
+    pub first: &'a str,
+    pub second: &'a str,
+    pub text: &'a str,
+}
+
+fn row_of(line: &str) -> Row<'_> {
+    let mut words = line.splitn(4, ' ');
+    Row {
+        verb: words.next().unwrap_or(""),
+        first: words.next().unwrap_or(""),
+        second: words.next().unwrap_or(""),
+        text: words.next().unwrap_or(""),
+    }
+}
+
+pub fn append(shown: &mut Shown, bytes: &[u8]) {
+    let _ = shown.try_extend_from_slice(bytes);
+}
+
+/// Appends a word behind a space and a mark.
+pub fn append_word(shown: &mut Shown, mark: &[u8], word: &[u8]) {
+    append(shown, b" ");
+    append(shown, mark);
+    append(shown, word);
+}
+
+fn nick(rt: &impl Abort, word: &str) -> Nick {
+    Nick::read(word.as_bytes()).expect(rt, "a nickname")
+}
+
+fn channel(rt: &impl Abort, word: &str) -> ChannelName {
+    ChannelName::read(word.as_bytes()).expect(rt, "a channel's name")
+}
+
+pub fn server(rt: &impl Abort, word: &str) -> ServerName {
+    ServerName::read(word.as_bytes()).expect(rt, "a server's name")
+}
+
+/// The user that a row describes. Its user name is `u`.
+pub fn user(rt: &impl Abort, row: Row<'_>) -> User {
+    let (host, real) = row.text.split_once(' ').unwrap_or(("", ""));
+    User {
+        nick: nick(rt, row.first),
+        user: UserName::clean(b"u"),
+        host: Host::read(host.as_bytes()).expect(rt, "a host"),
+        real: RealName::cut(real.as_bytes()),
+        home: server(rt, row.second),
+        invisible: false,
+    }
+}
+
+/// The changes that the words of a MODE ask for.
+fn changes(alloc: Global, words: &str) -> ModeChanges {
+    let mut params: ArrayVec<&[u8], 15> = ArrayVec::new();
+    for word in words.split(' ') {
+        let _ = params.try_push(word.as_bytes());
+    }
+    let mut made = Vec::new(alloc);
+    for item in read_modes(alloc, &params).unwrap_or(Vec::new(alloc)) {
+        if let ModeItem::Change(change) = item {
+            let _ = made.push(change);
+        }
+    }
+    ModeChanges::new(made)
+}
+
+fn by(rt: &impl Abort, word: &str) -> By {
+    if word == "*" {
+        By::Home
+    } else {
+        By::User(nick(rt, word))
+    }
+}
+
+fn target(rt: &impl Abort, word: &str) -> Target {
+    if word.starts_with('#') {
+        Target::Channel(channel(rt, word))
+    } else {
+        Target::User(nick(rt, word))
+    }
+}
+
+/// The effect of a row that a user brings about on itself.
+fn effect_of(rt: &impl Abort, alloc: Global, row: Row<'_>) -> Effect {
+    match row.verb {
+        "user" => Effect::AddUser(user(rt, row)),
+        "nick" => Effect::Rename {
+            nick: nick(rt, row.first),
+            new: nick(rt, row.second),
+        },
+        "quit" => Effect::Quit {
+            nick: nick(rt, row.first),
+            text: Words::cut(row.second.as_bytes()),
+        },
+        "make" | "join" => Effect::Join {
+            nick: nick(rt, row.first),
+            channel: channel(rt, row.second),
+            op: row.verb == "make",
+        },
+        "part" => Effect::Part {
+            nick: nick(rt, row.first),
+            channel: channel(rt, row.second),
+            text: Words::cut(row.text.as_bytes()),
+        },
+        "set" => Effect::UserMode {
+            nick: nick(rt, row.first),
+            invisible: row.second == "+i",
+        },
+        _ => effect_on(rt, alloc, row),
+    }
+}
+
+/// The effect of a row on another user or on a channel.
+fn effect_on(rt: &impl Abort, alloc: Global, row: Row<'_>) -> Effect {
+    match row.verb {
+        "kick" => Effect::Kick {
+            by: nick(rt, row.first),
+            channel: channel(rt, row.second),
+            nick: nick(rt, row.text),
+            text: Words::cut(b"out"),
+        },
+        "mode" => Effect::ChangeModes {
+            by: by(rt, row.first),
+            channel: channel(rt, row.second),
+            changes: changes(alloc, row.text),
+        },
+        "topic" => Effect::SetTopic {
+            by: by(rt, row.first),
+            channel: channel(rt, row.second),
+            text: Words::cut(row.text.as_bytes()),
+        },
+        "invite" => Effect::Invite {
+            by: nick(rt, row.first),
+            nick: nick(rt, row.second),
+            channel: channel(rt, row.text),
+        },
+        _ => Effect::Say {
+            by: nick(rt, row.first),
+            notice: row.verb == "note",
+            target: target(rt, row.second),
+            text: cut_copy(row.text.as_bytes()),
+        },
+    }
+}
+
+/// Whether the nickname that an effect brings is free, as whoever applies one has to know.
+fn brings_free(room: &Room, effect: &Effect) -> bool
+    ensures { result ≡ brings_free room.now.room effect.now }
+{
+    match effect {
+        Effect::AddUser(user) => room.user(user.nick.as_bytes()).is_none(),
+        Effect::Rename { nick, new } => room.user(new.as_bytes()).is_none() || nick == new,
+        _ => true,
+    }
+}
+
+/// Shows who sees an effect, and what those of the own server are told.
+fn show_viewers(viewers: &[Nick], out: &[(Nick, Text)], shown: &mut Shown) {
+    let mut left = out;
+    for viewer in viewers {
+        match left.split_first() {
+            Some((first, rest)) if first.0 == *viewer => {
+                append_word(shown, b"", first.0.as_bytes());
+                left = rest;
+            }
+            _ => {
+                append_word(shown, b"(", viewer.as_bytes());
+                append(shown, b")");
+            }
+        }
+    }
+    if let Some(last) = out.last() {
+        append_word(shown, b"", body(&last.1));
+    }
+}
+
+/// Applies an effect, and shows what came of it.
+fn apply(alloc: Global, room: &mut Room, effect: &Effect, shown: &mut Shown) {
+    let viewers = room.audience(alloc, effect).unwrap_or(Vec::new(alloc));
+    let mut out = Vec::new(alloc);
+    if !brings_free(room, effect) {
+        append(shown, b" taken");
+        return;
+    }
+    match room.apply(effect, &mut out) {
+        Ok(()) => show_viewers(&viewers, &out, shown),
+        Err(RoomFault::NoSuchUser) => append(shown, b" no user"),
+        Err(RoomFault::NoSuchChannel) => append(shown, b" no channel"),
+        Err(_) => append(shown, b" no memory"),
+    }
+}
+
+fn append_if(shown: &mut Shown, flag: bool, letter: &[u8]) {
+    if flag {
+        append(shown, letter);
+    }
+}
+
+fn show_modes(modes: &Modes, shown: &mut Shown) {
+    append(shown, b" +");
+    append_if(shown, modes.invite_only, b"i");
+    append_if(shown, modes.moderated, b"m");
+    append_if(shown, modes.no_outside, b"n");
+    append_if(shown, modes.topic_locked, b"t");
+    append_if(shown, modes.privacy == Privacy::Private, b"p");
+    append_if(shown, modes.privacy == Privacy::Secret, b"s");
+    if let Some(key) = &modes.key {
+        append_word(shown, b"", key.as_bytes());
+    }
+    if let Some(limit) = modes.limit {
+        append_word(shown, b"", Buffer::new().format(limit).as_bytes());
+    }
+    for ban in modes.bans.as_slice() {
+        append_word(shown, b"", ban.as_bytes());
+    }
+}
+
+fn show_channel(channel: &Channel, shown: &mut Shown) {
+    append_word(shown, b"", channel.name.as_bytes());
+    show_modes(&channel.modes, shown);
+    append_word(shown, b":", channel.topic.as_bytes());
+    for row in channel.members.as_slice() {
+        append(shown, b" ");
+        append_if(shown, row.value.op, b"@");
+        append_if(shown, row.value.voice, b"+");
+        append(shown, &row.name);
+    }
+    for row in channel.invited.as_slice() {
+        append_word(shown, b"?", &row.name);
+    }
+}
+
+/// Shows users.
+pub fn show_users(users: &[&User], shown: &mut Shown) {
+    for user in users {
+        append_word(shown, b"", user.nick.as_bytes());
+    }
+}
+
+/// Shows the channels of a user.
+fn show_channels_of(alloc: Global, room: &Room, nick: &str, shown: &mut Shown) {
+    for row in room
+        .channels_of(alloc, nick.as_bytes())
+        .unwrap_or(Vec::new(alloc))
+    {
+        append_word(shown, b"", row.value.name.as_bytes());
+    }
+}
+
+/// What scripts are run on.
+pub trait Stage {
+    /// Does what a row says, and shows what comes of it.
+    fn perform(&mut self, rt: &impl Abort, alloc: Global, row: Row<'_>, shown: &mut Shown);
+}
+
+impl Stage for Room {
+    fn perform(&mut self, rt: &impl Abort, alloc: Global, row: Row<'_>, shown: &mut Shown) {
+        match row.verb {
+            "state" => match self.channel(row.first.as_bytes()) {
+                Some(channel) => show_channel(channel, shown),
+                None => append(shown, b" none"),
+            },
+            "users" => show_users(&self.users(alloc).unwrap_or(Vec::new(alloc)), shown),
+            "channels" => show_channels_of(alloc, self, row.first, shown),
+            _ => apply(alloc, self, &effect_of(rt, alloc, row), shown),
+        }
+    }
+}
+
+fn line_holds(rt: &impl Abort, alloc: Global, stage: &mut impl Stage, line: &str) -> bool {
+    match line.split_once(" =") {
+        Some((row, want)) => {
+            let mut shown = ArrayVec::new();
+            stage.perform(rt, alloc, row_of(row), &mut shown);
+            shown.as_slice() == want.as_bytes()
+        }
+        None => false,
+    }
+}
+
+/// Whether what comes of each line of a script is what it says.
+pub fn script_holds(rt: &impl Abort, alloc: Global, stage: &mut impl Stage, script: &str) -> bool {
+    let mut all = true;
+    for line in script.lines() {
+        all &= line_holds(rt, alloc, stage, line);
+    }
+    all
+}
+
+/// Whether a script holds of a room without users.
+pub fn room_holds(rt: &impl Abort, alloc: Global, script: &str) -> bool {
+    let mut room = Room::new(alloc, server(rt, "a.net"));
+    script_holds(rt, alloc, &mut room, script)
+}
