@@ -10,7 +10,7 @@ use std::alloc::{AllocError, Global};
 use std::marker::Model;
 
 /// The masks of a channel's bans, in folded order, no two of them alike under the fold.
-#[derive(Debug, Drop)]
+#[derive(Drop)]
 pub struct BanList {
     masks: Vec<Mask, Global>,
 }

@@ -13,7 +13,7 @@ use irc_tables::NameTable;
 use std::alloc::{AllocError, Global};
 
 /// A channel (RFC 2811 sections 2 to 4). In a table it stands under the fold of its name.
-#[derive(Debug, Drop)]
+#[derive(Drop)]
 pub struct Channel {
     /// Its name, as its maker spelled it.
     pub name: ChannelName,

@@ -23,7 +23,7 @@ use std::alloc::{AllocError, Global};
 use std::marker::Model;
 
 /// Channels, no two of which have one name by the fold.
-#[derive(Debug, Drop)]
+#[derive(Drop)]
 pub struct Channels {
     alloc: Global,
     rows: NameTable<Channel>,

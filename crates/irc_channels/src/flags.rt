@@ -1,7 +1,7 @@
 //! What a member may do in a channel.
 
 /// A member's flags (RFC 2811 section 4.1).
-#[derive(Clone, Copy, Debug, PartialEq, Eq)]
+#[derive(Clone, Copy, PartialEq, Eq)]
 pub struct Flags {
     /// It is a channel operator: mode o.
     pub op: bool,

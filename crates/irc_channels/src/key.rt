@@ -8,7 +8,7 @@ use irc_names::{MAX_KEY, copied, is_key};
 use std::marker::Model;
 
 /// A channel's key, which [`is_key`] takes.
-#[derive(Debug, Drop)]
+#[derive(Drop)]
 pub struct Key(ArrayVec<u8, MAX_KEY>);
 
 /// In a clause it is the list of its bytes.

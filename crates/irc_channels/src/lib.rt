@@ -43,8 +43,3 @@ pub const MAX_LIMIT: u16 = 65_535;
 
 /// The most digits of a limit (our own choice: as many as [`MAX_LIMIT`] has).
 pub const MAX_LIMIT_DIGITS: usize = 5;
-
-#[cfg(test)]
-mod channel_tests;
-#[cfg(test)]
-mod tests;

@@ -9,7 +9,7 @@ use irc_names::{copied, cut_copy};
 use std::marker::Model;
 
 /// The parameter of a mode: a nickname, a key, a limit or a mask, as it is written, of at most [`MAX_MODE_WORD`] bytes.
-#[derive(Debug, Drop)]
+#[derive(Drop)]
 pub struct ModeWord(ArrayVec<u8, MAX_MODE_WORD>);
 
 /// In a clause it is the list of its bytes.

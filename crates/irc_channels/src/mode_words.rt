@@ -10,7 +10,7 @@ use crate::modes::{ModeChange, ModeLetter};
 use std::alloc::{AllocError, Global};
 
 /// What a letter of a MODE asks for.
-#[derive(Debug, Drop)]
+#[derive(Drop)]
 pub enum ModeItem {
     /// A change of a mode.
     Change(ModeChange),

@@ -6,7 +6,7 @@ use crate::key::Key;
 use crate::mode_word::ModeWord;
 
 /// Who is told that a channel is there (RFC 2811 section 4.2.6).
-#[derive(Clone, Copy, Debug, PartialEq, Eq)]
+#[derive(Clone, Copy, PartialEq, Eq)]
 pub enum Privacy {
     /// Everybody.
     Public,
@@ -17,7 +17,7 @@ pub enum Privacy {
 }
 
 /// The modes of a channel (RFC 2811 section 4.2). Nothing is set in a new one.
-#[derive(Debug, Drop)]
+#[derive(Drop)]
 pub struct Modes {
     /// Mode i: who joins must have been invited.
     pub invite_only: bool,
@@ -38,7 +38,7 @@ pub struct Modes {
 }
 
 /// A mode that a channel or a member can have, by its letter.
-#[derive(Clone, Copy, Debug, PartialEq, Eq)]
+#[derive(Clone, Copy, PartialEq, Eq)]
 pub enum ModeLetter {
     /// `i`
     InviteOnly,
@@ -65,7 +65,7 @@ pub enum ModeLetter {
 }
 
 /// A change of one mode (RFC 2811 section 4).
-#[derive(Debug, Drop)]
+#[derive(Drop)]
 pub struct ModeChange {
     /// Whether it is set, or taken away.
     pub plus: bool,

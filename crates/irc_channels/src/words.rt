@@ -7,7 +7,7 @@ use irc_names::{MAX_WORDS, copied, cut_copy};
 use std::marker::Model;
 
 /// A topic, or the text of a quit, a part or a kick: at most [`MAX_WORDS`] bytes (our own choice).
-#[derive(Debug, Drop)]
+#[derive(Drop)]
 pub struct Words(ArrayVec<u8, MAX_WORDS>);
 
 /// In a clause it is the list of its bytes.

@@ -4,11 +4,9 @@ use Rattle.std.specs.List.{list_any}
 use Rattle.irc_names.specs.Fold.{key}
 use Rattle.irc_names.specs.FoldLaws.{same-tells}
 use Rattle.irc_commands.specs.Comings.{adds_user, adds_or_ends, renames_other, is_effect, QuitFirst, AddsFirst, DecidedAddsNobody, OnlyItselfIsRenamed, WhoStaysIsUser, WhoIsClosedQuits, RegisteredIsAdded, UnregisteredChangesNothing, RegisteredStays}
-use Rattle.irc_commands.specs.Join.{own_channels}
-use Rattle.irc_commands.proofs.OwnSteps.{never_own, own_adds_nobody, own_ends_nobody, own_renames_nobody}
-use Rattle.irc_commands.proofs.LeavingAll.{none_leaving}
-use Rattle.irc_commands.proofs.DecideCases.{decided_so}
-use Rattle.irc_commands.proofs.RegisterCases.{registering_so}
+use Rattle.irc_acts.specs.Moves.{own_channels}
+use Rattle.irc_commands.proofs.NeverOwn.{never_own, none_leaving, own_adds_nobody, own_ends_nobody, own_renames_nobody}
+use Rattle.irc_commands.proofs.TableCases.{decided_so, registering_so}
 
 never : {A : Type 0} → false ≡ true → A
 never e = cc

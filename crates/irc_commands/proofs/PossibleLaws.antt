@@ -1,16 +1,18 @@
 -- What is decided can be done.
-use Rattle.std.proofs.Common.{◌≡◌, ℕ, Bool, true, false, not, ◌&&◌, ◌||◌, List, refl, ◌∙◌, ap}
+use Rattle.std.proofs.Common.{◌≡◌, ℕ, Bool, true, false, not, ◌&&◌, ◌||◌, List, map, refl, ◌∙◌, ap}
 use Rattle.irc_names.specs.Fold.{key, same}
 use Rattle.irc_names.specs.FoldLaws.{same-equivalence}
 use Rattle.irc_users.specs.declared.user.User.{User}
 use Rattle.irc_room.specs.Room.{Room}
 use Rattle.irc_room.specs.Effects.{has_user}
 use Rattle.irc_commands.specs.Nick.{is_anothers}
-use Rattle.irc_commands.specs.Possible.{ArePossible, DecidedIsPossible, RegisteringIsPossible}
-use Rattle.irc_commands.proofs.OwnSteps.{stored_there, one_there, own_are_possible}
-use Rattle.irc_commands.proofs.LeavingAll.{leaving_possible}
-use Rattle.irc_commands.proofs.DecideCases.{decided_so}
-use Rattle.irc_commands.proofs.RegisterCases.{registering_so}
+use Rattle.irc_acts.specs.Possible.{ArePossible}
+use Rattle.irc_commands.specs.Possible.{DecidedIsPossible, RegisteringIsPossible}
+use Rattle.irc_acts.specs.OwnLaws.{stored_there, one_there, own_are_possible}
+use Rattle.irc_acts.specs.Moves.{own_channels}
+use Rattle.irc_membership.specs.Join.{leaves}
+use Rattle.irc_membership.specs.Laws.JoinLaw.{leaving_all_is_own}
+use Rattle.irc_commands.proofs.TableCases.{decided_so, registering_so}
 
 -- a nickname that is not another's is nobody's, or the user's own
 free_or_own : (room : Room) (me : User) (nickname : List ℕ) → is_anothers room me nickname ≡ false
@@ -35,7 +37,7 @@ decided_is_possible room place who message well =
         };
         later = tt;
       };
-      leaves_all = λ me is. leaving_possible room me well (stored_there room well (key who) me is);
+      leaves_all = λ me is. own_are_possible me room (map (leaves me) (own_channels room me)) well (stored_there room well (key who) me is) (leaving_all_is_own me room well);
       quits = λ me reason line is. record {
         now = record { users_there = one_there room me.nick (stored_there room well (key who) me is); channel_there = refl; nick_free = refl };
         later = tt;

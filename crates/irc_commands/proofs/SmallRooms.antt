@@ -14,15 +14,18 @@ use Rattle.irc_channels.specs.declared.channel.Channel.{Channel}
 use Rattle.irc_channels.specs.Texts.{cut_words}
 use Rattle.irc_room.specs.declared.effect.Target.TheVariants as target
 use Rattle.irc_numerics.specs.declared.replies.Reply.TheVariants.{NicknameInUse, CannotSendToChan, TooManyTargets}
-use Rattle.irc_commands.specs.declared.decision.Act.{Act}
-use Rattle.irc_commands.specs.declared.decision.Act.TheVariants.{Answer}
+use Rattle.irc_acts.specs.declared.act.Act.{Act}
+use Rattle.irc_acts.specs.declared.act.Act.TheVariants.{Answer}
 use Rattle.irc_commands.specs.declared.pending.Pending.{Pending}
-use Rattle.irc_commands.specs.Decisions.{Decided, Registered, does, client_words}
+use Rattle.irc_acts.specs.Acts.{client_words}
+use Rattle.irc_commands.specs.Decisions.{Decided, Registered, does}
 use Rattle.irc_commands.specs.Decide.{decide, decide_for}
+use Rattle.irc_commands.specs.Table.{row_of}
 use Rattle.irc_commands.specs.Register.{register, replies, complete, welcomed, user_of}
-use Rattle.irc_commands.specs.CommaLists.{entries}
-use Rattle.irc_commands.specs.Standing.{is_banned}
-use Rattle.irc_commands.specs.Say.{is_raised, says, to_channel, to_user, unless_notice}
+use Rattle.irc_acts.specs.CommaLists.{entries}
+use Rattle.irc_acts.specs.Standing.{is_banned}
+use Rattle.irc_commands.specs.declared.say.Verb.TheVariants as verb
+use Rattle.irc_commands.specs.Say.{say_steps, is_raised, says, to_channel, to_user, unless_notice}
 use Rattle.irc_commands.specs.Examples.{al, al_alone, a_net, line, newcomer, UnknownTarget, FifthTarget, SilentNotice, QuitWithText, UnknownWord, ForeignPrefix, EarlyJoin, TakenByFold, TakenMeanwhile, bo, als_channel, with_channel, to_channel_line, MemberIsHeard, OutsiderIsKeptOut}
 
 al_there : row al_alone.users (key (codes "al")) ≡ Some al
@@ -36,11 +39,11 @@ unfolding fold fold_table
 bo_missing = row-alter_other (key (codes "al")) (λ _. Some al) empty (key (codes "bo")) refl ∙ nobody (key (codes "bo"))
 
 pub unknown_word : UnknownWord
-unfolding decide
+unfolding decide row_of
 unknown_word = ap (decide_for al_alone a_net (line (codes "FOO") [])) al_there
 
 pub foreign_prefix : ForeignPrefix
-unfolding decide fold fold_table
+unfolding decide row_of fold fold_table
 foreign_prefix = ap (decide_for al_alone a_net (record { prefix = Some (codes "zz"); command = codes "PING"; params = codes "x" ∷ [] })) al_there
 
 pub early_join : EarlyJoin
@@ -48,28 +51,28 @@ unfolding register
 early_join = refl
 
 pub unknown_target : UnknownTarget
-unfolding decide entries
+unfolding decide row_of say_steps entries
 unknown_target =
     ap (decide_for al_alone a_net (line (codes "PRIVMSG") (codes "bo" ∷ codes "hi" ∷ []))) al_there
-    ∙ ap (λ o. does ((to_user al false (codes "bo") (codes "hi") o ++ []) ++ [])) bo_missing
+    ∙ ap (λ o. does ((to_user al verb.Privmsg (codes "bo") (codes "hi") o ++ []) ++ [])) bo_missing
 
 abbrev said : Option User → List Act
-said o = to_user al false (codes "al") (codes "x") o
+said o = to_user al verb.Privmsg (codes "al") (codes "x") o
 
 pub fifth_target : FifthTarget
-unfolding decide entries
+unfolding decide row_of say_steps entries
 fifth_target =
     ap (decide_for al_alone a_net (line (codes "privmsg") (codes "al,al,al,al,zz" ∷ codes "x" ∷ []))) al_there
     ∙ ap (λ o. does ((said o ++ (said o ++ (said o ++ (said o ++ [])))) ++ Answer (TooManyTargets (client_words (codes "zz"))) ∷ [])) al_there
 
 pub silent_notice : SilentNotice
-unfolding decide entries
+unfolding decide row_of say_steps entries
 silent_notice =
     ap (decide_for al_alone a_net (line (codes "NOTICE") (codes "bo" ∷ codes "hi" ∷ []))) al_there
-    ∙ ap (λ o. does (unless_notice true ((to_user al true (codes "bo") (codes "hi") o ++ []) ++ []))) bo_missing
+    ∙ ap (λ o. does (unless_notice verb.Notice ((to_user al verb.Notice (codes "bo") (codes "hi") o ++ []) ++ []))) bo_missing
 
 pub quit_with_text : QuitWithText
-unfolding decide cut_words line_text cut
+unfolding decide row_of cut_words line_text cut
 quit_with_text = ap (decide_for al_alone a_net (line (codes "QUIT") (codes "bye" ∷ []))) al_there
 
 pub taken_by_fold : TakenByFold
@@ -110,22 +113,22 @@ bo_outside = row-alter_other (key (codes "al")) (λ _. Some (record { op = false
 
 -- what comes of the line, by the channel that is found and by the flags of who says it
 abbrev in_channel : User → Option Channel → Decided
-in_channel me found = does ((to_channel me false (codes "#RUST") (codes "hi") found ++ []) ++ [])
+in_channel me found = does ((to_channel me verb.Privmsg (codes "#RUST") (codes "hi") found ++ []) ++ [])
 
 abbrev with_flags : User → Option Flags → Decided
 with_flags me flags =
     does ((cond ((not als_channel.modes.no_outside || is_some flags) && (not als_channel.modes.moderated || is_raised flags) && (is_raised flags || not (is_banned me als_channel)))
-    (says me false (target.Channel als_channel.name) als_channel.name (codes "hi")) (Answer (CannotSendToChan als_channel.name) ∷ []) ++ []) ++ [])
+    (says me verb.Privmsg (target.Channel als_channel.name) als_channel.name (codes "hi")) (Answer (CannotSendToChan als_channel.name) ∷ []) ++ []) ++ [])
 
 pub member_is_heard : MemberIsHeard
-unfolding decide entries
+unfolding decide row_of say_steps entries
 member_is_heard =
     ap (decide_for with_channel a_net to_channel_line) al_with_channel
     ∙ ap (in_channel al) channel_there
     ∙ ap (with_flags al) al_member
 
 pub outsider_is_kept_out : OutsiderIsKeptOut
-unfolding decide entries
+unfolding decide row_of say_steps entries
 outsider_is_kept_out =
     ap (decide_for with_channel a_net to_channel_line) bo_with_channel
     ∙ ap (in_channel bo) channel_there

@@ -8,8 +8,8 @@ use Rattle.irc_users.specs.declared.user.User.{User}
 use Rattle.irc_room.specs.declared.effect.Effect.TheVariants.{AddUser, Rename, Quit}
 use Rattle.irc_room.specs.Room.{Room, IsWellFormed}
 use Rattle.irc_routes.specs.Place.{Place}
-use Rattle.irc_commands.specs.declared.decision.Act.{Act}
-use Rattle.irc_commands.specs.declared.decision.Act.TheVariants.{Do}
+use Rattle.irc_acts.specs.declared.act.Act.{Act}
+use Rattle.irc_acts.specs.declared.act.Act.TheVariants.{Do}
 use Rattle.irc_commands.specs.declared.pending.Pending.{Pending}
 use Rattle.irc_commands.specs.Decide.{decide}
 use Rattle.irc_commands.specs.Register.{register}

@@ -1,4 +1,4 @@
--- NICK of a registered user (RFC 2812 section 3.1.2).
+-- NICK of a registered user.
 use Rattle.std.specs.Prelude.{ℕ, Bool, not, ◌&&◌, List, [], ◌∷◌, nat_eq, if◌then◌else◌}
 use Rattle.std.specs.Cmp.Lexicographic.{pointwise}
 use Rattle.irc_names.specs.Fold.{same}
@@ -8,9 +8,9 @@ use Rattle.irc_numerics.specs.declared.replies.Reply.TheVariants.{NoNicknameGive
 use Rattle.irc_room.specs.declared.effect.Effect.TheVariants.{Rename}
 use Rattle.irc_room.specs.Room.{Room}
 use Rattle.irc_room.specs.Effects.{has_user}
-use Rattle.irc_commands.specs.declared.decision.Act.{Act}
-use Rattle.irc_commands.specs.declared.decision.Act.TheVariants.{Answer, Do}
-use Rattle.irc_commands.specs.Decisions.{client_words}
+use Rattle.irc_acts.specs.declared.act.Act.{Act}
+use Rattle.irc_acts.specs.declared.act.Act.TheVariants.{Answer, Do}
+use Rattle.irc_acts.specs.Acts.{client_words}
 
 -- whether another user than this one has a nickname
 abbrev pub is_anothers : Room → User → List ℕ → Bool
@@ -24,7 +24,8 @@ nick_taken room me nickname =
     else (if pointwise nat_eq nickname me.nick then []
     else Do (Rename me.nick nickname) ∷ []))
 
-abbrev pub nick_steps : Room → User → List (List ℕ) → List Act
+-- what a NICK does (RFC 2812 section 3.1.2)
+unfoldable pub nick_steps : Room → User → List (List ℕ) → List Act
 nick_steps room me [] = Answer NoNicknameGiven ∷ []
 nick_steps room me ([] ∷ more) = Answer NoNicknameGiven ∷ []
 nick_steps room me ((b ∷ bytes) ∷ more) = nick_taken room me (b ∷ bytes)

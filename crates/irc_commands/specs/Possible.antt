@@ -1,27 +1,12 @@
 -- What is decided can be done: each change of the room is possible when its turn comes.
-use Rattle.std.specs.Prelude.{ℕ, List, [], ◌∷◌, ⊤}
+use Rattle.std.specs.Prelude.{ℕ, List}
 use Rattle.irc_line.specs.Messages.{Parsed}
-use Rattle.irc_room.specs.declared.effect.Effect.{Effect}
 use Rattle.irc_room.specs.Room.{Room, IsWellFormed}
-use Rattle.irc_room.specs.Effects.{IsPossible}
-use Rattle.irc_room.specs.After.{after}
 use Rattle.irc_routes.specs.Place.{Place}
-use Rattle.irc_commands.specs.declared.decision.Act.{Act}
-use Rattle.irc_commands.specs.declared.decision.Act.TheVariants.{Do}
+use Rattle.irc_acts.specs.Possible.{ArePossible}
 use Rattle.irc_commands.specs.declared.pending.Pending.{Pending}
 use Rattle.irc_commands.specs.Decide.{decide}
 use Rattle.irc_commands.specs.Register.{register}
-
--- an effect is possible in a room, and what is left holds after it
-pub record IsPossibleFirst (room : Room) (effect : Effect) (left : Type 0) : Type 0 where
-  pub now : IsPossible room effect
-  pub later : left
-
--- each effect of these steps is possible in the room that those before it have left
-abbrev pub ArePossible : Room → List Act → Type 0
-ArePossible room [] = ⊤
-ArePossible room (Do effect ∷ acts) = IsPossibleFirst room effect (ArePossible (after room effect) acts)
-ArePossible room (act ∷ acts) = ArePossible room acts
 
 -- whatever a user's line is, a room does what is decided
 abbrev pub DecidedIsPossible : Type 0

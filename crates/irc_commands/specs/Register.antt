@@ -9,16 +9,18 @@ use Rattle.irc_room.specs.declared.effect.Effect.TheVariants.{AddUser}
 use Rattle.irc_room.specs.Room.{Room}
 use Rattle.irc_room.specs.Effects.{has_user}
 use Rattle.irc_routes.specs.Place.{Place}
-use Rattle.irc_commands.specs.declared.decision.Act.{Act}
-use Rattle.irc_commands.specs.declared.decision.Act.TheVariants.{Answer, Raw, Do}
+use Rattle.irc_acts.specs.declared.act.Act.{Act}
+use Rattle.irc_acts.specs.declared.act.Act.TheVariants.{Answer, Raw, Do}
 use Rattle.irc_commands.specs.declared.pending.Pending.{Pending}
-use Rattle.irc_commands.specs.declared.command.Command.{Command}
-use Rattle.irc_commands.specs.declared.command.Command.TheVariants as command
-use Rattle.irc_commands.specs.Commands.{command_of}
-use Rattle.irc_commands.specs.Decisions.{Registered, kept, client_words}
-use Rattle.irc_commands.specs.Marks.{asterisk}
+use Rattle.irc_commands.specs.declared.table.Command.{Command}
+use Rattle.irc_commands.specs.declared.table.Command.TheVariants as command
+use Rattle.irc_commands.specs.Table.{command_of}
+use Rattle.irc_acts.specs.Acts.{kept, client_words}
+use Rattle.irc_commands.specs.Decisions.{Registered}
+use Rattle.irc_acts.specs.Marks.{asterisk}
 use Rattle.irc_commands.specs.Ping.{ping_steps}
-use Rattle.irc_commands.specs.Quit.{error_line, reason_given}
+use Rattle.irc_acts.specs.Words.{reason_given}
+use Rattle.irc_commands.specs.Quit.{error_line}
 use Rattle.irc_commands.specs.Decide.{is_from}
 
 -- the name that replies are sent to: the nickname chosen so far, or `*`
@@ -39,15 +41,13 @@ user_of place pending nickname username = record {
   invisible = false;
 }
 
+-- what a new user is told of the server
+abbrev pub server_told : Place → List Act
+server_told place = Answer (YourHost place.name) ∷ Answer (Created (kept place.created)) ∷ Answer (MyInfo place.name) ∷ Answer NoMotd ∷ []
+
 -- the user is added, and welcomed (RFC 2812 section 5.1)
 abbrev pub welcomed : Place → User → List Act
-welcomed place member =
-    Do (AddUser member)
-    ∷ Answer (Welcome member.nick (kept member.user) member.host)
-    ∷ Answer (YourHost place.name)
-    ∷ Answer (Created (kept place.created))
-    ∷ Answer (MyInfo place.name)
-    ∷ Answer NoMotd ∷ []
+welcomed place member = Do (AddUser member) ∷ Answer (Welcome member.nick (kept member.user) member.host) ∷ server_told place
 
 -- Once nickname and user name are there the connection is registered, unless a registered user has the nickname by now: then it has none.
 abbrev pub completed : Room → Place → Pending → Option (List ℕ) → Option (List ℕ) → Registered

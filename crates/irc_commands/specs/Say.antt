@@ -1,4 +1,4 @@
--- PRIVMSG and NOTICE (RFC 2812 section 3.3).
+-- PRIVMSG and NOTICE.
 use Rattle.std.specs.Prelude.{ℕ, ◌-◌, Bool, true, false, not, ◌&&◌, ◌||◌, Option, Some, None, List, [], ◌∷◌, ◌++◌, codes, length, take, drop, filter, nat_eq, is_some, if◌then◌else◌}
 use Rattle.std.specs.List.{flat_map}
 use Rattle.irc_names.specs.Fold.{key}
@@ -14,12 +14,14 @@ use Rattle.irc_room.specs.declared.effect.Target.TheVariants as target
 use Rattle.irc_room.specs.declared.effect.Effect.TheVariants.{Say}
 use Rattle.irc_room.specs.Room.{Room}
 use Rattle.irc_commands.specs.declared.TheConstants.{MAX_TARGETS}
-use Rattle.irc_commands.specs.declared.decision.Act.{Act}
-use Rattle.irc_commands.specs.declared.decision.Act.TheVariants.{Answer, Do}
-use Rattle.irc_commands.specs.Decisions.{kept, client_words}
-use Rattle.irc_commands.specs.Marks.{hash}
-use Rattle.irc_commands.specs.CommaLists.{entries}
-use Rattle.irc_commands.specs.Standing.{is_banned}
+use Rattle.irc_commands.specs.declared.say.Verb.{Verb}
+use Rattle.irc_commands.specs.declared.say.Verb.TheVariants as verb
+use Rattle.irc_acts.specs.declared.act.Act.{Act}
+use Rattle.irc_acts.specs.declared.act.Act.TheVariants.{Answer, Do}
+use Rattle.irc_acts.specs.Acts.{kept, client_words}
+use Rattle.irc_acts.specs.Marks.{hash}
+use Rattle.irc_acts.specs.CommaLists.{entries}
+use Rattle.irc_acts.specs.Standing.{is_banned}
 
 abbrev pub is_channel_target : List ℕ → Bool
 is_channel_target [] = false
@@ -39,33 +41,38 @@ may_speak user channel =
     && (not channel.modes.moderated || is_raised flags)
     && (is_raised flags || not (is_banned user channel))
 
-abbrev pub say_command : Bool → List ℕ
-say_command notice = if notice then codes "NOTICE" else codes "PRIVMSG"
+abbrev pub is_notice : Verb → Bool
+is_notice verb.Privmsg = false
+is_notice verb.Notice = true
+
+abbrev pub say_command : Verb → List ℕ
+say_command verb.Privmsg = codes "PRIVMSG"
+say_command verb.Notice = codes "NOTICE"
 
 -- the text, cut so that the line for clients is not (our own choice)
-abbrev pub said_text : User → Bool → List ℕ → List ℕ → List ℕ
-said_text me notice to words =
-    let empty = joined_text (record { sender = full me.nick me.user me.host; command = say_command notice; middle = to ∷ []; last = Some [] }) in
+abbrev pub said_text : User → Verb → List ℕ → List ℕ → List ℕ
+said_text me which to words =
+    let empty = joined_text (record { sender = full me.nick me.user me.host; command = say_command which; middle = to ∷ []; last = Some [] }) in
     take (MAX_LINE - length empty) words
 
-abbrev pub says : User → Bool → Target → List ℕ → List ℕ → List Act
-says me notice to name words = Do (Say me.nick notice to (kept (said_text me notice name words))) ∷ []
+abbrev pub says : User → Verb → Target → List ℕ → List ℕ → List Act
+says me which to name words = Do (Say me.nick (is_notice which) to (kept (said_text me which name words))) ∷ []
 
 -- a target that was found is written as stored, one that was not as given
-abbrev pub to_channel : User → Bool → List ℕ → List ℕ → Option Channel → List Act
-to_channel me notice word words None = Answer (NoSuchNick (client_words word)) ∷ []
-to_channel me notice word words (Some channel) =
-    if may_speak me channel then says me notice (target.Channel channel.name) channel.name words
+abbrev pub to_channel : User → Verb → List ℕ → List ℕ → Option Channel → List Act
+to_channel me which word words None = Answer (NoSuchNick (client_words word)) ∷ []
+to_channel me which word words (Some channel) =
+    if may_speak me channel then says me which (target.Channel channel.name) channel.name words
     else Answer (CannotSendToChan channel.name) ∷ []
 
-abbrev pub to_user : User → Bool → List ℕ → List ℕ → Option User → List Act
-to_user me notice word words None = Answer (NoSuchNick (client_words word)) ∷ []
-to_user me notice word words (Some user) = says me notice (target.User user.nick) user.nick words
+abbrev pub to_user : User → Verb → List ℕ → List ℕ → Option User → List Act
+to_user me which word words None = Answer (NoSuchNick (client_words word)) ∷ []
+to_user me which word words (Some user) = says me which (target.User user.nick) user.nick words
 
-abbrev pub to_one : Room → User → Bool → List ℕ → List ℕ → List Act
-to_one room me notice words name =
-    if is_channel_target name then to_channel me notice name words (row room.channels (key name))
-    else to_user me notice name words (row room.users (key name))
+abbrev pub to_one : Room → User → Verb → List ℕ → List ℕ → List Act
+to_one room me which words name =
+    if is_channel_target name then to_channel me which name words (row room.channels (key name))
+    else to_user me which name words (row room.users (key name))
 
 -- the target behind the last that is served, if there is one
 abbrev pub too_many : List (List ℕ) → List Act
@@ -77,15 +84,17 @@ is_answer (Answer reply) = true
 is_answer other = false
 
 -- a NOTICE is never answered
-abbrev pub unless_notice : Bool → List Act → List Act
-unless_notice notice steps = if notice then filter (λ step. not (is_answer step)) steps else steps
+abbrev pub unless_notice : Verb → List Act → List Act
+unless_notice verb.Privmsg steps = steps
+unless_notice verb.Notice steps = filter (λ step. not (is_answer step)) steps
 
-abbrev pub say_to : Room → User → Bool → List ℕ → List ℕ → List Act
-say_to room me notice targets words =
-    flat_map (to_one room me notice words) (take MAX_TARGETS (entries targets)) ++ too_many (drop MAX_TARGETS (entries targets))
+abbrev pub say_to : Room → User → Verb → List ℕ → List ℕ → List Act
+say_to room me which targets words =
+    flat_map (to_one room me which words) (take MAX_TARGETS (entries targets)) ++ too_many (drop MAX_TARGETS (entries targets))
 
-abbrev pub say_steps : Room → User → Bool → List (List ℕ) → List Act
-say_steps room me notice [] = unless_notice notice (Answer (NoRecipient (client_words (say_command notice))) ∷ [])
-say_steps room me notice (targets ∷ []) = unless_notice notice (Answer NoTextToSend ∷ [])
-say_steps room me notice (targets ∷ [] ∷ more) = unless_notice notice (Answer NoTextToSend ∷ [])
-say_steps room me notice (targets ∷ (b ∷ bytes) ∷ more) = unless_notice notice (say_to room me notice targets (b ∷ bytes))
+-- what a PRIVMSG or a NOTICE does (RFC 2812 section 3.3)
+unfoldable pub say_steps : Room → User → Verb → List (List ℕ) → List Act
+say_steps room me which [] = unless_notice which (Answer (NoRecipient (client_words (say_command which))) ∷ [])
+say_steps room me which (targets ∷ []) = unless_notice which (Answer NoTextToSend ∷ [])
+say_steps room me which (targets ∷ [] ∷ more) = unless_notice which (Answer NoTextToSend ∷ [])
+say_steps room me which (targets ∷ (b ∷ bytes) ∷ more) = unless_notice which (say_to room me which targets (b ∷ bytes))

@@ -1,4 +1,4 @@
--- TOPIC (RFC 2812 section 3.2.4).
+-- TOPIC.
 use Rattle.std.specs.Prelude.{ℕ, not, ◌&&◌, Option, Some, None, List, [], ◌∷◌, codes, if◌then◌else◌}
 use Rattle.irc_names.specs.Fold.{key}
 use Rattle.irc_names.specs.Tables.{row}
@@ -10,10 +10,10 @@ use Rattle.irc_numerics.specs.declared.replies.Reply.TheVariants.{NeedMoreParams
 use Rattle.irc_room.specs.declared.effect.By.TheVariants as by
 use Rattle.irc_room.specs.declared.effect.Effect.TheVariants.{SetTopic}
 use Rattle.irc_room.specs.Room.{Room}
-use Rattle.irc_commands.specs.declared.decision.Act.{Act}
-use Rattle.irc_commands.specs.declared.decision.Act.TheVariants.{Answer, Do}
-use Rattle.irc_commands.specs.Decisions.{kept, client_words}
-use Rattle.irc_commands.specs.Standing.{is_known}
+use Rattle.irc_acts.specs.declared.act.Act.{Act}
+use Rattle.irc_acts.specs.declared.act.Act.TheVariants.{Answer, Do}
+use Rattle.irc_acts.specs.Acts.{kept, client_words}
+use Rattle.irc_acts.specs.Standing.{is_known}
 
 -- what a client is told of a topic; an empty one is none
 abbrev pub topic_told : List ℕ → List ℕ → Act
@@ -37,6 +37,7 @@ topic_of me name more None = Answer (NoSuchChannel (client_words name))
 topic_of me name more (Some channel) =
     if is_known me channel then topic_known me channel more else Answer (NoSuchChannel (client_words name))
 
-abbrev pub topic_steps : Room → User → List (List ℕ) → List Act
+-- what a TOPIC does (RFC 2812 section 3.2.4)
+unfoldable pub topic_steps : Room → User → List (List ℕ) → List Act
 topic_steps room me [] = Answer (NeedMoreParams (client_words (codes "TOPIC"))) ∷ []
 topic_steps room me (name ∷ more) = topic_of me name more (row room.channels (key name)) ∷ []

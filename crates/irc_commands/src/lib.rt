@@ -1,42 +1,27 @@
-//! What a client's line does: the command table.
+//! What a client's line does: the command table, registration, and the commands of users on the server.
 #![tactic(auto)]
 
-mod admitting;
-mod comma_lists;
-mod command;
+mod closing;
 mod deciding;
 mod decision;
 pub mod examples;
-mod joined;
-mod joining;
 pub mod laws;
-mod lines;
-mod name_lists;
-mod naming;
-#[cfg(test)]
-mod naming_tests;
-mod parting;
-#[cfg(test)]
-mod parting_tests;
+mod nick;
 mod pending;
-mod refusals;
+mod ping;
+mod quit;
 mod registering;
-mod renaming;
-mod saying;
-mod speaking;
-mod standing;
-#[cfg(test)]
-mod tests;
-mod topics;
+mod say;
+mod table;
+mod topic;
 
-pub use command::Command;
 pub use deciding::decide;
-pub use decision::{Act, Decision};
+pub use decision::Decision;
+pub use irc_acts::Act;
+pub use irc_membership::MAX_JOINED;
 pub use pending::{Pending, Registration};
 pub use registering::register;
+pub use table::Command;
 
 /// The most targets of one PRIVMSG or NOTICE that are served (our own choice).
 pub const MAX_TARGETS: usize = 4;
-
-/// The most channels that a user is in by its own joining (our own choice).
-pub const MAX_JOINED: usize = 10;

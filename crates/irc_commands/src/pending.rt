@@ -1,13 +1,13 @@
 //! What a connection has given before it is registered.
 ghost use Rattle.std.specs.Prelude.{◌≡◌, None, []};
 
-use crate::decision::Act;
+use irc_acts::Act;
 use irc_names::{Host, Nick};
 use irc_users::{RealName, UserName};
 use std::alloc::Global;
 
 /// A connection that is not registered (RFC 2812 section 3.1).
-#[derive(Debug, Drop)]
+#[derive(Drop)]
 pub struct Pending {
     /// The nickname that it has chosen, if it has one.
     pub nick: Option<Nick>,
@@ -20,7 +20,7 @@ pub struct Pending {
 }
 
 /// What a line of such a connection does.
-#[derive(Debug, Drop)]
+#[derive(Drop)]
 pub struct Registration {
     /// What it has given now.
     pub pending: Pending,

@@ -1,19 +1,23 @@
 //! What a line of a connection does that is not registered.
-ghost use Rattle.std.specs.Prelude.{◌≡◌, ℕ, ◌≤◌, Bool, List, [], ◌∷◌, Some, map, length, IfOk};
+ghost use Rattle.std.specs.Prelude.{◌≡◌, ℕ, ◌≤◌, Bool, List, [], ◌∷◌, ◌++◌, Some, map, length, IfOk, OnOk};
 ghost use Rattle.irc_names.specs.Fold.{same};
-ghost use Rattle.irc_commands.specs.declared.decision.Act.TheVariants.{Answer};
 ghost use Rattle.irc_line.specs.MessageViews.{optional_now, params_now, parsed};
 ghost use Rattle.irc_line.specs.PartViews.{words_now};
+ghost use Rattle.irc_acts.specs.declared.act.Act.{Act};
+ghost use Rattle.irc_acts.specs.declared.act.Act.TheVariants.{Answer};
 ghost use Rattle.irc_commands.specs.CodeViews.{registered_of};
 ghost use Rattle.irc_commands.specs.Decide.{is_from};
-ghost use Rattle.irc_commands.specs.Register.{register, replies, complete, nick_chosen, nick_row, user_row, quit_row, welcomed, reply_name};
+ghost use Rattle.irc_commands.specs.Table.{command_of};
+ghost use Rattle.irc_commands.specs.Register.{register, replies, complete, nick_chosen, nick_row, user_row, quit_row, welcomed, reply_name, server_told, pending_row_of};
 
-use crate::command::Command;
-use crate::deciding::{is_own, ping};
-use crate::decision::Act;
-use crate::lines::{client_words, error, reason_given};
+use crate::closing::error;
+use crate::deciding::is_own;
 use crate::pending::{Pending, Registration};
-use irc_channels::Words;
+use crate::ping;
+use crate::table::Command;
+use irc_acts::refusals::need_more_params;
+use irc_acts::words::{client_words, reason_given};
+use irc_acts::{Act, only, put};
 use irc_line::Message;
 use irc_names::{Nick, copied};
 use irc_numerics::Reply;
@@ -25,52 +29,75 @@ use std::alloc::{AllocError, Global};
 /// How many parameters USER needs (RFC 2812 section 3.1.3).
 const USER_PARAMETERS: usize = 4;
 
-/// These steps, and nothing else changes.
-fn replied(pending: Pending, steps: Vec<Act, Global>) -> Registration
-    ensures { registered_of result ≡ replies pending steps.items }
+/// Whatever the steps are, nothing else changes.
+fn replied(
+    pending: Pending,
+    steps: Result<Vec<Act, Global>, AllocError>,
+) -> Result<Registration, AllocError>
+    ensures { (want : List Act) → IfOk steps (λ s. s.items ≡ want) → IfOk result (λ r. registered_of r ≡ replies pending want) }
+{
+    let steps = steps?;
+    Ok(Registration {
+        pending,
+        steps,
+        registered: false,
+        close: false,
+    })
+}
+
+/// No step, and nothing else changes.
+fn ignored(alloc: Global, pending: Pending) -> Registration
+    ensures { registered_of result ≡ replies pending [] }
 {
     Registration {
         pending,
-        steps,
+        steps: Vec::new(alloc),
         registered: false,
         close: false,
     }
 }
 
-/// One reply, and nothing else changes.
-fn answered(alloc: Global, pending: Pending, reply: Reply) -> Result<Registration, AllocError>
-    ensures { IfOk result (λ r. registered_of r ≡ replies pending (Answer reply ∷ [])) }
+/// One step, and nothing else changes.
+fn answered(alloc: Global, pending: Pending, answer: Act) -> Result<Registration, AllocError>
+    ensures { IfOk result (λ r. registered_of r ≡ replies pending (answer ∷ [])) }
 {
-    let mut steps = Vec::new(alloc);
-    steps.push(Act::Answer(reply))?;
-    Ok(replied(pending, steps))
+    replied(pending, only(alloc, answer))
 }
 
-/// The steps of somebody who is a user now.
+/// The steps of somebody who is a user now (RFC 2812 section 5.1).
 fn welcome(alloc: Global, routes: &Routes, user: User) -> Result<Vec<Act, Global>, AllocError>
     ensures { IfOk result (λ steps. steps.items ≡ welcomed routes.now user) }
 {
+    let told = Act::Answer(Reply::Welcome {
+        nick: user.nick.copy(),
+        user: copied(user.user.as_bytes()),
+        host: user.host.copy(),
+    });
     let mut steps = Vec::with_capacity(alloc, 6)?;
-    let nick = user.nick.copy();
-    let name = copied(user.user.as_bytes());
-    let host = user.host.copy();
-    steps.push(Act::Do(Effect::AddUser(user)))?;
-    steps.push(Act::Answer(Reply::Welcome {
-        nick,
-        user: name,
-        host,
-    }))?;
-    steps.push(Act::Answer(Reply::YourHost {
-        server: routes.name().copy(),
-    }))?;
-    steps.push(Act::Answer(Reply::Created {
-        created: copied(routes.created()),
-    }))?;
-    steps.push(Act::Answer(Reply::MyInfo {
-        server: routes.name().copy(),
-    }))?;
-    steps.push(Act::Answer(Reply::NoMotd))?;
+    put(&mut steps, Act::Do(Effect::AddUser(user)))?;
+    put(&mut steps, told)?;
+    tell_of_server(&mut steps, routes)?;
     Ok(steps)
+}
+
+/// Appends what a new user is told of the server.
+fn tell_of_server(steps: &mut Vec<Act, Global>, routes: &Routes) -> Result<(), AllocError>
+    ensures { OnOk result (steps.new.items ≡ steps.old.items ++ server_told routes.now) }
+{
+    let server = routes.name();
+    let your_host = Reply::YourHost {
+        server: server.copy(),
+    };
+    let created = Reply::Created {
+        created: copied(routes.created()),
+    };
+    let my_info = Reply::MyInfo {
+        server: server.copy(),
+    };
+    put(steps, Act::Answer(your_host))?;
+    put(steps, Act::Answer(created))?;
+    put(steps, Act::Answer(my_info))?;
+    put(steps, Act::Answer(Reply::NoMotd))
 }
 
 /// Registers a connection that has given a nickname and a user name, unless a registered user has the nickname by now: then the
@@ -84,7 +111,7 @@ fn complete(
     ensures { IfOk result (λ r. registered_of r ≡ complete room.now.room routes.now pending) }
 {
     let (Some(nick), Some(user)) = (&pending.nick, &pending.user) else {
-        return Ok(replied(pending, Vec::new(alloc)));
+        return Ok(ignored(alloc, pending));
     };
     if room.user(nick.as_bytes()).is_some() {
         let taken = nick.copy();
@@ -92,7 +119,8 @@ fn complete(
             nick: None,
             ..pending.copy()
         };
-        return answered(alloc, without, Reply::NicknameInUse { nick: taken });
+        let refusal = Act::Answer(Reply::NicknameInUse { nick: taken });
+        return answered(alloc, without, refusal);
     }
     let user = User {
         nick: nick.copy(),
@@ -121,16 +149,13 @@ fn choose_nick(
     ensures { IfOk result (λ r. registered_of r ≡ nick_chosen room.now.room routes.now pending given.now) }
 {
     let Some(nick) = Nick::read(given) else {
-        return answered(
-            alloc,
-            pending,
-            Reply::ErroneousNickname {
-                nick: client_words(given),
-            },
-        );
+        let nick = client_words(given);
+        let refusal = Act::Answer(Reply::ErroneousNickname { nick });
+        return answered(alloc, pending, refusal);
     };
     if room.user(given).is_some() {
-        return answered(alloc, pending, Reply::NicknameInUse { nick });
+        let refusal = Act::Answer(Reply::NicknameInUse { nick });
+        return answered(alloc, pending, refusal);
     }
     let chosen = Pending {
         nick: Some(nick),
@@ -151,7 +176,7 @@ fn take_nick(
 {
     match params.first() {
         Some(given) if !given.is_empty() => choose_nick(alloc, room, routes, pending, given),
-        _ => answered(alloc, pending, Reply::NoNicknameGiven),
+        _ => answered(alloc, pending, Act::Answer(Reply::NoNicknameGiven)),
     }
 }
 
@@ -166,8 +191,7 @@ fn take_user(
     ensures { IfOk result (λ r. registered_of r ≡ user_row room.now.room routes.now pending (words_now params.now)) }
 {
     if params.len() < USER_PARAMETERS {
-        let command = client_words(b"USER");
-        return answered(alloc, pending, Reply::NeedMoreParams { command });
+        return answered(alloc, pending, need_more_params(b"USER"));
     }
     let named = Pending {
         user: Some(UserName::clean(params[0])),
@@ -186,8 +210,7 @@ fn give_up(alloc: Global, pending: Pending, params: &[&[u8]]) -> Result<Registra
         None => b"*",
     };
     let reason = reason_given(params, name);
-    let mut steps = Vec::new(alloc);
-    steps.push(Act::Raw(error(&reason)))?;
+    let steps = only(alloc, Act::Raw(error(&reason)))?;
     Ok(Registration {
         pending,
         steps,
@@ -210,17 +233,31 @@ pub fn register(
 ) -> Result<Registration, AllocError>
     ensures { IfOk result (λ r. registered_of r ≡ register room.now.room routes.now pending.now (parsed message.now)) }
 {
-    let params = message.params.as_slice();
     let now = pending.copy();
-    if !is_own(message.prefix, pending.nick.as_ref()) {
-        return Ok(replied(now, Vec::new(alloc)));
+    if is_own(message.prefix, pending.nick.as_ref()) {
+        register_for(alloc, room, routes, now, message)
+    } else {
+        Ok(ignored(alloc, now))
     }
+}
+
+/// The row of the table that the line of such a connection fits.
+fn register_for(
+    alloc: Global,
+    room: &Room,
+    routes: &Routes,
+    now: Pending,
+    message: &Message<'_>,
+) -> Result<Registration, AllocError>
+    ensures { IfOk result (λ r. registered_of r ≡ pending_row_of room.now.room routes.now now (params_now message.now.params) (command_of message.now.command.now)) }
+{
+    let params = message.params.as_slice();
     match Command::read(message.command) {
-        Some(Command::Pass | Command::Pong) => Ok(replied(now, Vec::new(alloc))),
+        Some(Command::Pass | Command::Pong) => Ok(ignored(alloc, now)),
         Some(Command::Nick) => take_nick(alloc, room, routes, now, params),
         Some(Command::User) => take_user(alloc, room, routes, now, params),
-        Some(Command::Ping) => Ok(replied(now, ping(alloc, routes, params)?)),
+        Some(Command::Ping) => replied(now, ping::steps(alloc, routes, params)),
         Some(Command::Quit) => give_up(alloc, now, params),
-        _ => answered(alloc, now, Reply::NotRegistered),
+        _ => answered(alloc, now, Act::Answer(Reply::NotRegistered)),
     }
 }

@@ -9,8 +9,6 @@ mod framing;
 pub mod laws;
 pub mod limits;
 mod reading;
-#[cfg(test)]
-mod tests;
 mod writing;
 
 pub use framing::{Framer, Line, lines_of_pieces};

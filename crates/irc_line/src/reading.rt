@@ -33,7 +33,7 @@ pub enum LineFault {
 }
 
 /// A line read as a message (RFC 2812 section 2.3.1). Its words are slices of the line.
-#[derive(Debug, Drop)]
+#[derive(Drop)]
 pub struct Message<'a> {
     /// What stands between a first colon and the next space.
     pub prefix: Option<&'a [u8]>,

@@ -16,7 +16,7 @@ pub type Text = ArrayVec<u8, MAX_TEXT>;
 const LINE_END: &[u8] = b"\r\n";
 
 /// Who sends a message (RFC 2812 section 2.3.1).
-#[derive(Clone, Copy, Debug)]
+#[derive(Clone, Copy)]
 pub enum Prefix<'a> {
     /// The line has no prefix.
     Nothing,
@@ -34,7 +34,7 @@ pub enum Prefix<'a> {
 }
 
 /// The parts of a message.
-#[derive(Clone, Copy, Debug)]
+#[derive(Clone, Copy)]
 pub struct Parts<'a> {
     /// Who sends it.
     pub prefix: Prefix<'a>,

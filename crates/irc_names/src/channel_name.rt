@@ -19,7 +19,7 @@ use std::marker::Model;
 
 /// The name of a channel: at most [`MAX_CHANNEL`] bytes that [`is_channel`] takes, as spelled. Two are equal where
 /// their folds are, and stand in the order of their folds.
-#[derive(Debug, Drop)]
+#[derive(Drop)]
 pub struct ChannelName(ArrayVec<u8, MAX_CHANNEL>);
 
 /// In a clause it is the list of its bytes, of which its rule holds always.

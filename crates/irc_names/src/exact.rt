@@ -46,7 +46,7 @@ impl Folded for Mask {
 
 /// A name compared by its fold first and by its bytes after it: two are equal where they are spelled alike, and spellings of one
 /// name stand side by side.
-#[derive(Clone, Debug, Drop)]
+#[derive(Clone, Drop)]
 pub struct Exact<T>(pub T);
 
 impl<T: Folded> PartialEq for Exact<T> {

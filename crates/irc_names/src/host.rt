@@ -10,7 +10,7 @@ use std::alloc::AllocError;
 use std::marker::Model;
 
 /// A host, by name or by address: at most [`MAX_HOST`] bytes that [`is_host`] takes. Two are compared byte by byte.
-#[derive(Debug, Drop, Eq, Hash, Ord, PartialEq, PartialOrd)]
+#[derive(Drop, Eq, Hash, Ord, PartialEq, PartialOrd)]
 pub struct Host(ArrayVec<u8, MAX_HOST>);
 
 /// In a clause it is the list of its bytes, of which its rule holds always.

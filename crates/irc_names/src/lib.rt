@@ -58,6 +58,3 @@ pub const MAX_INFO: usize = 63;
 
 /// The longest text that says when a server was created (our own choice).
 pub const MAX_CREATED: usize = 30;
-
-#[cfg(test)]
-mod tests;

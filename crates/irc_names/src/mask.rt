@@ -19,7 +19,7 @@ use std::marker::Model;
 
 /// The mask of a ban: at most [`MAX_MASK`] bytes that [`is_mask`] takes, as spelled. Two are equal where
 /// their folds are, and stand in the order of their folds.
-#[derive(Debug, Drop)]
+#[derive(Drop)]
 pub struct Mask(ArrayVec<u8, MAX_MASK>);
 
 /// In a clause it is the list of its bytes, of which its rule holds always.

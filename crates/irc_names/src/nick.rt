@@ -19,7 +19,7 @@ use std::marker::Model;
 
 /// A nickname: at most [`MAX_NICK`] bytes that [`is_nick`] takes, as spelled. Two are equal where
 /// their folds are, and stand in the order of their folds.
-#[derive(Debug, Drop)]
+#[derive(Drop)]
 pub struct Nick(ArrayVec<u8, MAX_NICK>);
 
 /// In a clause it is the list of its bytes, of which its rule holds always.

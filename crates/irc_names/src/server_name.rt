@@ -10,7 +10,7 @@ use std::alloc::AllocError;
 use std::marker::Model;
 
 /// The name of a server: at most [`MAX_SERVER`] bytes that [`is_server`] takes. Two are compared byte by byte.
-#[derive(Debug, Drop, Eq, Hash, Ord, PartialEq, PartialOrd)]
+#[derive(Drop, Eq, Hash, Ord, PartialEq, PartialOrd)]
 pub struct ServerName(ArrayVec<u8, MAX_SERVER>);
 
 /// In a clause it is the list of its bytes, of which its rule holds always.

@@ -9,8 +9,6 @@ mod lists;
 mod refusals;
 mod replies;
 mod statistics;
-#[cfg(test)]
-mod tests;
 mod users;
 mod writing;
 

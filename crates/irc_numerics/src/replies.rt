@@ -35,7 +35,7 @@ pub type Key = ArrayVec<u8, MAX_KEY>;
 pub type ModeLetters = ArrayVec<u8, MAX_MODE_LETTERS>;
 
 /// What a member of a channel is there.
-#[derive(Clone, Copy, Debug, PartialEq, Eq)]
+#[derive(Clone, Copy, PartialEq, Eq)]
 pub enum Mark {
     /// A member, and no more.
     Plain,
@@ -59,7 +59,7 @@ impl Mark {
 }
 
 /// Who may know of a channel (RFC 2811 section 4.2.6).
-#[derive(Clone, Copy, Debug, PartialEq, Eq)]
+#[derive(Clone, Copy, PartialEq, Eq)]
 pub enum Visibility {
     /// Everybody.
     Public,
@@ -83,7 +83,7 @@ impl Visibility {
 }
 
 /// A member in the list of a channel's members.
-#[derive(Debug, Drop)]
+#[derive(Drop)]
 pub struct Listed {
     /// What it is on that channel.
     pub mark: Mark,
@@ -108,7 +108,7 @@ impl Default for Listed {
 }
 
 /// A channel in the list of a user's channels.
-#[derive(Debug, Drop)]
+#[derive(Drop)]
 pub struct OnChannel {
     /// What the user is there.
     pub mark: Mark,
@@ -134,7 +134,7 @@ impl Default for OnChannel {
 
 /// A numeric reply (RFC 2812 section 5), in the order of the numbers. It owns what it says, so that it outlives changes of what
 /// it was decided on.
-#[derive(Debug, Drop)]
+#[derive(Drop)]
 pub enum Reply {
     /// 001, with the user's full name.
     Welcome {

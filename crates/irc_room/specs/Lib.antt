@@ -11,3 +11,5 @@ pub mod Signs
 pub mod LineViews
 pub mod RoomParts
 pub mod Telling
+pub mod InTurn
+pub mod InTurnLaws

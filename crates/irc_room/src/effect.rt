@@ -9,7 +9,7 @@ use std::alloc::Global;
 use std::marker::Model;
 
 /// Changes of modes that are made one after another.
-#[derive(Debug, Drop)]
+#[derive(Drop)]
 pub struct ModeChanges {
     changes: Vec<ModeChange, Global>,
 }
@@ -41,7 +41,7 @@ impl ModeChanges {
 }
 
 /// Who changes a channel.
-#[derive(Debug, Drop)]
+#[derive(Drop)]
 pub enum By {
     /// The user with this nickname.
     User(Nick),
@@ -50,7 +50,7 @@ pub enum By {
 }
 
 /// Whom a text is for.
-#[derive(Debug, Drop)]
+#[derive(Drop)]
 pub enum Target {
     /// The user with this nickname.
     User(Nick),
@@ -59,7 +59,7 @@ pub enum Target {
 }
 
 /// A change of a room, or a text that is said in it. Nothing else changes a room.
-#[derive(Debug, Drop)]
+#[derive(Drop)]
 pub enum Effect {
     /// A user registers (RFC 2812 section 3.1).
     AddUser(User),

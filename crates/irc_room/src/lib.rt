@@ -19,8 +19,3 @@ mod showing;
 pub use effect::{By, Effect, ModeChanges, Target};
 pub use fault::RoomFault;
 pub use room::Room;
-
-#[cfg(test)]
-mod room_tests;
-#[cfg(test)]
-mod tests;

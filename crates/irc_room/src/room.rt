@@ -29,7 +29,7 @@ use std::alloc::{AllocError, Global};
 use std::marker::Model;
 
 /// One room, as a server keeps it.
-#[derive(Debug, Drop)]
+#[derive(Drop)]
 pub struct Room {
     own: ServerName,
     failed: bool,

@@ -6,6 +6,3 @@ mod routes;
 
 pub use own::Own;
 pub use routes::Routes;
-
-#[cfg(test)]
-mod tests;

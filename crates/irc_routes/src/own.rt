@@ -2,7 +2,7 @@
 use std::alloc::Global;
 
 /// A server's own row.
-#[derive(Debug, Drop)]
+#[derive(Drop)]
 pub struct Own {
     /// Its name, which [`irc_names::is_server`] takes.
     pub name: Vec<u8, Global>,

@@ -4,7 +4,7 @@ use Rattle.std.specs.List.{cons_option}
 use Rattle.std.proofs.lemmas.List.{drop_more, drop_all}
 use Rattle.arrayvec.specs.ArrayVec.{ArrayVec}
 use Rattle.irc_room.specs.Seen.{Showing}
-use Rattle.irc_commands.specs.Decisions.{kept}
+use Rattle.irc_acts.specs.Acts.{kept}
 use Rattle.irc_server.specs.declared.clients.Connected.{Connected}
 use Rattle.irc_server.specs.declared.event.Out.{Out}
 use Rattle.irc_server.specs.declared.event.Out.TheVariants.{ToClient}

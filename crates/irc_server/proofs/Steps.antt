@@ -9,12 +9,12 @@ use Rattle.irc_room.specs.declared.effect.Effect.TheVariants.{AddUser, Rename, Q
 use Rattle.irc_room.specs.Room.{Room}
 use Rattle.irc_room.specs.Seen.{seen}
 use Rattle.irc_routes.specs.Place.{Place}
-use Rattle.irc_commands.specs.declared.decision.Act.{Act}
-use Rattle.irc_commands.specs.declared.decision.Act.TheVariants.{Answer, Raw, Do}
+use Rattle.irc_acts.specs.declared.act.Act.{Act}
+use Rattle.irc_acts.specs.declared.act.Act.TheVariants.{Answer, Raw, Do}
 use Rattle.irc_commands.specs.declared.pending.Pending.{Pending}
-use Rattle.irc_commands.specs.Decisions.{kept}
+use Rattle.irc_acts.specs.Acts.{kept}
 use Rattle.irc_commands.specs.Register.{register}
-use Rattle.irc_commands.specs.Possible.{ArePossible}
+use Rattle.irc_acts.specs.Possible.{ArePossible}
 use Rattle.irc_commands.specs.Comings.{adds_user, is_effect, AddsFirst, RegisteredIsAdded, UnregisteredChangesNothing}
 use Rattle.irc_server.specs.declared.event.Out.{Out}
 use Rattle.irc_server.specs.declared.event.Out.TheVariants.{ToClient, CloseClient}

@@ -17,7 +17,7 @@ use Rattle.irc_room.specs.Room.{Room, IsWellFormed}
 use Rattle.irc_room.specs.Effects.{IsPossible}
 use Rattle.irc_room.proofs.Rows.{same_some}
 use Rattle.irc_routes.specs.Place.{Place}
-use Rattle.irc_commands.specs.declared.decision.Act.{Act}
+use Rattle.irc_acts.specs.declared.act.Act.{Act}
 use Rattle.irc_commands.specs.declared.pending.Pending.{Pending}
 use Rattle.irc_commands.specs.Comings.{DecidedAddsNobody, RegisteredIsAdded, UnregisteredChangesNothing}
 use Rattle.irc_commands.specs.Decide.{decide}

@@ -13,9 +13,10 @@ use Rattle.irc_room.specs.declared.effect.Effect.TheVariants.{Quit, Rename}
 use Rattle.irc_room.specs.Room.{Room}
 use Rattle.irc_room.specs.After.{after}
 use Rattle.irc_room.specs.Seen.{Showing, seen}
-use Rattle.irc_commands.specs.declared.decision.Act.{Act}
-use Rattle.irc_commands.specs.declared.decision.Act.TheVariants.{Answer, Raw, Do}
-use Rattle.irc_commands.specs.Decisions.{Decided, kept}
+use Rattle.irc_acts.specs.declared.act.Act.{Act}
+use Rattle.irc_acts.specs.declared.act.Act.TheVariants.{Answer, Raw, Do}
+use Rattle.irc_acts.specs.Acts.{kept}
+use Rattle.irc_commands.specs.Decisions.{Decided}
 use Rattle.irc_commands.specs.Decisions.{Registered as Given}
 use Rattle.irc_commands.specs.Decide.{decide}
 use Rattle.irc_commands.specs.Register.{register}

@@ -9,8 +9,8 @@ use Rattle.irc_room.specs.declared.effect.Effect.TheVariants.{AddUser}
 use Rattle.irc_room.specs.Room.{IsWellFormed}
 use Rattle.irc_room.specs.Applying.{Kept}
 use Rattle.irc_room.specs.Seen.{Showing}
-use Rattle.irc_commands.specs.declared.decision.Act.{Act}
-use Rattle.irc_commands.specs.declared.decision.Act.TheVariants.{Do}
+use Rattle.irc_acts.specs.declared.act.Act.{Act}
+use Rattle.irc_acts.specs.declared.act.Act.TheVariants.{Do}
 use Rattle.irc_server.specs.declared.clients.Connected.{Connected}
 use Rattle.irc_server.specs.declared.event.Out.{Out}
 use Rattle.irc_server.specs.declared.stage.Stage.{Stage}

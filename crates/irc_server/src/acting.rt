@@ -6,7 +6,7 @@ ghost use Rattle.irc_line.specs.MessageViews.{parsed};
 ghost use Rattle.irc_names.specs.Fold.{key};
 ghost use Rattle.irc_names.specs.Tables.{row};
 ghost use Rattle.irc_commands.specs.CodeViews.{registered_of};
-ghost use Rattle.irc_commands.specs.Possible.{ArePossible};
+ghost use Rattle.irc_acts.specs.Possible.{ArePossible};
 ghost use Rattle.irc_server.specs.Handle.{client_after, fresh, gone, lost_text, pending_decided, said_by, user_decided, user_of};
 ghost use Rattle.irc_server.specs.Happening.{Does};
 ghost use Rattle.irc_server.specs.View.{client_of, with_client, with_new_client, without_client};

@@ -14,7 +14,7 @@ use irc_names::{Nick, copied};
 use std::alloc::{AllocError, Global};
 
 /// A connection: it has not registered, or it is a user.
-#[derive(Debug, Drop)]
+#[derive(Drop)]
 pub enum Client {
     /// It has given so much.
     Registering(Pending),
@@ -23,7 +23,7 @@ pub enum Client {
 }
 
 /// A client, under the number of its connection.
-#[derive(Debug, Drop)]
+#[derive(Drop)]
 pub struct Connected {
     /// The number.
     pub conn: u64,

@@ -21,7 +21,7 @@ const LF: u8 = b'\n';
 const COLON: u8 = b':';
 
 /// A server that may be linked to.
-#[derive(Debug, Drop)]
+#[derive(Drop)]
 pub struct Peer {
     /// Its name, which [`irc_names::is_server`] takes.
     pub name: Vec<u8, Global>,
@@ -30,7 +30,7 @@ pub struct Peer {
 }
 
 /// What a server is configured to be.
-#[derive(Debug, Drop)]
+#[derive(Drop)]
 pub struct Config {
     /// The server itself.
     pub own: Own,

@@ -4,7 +4,7 @@ use irc_names::Host;
 use thiserror::Error;
 
 /// What happens to a server. Connections are numbered by the caller.
-#[derive(Debug, Drop)]
+#[derive(Drop)]
 pub enum Event {
     /// A client connects from a host.
     Connect(u64, Host),
@@ -15,7 +15,7 @@ pub enum Event {
 }
 
 /// What a server puts out.
-#[derive(Debug, Drop)]
+#[derive(Drop)]
 pub enum Out {
     /// A line to a client.
     ToClient(u64, Text),

@@ -7,8 +7,6 @@ mod config;
 mod event;
 mod server;
 mod stage;
-#[cfg(test)]
-mod tests;
 
 pub use clients::{Client, Connected};
 pub use config::{Config, ConfigFault, MAX_PASSWORD, Peer};

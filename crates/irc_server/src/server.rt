@@ -18,7 +18,7 @@ use std::alloc::Global;
 use std::marker::Model;
 
 /// One server.
-#[derive(Debug, Drop)]
+#[derive(Drop)]
 pub struct Server {
     failed: bool,
     stage: Stage,

@@ -4,14 +4,14 @@ ghost use Rattle.irc_line.specs.MessageViews.{optional_now};
 ghost use Rattle.irc_room.specs.After.{after};
 ghost use Rattle.irc_room.specs.Effects.{IsPossible};
 ghost use Rattle.irc_room.specs.Seen.{seen};
-ghost use Rattle.irc_commands.specs.Possible.{ArePossible};
+ghost use Rattle.irc_acts.specs.Possible.{ArePossible};
 ghost use Rattle.irc_server.specs.Handle.{all_stepped, clients_after, closing, stepped, with_effect};
 ghost use Rattle.irc_server.specs.Grown.{Grew};
 ghost use Rattle.irc_server.specs.Stage.{so_far, shown_of, IsReady, IsSound, BringsHome, BringHome};
 
 use crate::clients::{Connected, rename, show_all, take_out};
 use crate::event::Out;
-use irc_commands::Act;
+use irc_acts::Act;
 use irc_line::Text;
 use irc_names::{Nick, copied};
 use irc_numerics::reply_line;
@@ -20,7 +20,7 @@ use irc_routes::Routes;
 use std::alloc::{AllocError, Global};
 
 /// What a server is made of.
-#[derive(Debug, Drop)]
+#[derive(Drop)]
 pub(crate) struct Stage {
     /// Its own row, and the servers that it knows.
     pub routes: Routes,

@@ -4,6 +4,3 @@
 mod table;
 
 pub use table::{NameTable, Row, RowAttempt, RowChange};
-
-#[cfg(test)]
-mod tests;

@@ -13,7 +13,7 @@ use std::alloc::{AllocError, Global};
 use std::marker::Model;
 
 /// A row of a table.
-#[derive(Debug, Drop)]
+#[derive(Drop)]
 pub struct Row<V> {
     /// The name that it stands under, as spelled.
     pub name: ArrayVec<u8, MAX_CHANNEL>,
@@ -22,7 +22,7 @@ pub struct Row<V> {
 }
 
 /// Rows, no two of which have one name by the fold.
-#[derive(Debug, Drop)]
+#[derive(Drop)]
 pub struct NameTable<V> {
     rows: Vec<Row<V>, Global>,
 }

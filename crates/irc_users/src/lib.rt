@@ -10,6 +10,3 @@ pub use fault::{RenameFault, UsersFault};
 pub use texts::{RealName, UserName};
 pub use user::User;
 pub use users::Users;
-
-#[cfg(test)]
-mod tests;

@@ -8,7 +8,7 @@ use std::marker::Model;
 
 /// A user name: at most [`MAX_USER_NAME`] bytes that are letters, digits, `-`, `.`, `_` or `~` (our own choice; RFC 2812
 /// section 2.3.1 takes more).
-#[derive(Debug, Drop)]
+#[derive(Drop)]
 pub struct UserName(ArrayVec<u8, MAX_USER_NAME>);
 
 /// In a clause it is the list of its bytes.
@@ -66,7 +66,7 @@ fn clean_byte(byte: u8) -> u8
 }
 
 /// A real name: at most [`MAX_REAL_NAME`] bytes (our own choice).
-#[derive(Debug, Drop)]
+#[derive(Drop)]
 pub struct RealName(ArrayVec<u8, MAX_REAL_NAME>);
 
 /// In a clause it is the list of its bytes.

@@ -5,7 +5,7 @@ use crate::texts::{RealName, UserName};
 use irc_names::{Host, Nick, ServerName};
 
 /// A registered user (RFC 2812 sections 3.1.2 and 3.1.3).
-#[derive(Debug, Drop)]
+#[derive(Drop)]
 pub struct User {
     /// Its nickname, as spelled.
     pub nick: Nick,

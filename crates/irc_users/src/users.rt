@@ -15,7 +15,7 @@ use std::alloc::{AllocError, Global};
 use std::marker::Model;
 
 /// Users, no two of which have one nickname by the fold.
-#[derive(Debug, Drop)]
+#[derive(Drop)]
 pub struct Users {
     rows: Vec<User, Global>,
 }

@@ -11,7 +11,7 @@ use std::io::Write;
 use thiserror::Error;
 
 /// What can go wrong with any script.
-#[derive(Clone, Copy, Debug, Drop, PartialEq, Eq)]
+#[derive(Clone, Copy, Drop, PartialEq, Eq)]
 pub enum Trouble {
     /// Memory ran out.
     Memory,
@@ -61,7 +61,7 @@ impl From<Trouble> for SimFault {
 }
 
 /// Why the program ends with another status than 0.
-#[derive(Clone, Copy, Debug, Drop, PartialEq, Eq)]
+#[derive(Clone, Copy, Drop, PartialEq, Eq)]
 pub enum Stop {
     /// The words of the command line ask for nothing that the program does.
     Usage,

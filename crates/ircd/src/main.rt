@@ -5,9 +5,17 @@
 mod channel_tests;
 mod events;
 mod fault;
+#[cfg(test)]
+mod leaving_tests;
+#[cfg(test)]
+mod message_tests;
+#[cfg(test)]
+mod nickname_tests;
 mod number;
 mod printing;
 mod program;
+#[cfg(test)]
+mod registration_tests;
 mod script;
 mod sim;
 mod stage;

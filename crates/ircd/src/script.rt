@@ -16,7 +16,7 @@ const LINE_FEED: u8 = b'\n';
 const SPACE: u8 = b' ';
 
 /// What a line of a script asks for, behind the `server` line.
-#[derive(Debug, Drop)]
+#[derive(Drop)]
 pub enum Command<'a> {
     /// A client connects to the server from this host.
     Connect(Host),
@@ -27,7 +27,7 @@ pub enum Command<'a> {
 }
 
 /// A script that is read whole.
-#[derive(Debug, Drop)]
+#[derive(Drop)]
 pub struct Script<'a> {
     /// The server, if the script names one.
     pub server: Option<ServerName>,

@@ -25,7 +25,7 @@ const CREATED: &[u8] = b"2024-01-01";
 const FIRST_CLIENT: u64 = 1;
 
 /// The server of a script, if it has one.
-#[derive(Debug, Drop)]
+#[derive(Drop)]
 pub struct Stage {
     alloc: Global,
     server: Option<Server>,

@@ -7,7 +7,7 @@ use std::env::{Env, args};
 use std::io::ErrorKind;
 
 /// What the program is asked to do.
-#[derive(Clone, Copy, Debug, PartialEq, Eq)]
+#[derive(Clone, Copy, PartialEq, Eq)]
 pub enum Task {
     /// To run the script on standard input.
     Sim,

@@ -1,6 +1,6 @@
 use Rattle.std.proofs.Common.{ap, sym, subst}
 use Rattle.irc_commands.specs.Decisions.{Registered}
-use Rattle.irc_commands.specs.Possible.{ArePossible}
+use Rattle.irc_acts.specs.Possible.{ArePossible}
 use Rattle.irc_server.proofs.WhatEventsDo.{registering_home}
 use Rattle.irc_server.proofs.acting.hear.Goals as goal
 

@@ -1,6 +1,6 @@
 use Rattle.std.proofs.Common.{◌≡◌, drop}
 use Rattle.irc_line.specs.MessageViews.{optional_now}
-use Rattle.irc_commands.specs.Possible.{ArePossible}
+use Rattle.irc_acts.specs.Possible.{ArePossible}
 use Rattle.irc_server.specs.Handle.{all_stepped}
 use Rattle.irc_server.specs.Grown.{Grew}
 use Rattle.irc_server.specs.Stage.{so_far, IsReady, BringHome}

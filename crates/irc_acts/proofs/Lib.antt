@@ -1,0 +1,3 @@
+pub mod EntriesFromTheFront
+pub mod CountedRows
+pub mod MovesAhead

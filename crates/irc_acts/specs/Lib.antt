@@ -1,0 +1,14 @@
+pub mod ByTest
+pub mod Marks
+pub mod Acts
+pub mod Words
+pub mod CommaLists
+pub mod Standing
+pub mod Ahead
+pub mod AheadLaws
+pub mod Moves
+pub mod MoveLaws
+pub mod Loops
+pub mod Possible
+pub mod Own
+pub mod OwnLaws

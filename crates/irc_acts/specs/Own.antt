@@ -1,0 +1,29 @@
+-- The effects by which a user does something and stays what it is: texts, channels that it joins or leaves, and topics.
+use Rattle.std.specs.Prelude.{◌≡◌, ℕ, Bool, Some, List}
+use Rattle.irc_names.specs.Fold.{key}
+use Rattle.irc_names.specs.Tables.{row}
+use Rattle.irc_users.specs.declared.user.User.{User}
+use Rattle.irc_channels.specs.declared.channel.Channel.{Channel}
+use Rattle.irc_room.specs.declared.effect.By.TheVariants as by
+use Rattle.irc_room.specs.declared.effect.Target.TheVariants as target
+use Rattle.irc_room.specs.declared.effect.Effect.{Effect}
+use Rattle.irc_room.specs.declared.effect.Effect.TheVariants.{Join, Part, SetTopic, Say}
+use Rattle.irc_room.specs.Room.{Room}
+use Rattle.irc_room.specs.InTurn.{EachInTurn}
+use Rattle.irc_acts.specs.declared.act.Act.{Act}
+use Rattle.irc_acts.specs.Acts.{kept, effects_among}
+
+-- the user does it, and what it names was found in the room, under some spelling
+pub data IsOwn (me : User) (room : Room) : Effect → Type 0 where
+  to_user : (name : List ℕ) (other : User) (notice : Bool) (words : List ℕ) → row room.users (key name) ≡ Some other
+      → IsOwn me room (Say me.nick notice (target.User other.nick) (kept words))
+  to_channel : (name : List ℕ) (channel : Channel) (notice : Bool) (words : List ℕ) → row room.channels (key name) ≡ Some channel
+      → IsOwn me room (Say me.nick notice (target.Channel channel.name) (kept words))
+  joins : (name : List ℕ) (op : Bool) → IsOwn me room (Join me.nick name op)
+  parts : (name text : List ℕ) (channel : Channel) → row room.channels (key name) ≡ Some channel → IsOwn me room (Part me.nick channel.name text)
+  sets_topic : (name text : List ℕ) (channel : Channel) → row room.channels (key name) ≡ Some channel
+      → IsOwn me room (SetTopic (by.User me.nick) channel.name text)
+
+-- each effect of these steps is its own in the room that those before it have left
+abbrev pub AreOwn : User → Room → List Act → Type 0
+AreOwn me room acts = EachInTurn (IsOwn me) room (effects_among acts)

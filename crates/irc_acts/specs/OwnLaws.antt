@@ -1,0 +1,98 @@
+-- What follows where each effect of some steps is its user's own.
+use Rattle.std.proofs.Common.{◌≡◌, ℕ, true, ◌&&◌, is_some, Some, List, [], ◌∷◌, refl, sym, ◌∙◌, ap, subst}
+use Rattle.std.specs.Prelude.{⊤}
+use Rattle.std.specs.List.{AllByRecursion, list_all}
+use Rattle.irc_names.specs.Fold.{key}
+use Rattle.irc_names.specs.Tables.{row}
+use Rattle.irc_users.specs.declared.user.User.{User}
+use Rattle.irc_channels.specs.declared.channel.Channel.{Channel}
+use Rattle.irc_room.specs.declared.effect.Effect.{Effect}
+use Rattle.irc_room.specs.Room.{Room, IsWellFormed}
+use Rattle.irc_room.specs.Effects.{IsPossible, has_user, has_channel}
+use Rattle.irc_room.specs.After.{after}
+use Rattle.irc_room.specs.InTurn.{EachInTurn}
+use Rattle.irc_room.proofs.WellFormedLaw.{after_is_well_formed}
+use Rattle.irc_acts.specs.declared.act.Act.{Act}
+use Rattle.irc_acts.specs.declared.act.Act.TheVariants.{Answer, Raw, Do}
+use Rattle.irc_acts.specs.Acts.{effects_among}
+use Rattle.irc_acts.specs.Possible.{ArePossible}
+use Rattle.irc_acts.specs.Own.{IsOwn, to_user, to_channel, joins, parts, sets_topic, AreOwn}
+
+-- an answer, a line, or a text: it leaves the room as it is
+pub record LeavesRoom (me : User) (room : Room) (effect : Effect) : Type 0 where
+  pub own : IsOwn me room effect
+  pub same : after room effect ≡ room
+
+abbrev pub IsSaid : User → Room → Act → Type 0
+IsSaid me room (Do effect) = LeavesRoom me room effect
+IsSaid me room act = ⊤
+
+pub said_own : (me : User) (room : Room) (acts : List Act) → AllByRecursion (IsSaid me room) acts → AreOwn me room acts
+said_own me room [] all = tt
+said_own me room (Answer reply ∷ acts) all = said_own me room acts all.1
+said_own me room (Raw line ∷ acts) all = said_own me room acts all.1
+said_own me room (Do effect ∷ acts) all = record {
+  now = all.0.own;
+  later = subst (λ r. AreOwn me r acts) (sym all.0.same) (said_own me room acts all.1);
+}
+
+-- Such steps can be done by a user that is there.
+
+-- a user, or a channel, that is found is there under its own name
+pub stored_there : (room : Room) → IsWellFormed room → (fold : List ℕ) (found : User) → row room.users fold ≡ Some found → has_user room found.nick ≡ true
+stored_there room well fold found is = ap is_some (ap (row room.users) (well.users_named fold found is) ∙ is)
+
+channel_there : (room : Room) → IsWellFormed room → (fold : List ℕ) (found : Channel) → row room.channels fold ≡ Some found → has_channel room found.name ≡ true
+channel_there room well fold found is = ap is_some (ap (row room.channels) ((well.channels_sound fold found is).named) ∙ is)
+
+pub one_there : (room : Room) (nick : List ℕ) → has_user room nick ≡ true → list_all (has_user room) (nick ∷ []) ≡ true
+one_there room nick there = ap (λ b. b && true) there
+
+two_there : (room : Room) (nick other : List ℕ) → has_user room nick ≡ true → has_user room other ≡ true → list_all (has_user room) (nick ∷ other ∷ []) ≡ true
+two_there room nick other there other_there = ap (λ b. b && (has_user room other && true)) there ∙ one_there room other other_there
+
+own_possible : (me : User) (room : Room) (effect : Effect) → IsWellFormed room → has_user room me.nick ≡ true → IsOwn me room effect → IsPossible room effect
+own_possible me room effect well there (to_user name other notice words is) = record {
+  users_there = two_there room me.nick other.nick there (stored_there room well (key name) other is);
+  channel_there = refl;
+  nick_free = refl;
+}
+own_possible me room effect well there (to_channel name channel notice words is) = record {
+  users_there = one_there room me.nick there;
+  channel_there = channel_there room well (key name) channel is;
+  nick_free = refl;
+}
+own_possible me room effect well there (joins name op) = record { users_there = one_there room me.nick there; channel_there = refl; nick_free = refl }
+own_possible me room effect well there (parts name text channel is) = record {
+  users_there = one_there room me.nick there;
+  channel_there = channel_there room well (key name) channel is;
+  nick_free = refl;
+}
+own_possible me room effect well there (sets_topic name text channel is) = record {
+  users_there = one_there room me.nick there;
+  channel_there = channel_there room well (key name) channel is;
+  nick_free = refl;
+}
+
+-- none of them changes a user
+own_stays : (me : User) (room : Room) (effect : Effect) → IsOwn me room effect → (after room effect).users ≡ room.users
+unfolding after
+own_stays me room effect (to_user name other notice words is) = refl
+own_stays me room effect (to_channel name channel notice words is) = refl
+own_stays me room effect (joins name op) = refl
+own_stays me room effect (parts name text channel is) = refl
+own_stays me room effect (sets_topic name text channel is) = refl
+
+own_are_so : (me : User) (room : Room) (effects : List Effect) → IsWellFormed room → has_user room me.nick ≡ true → EachInTurn (IsOwn me) room effects
+    → EachInTurn IsPossible room effects
+own_are_so me room [] well there own = tt
+own_are_so me room (effect ∷ effects) well there own =
+    let possible = own_possible me room effect well there own.now in
+    record {
+      now = possible;
+      later = own_are_so me (after room effect) effects (after_is_well_formed room effect well possible)
+          (ap (λ users. is_some (row users (key me.nick))) (own_stays me room effect own.now) ∙ there) own.later;
+    }
+
+pub own_are_possible : (me : User) (room : Room) (acts : List Act) → IsWellFormed room → has_user room me.nick ≡ true → AreOwn me room acts → ArePossible room acts
+own_are_possible me room acts = own_are_so me room (effects_among acts)

@@ -1,0 +1,61 @@
+//! Lists whose entries are parted by commas (RFC 2812 section 2.3.1).
+ghost use Rattle.std.specs.Prelude.{◌≡◌, ◌≤◌, ◌<◌, false, not, [], ◌∷◌, length, take, drop, MatchOption};
+ghost use Rattle.std.specs.List.{list_any};
+ghost use Rattle.irc_line.specs.Bytes.{begins};
+ghost use Rattle.irc_line.specs.MessageViews.{optional_now};
+ghost use Rattle.irc_acts.specs.CommaLists.{is_comma, entries, pieces, pieces_left, length_left};
+
+const COMMA: u8 = b',';
+
+/// The first entry of a comma list that is not empty, and the list behind it.
+pub fn next_entry(list: &[u8]) -> Option<(&[u8], &[u8])>
+    ensures { MatchOption result (entries list.now ≡ []) (λ e. (entries list.now ≡ e.0.now ∷ entries e.1.now) × (length e.1.now < length list.now)) }
+{
+    let behind = skip_commas(list);
+    if behind.is_empty() {
+        return None;
+    }
+    let end = entry_length(behind);
+    Some((&behind[..end], &behind[end..]))
+}
+
+/// The first piece of a comma list, which may be empty, and the list behind its comma, if there is one.
+pub fn first_piece(list: &[u8]) -> (&[u8], Option<&[u8]>)
+    ensures parted { pieces list.now ≡ result.0.now ∷ pieces_left (optional_now result.1) }
+    ensures shorter { length_left (optional_now result.1) ≤ length list.now }
+{
+    let end = entry_length(list);
+    if end == list.len() {
+        (list, None)
+    } else {
+        (&list[..end], Some(&list[end + 1..]))
+    }
+}
+
+/// The list behind the commas at its front.
+fn skip_commas(list: &[u8]) -> &[u8]
+    ensures same { entries result.now ≡ entries list.now }
+    ensures entry { begins is_comma result.now ≡ false }
+    ensures shorter { length result.now ≤ length list.now }
+{
+    for (i, byte) in list.iter().enumerate() {
+        if *byte != COMMA {
+            return &list[i..];
+        }
+    }
+    &[]
+}
+
+/// How long the entry at the front of a list is.
+fn entry_length(list: &[u8]) -> usize
+    ensures fits { result ≤ length list.now }
+    ensures no_comma { list_any is_comma (take result list.now) ≡ false }
+    ensures ends { begins (λ b. not (is_comma b)) (drop result list.now) ≡ false }
+{
+    for (i, byte) in list.iter().enumerate() {
+        if *byte == COMMA {
+            return i;
+        }
+    }
+    list.len()
+}

@@ -1,0 +1,73 @@
+//! How a user stands to a channel.
+ghost use Rattle.std.specs.Prelude.{◌≡◌};
+ghost use Rattle.irc_acts.specs.Standing.{is_banned, is_known, is_listed, mark_of, mask_of, visibility_of};
+
+use arrayvec::ArrayVec;
+use irc_channels::{Channel, Flags, Privacy};
+use irc_names::{MAX_HOST, MAX_NICK, MAX_USER_NAME};
+use irc_numerics::{Mark, Visibility};
+use irc_users::User;
+
+/// The bytes of `nick!user@host` that part its three names.
+const MARKS: usize = 2;
+
+/// The longest `nick!user@host`.
+const MAX_FULL_NAME: usize = MAX_NICK + MAX_USER_NAME + MAX_HOST + MARKS;
+
+/// What a member is shown as: an operator, else a member with voice, else a member.
+pub fn mark_of(flags: Flags) -> Mark
+    ensures { result ≡ mark_of flags }
+{
+    if flags.op {
+        Mark::Operator
+    } else if flags.voice {
+        Mark::Voiced
+    } else {
+        Mark::Plain
+    }
+}
+
+/// Who may know of a channel (RFC 2811 section 4.2.6).
+pub fn visibility_of(privacy: Privacy) -> Visibility
+    ensures { result ≡ visibility_of privacy }
+{
+    match privacy {
+        Privacy::Public => Visibility::Public,
+        Privacy::Private => Visibility::Private,
+        Privacy::Secret => Visibility::Secret,
+    }
+}
+
+/// Whether a channel is listed for a user: for its members, and for others where it is neither private nor secret.
+pub fn is_listed(user: &User, channel: &Channel) -> bool
+    ensures { result ≡ is_listed user.now channel.now }
+{
+    channel.has_member(&user.nick) || matches!(channel.modes.privacy, Privacy::Public)
+}
+
+/// Whether a channel is known to a user: to its members, and to others where it is not secret.
+pub fn is_known(user: &User, channel: &Channel) -> bool
+    ensures { result ≡ is_known user.now channel.now }
+{
+    channel.has_member(&user.nick) || !matches!(channel.modes.privacy, Privacy::Secret)
+}
+
+/// Whether a ban of a channel matches a user.
+pub fn is_banned(user: &User, channel: &Channel) -> bool
+    ensures { result ≡ is_banned user.now channel.now }
+{
+    channel.modes.bans.matches_any(mask_of(user).as_slice())
+}
+
+/// The text that bans are held against: `nick!user@host`.
+fn mask_of(user: &User) -> ArrayVec<u8, MAX_FULL_NAME>
+    ensures { result.items ≡ mask_of user.now }
+{
+    let mut text = ArrayVec::new();
+    let _ = text.try_extend_from_slice(user.nick.as_bytes());
+    let _ = text.try_extend_from_slice(b"!");
+    let _ = text.try_extend_from_slice(user.user.as_bytes());
+    let _ = text.try_extend_from_slice(b"@");
+    let _ = text.try_extend_from_slice(user.host.as_bytes());
+    text
+}

@@ -1,0 +1,3 @@
+pub mod NameChunks
+pub mod CameNames
+pub mod JoinersPlace

@@ -1,0 +1,139 @@
+//! The lines that name a channel's members (RFC 2812 section 5.1, reply 353).
+ghost use Rattle.std.specs.Prelude.{◌≡◌, false, Some, [], ◌∷◌, ◌++◌, map, OnOk};
+ghost use Rattle.std.specs.List.{filter_map};
+ghost use Rattle.std.specs.FinMap.{entries};
+ghost use Rattle.irc_names.specs.Fold.{key};
+ghost use Rattle.irc_names.specs.Tables.{alter};
+ghost use Rattle.irc_tables.specs.FoldedRows.{IsInFoldedOrder, IsPlaceOf};
+ghost use Rattle.irc_tables.specs.RowViews.{row_entry};
+ghost use Rattle.irc_channels.specs.declared.flags.Flags.{Flags};
+ghost use Rattle.irc_channels.specs.Channels.{has_member};
+ghost use Rattle.irc_answers.specs.Names.{listed, name_line, name_lines};
+ghost use Rattle.irc_answers.specs.Loops.NameLines.{is_shown, Came};
+
+use arrayvec::ArrayVec;
+use irc_acts::standing::{mark_of, visibility_of};
+use irc_acts::{Act, put};
+use irc_channels::{Channel, Flags};
+use irc_names::{Nick, compare};
+use irc_numerics::limits::MAX_NAMES;
+use irc_numerics::{Listed, Reply};
+use irc_room::Room;
+use irc_tables::Row;
+use std::alloc::{AllocError, Global};
+
+/// The names of the line that is being filled.
+pub(crate) type Held = ArrayVec<Listed, MAX_NAMES>;
+
+/// A line of names.
+fn name_line(channel: &Channel, names: Held) -> Act
+    ensures { result ≡ name_line channel.now names.items }
+{
+    Act::Answer(Reply::NamReply {
+        visibility: visibility_of(channel.modes.privacy),
+        channel: channel.name.copy(),
+        names,
+    })
+}
+
+/// Adds a name to the line; one that is full is sent before.
+fn add_name(
+    steps: &mut Vec<Act, Global>,
+    held: &mut Held,
+    channel: &Channel,
+    name: Listed,
+) -> Result<(), AllocError>
+    ensures { OnOk result (Came channel.now steps.old.items held.old.items (name ∷ []) steps.new.items held.new.items) }
+{
+    if held.is_full() {
+        put(steps, name_line(channel, held.take()))?;
+    }
+    held.push(name);
+    Ok(())
+}
+
+/// Sends the last line, if there is a name for it.
+pub(crate) fn finish(
+    steps: &mut Vec<Act, Global>,
+    held: Held,
+    channel: &Channel,
+) -> Result<(), AllocError>
+    ensures { OnOk result (steps.new.items ≡ steps.old.items ++ name_lines channel.now held.items) }
+{
+    if held.as_slice().is_empty() {
+        return Ok(());
+    }
+    put(steps, name_line(channel, held))
+}
+
+/// A member as it is listed, where all are named or it has no mode i.
+fn listed(room: &Room, all: bool, name: &[u8], flags: Flags) -> Option<Listed>
+    ensures { result ≡ listed room.now.room.users (is_shown all) (key name.now, flags) }
+{
+    match room.user(name) {
+        Some(user) if all || !user.invisible => Some(Listed {
+            mark: mark_of(flags),
+            nick: user.nick.copy(),
+        }),
+        _ => None,
+    }
+}
+
+/// Adds the name of the member with a nickname, if it is named.
+pub(crate) fn add_member(
+    steps: &mut Vec<Act, Global>,
+    held: &mut Held,
+    room: &Room,
+    all: bool,
+    channel: &Channel,
+    name: &[u8],
+    flags: Flags,
+) -> Result<(), AllocError>
+    ensures { OnOk result (Came channel.now steps.old.items held.old.items (filter_map (listed room.now.room.users (is_shown all)) ((key name.now, flags) ∷ [])) steps.new.items held.new.items) }
+{
+    match listed(room, all, name, flags) {
+        Some(name) => add_name(steps, held, channel, name),
+        None => Ok(()),
+    }
+}
+
+/// Adds the names of some members.
+pub(crate) fn add_members(
+    steps: &mut Vec<Act, Global>,
+    held: &mut Held,
+    room: &Room,
+    all: bool,
+    channel: &Channel,
+    rows: &[Row<Flags>],
+) -> Result<(), AllocError>
+    ensures { OnOk result (Came channel.now steps.old.items held.old.items (filter_map (listed room.now.room.users (is_shown all)) (map row_entry rows.now)) steps.new.items held.new.items) }
+{
+    for row in rows {
+        let name = row.name.as_slice();
+        add_member(steps, held, room, all, channel, name, row.value)?;
+    }
+    Ok(())
+}
+
+/// The members before a nickname that none of them has and those behind it, in folded order.
+pub(crate) fn parted_at<'a>(
+    channel: &'a Channel,
+    nick: &Nick,
+) -> (&'a [Row<Flags>], &'a [Row<Flags>])
+    requires { has_member (key nick.now) channel.now ≡ false }
+    ensures { (flags : Flags) → entries (alter (key nick.now) (λ _. Some flags) channel.now.members) ≡ map row_entry result.0.now ++ (key nick.now, flags) ∷ map row_entry result.1.now }
+{
+    let rows = channel.members.as_slice();
+    match place_of(rows, nick.as_bytes()) {
+        Ok(_) => unreachable!(),
+        Err(place) => (&rows[..place], &rows[place..]),
+    }
+}
+
+/// Where the member with a nickname stands, or where it would stand.
+fn place_of(rows: &[Row<Flags>], nick: &[u8]) -> Result<usize, usize>
+    requires { IsInFoldedOrder row_entry rows.now }
+    ensures { IsPlaceOf row_entry rows.now (key nick.now) result }
+{
+    rows.binary_search_by(|row| compare(row.name.as_slice(), nick))
+}

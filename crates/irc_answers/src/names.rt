@@ -1,0 +1,148 @@
+//! NAMES, and the names that a joiner is sent.
+ghost use Rattle.std.specs.Prelude.{◌≡◌, false, [], ◌∷◌, ◌++◌, filter, IfOk, OnOk};
+ghost use Rattle.std.specs.List.{flat_map};
+ghost use Rattle.std.specs.FinMap.{values};
+ghost use Rattle.irc_names.specs.Fold.{key};
+ghost use Rattle.irc_line.specs.PartViews.{words_now};
+ghost use Rattle.irc_channels.specs.Channels.{has_member, joined};
+ghost use Rattle.irc_acts.specs.CommaLists.{entries};
+ghost use Rattle.irc_acts.specs.Standing.{is_listed};
+ghost use Rattle.irc_answers.specs.Names.{names_of, end_of_names, one_names, names_steps};
+ghost use Rattle.irc_answers.specs.Laws.NamesLaw.{NamesOnlyAnswers};
+
+use crate::name_lines::{add_member, add_members, finish, parted_at};
+use arrayvec::ArrayVec;
+use irc_acts::comma_lists::next_entry;
+use irc_acts::standing::{is_known, is_listed};
+use irc_acts::words::client_words;
+use irc_acts::{Act, Context, put};
+use irc_channels::{Channel, Flags};
+use irc_numerics::Reply;
+use std::alloc::{AllocError, Global};
+
+/// What a NAMES does (RFC 2812 section 3.2.5).
+///
+/// # Errors
+/// Where memory runs out.
+#[tactic(auto, unfolding(crate::specs::Names::names_steps))]
+pub fn steps(context: &Context<'_>, params: &[&[u8]]) -> Result<Vec<Act, Global>, AllocError>
+    ensures { IfOk result (λ steps. steps.items ≡ names_steps context.now.room.now.room context.now.me.now (words_now params.now)) }
+{
+    let mut steps = Vec::new(context.alloc);
+    match params.first() {
+        Some(list) => put_list(&mut steps, context, list)?,
+        None => put_listed(&mut steps, context)?,
+    }
+    Ok(steps)
+}
+
+/// The end of the names, with what was asked for.
+pub fn end_of_names(asked: &[u8]) -> Act
+    ensures { result ≡ end_of_names asked.now }
+{
+    Act::Answer(Reply::EndOfNames {
+        name: client_words(asked),
+    })
+}
+
+/// Appends the names of a channel, as a user sees them.
+fn put_names(
+    steps: &mut Vec<Act, Global>,
+    context: &Context<'_>,
+    channel: &Channel,
+) -> Result<(), AllocError>
+    ensures { OnOk result (steps.new.items ≡ steps.old.items ++ names_of context.now.room.now.room.users context.now.me.now channel.now) }
+{
+    let mut held = ArrayVec::new();
+    let all = channel.has_member(&context.me.nick);
+    let rows = channel.members.as_slice();
+    add_members(steps, &mut held, context.room, all, channel, rows)?;
+    finish(steps, held, channel)
+}
+
+/// Appends the names of a channel as a user sees them just after it joins, which it is yet to do.
+///
+/// # Errors
+/// Where memory runs out.
+pub fn put_joiner_names(
+    steps: &mut Vec<Act, Global>,
+    context: &Context<'_>,
+    op: bool,
+    channel: &Channel,
+) -> Result<(), AllocError>
+    requires { has_member (key context.now.me.now.nick) channel.now ≡ false }
+    ensures { OnOk result (steps.new.items ≡ steps.old.items ++ names_of context.now.room.now.room.users context.now.me.now (joined (key context.now.me.now.nick) op channel.now)) }
+{
+    let mut held = ArrayVec::new();
+    let room = context.room;
+    let nick = &context.me.nick;
+    let (before, behind) = parted_at(channel, nick);
+    let flags = Flags { op, voice: false };
+    let name = nick.as_bytes();
+    add_members(steps, &mut held, room, true, channel, before)?;
+    add_member(steps, &mut held, room, true, channel, name, flags)?;
+    add_members(steps, &mut held, room, true, channel, behind)?;
+    finish(steps, held, channel)
+}
+
+/// Appends the names of every channel that is listed for a user, and their end.
+#[tactic(auto, unfolding(crate::specs::Names::names_steps))]
+fn put_listed(steps: &mut Vec<Act, Global>, context: &Context<'_>) -> Result<(), AllocError>
+    ensures { OnOk result (steps.new.items ≡ steps.old.items ++ names_steps context.now.room.now.room context.now.me.now []) }
+{
+    for row in context.room.channels() {
+        put_if_listed(steps, context, &row.value)?;
+    }
+    put(steps, end_of_names(b"*"))
+}
+
+/// Appends the names of a channel, if it is listed for a user.
+fn put_if_listed(
+    steps: &mut Vec<Act, Global>,
+    context: &Context<'_>,
+    channel: &Channel,
+) -> Result<(), AllocError>
+    ensures { OnOk result (steps.new.items ≡ steps.old.items ++ flat_map (names_of context.now.room.now.room.users context.now.me.now) (filter (is_listed context.now.me.now) (channel.now ∷ []))) }
+{
+    if is_listed(context.me, channel) {
+        put_names(steps, context, channel)
+    } else {
+        Ok(())
+    }
+}
+
+/// Appends the names of the channel that is asked for, where it is there and known to the user, and their end.
+fn put_asked(
+    steps: &mut Vec<Act, Global>,
+    context: &Context<'_>,
+    asked: &[u8],
+) -> Result<(), AllocError>
+    ensures { OnOk result (steps.new.items ≡ steps.old.items ++ one_names context.now.room.now.room context.now.me.now asked.now) }
+{
+    match context.room.channel(asked) {
+        Some(channel) if is_known(context.me, channel) => put_names(steps, context, channel)?,
+        _ => {}
+    }
+    put(steps, end_of_names(asked))
+}
+
+/// Appends the names of the channels of a comma list.
+fn put_list(
+    steps: &mut Vec<Act, Global>,
+    context: &Context<'_>,
+    list: &[u8],
+) -> Result<(), AllocError>
+    ensures { OnOk result (steps.new.items ≡ steps.old.items ++ flat_map (one_names context.now.room.now.room context.now.me.now) (entries list.now)) }
+{
+    let mut rest = list;
+    while let Some((asked, behind)) = next_entry(rest) {
+        put_asked(steps, context, asked)?;
+        rest = behind;
+    }
+    Ok(())
+}
+
+/// A law: a NAMES has no effect, whatever the room is.
+pub fn only_answers()
+    ensures { NamesOnlyAnswers }
+{}

@@ -1,0 +1,182 @@
+-- What can come of a line, case by case: of a user, and of a connection that is not registered. A case for each row of the command table.
+use Rattle.std.proofs.Common.{if◌then◌else◌, map, sym, subst, ◌⊎◌, inl, inr, nat_eq, ◌≡◌, ℕ, true, false, not, Option, Some, None, List, [], ◌∷◌, refl, cond}
+use Rattle.arrayvec.specs.ArrayVec.{ArrayVec}
+use Rattle.std.specs.Cmp.Lexicographic.{pointwise}
+use Rattle.irc_names.specs.Fold.{key}
+use Rattle.irc_names.specs.Names.{is_nick}
+use Rattle.irc_names.specs.Tables.{row}
+use Rattle.irc_line.specs.Messages.{Parsed}
+use Rattle.irc_users.specs.declared.user.User.{User}
+use Rattle.irc_numerics.specs.declared.replies.Reply.TheVariants.{ErroneousNickname, NicknameInUse}
+use Rattle.irc_room.specs.declared.effect.Effect.TheVariants.{Rename, Quit}
+use Rattle.irc_room.specs.Room.{Room}
+use Rattle.irc_room.specs.InTurn.{EachInTurn}
+use Rattle.irc_routes.specs.Place.{Place}
+use Rattle.irc_acts.specs.declared.act.Act.{Act}
+use Rattle.irc_acts.specs.declared.act.Act.TheVariants.{Answer, Raw, Do}
+use Rattle.irc_commands.specs.declared.table.Command.{Command}
+use Rattle.irc_commands.specs.declared.table.Command.TheVariants as command
+use Rattle.irc_commands.specs.Table.{command_of, row_of}
+use Rattle.irc_acts.specs.Acts.{client_words}
+use Rattle.irc_commands.specs.Decisions.{Decided, nothing, does, Registered}
+use Rattle.irc_commands.specs.Decide.{is_from, decide_for, decide}
+use Rattle.irc_acts.specs.Moves.{own_channels}
+use Rattle.irc_acts.specs.Own.{IsOwn, AreOwn}
+use Rattle.irc_membership.specs.Join.{leaves, join_steps}
+use Rattle.irc_membership.specs.Laws.JoinLaw.{join_is_own_or_leaves}
+use Rattle.irc_membership.specs.Laws.PartLaw.{part_is_own}
+use Rattle.irc_answers.specs.Names.{names_steps}
+use Rattle.irc_answers.specs.Laws.NamesLaw.{names_only_answers}
+use Rattle.irc_commands.specs.Nick.{is_anothers, nick_taken, nick_steps}
+use Rattle.irc_membership.specs.Part.{part_steps}
+use Rattle.irc_commands.specs.Ping.{ping_steps}
+use Rattle.irc_commands.specs.Say.{say_steps}
+use Rattle.irc_commands.specs.Topic.{topic_steps}
+use Rattle.irc_acts.specs.ByTest.{by_test}
+use Rattle.irc_commands.specs.declared.say.Verb.TheVariants as verb
+use Rattle.irc_commands.proofs.OwnCommands.{say_own, topic_own}
+use Rattle.irc_users.specs.Users.{clean_user, cut_real}
+use Rattle.irc_numerics.specs.declared.replies.Reply.{Reply}
+use Rattle.irc_room.specs.Effects.{has_user}
+use Rattle.irc_commands.specs.declared.pending.Pending.{Pending}
+use Rattle.irc_commands.specs.Register.{replies, user_of, welcomed, completed, complete, nick_chosen, nick_row, user_row, pending_row_of, register}
+
+-- so it is in each case
+pub record IsSoDecided (room : Room) (who : List ℕ) (Q : Decided → Type 0) : Type 0 where
+  pub silent : Q nothing
+  pub own : (me : User) (steps : List Act) → row room.users (key who) ≡ Some me → AreOwn me room steps → Q (does steps)
+  pub renamed : (me : User) (nickname : List ℕ) → row room.users (key who) ≡ Some me → is_anothers room me nickname ≡ false
+      → Q (does (Do (Rename me.nick nickname) ∷ []))
+  pub leaves_all : (me : User) → row room.users (key who) ≡ Some me → Q (does (map (leaves me) (own_channels room me)))
+  pub quits : (me : User) (reason : List ℕ) (line : ArrayVec ℕ) → row room.users (key who) ≡ Some me
+      → Q (record { steps = Do (Quit me.nick reason) ∷ Raw line ∷ []; close = true })
+
+pinged : (me : User) (room : Room) (place : Place) (params : List (List ℕ)) → AreOwn me room (ping_steps place params)
+unfolding ping_steps
+pinged me room place [] = tt
+pinged me room place (word ∷ more) = tt
+
+nick_taken_so : (room : Room) (who : List ℕ) (me : User) (Q : Decided → Type 0) → IsSoDecided room who Q → row room.users (key who) ≡ Some me
+    → (nickname : List ℕ) → Q (does (nick_taken room me nickname))
+nick_taken_so room who me Q so is nickname =
+    let S = λ (steps : List Act). Q (does steps) in
+    let renames : List Act = if pointwise nat_eq nickname me.nick then [] else Do (Rename me.nick nickname) ∷ [] in
+    let free : List Act = if is_anothers room me nickname then Answer (NicknameInUse nickname) ∷ [] else renames in
+    by_test S (not (is_nick nickname)) (Answer (ErroneousNickname (client_words nickname)) ∷ []) free (λ erroneous. so.own me _ is tt)
+    (λ fine. by_test S (is_anothers room me nickname) (Answer (NicknameInUse nickname) ∷ []) renames (λ taken. so.own me _ is tt)
+    (λ not_taken. by_test S (pointwise nat_eq nickname me.nick) [] (Do (Rename me.nick nickname) ∷ []) (λ same. so.own me _ is tt)
+    (λ other. so.renamed me nickname is not_taken)))
+
+by_nick : (room : Room) (who : List ℕ) (me : User) (Q : Decided → Type 0) → IsSoDecided room who Q → row room.users (key who) ≡ Some me
+    → (params : List (List ℕ)) → Q (does (nick_steps room me params))
+unfolding nick_steps
+by_nick room who me Q so is [] = so.own me _ is tt
+by_nick room who me Q so is ([] ∷ more) = so.own me _ is tt
+by_nick room who me Q so is ((b ∷ bytes) ∷ more) = nick_taken_so room who me Q so is (b ∷ bytes)
+
+by_join : (room : Room) (who : List ℕ) (me : User) (Q : Decided → Type 0) → IsSoDecided room who Q → row room.users (key who) ≡ Some me
+    → (steps : List Act) → AreOwn me room steps ⊎ (steps ≡ map (leaves me) (own_channels room me)) → Q (does steps)
+by_join room who me Q so is steps (inl own) = so.own me steps is own
+by_join room who me Q so is steps (inr all) = subst (λ (acts : List Act). Q (does acts)) (sym all) (so.leaves_all me is)
+
+by_row : (room : Room) (place : Place) (who : List ℕ) (me : User) (message : Parsed) (Q : Decided → Type 0) → IsSoDecided room who Q → row room.users (key who) ≡ Some me
+    → (which : Option Command) → Q (row_of room place me message which)
+unfolding row_of
+by_row room place who me message Q so is (Some command.Pass) = so.own me _ is tt
+by_row room place who me message Q so is (Some command.User) = so.own me _ is tt
+by_row room place who me message Q so is (Some command.Pong) = so.silent
+by_row room place who me message Q so is (Some command.Motd) = so.own me _ is tt
+by_row room place who me message Q so is (Some command.Ping) = so.own me (ping_steps place message.params) is (pinged me room place message.params)
+by_row room place who me message Q so is (Some command.Quit) = so.quits me _ _ is
+by_row room place who me message Q so is (Some command.Privmsg) = so.own me (say_steps room me verb.Privmsg message.params) is (say_own me room verb.Privmsg message.params)
+by_row room place who me message Q so is (Some command.Notice) = so.own me (say_steps room me verb.Notice message.params) is (say_own me room verb.Notice message.params)
+by_row room place who me message Q so is (Some command.Nick) = by_nick room who me Q so is message.params
+by_row room place who me message Q so is (Some command.Join) = by_join room who me Q so is (join_steps room me message.params) (join_is_own_or_leaves me room message.params)
+by_row room place who me message Q so is (Some command.Part) = so.own me (part_steps room me message.params) is (part_is_own me room message.params)
+by_row room place who me message Q so is (Some command.Topic) = so.own me (topic_steps room me message.params) is (topic_own me room message.params)
+by_row room place who me message Q so is (Some command.Names) = so.own me (names_steps room me message.params) is (subst (EachInTurn (IsOwn me) room) (sym (names_only_answers room me message.params)) tt)
+by_row room place who me message Q so is None = so.own me _ is tt
+
+by_user : (room : Room) (place : Place) (who : List ℕ) (message : Parsed) (Q : Decided → Type 0) → IsSoDecided room who Q
+    → (found : Option User) → row room.users (key who) ≡ found → Q (decide_for room place message found)
+by_user room place who message Q so None is = so.silent
+by_user room place who message Q so (Some me) is =
+    by_test Q (is_from message.prefix (Some me.nick)) (row_of room place me message (command_of message.command)) nothing
+    (λ own. by_row room place who me message Q so is (command_of message.command)) (λ foreign. so.silent)
+
+pub decided_so : (room : Room) (place : Place) (who : List ℕ) (message : Parsed) (Q : Decided → Type 0) → IsSoDecided room who Q → Q (decide room place who message)
+unfolding decide
+decided_so room place who message Q so = by_user room place who message Q so (row room.users (key who)) refl
+
+-- ---- before registration
+
+-- so it is in each case, whatever the connection has given by then
+pub record IsSoRegistering (room : Room) (place : Place) (Q : Registered → Type 0) : Type 0 where
+  pub silent : (pending : Pending) → Q (replies pending [])
+  pub answered : (pending : Pending) (reply : Reply) → Q (replies pending (Answer reply ∷ []))
+  pub told : (pending : Pending) (line : ArrayVec ℕ) → Q (replies pending (Raw line ∷ []))
+  pub closed : (pending : Pending) (line : ArrayVec ℕ) → Q (record { pending = pending; steps = Raw line ∷ []; registered = false; close = true })
+  pub added : (pending : Pending) (nickname username : List ℕ) → pending.nick ≡ Some nickname → has_user room nickname ≡ false
+      → Q (record { pending = pending; steps = welcomed place (user_of place pending nickname username); registered = true; close = false })
+
+pending_by_names : (room : Room) (place : Place) (pending : Pending) (Q : Registered → Type 0) → IsSoRegistering room place Q
+    → (nickname username : Option (List ℕ)) → pending.nick ≡ nickname → Q (completed room place pending nickname username)
+pending_by_names room place pending Q so None username is = so.silent pending
+pending_by_names room place pending Q so (Some nickname) None is = so.silent pending
+pending_by_names room place pending Q so (Some nickname) (Some username) is =
+    by_test Q (has_user room nickname) (replies (record pending { nick = None }) (Answer (NicknameInUse nickname) ∷ []))
+    (record { pending = pending; steps = welcomed place (user_of place pending nickname username); registered = true; close = false })
+    (λ taken. so.answered _ _) (λ free. so.added pending nickname username is free)
+
+pending_completing : (room : Room) (place : Place) (pending : Pending) (Q : Registered → Type 0) → IsSoRegistering room place Q → Q (complete room place pending)
+pending_completing room place pending Q so = pending_by_names room place pending Q so pending.nick pending.user refl
+
+pending_choosing : (room : Room) (place : Place) (pending : Pending) (Q : Registered → Type 0) → IsSoRegistering room place Q → (nickname : List ℕ) → Q (nick_chosen room place pending nickname)
+pending_choosing room place pending Q so nickname =
+    let in_use = replies pending (Answer (NicknameInUse nickname) ∷ []) in
+    let chosen = complete room place (record pending { nick = Some nickname }) in
+    by_test Q (not (is_nick nickname)) (replies pending (Answer (ErroneousNickname (client_words nickname)) ∷ [])) (cond (has_user room nickname) in_use chosen)
+    (λ erroneous. so.answered _ _)
+    (λ fine. by_test Q (has_user room nickname) in_use chosen (λ taken. so.answered _ _) (λ free. pending_completing room place (record pending { nick = Some nickname }) Q so))
+
+pending_by_nick : (room : Room) (place : Place) (pending : Pending) (Q : Registered → Type 0) → IsSoRegistering room place Q → (params : List (List ℕ)) → Q (nick_row room place pending params)
+pending_by_nick room place pending Q so [] = so.answered _ _
+pending_by_nick room place pending Q so ([] ∷ more) = so.answered _ _
+pending_by_nick room place pending Q so ((b ∷ bytes) ∷ more) = pending_choosing room place pending Q so (b ∷ bytes)
+
+pending_by_user : (room : Room) (place : Place) (pending : Pending) (Q : Registered → Type 0) → IsSoRegistering room place Q → (params : List (List ℕ)) → Q (user_row room place pending params)
+pending_by_user room place pending Q so [] = so.answered _ _
+pending_by_user room place pending Q so (username ∷ []) = so.answered _ _
+pending_by_user room place pending Q so (username ∷ mode ∷ []) = so.answered _ _
+pending_by_user room place pending Q so (username ∷ mode ∷ unused ∷ []) = so.answered _ _
+pending_by_user room place pending Q so (username ∷ mode ∷ unused ∷ real ∷ more) =
+    pending_completing room place (record pending { user = Some (clean_user username); real = cut_real real }) Q so
+
+pending_pinged : (room : Room) (place : Place) (pending : Pending) (Q : Registered → Type 0) → IsSoRegistering room place Q → (params : List (List ℕ)) → Q (replies pending (ping_steps place params))
+unfolding ping_steps
+pending_pinged room place pending Q so [] = so.answered _ _
+pending_pinged room place pending Q so (word ∷ more) = so.told _ _
+
+pending_by_row : (room : Room) (place : Place) (pending : Pending) (Q : Registered → Type 0) → IsSoRegistering room place Q → (params : List (List ℕ)) (which : Option Command)
+    → Q (pending_row_of room place pending params which)
+pending_by_row room place pending Q so params (Some command.Pass) = so.silent _
+pending_by_row room place pending Q so params (Some command.Pong) = so.silent _
+pending_by_row room place pending Q so params (Some command.Nick) = pending_by_nick room place pending Q so params
+pending_by_row room place pending Q so params (Some command.User) = pending_by_user room place pending Q so params
+pending_by_row room place pending Q so params (Some command.Ping) = pending_pinged room place pending Q so params
+pending_by_row room place pending Q so params (Some command.Quit) = so.closed _ _
+pending_by_row room place pending Q so params (Some command.Motd) = so.answered _ _
+pending_by_row room place pending Q so params (Some command.Privmsg) = so.answered _ _
+pending_by_row room place pending Q so params (Some command.Notice) = so.answered _ _
+pending_by_row room place pending Q so params (Some command.Join) = so.answered _ _
+pending_by_row room place pending Q so params (Some command.Part) = so.answered _ _
+pending_by_row room place pending Q so params (Some command.Topic) = so.answered _ _
+pending_by_row room place pending Q so params (Some command.Names) = so.answered _ _
+pending_by_row room place pending Q so params None = so.answered _ _
+
+pub registering_so : (room : Room) (place : Place) (pending : Pending) (message : Parsed) (Q : Registered → Type 0) → IsSoRegistering room place Q
+    → Q (register room place pending message)
+unfolding register
+registering_so room place pending message Q so =
+    by_test Q (is_from message.prefix pending.nick) (pending_row_of room place pending message.params (command_of message.command)) (replies pending [])
+    (λ own. pending_by_row room place pending Q so message.params (command_of message.command)) (λ foreign. so.silent pending)

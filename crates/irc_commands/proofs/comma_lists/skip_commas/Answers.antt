@@ -1,8 +1,0 @@
-use Rattle.std.proofs.Common.{◌∙◌, sym, ap}
-use Rattle.irc_commands.specs.CommaLists.{is_comma}
-use Rattle.irc_commands.proofs.CommaLists.{one_comma}
-use Rattle.irc_commands.proofs.comma_lists.skip_commas.Goals as goal
-
-pub loop-i-preserved : goal.loop-i-preserved
-loop-i-preserved c =
-    sym (one_comma c.args.list.now c.loop-i.i 0 c.loop-i-test.true (ap is_comma c.if-byte-ne-COMMA.false)) ∙ c.loop-i.invariant

@@ -1,0 +1,150 @@
+//! The command table.
+ghost use Rattle.std.specs.Prelude.{◌≡◌, Bool, List, [], ◌∷◌, IfOk};
+ghost use Rattle.irc_line.specs.MessageViews.{parsed};
+ghost use Rattle.irc_acts.specs.declared.act.Act.{Act};
+ghost use Rattle.irc_acts.specs.declared.act.Act.TheVariants.{Answer};
+ghost use Rattle.irc_commands.specs.CodeViews.{decided_of};
+ghost use Rattle.irc_commands.specs.Decisions.{does, nothing};
+ghost use Rattle.irc_commands.specs.Table.{command_of, row_of, same_letters, unknown};
+
+use crate::decision::Decision;
+use crate::say::Verb;
+use crate::{nick, ping, quit, say, topic};
+use irc_acts::words::client_words;
+use irc_acts::{Act, Context, only};
+use irc_answers::names;
+use irc_line::Message;
+use irc_membership::{join, part};
+use irc_numerics::Reply;
+use std::alloc::{AllocError, Global};
+
+/// A command that is built (RFC 2812 section 3).
+#[derive(Clone, Copy)]
+pub enum Command {
+    /// PASS
+    Pass,
+    /// NICK
+    Nick,
+    /// USER
+    User,
+    /// QUIT
+    Quit,
+    /// PING
+    Ping,
+    /// PONG
+    Pong,
+    /// MOTD
+    Motd,
+    /// PRIVMSG
+    Privmsg,
+    /// NOTICE
+    Notice,
+    /// JOIN
+    Join,
+    /// PART
+    Part,
+    /// TOPIC
+    Topic,
+    /// NAMES
+    Names,
+}
+
+/// Each command by its name.
+const NAMES: [(&[u8], Command); 13] = [
+    (b"PASS", Command::Pass),
+    (b"NICK", Command::Nick),
+    (b"USER", Command::User),
+    (b"QUIT", Command::Quit),
+    (b"PING", Command::Ping),
+    (b"PONG", Command::Pong),
+    (b"MOTD", Command::Motd),
+    (b"PRIVMSG", Command::Privmsg),
+    (b"NOTICE", Command::Notice),
+    (b"JOIN", Command::Join),
+    (b"PART", Command::Part),
+    (b"TOPIC", Command::Topic),
+    (b"NAMES", Command::Names),
+];
+
+impl Command {
+    /// The command that a word is, in any case of letters; none where it is not in the table.
+    pub fn read(word: &[u8]) -> Option<Self>
+        ensures { result ≡ command_of word.now }
+    {
+        for (name, command) in NAMES {
+            if is_word(word, name) {
+                return Some(command);
+            }
+        }
+        None
+    }
+}
+
+/// Whether two words are one but for the case of letters.
+fn is_word(word: &[u8], name: &[u8]) -> bool
+    ensures { result ≡ same_letters word.now name.now }
+{
+    word.eq_ignore_ascii_case(name)
+}
+
+/// The row of the command table that the line of a user fits.
+#[tactic(auto, unfolding(crate::specs::Table::row_of))]
+pub(crate) fn decide_for(
+    context: &Context<'_>,
+    message: &Message<'_>,
+) -> Result<Decision, AllocError>
+    ensures { IfOk result (λ d. decided_of d ≡ row_of context.now.room.now.room context.now.routes.now context.now.me.now (parsed message.now) (command_of message.now.command.now)) }
+{
+    let params = message.params.as_slice();
+    match Command::read(message.command) {
+        Some(Command::Pass | Command::User) => answer(context.alloc, Reply::AlreadyRegistered),
+        Some(Command::Pong) => Ok(nothing(context.alloc)),
+        Some(Command::Motd) => answer(context.alloc, Reply::NoMotd),
+        Some(Command::Ping) => stays(ping::steps(context.alloc, context.routes, params)),
+        Some(Command::Quit) => quit::decided(context, params),
+        Some(Command::Privmsg) => stays(say::steps(context, Verb::Privmsg, params)),
+        Some(Command::Notice) => stays(say::steps(context, Verb::Notice, params)),
+        Some(Command::Nick) => stays(nick::steps(context, params)),
+        Some(Command::Join) => stays(join::steps(context, params)),
+        Some(Command::Part) => stays(part::steps(context, params)),
+        Some(Command::Topic) => stays(topic::steps(context, params)),
+        Some(Command::Names) => stays(names::steps(context, params)),
+        None => unknown(context.alloc, message.command),
+    }
+}
+
+/// Whatever the steps are, the client stays.
+fn stays(steps: Result<Vec<Act, Global>, AllocError>) -> Result<Decision, AllocError>
+    ensures { (want : List Act) → IfOk steps (λ s. s.items ≡ want) → IfOk result (λ d. decided_of d ≡ does want) }
+{
+    let steps = steps?;
+    Ok(Decision {
+        steps,
+        close: false,
+    })
+}
+
+/// No step, and the client stays.
+pub(crate) fn nothing(alloc: Global) -> Decision
+    ensures { decided_of result ≡ nothing }
+{
+    Decision {
+        steps: Vec::new(alloc),
+        close: false,
+    }
+}
+
+/// One reply, and the client stays.
+fn answer(alloc: Global, reply: Reply) -> Result<Decision, AllocError>
+    ensures { IfOk result (λ d. decided_of d ≡ does (Answer reply ∷ [])) }
+{
+    stays(only(alloc, Act::Answer(reply)))
+}
+
+/// A command that is not in the table is named as it was given.
+fn unknown(alloc: Global, word: &[u8]) -> Result<Decision, AllocError>
+    ensures { IfOk result (λ d. decided_of d ≡ unknown word.now) }
+{
+    let command = client_words(word);
+    answer(alloc, Reply::UnknownCommand { command })
+}

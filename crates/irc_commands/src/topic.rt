@@ -1,0 +1,81 @@
+//! TOPIC.
+ghost use Rattle.std.specs.Prelude.{◌≡◌, [], ◌∷◌, IfOk};
+ghost use Rattle.std.specs.Option.{option_copied};
+ghost use Rattle.irc_line.specs.PartViews.{words_now};
+ghost use Rattle.irc_commands.specs.Topic.{topic_known, topic_of, topic_set, topic_steps, topic_told};
+
+use irc_acts::refusals::{need_more_params, no_such_channel, not_on_channel};
+use irc_acts::standing::is_known;
+use irc_acts::{Act, Context, only};
+use irc_channels::{Channel, Flags, Words};
+use irc_names::copied;
+use irc_numerics::Reply;
+use irc_room::{By, Effect};
+use irc_users::User;
+use std::alloc::{AllocError, Global};
+
+/// What a TOPIC does (RFC 2812 section 3.2.4).
+pub(crate) fn steps(context: &Context<'_>, params: &[&[u8]]) -> Result<Vec<Act, Global>, AllocError>
+    ensures { IfOk result (λ steps. steps.items ≡ topic_steps context.now.room.now.room context.now.me.now (words_now params.now)) }
+{
+    only(context.alloc, step(context, params))
+}
+
+/// The one step of a TOPIC.
+#[tactic(auto, unfolding(crate::specs::Topic::topic_steps))]
+fn step(context: &Context<'_>, params: &[&[u8]]) -> Act
+    ensures { topic_steps context.now.room.now.room context.now.me.now (words_now params.now) ≡ result ∷ [] }
+{
+    match params.split_first() {
+        Some((name, more)) => in_channel(context.room.channel(name), context.me, name, more),
+        None => need_more_params(b"TOPIC"),
+    }
+}
+
+/// What a TOPIC does to the channel that was found under a name, if one was. A secret channel is not there for who is no member.
+fn in_channel(found: Option<&Channel>, me: &User, name: &[u8], more: &[&[u8]]) -> Act
+    ensures { result ≡ topic_of me.now name.now (words_now more.now) (option_copied found.entry) }
+{
+    let Some(channel) = found else {
+        return no_such_channel(name);
+    };
+    if !is_known(me, channel) {
+        return no_such_channel(name);
+    }
+    match more.first() {
+        Some(text) => set(channel, channel.members.get(me.nick.as_bytes()), me, text),
+        None => show(channel),
+    }
+}
+
+/// What a client is told of a channel's topic; an empty one is none.
+fn show(channel: &Channel) -> Act
+    ensures { result ≡ topic_told channel.now.name channel.now.topic }
+{
+    let topic = channel.topic.as_bytes();
+    let channel = channel.name.copy();
+    if topic.is_empty() {
+        return Act::Answer(Reply::NoTopic { channel });
+    }
+    let topic = copied(topic);
+    Act::Answer(Reply::Topic { channel, topic })
+}
+
+/// What comes of setting a channel's topic, by the flags of who sets it, if it is a member. Where mode t is set only an operator does
+/// (RFC 2811 section 4.2.8).
+fn set(channel: &Channel, flags: Option<&Flags>, me: &User, text: &[u8]) -> Act
+    ensures { result ≡ topic_set me.now channel.now text.now (option_copied flags.entry) }
+{
+    let Some(flags) = flags else {
+        return not_on_channel(channel);
+    };
+    let name = channel.name.copy();
+    if channel.modes.topic_locked && !flags.op {
+        return Act::Answer(Reply::ChanOPrivsNeeded { channel: name });
+    }
+    Act::Do(Effect::SetTopic {
+        by: By::User(me.nick.copy()),
+        channel: name,
+        text: Words::cut(text),
+    })
+}

@@ -1,0 +1,159 @@
+-- One channel of a JOIN, after the Joins of the channels before it.
+use Rattle.std.proofs.Common.{◌≡◌, ◌<◌, ℕ, Bool, true, false, not, Option, Some, None, List, [], ◌∷◌, ◌++◌, length, nat_le, refl, sym, ◌∙◌, ap, subst, is_some, arith, if◌then◌else◌}
+use Rattle.std.proofs.lemmas.Bool.Decides.{leb_tells}
+use Rattle.std.specs.Option.{option_map_or, option_and_then}
+use Rattle.std.specs.FinMap.{get-empty}
+use Rattle.irc_names.specs.Fold.{key}
+use Rattle.irc_names.specs.Names.{is_channel}
+use Rattle.irc_names.specs.Tables.{fold_cmp, row}
+use Rattle.irc_users.specs.declared.user.User.{User}
+use Rattle.irc_channels.specs.declared.channel.Channel.{Channel}
+use Rattle.irc_channels.specs.Channels.{has_member, joined, new_channel}
+use Rattle.irc_numerics.specs.declared.replies.Reply.TheVariants.{NoSuchChannel, TooManyChannels}
+use Rattle.irc_room.specs.declared.effect.Effect.TheVariants.{Join}
+use Rattle.irc_room.specs.Room.{Room, IsWellFormed}
+use Rattle.irc_room.specs.Effects.{is_member}
+use Rattle.irc_room.specs.Readers.{flags_at}
+use Rattle.irc_acts.specs.declared.act.Act.{Act}
+use Rattle.irc_acts.specs.declared.act.Act.TheVariants.{Answer, Do}
+use Rattle.irc_acts.specs.Acts.{client_words}
+use Rattle.irc_acts.specs.Ahead.{ahead}
+use Rattle.irc_acts.specs.AheadLaws.{each-both}
+use Rattle.irc_acts.specs.Moves.{IsOwnJoin, AreOwnJoins, own_channels}
+use Rattle.irc_acts.specs.MoveLaws.{joined_as_it_was, joins_keep_users}
+use Rattle.irc_answers.specs.Names.{names_of, end_of_names}
+use Rattle.irc_membership.specs.declared.TheConstants.{MAX_JOINED}
+use Rattle.irc_membership.specs.Join.{Asked, kept_out, topic_for_joiner, joins, admitted, joins_found, join_one}
+use Rattle.irc_membership.specs.Laws.JoinWalk.{one_so}
+
+-- ---- what it does looks at the users alone, and at the row of the channel
+
+joins_alike : (room now : Room) (me : User) (name : List ℕ) (op : Bool) (channel : Channel) → now.users ≡ room.users
+    → joins now me name op channel ≡ joins room me name op channel
+joins_alike room now me name op channel same =
+    let after_join = joined (key me.nick) op channel in
+    ap (λ users. Do (Join me.nick channel.name op) ∷ topic_for_joiner after_join.name after_join.topic ++ names_of users me after_join ++ end_of_names name ∷ []) same
+
+admitted_alike : (room now : Room) (me : User) (name : List ℕ) (channel : Channel) (refusal : Option Act) → now.users ≡ room.users
+    → admitted now me name channel refusal ≡ admitted room me name channel refusal
+admitted_alike room now me name channel None same = joins_alike room now me name false channel same
+admitted_alike room now me name channel (Some refusal) same = refl
+
+found_alike : (room now : Room) (me : User) (asked : Asked) (found : Option Channel) → now.users ≡ room.users
+    → joins_found now me asked found ≡ joins_found room me asked found
+found_alike room now me asked None same = joins_alike room now me asked.channel true (new_channel asked.channel) same
+found_alike room now me asked (Some channel) same = admitted_alike room now me asked.channel channel (kept_out me asked.key channel) same
+
+-- ---- one channel, case by case
+
+module _ (me : User) (now : Room) (name given : List ℕ) where
+  abbrev asked : Asked
+  asked = record { channel = name; key = given }
+
+  few : List Act → List Act
+  few found = if nat_le MAX_JOINED (length (own_channels now me)) then Answer (TooManyChannels name) ∷ [] else found
+
+  pub no_name : is_channel name ≡ false → join_one me now asked ≡ Answer (NoSuchChannel (client_words name)) ∷ []
+  no_name bad =
+      ap (λ b. if not b then Answer (NoSuchChannel (client_words name)) ∷ []
+      else (if is_member now me.nick name then []
+      else (if nat_le MAX_JOINED (length (own_channels now me)) then Answer (TooManyChannels name) ∷ []
+      else joins_found now me asked (row now.channels (key name))))) bad
+
+  named : is_channel name ≡ true → join_one me now asked
+      ≡ (if is_member now me.nick name then []
+      else (if nat_le MAX_JOINED (length (own_channels now me)) then Answer (TooManyChannels name) ∷ []
+      else joins_found now me asked (row now.channels (key name))))
+  named fine =
+      ap (λ b. if not b then Answer (NoSuchChannel (client_words name)) ∷ []
+      else (if is_member now me.nick name then []
+      else (if nat_le MAX_JOINED (length (own_channels now me)) then Answer (TooManyChannels name) ∷ []
+      else joins_found now me asked (row now.channels (key name))))) fine
+
+  pub inside : is_channel name ≡ true → is_member now me.nick name ≡ true → join_one me now asked ≡ []
+  inside fine member =
+      named fine
+      ∙ ap (λ b. if b then []
+      else (if nat_le MAX_JOINED (length (own_channels now me)) then Answer (TooManyChannels name) ∷ []
+      else joins_found now me asked (row now.channels (key name)))) member
+
+  outside : is_channel name ≡ true → is_member now me.nick name ≡ false → join_one me now asked
+      ≡ (if nat_le MAX_JOINED (length (own_channels now me)) then Answer (TooManyChannels name) ∷ []
+      else joins_found now me asked (row now.channels (key name)))
+  outside fine none =
+      named fine
+      ∙ ap (λ b. if b then []
+      else (if nat_le MAX_JOINED (length (own_channels now me)) then Answer (TooManyChannels name) ∷ []
+      else joins_found now me asked (row now.channels (key name)))) none
+
+  pub in_too_many : is_channel name ≡ true → is_member now me.nick name ≡ false → nat_le MAX_JOINED (length (own_channels now me)) ≡ true
+      → join_one me now asked ≡ Answer (TooManyChannels name) ∷ []
+  in_too_many fine none many =
+      outside fine none
+      ∙ ap (λ b. if b then Answer (TooManyChannels name) ∷ [] else joins_found now me asked (row now.channels (key name))) many
+
+  pub one_more : is_channel name ≡ true → is_member now me.nick name ≡ false → nat_le MAX_JOINED (length (own_channels now me)) ≡ false
+      → join_one me now asked ≡ joins_found now me asked (row now.channels (key name))
+  one_more fine none fewer =
+      outside fine none
+      ∙ ap (λ b. if b then Answer (TooManyChannels name) ∷ [] else joins_found now me asked (row now.channels (key name))) fewer
+
+-- ---- after the Joins so far
+
+-- who is outside then was so before
+pub was_outside : (me : User) (room : Room) (acts : List Act) (name : List ℕ) → AreOwnJoins me.nick room acts → is_member (ahead room acts) me.nick name ≡ false
+    → is_member room me.nick name ≡ false
+was_outside me room acts name all out =
+    ap (λ o. option_map_or (has_member (key me.nick)) o false) (sym (joined_as_it_was me.nick name room acts all out)) ∙ out
+
+-- as the code's tests tell it, of the steps that it looks at
+pub tested_outside : (me : User) (room : Room) (steps acts : List Act) (name : List ℕ) (found : Bool) → steps ≡ acts → found ≡ is_member (ahead room steps) me.nick name
+    → found ≡ false → is_member (ahead room acts) me.nick name ≡ false
+tested_outside me room steps acts name found same is out = ap (λ s. is_member (ahead room s) me.nick name) (sym same) ∙ sym is ∙ out
+
+pub tested_few : (me : User) (room : Room) (steps acts : List Act) (count limit : ℕ) → steps ≡ acts → count ≡ length (own_channels (ahead room steps) me)
+    → count < limit → nat_le limit (length (own_channels (ahead room acts) me)) ≡ false
+tested_few me room steps acts count limit same is few =
+    ap (λ s. nat_le limit (length (own_channels (ahead room s) me))) (sym same) ∙ ap (nat_le limit) (sym is) ∙ below count limit few
+  where
+    below : (n m : ℕ) → n < m → nat_le m n ≡ false
+    below n m less = grind (arith, leb_tells m n)
+
+-- a channel that may be joined is served as it was
+pub served_as : (me : User) (room : Room) (acts : List Act) (name given : List ℕ) → AreOwnJoins me.nick room acts → is_channel name ≡ true
+    → is_member (ahead room acts) me.nick name ≡ false → nat_le MAX_JOINED (length (own_channels (ahead room acts) me)) ≡ false
+    → join_one me (ahead room acts) (record { channel = name; key = given }) ≡ joins_found room me (record { channel = name; key = given }) (row room.channels (key name))
+served_as me room acts name given all fine out fewer =
+    one_more me (ahead room acts) name given fine out fewer
+    ∙ found_alike room (ahead room acts) me (record { channel = name; key = given }) (row (ahead room acts).channels (key name)) (joins_keep_users me.nick room acts all)
+    ∙ ap (joins_found room me (record { channel = name; key = given })) (joined_as_it_was me.nick name room acts all out)
+
+-- so are all the steps, once it is served
+pub joins_more : (me : User) (room : Room) (acts new : List Act) (asked : Asked) → IsWellFormed room → AreOwnJoins me.nick room acts
+    → new ≡ acts ++ join_one me (ahead room acts) asked → AreOwnJoins me.nick room new
+joins_more me room acts new asked well all new_is =
+    let now = ahead room acts in
+    subst (AreOwnJoins me.nick room) (sym new_is)
+    (each-both (IsOwnJoin me.nick) room acts (join_one me now asked) all
+    (one_so (IsOwnJoin me.nick) me now asked (record {
+      makes = λ out. (refl, out);
+      enters = λ out channel is.
+          let named = (well.channels_sound (key asked.channel) channel (sym (joined_as_it_was me.nick asked.channel room acts all out) ∙ is)).named in
+          (refl, ap (λ fold. option_map_or (has_member (key me.nick)) (row now.channels fold) false) named ∙ out);
+    })))
+
+-- who is a member of no channel is none of the one that is found
+pub not_in_found : (me : User) (room : Room) (name : List ℕ) (channel : Channel) → is_member room me.nick name ≡ false
+    → row room.channels (key name) ≡ Some channel → has_member (key me.nick) channel ≡ false
+not_in_found me room name channel out is = sym (ap (λ o. option_map_or (has_member (key me.nick)) o false) is) ∙ out
+
+pub nobody_in_new : (nick name : List ℕ) → has_member nick (new_channel name) ≡ false
+nobody_in_new nick name = ap is_some (get-empty fold_cmp nick)
+
+-- whether there are flags is whether there is a member
+pub flags_tell : (room : Room) (nick name : List ℕ) → is_some (flags_at room (key nick) (key name)) ≡ is_member room nick name
+flags_tell room nick name = by_channel (row room.channels (key name))
+  where
+    by_channel : (o : Option Channel) → is_some (option_and_then (λ (c : Channel). row c.members (key nick)) o) ≡ option_map_or (has_member (key nick)) o false
+    by_channel None = refl
+    by_channel (Some channel) = refl

@@ -1,0 +1,46 @@
+-- The channels that a user is in, by the rows of the code's table.
+use Rattle.std.proofs.Common.{◌≡◌, Bool, cond, true, false, List, [], ◌∷◌, filter, length, map, refl, sym, ◌∙◌, ap}
+use Rattle.std.proofs.lemmas.List.{length-map}
+use Rattle.std.specs.FinMap.{entries}
+use Rattle.irc_names.specs.Fold.{key}
+use Rattle.irc_tables.specs.declared.table.Row.{Row}
+use Rattle.irc_tables.specs.RowViews.{row_entry}
+use Rattle.irc_users.specs.declared.user.User.{User}
+use Rattle.irc_channels.specs.declared.channel.Channel.{Channel}
+use Rattle.irc_channels.specs.Channels.{has_member}
+use Rattle.irc_room.specs.Room.{Room}
+use Rattle.irc_acts.specs.declared.act.Act.{Act}
+use Rattle.irc_acts.specs.Moves.{own_channels}
+use Rattle.irc_membership.specs.Join.{leaves}
+
+abbrev value_of : Row Channel → Channel
+value_of row = row.value
+
+kept_rows : (p : Channel → Bool) (rows : List (Row Channel)) → filter p (map (λ e. e.1) (map row_entry rows)) ≡ map value_of (filter (λ (row : Row Channel). p row.value) rows)
+kept_rows p [] = refl
+kept_rows p (row ∷ rows) = by_test (p row.value) (kept_rows p rows)
+  where
+    by_test : (b : Bool) → filter p (map (λ e. e.1) (map row_entry rows)) ≡ map value_of (filter (λ (row : Row Channel). p row.value) rows)
+        → cond b (row.value ∷ filter p (map (λ e. e.1) (map row_entry rows))) (filter p (map (λ e. e.1) (map row_entry rows)))
+        ≡ map value_of (cond b (row ∷ filter (λ (row : Row Channel). p row.value) rows) (filter (λ (row : Row Channel). p row.value) rows))
+    by_test true later = ap (λ cs. row.value ∷ cs) later
+    by_test false later = later
+
+own_rows : (room : Room) (me : User) (rows : List (Row Channel)) → map row_entry rows ≡ entries room.channels
+    → own_channels room me ≡ map value_of (filter (λ (row : Row Channel). has_member (key me.nick) row.value) rows)
+own_rows room me rows are =
+    ap (λ es. filter (has_member (key me.nick)) (map (λ e. e.1) es)) (sym are) ∙ kept_rows (has_member (key me.nick)) rows
+
+pub count_of_rows : (room : Room) (me : User) (rows : List (Row Channel)) → map row_entry rows ≡ entries room.channels
+    → length (filter (λ (row : Row Channel). has_member (key me.nick) row.value) rows) ≡ length (own_channels room me)
+count_of_rows room me rows are =
+    sym (length-map (filter (λ (row : Row Channel). has_member (key me.nick) row.value) rows) value_of) ∙ ap length (sym (own_rows room me rows are))
+
+mapped_twice : (f : Channel → Act) (rows : List (Row Channel)) → map (λ (row : Row Channel). f row.value) rows ≡ map f (map value_of rows)
+mapped_twice f [] = refl
+mapped_twice f (row ∷ rows) = ap (λ acts. f row.value ∷ acts) (mapped_twice f rows)
+
+pub leaves_of_rows : (room : Room) (me : User) (rows : List (Row Channel)) → map row_entry rows ≡ entries room.channels
+    → map (λ (row : Row Channel). leaves me row.value) (filter (λ (row : Row Channel). has_member (key me.nick) row.value) rows) ≡ map (leaves me) (own_channels room me)
+leaves_of_rows room me rows are =
+    mapped_twice (leaves me) (filter (λ (row : Row Channel). has_member (key me.nick) row.value) rows) ∙ ap (map (leaves me)) (sym (own_rows room me rows are))

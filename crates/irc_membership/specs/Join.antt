@@ -1,0 +1,103 @@
+-- JOIN.
+use Rattle.std.specs.Prelude.{ℕ, Bool, true, false, not, ◌&&◌, Option, Some, None, List, [], ◌∷◌, ◌++◌, codes, length, filter, map, nat_eq, nat_le, if◌then◌else◌}
+use Rattle.std.specs.Cmp.Lexicographic.{pointwise}
+use Rattle.std.specs.FinMap.{keys}
+use Rattle.irc_names.specs.Fold.{key}
+use Rattle.irc_names.specs.Names.{is_channel}
+use Rattle.irc_names.specs.Tables.{row}
+use Rattle.irc_users.specs.declared.user.User.{User}
+use Rattle.irc_channels.specs.declared.channel.Channel.{Channel}
+use Rattle.irc_channels.specs.Channels.{is_invited, is_nil, joined, new_channel}
+use Rattle.irc_channels.specs.Texts.{cut_words}
+use Rattle.irc_numerics.specs.declared.replies.Reply.TheVariants.{NeedMoreParams, NoSuchChannel, TooManyChannels, InviteOnlyChan, BannedFromChan, BadChannelKey, ChannelIsFull, Topic}
+use Rattle.irc_room.specs.declared.effect.Effect.TheVariants.{Join, Part}
+use Rattle.irc_room.specs.Room.{Room}
+use Rattle.irc_room.specs.Effects.{is_member}
+use Rattle.irc_membership.specs.declared.TheConstants.{MAX_JOINED}
+use Rattle.irc_acts.specs.declared.act.Act.{Act}
+use Rattle.irc_acts.specs.declared.act.Act.TheVariants.{Answer, Do}
+use Rattle.irc_acts.specs.Ahead.{in_turn}
+use Rattle.irc_acts.specs.CommaLists.{pieces}
+use Rattle.irc_acts.specs.Acts.{kept, client_words}
+use Rattle.irc_answers.specs.Names.{names_of, end_of_names}
+use Rattle.irc_acts.specs.Moves.{own_channels}
+use Rattle.irc_acts.specs.Standing.{is_banned}
+
+-- a channel that is asked for, and the key that is given with it; an empty one opens nothing
+pub record Asked : Type 0 where
+  pub channel : List ℕ
+  pub key : List ℕ
+
+-- Each channel has the key at its own position in the list of keys, in which an empty place counts (our own choice).
+abbrev pub with_keys : List (List ℕ) → List (List ℕ) → List Asked
+with_keys [] keys = []
+with_keys (channel ∷ channels) [] = record { channel = channel; key = [] } ∷ with_keys channels []
+with_keys (channel ∷ channels) (given ∷ keys) = record { channel = channel; key = given } ∷ with_keys channels keys
+
+-- an entry that is skipped among the channels takes its key with it
+unfoldable pub asked_for : List ℕ → List ℕ → List Asked
+asked_for channels keys = filter (λ asked. not (is_nil asked.channel)) (with_keys (pieces channels) (pieces keys))
+
+-- the list of keys is the second parameter
+abbrev pub keys_given : List (List ℕ) → List ℕ
+keys_given [] = []
+keys_given (list ∷ more) = list
+
+abbrev pub opens : Option (List ℕ) → List ℕ → Bool
+opens None given = true
+opens (Some word) given = pointwise nat_eq word given
+
+abbrev pub is_full : Option ℕ → Channel → Bool
+is_full None channel = false
+is_full (Some limit) channel = nat_le limit (length (keys channel.members))
+
+-- why a user is kept out of a channel, if it is (RFC 2811 sections 4.2.1, 4.2.9, 4.2.10 and 4.3.1)
+abbrev pub kept_out : User → List ℕ → Channel → Option Act
+kept_out me given channel =
+    if channel.modes.invite_only && not (is_invited (key me.nick) channel) then Some (Answer (InviteOnlyChan channel.name))
+    else (if is_banned me channel then Some (Answer (BannedFromChan channel.name))
+    else (if not (opens channel.modes.key given) then Some (Answer (BadChannelKey channel.name))
+    else (if is_full channel.modes.limit channel then Some (Answer (ChannelIsFull channel.name))
+    else None)))
+
+-- a joiner is told the topic where there is one
+abbrev pub topic_for_joiner : List ℕ → List ℕ → List Act
+topic_for_joiner name [] = []
+topic_for_joiner name (b ∷ bytes) = Answer (Topic name (kept (b ∷ bytes))) ∷ []
+
+-- The user is a member, an operator where it has made the channel, and is told what is there then; the end names the channel as it
+-- was asked for.
+abbrev pub joins : Room → User → List ℕ → Bool → Channel → List Act
+joins room me name op channel =
+    let now = joined (key me.nick) op channel in
+    Do (Join me.nick channel.name op) ∷ topic_for_joiner now.name now.topic ++ names_of room.users me now ++ end_of_names name ∷ []
+
+abbrev pub admitted : Room → User → List ℕ → Channel → Option Act → List Act
+admitted room me name channel None = joins room me name false channel
+admitted room me name channel (Some refusal) = refusal ∷ []
+
+-- by the channel that was found under the name, if one was
+abbrev pub joins_found : Room → User → Asked → Option Channel → List Act
+joins_found room me asked None = joins room me asked.channel true (new_channel asked.channel)
+joins_found room me asked (Some channel) = admitted room me asked.channel channel (kept_out me asked.key channel)
+
+abbrev pub join_one : User → Room → Asked → List Act
+join_one me room asked =
+    if not (is_channel asked.channel) then Answer (NoSuchChannel (client_words asked.channel)) ∷ []
+    else (if is_member room me.nick asked.channel then []
+    else (if nat_le MAX_JOINED (length (own_channels room me)) then Answer (TooManyChannels asked.channel) ∷ []
+    else joins_found room me asked (row room.channels (key asked.channel))))
+
+-- the user leaves a channel, with its nickname as the text
+abbrev pub leaves : User → Channel → Act
+leaves me channel = Do (Part me.nick channel.name (cut_words me.nick))
+
+abbrev pub is_zero : List ℕ → Bool
+is_zero word = pointwise nat_eq word (codes "0")
+
+-- what a JOIN does (RFC 2812 section 3.2.1); `JOIN 0` leaves every channel
+unfoldable pub join_steps : Room → User → List (List ℕ) → List Act
+join_steps room me [] = Answer (NeedMoreParams (client_words (codes "JOIN"))) ∷ []
+join_steps room me (list ∷ more) =
+    if is_zero list then map (leaves me) (own_channels room me)
+    else in_turn (join_one me) room (asked_for list (keys_given more))

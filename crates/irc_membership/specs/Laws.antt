@@ -1,0 +1,5 @@
+-- What holds of the steps of these commands: laws, with their proofs. No rule stands here.
+pub mod JoinWalk
+pub mod JoinZero
+pub mod JoinLaw
+pub mod PartLaw

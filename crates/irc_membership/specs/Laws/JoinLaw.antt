@@ -1,0 +1,40 @@
+-- The steps of a JOIN are its user's own.
+use Rattle.std.proofs.Common.{◌≡◌, ℕ, Bool, true, false, List, [], ◌∷◌, map, refl, if◌then◌else◌, ◌⊎◌, inl, inr}
+use Rattle.irc_users.specs.declared.user.User.{User}
+use Rattle.irc_room.specs.Room.{Room, IsWellFormed}
+use Rattle.irc_acts.specs.declared.act.Act.{Act}
+use Rattle.irc_acts.specs.Ahead.{in_turn}
+use Rattle.irc_acts.specs.AheadLaws.{each-in_turn}
+use Rattle.irc_acts.specs.Moves.{own_channels}
+use Rattle.irc_acts.specs.Own as own
+use Rattle.irc_acts.specs.Own.{IsOwn, AreOwn}
+use Rattle.irc_membership.specs.Join.{Asked, asked_for, is_zero, join_one, join_steps, keys_given, leaves}
+use Rattle.irc_membership.specs.Laws.JoinWalk.{one_so}
+use Rattle.irc_membership.specs.Laws.JoinZero.{leaving_own}
+
+-- The steps of a JOIN are its user's own in any room, or they leave all the channels that the user is in.
+abbrev pub JoinIsOwnOrLeaves : Type 0
+JoinIsOwnOrLeaves = (me : User) (room : Room) (params : List (List ℕ))
+    → AreOwn me room (join_steps room me params) ⊎ (join_steps room me params ≡ map (leaves me) (own_channels room me))
+
+-- To leave all channels is its user's own doing too, where the room is well formed.
+abbrev pub LeavingAllIsOwn : Type 0
+LeavingAllIsOwn = (me : User) (room : Room) → IsWellFormed room → AreOwn me room (map (leaves me) (own_channels room me))
+
+one_own : (me : User) (room : Room) (asked : Asked) → AreOwn me room (join_one me room asked)
+one_own me room asked =
+    one_so (IsOwn me) me room asked (record { makes = λ outside. own.joins asked.channel _; enters = λ outside channel is. own.joins channel.name _ })
+
+own_or_leaves : (me : User) (room : Room) (asked : List Asked) (zero : Bool)
+    → let acts : List Act = if zero then map (leaves me) (own_channels room me) else in_turn (join_one me) room asked in
+    AreOwn me room acts ⊎ (acts ≡ map (leaves me) (own_channels room me))
+own_or_leaves me room asked true = inr refl
+own_or_leaves me room asked false = inl (each-in_turn (IsOwn me) (join_one me) (one_own me) room asked)
+
+pub join_is_own_or_leaves : JoinIsOwnOrLeaves
+unfolding join_steps
+join_is_own_or_leaves me room [] = inl tt
+join_is_own_or_leaves me room (list ∷ more) = own_or_leaves me room (asked_for list (keys_given more)) (is_zero list)
+
+pub leaving_all_is_own : LeavingAllIsOwn
+leaving_all_is_own me room well = leaving_own room me well

@@ -1,0 +1,4 @@
+pub mod Join
+pub mod Part
+pub mod Laws
+pub mod Loops

@@ -1,0 +1,254 @@
+//! JOIN.
+ghost use Rattle.std.specs.Prelude.{◌≡◌, ◌∷◌, ◌++◌, true, false, [], filter, length, map, IfOk, OnOk};
+ghost use Rattle.irc_names.specs.Fold.{key};
+ghost use Rattle.irc_names.specs.Names.{is_channel};
+ghost use Rattle.irc_names.specs.Tables.{row};
+ghost use Rattle.irc_line.specs.MessageViews.{optional_now};
+ghost use Rattle.irc_line.specs.PartViews.{words_now};
+ghost use Rattle.irc_channels.specs.Channels.{has_member};
+ghost use Rattle.irc_room.specs.Effects.{is_member};
+ghost use Rattle.irc_acts.specs.Ahead.{ahead, in_turn};
+ghost use Rattle.irc_acts.specs.Moves.{AreOwnJoins, own_channels};
+ghost use Rattle.irc_membership.specs.Join.{admitted, asked_for, is_zero, join_one, join_steps, joins, joins_found, keys_given, kept_out, leaves, topic_for_joiner};
+ghost use Rattle.irc_membership.specs.Laws.JoinLaw.{JoinIsOwnOrLeaves, LeavingAllIsOwn};
+ghost use Rattle.irc_membership.specs.Loops.JoinList.{IsNextKey};
+
+use crate::MAX_JOINED;
+use crate::admission::kept_out;
+use irc_acts::ahead::{self, know_well_formed};
+use irc_acts::comma_lists::first_piece;
+use irc_acts::refusals::{need_more_params, no_such_channel};
+use irc_acts::{Act, Context, only, put};
+use irc_answers::names::{end_of_names, put_joiner_names};
+use irc_channels::{Channel, Words};
+use irc_names::{ChannelName, copied};
+use irc_numerics::Reply;
+use irc_room::Effect;
+use irc_tables::Row;
+use irc_users::User;
+use std::alloc::{AllocError, Global};
+
+/// What a JOIN does (RFC 2812 section 3.2.1).
+///
+/// # Errors
+/// Where memory runs out.
+#[tactic(auto, unfolding(crate::specs::Join::join_steps))]
+pub fn steps(context: &Context<'_>, params: &[&[u8]]) -> Result<Vec<Act, Global>, AllocError>
+    ensures { IfOk result (λ steps. steps.items ≡ join_steps context.now.room.now.room context.now.me.now (words_now params.now)) }
+{
+    let Some((list, more)) = params.split_first() else {
+        return only(context.alloc, need_more_params(b"JOIN"));
+    };
+    if is_zero(list) {
+        leave_each(context.room.channels(), context.alloc, context.me)
+    } else {
+        join_list(context, list, keys_given(more))
+    }
+}
+
+/// Whether a list is `0`, which stands for leaving all channels.
+fn is_zero(list: &[u8]) -> bool
+    ensures { result ≡ is_zero list.now }
+{
+    list == b"0".as_slice()
+}
+
+/// The list of keys, which is empty where none is given.
+fn keys_given<'a>(more: &[&'a [u8]]) -> &'a [u8]
+    ensures { result.now ≡ keys_given (words_now more.now) }
+{
+    match more.first() {
+        Some(keys) => keys,
+        None => &[],
+    }
+}
+
+/// A Part of each of these channels that the user is in, with its nickname as the text.
+fn leave_each(
+    rows: &[Row<Channel>],
+    alloc: Global,
+    me: &User,
+) -> Result<Vec<Act, Global>, AllocError>
+    ensures { IfOk result (λ steps. steps.items ≡ map (λ row. leaves me.now row.value) (filter (λ row. has_member (key me.now.nick) row.value) rows.now)) }
+{
+    rows.iter()
+        .filter(|row| row.value.has_member(&me.nick))
+        .map(|row| leave(me, &row.value))
+        .collect(alloc)
+}
+
+/// A Part of one channel.
+fn leave(me: &User, channel: &Channel) -> Act
+    ensures { result ≡ leaves me.now channel.now }
+{
+    Act::Do(Effect::Part {
+        nick: me.nick.copy(),
+        channel: channel.name.copy(),
+        text: Words::cut(me.nick.as_bytes()),
+    })
+}
+
+/// How many of these channels the user is in.
+fn count_own(rows: &[Row<Channel>], me: &User) -> usize
+    ensures { result ≡ length (filter (λ row. has_member (key me.now.nick) row.value) rows.now) }
+{
+    rows.iter()
+        .filter(|row| row.value.has_member(&me.nick))
+        .count()
+}
+
+/// The channels of a list in turn, each with the key at its position.
+fn join_list(
+    context: &Context<'_>,
+    list: &[u8],
+    keys: &[u8],
+) -> Result<Vec<Act, Global>, AllocError>
+    ensures { IfOk result (λ steps. steps.items ≡ in_turn (join_one context.now.me.now) context.now.room.now.room (asked_for list.now keys.now)) }
+{
+    know_well_formed(context.room);
+    let already = count_own(context.room.channels(), context.me);
+    let mut steps = Vec::new(context.alloc);
+    let mut names = Some(list);
+    let mut keys = Some(keys);
+    while let Some(left) = names {
+        let (name, more_names) = first_piece(left);
+        let (key, more_keys) = next_key(keys);
+        names = more_names;
+        keys = more_keys;
+        if !name.is_empty() {
+            join_one(&mut steps, context, already, name, key)?;
+        }
+    }
+    Ok(steps)
+}
+
+/// The next key of a list of keys, which is empty where none is left, and what is left of the list.
+fn next_key(keys: Option<&[u8]>) -> (&[u8], Option<&[u8]>)
+    ensures { IsNextKey (optional_now keys.entry) result.0.now (optional_now result.1) }
+{
+    match keys {
+        None => (&[], None),
+        Some(keys) => first_piece(keys),
+    }
+}
+
+/// One channel, by the room as the steps so far have left it.
+fn join_one(
+    steps: &mut Vec<Act, Global>,
+    context: &Context<'_>,
+    already: usize,
+    name: &[u8],
+    given: &[u8],
+) -> Result<(), AllocError>
+    requires joins { AreOwnJoins context.now.me.now.nick context.now.room.now.room steps.old.items }
+    requires counted { already ≡ length (own_channels context.now.room.now.room context.now.me.now) }
+    ensures { OnOk result (steps.new.items ≡ steps.old.items ++ join_one context.now.me.now (ahead context.now.room.now.room steps.old.items) (record { channel = name.now; key = given.now })) }
+{
+    let Some(asked) = ChannelName::read(name) else {
+        return put(steps, no_such_channel(name));
+    };
+    if is_in(context, steps.as_slice(), name) {
+        return Ok(());
+    }
+    if ahead::channels(context.room, steps.as_slice(), context.me, already) < MAX_JOINED {
+        join_found(steps, context, &asked, given)
+    } else {
+        put(
+            steps,
+            Act::Answer(Reply::TooManyChannels { channel: asked }),
+        )
+    }
+}
+
+/// Whether the user is a member of the channel of a name, once these steps are done.
+fn is_in(context: &Context<'_>, steps: &[Act], name: &[u8]) -> bool
+    requires { AreOwnJoins context.now.me.now.nick context.now.room.now.room steps.now }
+    ensures { result ≡ is_member (ahead context.now.room.now.room steps.now) context.now.me.now.nick name.now }
+{
+    ahead::flags(context.room, steps, context.me.nick.as_bytes(), name).is_some()
+}
+
+/// A channel that the user is not in: it is made where it is not there.
+fn join_found(
+    steps: &mut Vec<Act, Global>,
+    context: &Context<'_>,
+    asked: &ChannelName,
+    given: &[u8],
+) -> Result<(), AllocError>
+    requires { is_member context.now.room.now.room context.now.me.now.nick asked.now ≡ false }
+    ensures { OnOk result (steps.new.items ≡ steps.old.items ++ joins_found context.now.room.now.room context.now.me.now (record { channel = asked.now; key = given.now }) (row context.now.room.now.room.channels (key asked.now))) }
+{
+    match context.room.channel(asked.as_bytes()) {
+        Some(channel) => join_there(steps, context, channel, asked, given),
+        None => {
+            let made = Channel::new(context.alloc, asked);
+            enter(steps, context, true, &made, asked)
+        }
+    }
+}
+
+/// A channel that is there, and keeps some out.
+fn join_there(
+    steps: &mut Vec<Act, Global>,
+    context: &Context<'_>,
+    channel: &Channel,
+    asked: &ChannelName,
+    given: &[u8],
+) -> Result<(), AllocError>
+    requires { has_member (key context.now.me.now.nick) channel.now ≡ false }
+    ensures { OnOk result (steps.new.items ≡ steps.old.items ++ admitted context.now.room.now.room context.now.me.now asked.now channel.now (kept_out context.now.me.now given.now channel.now)) }
+{
+    match kept_out(context.me, given, channel) {
+        Some(refusal) => put(steps, refusal),
+        None => enter(steps, context, false, channel, asked),
+    }
+}
+
+/// The user joins a channel that it is not in, and is told what is there then.
+fn enter(
+    steps: &mut Vec<Act, Global>,
+    context: &Context<'_>,
+    op: bool,
+    channel: &Channel,
+    asked: &ChannelName,
+) -> Result<(), AllocError>
+    requires { has_member (key context.now.me.now.nick) channel.now ≡ false }
+    ensures { OnOk result (steps.new.items ≡ steps.old.items ++ joins context.now.room.now.room context.now.me.now asked.now op channel.now) }
+{
+    let nick = context.me.nick.copy();
+    let name = channel.name.copy();
+    put(
+        steps,
+        Act::Do(Effect::Join {
+            nick,
+            channel: name,
+            op,
+        }),
+    )?;
+    put_topic(steps, channel)?;
+    put_joiner_names(steps, context, op, channel)?;
+    put(steps, end_of_names(asked.as_bytes()))
+}
+
+/// Appends the topic that a joiner is told, where there is one.
+fn put_topic(steps: &mut Vec<Act, Global>, channel: &Channel) -> Result<(), AllocError>
+    ensures { OnOk result (steps.new.items ≡ steps.old.items ++ topic_for_joiner channel.now.name channel.now.topic) }
+{
+    let topic = channel.topic.as_bytes();
+    if topic.is_empty() {
+        return Ok(());
+    }
+    let channel = channel.name.copy();
+    let topic = copied(topic);
+    put(steps, Act::Answer(Reply::Topic { channel, topic }))
+}
+
+/// A law: each effect of a JOIN is its user's own, in the room that those before it have left, or the user leaves all its channels.
+pub fn is_own_or_leaves()
+    ensures { JoinIsOwnOrLeaves }
+{}
+
+/// A law: in a well-formed room each effect of leaving all channels is its user's own too.
+pub fn leaving_all_is_own()
+    ensures { LeavingAllIsOwn }
+{}

@@ -1,0 +1,9 @@
+//! Commands by which users come to channels and leave them.
+#![tactic(auto)]
+
+mod admission;
+pub mod join;
+pub mod part;
+
+/// The most channels that a user is in by its own joining (our own choice).
+pub const MAX_JOINED: usize = 10;

@@ -1,0 +1,75 @@
+//! PART.
+ghost use Rattle.std.specs.Prelude.{◌≡◌, [], ◌∷◌, IfOk};
+ghost use Rattle.irc_line.specs.PartViews.{words_now};
+ghost use Rattle.irc_acts.specs.Ahead.{ahead, in_turn};
+ghost use Rattle.irc_acts.specs.CommaLists.{entries};
+ghost use Rattle.irc_acts.specs.Moves.{AreLeaves};
+ghost use Rattle.irc_membership.specs.Part.{part_one, part_steps};
+ghost use Rattle.irc_membership.specs.Laws.PartLaw.{PartIsOwn};
+
+use irc_acts::ahead::{self, know_well_formed};
+use irc_acts::comma_lists::next_entry;
+use irc_acts::refusals::{need_more_params, no_such_channel, not_on_channel};
+use irc_acts::words::reason_given;
+use irc_acts::{Act, Context, only, put};
+use irc_channels::Words;
+use irc_room::Effect;
+use std::alloc::{AllocError, Global};
+
+/// What a PART does (RFC 2812 section 3.2.2).
+///
+/// # Errors
+/// Where memory runs out.
+#[tactic(auto, unfolding(crate::specs::Part::part_steps))]
+pub fn steps(context: &Context<'_>, params: &[&[u8]]) -> Result<Vec<Act, Global>, AllocError>
+    ensures { IfOk result (λ steps. steps.items ≡ part_steps context.now.room.now.room context.now.me.now (words_now params.now)) }
+{
+    let Some((list, more)) = params.split_first() else {
+        return only(context.alloc, need_more_params(b"PART"));
+    };
+    let text = reason_given(more, context.me.nick.as_bytes());
+    part_list(context, &text, list)
+}
+
+/// What leaving the channels of a comma list does, one after another.
+fn part_list(
+    context: &Context<'_>,
+    text: &Words,
+    list: &[u8],
+) -> Result<Vec<Act, Global>, AllocError>
+    ensures { IfOk result (λ steps. steps.items ≡ in_turn (part_one context.now.me.now text.now) context.now.room.now.room (entries list.now)) }
+{
+    know_well_formed(context.room);
+    let mut steps = Vec::new(context.alloc);
+    let mut rest = list;
+    while let Some((name, behind)) = next_entry(rest) {
+        let act = part_one(context, text, steps.as_slice(), name);
+        put(&mut steps, act)?;
+        rest = behind;
+    }
+    Ok(steps)
+}
+
+/// What leaving one channel does in the room as the steps so far leave it.
+fn part_one(context: &Context<'_>, text: &Words, steps: &[Act], name: &[u8]) -> Act
+    requires { AreLeaves context.now.room.now.room steps.now }
+    ensures { part_one context.now.me.now text.now (ahead context.now.room.now.room steps.now) name.now ≡ result ∷ [] }
+{
+    let nick = &context.me.nick;
+    let Some(channel) = ahead::channel(context.room, steps, name) else {
+        return no_such_channel(name);
+    };
+    match ahead::flags(context.room, steps, nick.as_bytes(), name) {
+        None => not_on_channel(channel),
+        Some(_) => Act::Do(Effect::Part {
+            nick: nick.copy(),
+            channel: channel.name.copy(),
+            text: text.copy(),
+        }),
+    }
+}
+
+/// A law: each effect of a PART is its user's own, in the room that those before it have left.
+pub fn is_own()
+    ensures { PartIsOwn }
+{}
