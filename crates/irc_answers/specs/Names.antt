@@ -11,7 +11,7 @@ use Rattle.irc_users.specs.declared.user.User.{User}
 use Rattle.irc_channels.specs.declared.flags.Flags.{Flags}
 use Rattle.irc_channels.specs.declared.channel.Channel.{Channel}
 use Rattle.irc_channels.specs.Channels.{has_member}
-use Rattle.irc_numerics.specs.declared.limits.TheConstants.{MAX_NAMES}
+use Rattle.irc_numerics.specs.Limits.{max_names}
 use Rattle.irc_numerics.specs.declared.replies.Listed.{Listed}
 use Rattle.irc_numerics.specs.declared.replies.Reply.TheVariants.{NamReply, EndOfNames}
 use Rattle.irc_room.specs.Room.{Room}
@@ -47,7 +47,7 @@ name_line channel names = Answer (NamReply (visibility_of channel.modes.privacy)
 
 -- where there is nobody to name there is no line
 abbrev pub name_lines : Channel → List Listed → List Act
-name_lines channel names = map (name_line channel) (in_lines MAX_NAMES names)
+name_lines channel names = map (name_line channel) (in_lines max_names names)
 
 abbrev pub names_of : Table User → User → Channel → List Act
 names_of users me channel = name_lines channel (named_members users me channel)

@@ -8,7 +8,7 @@ use Rattle.std.specs.FinMap.{empty, keys}
 use Rattle.irc_names.specs.Fold.{key, same, name_cmp}
 use Rattle.irc_names.specs.Names.{fits, is_key, is_mask}
 use Rattle.irc_names.specs.Tables.{row, alter, moved}
-use Rattle.irc_channels.specs.declared.TheConstants.{MAX_LIMIT, MAX_LIMIT_DIGITS}
+use Rattle.irc_channels.specs.Limits.{max_limit, max_limit_digits}
 use Rattle.irc_channels.specs.declared.channel.Channel.{Channel}
 use Rattle.irc_channels.specs.declared.flags.Flags.{Flags}
 use Rattle.irc_channels.specs.declared.modes.Privacy.{Privacy}
@@ -107,7 +107,7 @@ number_of digits = fold (λ n digit. 10 * n + (digit - 48)) 0 digits
 -- a limit is 1 to 65535, written in at most 5 digits (our own choice)
 unfoldable pub is_limit : List ℕ → Bool
 is_limit digits =
-    list_all is_ascii_digit digits && fits MAX_LIMIT_DIGITS digits && (nat_le 1 (number_of digits) && nat_le (number_of digits) MAX_LIMIT)
+    list_all is_ascii_digit digits && fits max_limit_digits digits && (nat_le 1 (number_of digits) && nat_le (number_of digits) max_limit)
 
 -- k is set to its parameter; one that is no key changes nothing, nor does k without one. It is cleared whatever its parameter is.
 abbrev pub key_changed : Bool → Option (List ℕ) → Option (List ℕ) → Option (List ℕ)

@@ -1,3 +1,4 @@
+pub mod Limits
 pub mod Texts
 pub mod Bans
 pub mod Channels

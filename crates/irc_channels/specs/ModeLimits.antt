@@ -1,14 +1,14 @@
 -- What the reader of a MODE remembers of the letters that it has read.
 use Rattle.std.specs.Prelude.{◌≡◌, ℕ, ◌-◌, ◌++◌, Bool, List, [], ◌∷◌, nat_eq, count_by}
 use Rattle.std.specs.List.{list_any}
-use Rattle.irc_channels.specs.declared.TheConstants.{MAX_MODE_PARAMETERS}
+use Rattle.irc_channels.specs.Limits.{max_mode_parameters}
 use Rattle.irc_channels.specs.declared.mode_words.Reading.{Reading}
 use Rattle.irc_channels.specs.declared.mode_words.Limits.{Limits}
 use Rattle.irc_channels.specs.ModeWords.{is_once_with, counts}
 
 -- how many parameters may still count, and which of the letters that count once were there
 pub record Remembers (limits : Limits) (earlier : List Reading) : Type 0 where
-  pub room : limits.room ≡ MAX_MODE_PARAMETERS - count_by (λ r. r.takes) earlier
+  pub room : limits.room ≡ max_mode_parameters - count_by (λ r. r.takes) earlier
   pub met : (byte : ℕ) → list_any (nat_eq byte) limits.met.items ≡ list_any (is_once_with byte) earlier
 
 -- One more letter, after whatever letters were remembered: whether it counts, and that it is remembered too.

@@ -5,7 +5,7 @@ use Rattle.std.specs.Prelude.{ℕ, Bool, true, false, not, ◌&&◌, ◌||◌, O
 use Rattle.std.specs.List.{list_any}
 use Rattle.irc_channels.specs.Texts.{cut_mode_word}
 use Rattle.irc_channels.specs.Letters.{letter_byte, plus_byte, minus_byte}
-use Rattle.irc_channels.specs.declared.TheConstants.{MAX_MODE_PARAMETERS}
+use Rattle.irc_channels.specs.Limits.{max_mode_parameters}
 use Rattle.irc_channels.specs.declared.modes.ModeLetter.{ModeLetter}
 use Rattle.irc_channels.specs.declared.modes.ModeLetter.TheVariants as letter
 use Rattle.irc_channels.specs.declared.mode_words.ModeItem.{ModeItem}
@@ -119,7 +119,7 @@ is_once_with byte reading = reading.once && nat_eq byte reading.byte
 -- the first three do (RFC 2812 section 3.2.3), and of those that count once the first (our own choice).
 abbrev pub counts : List Reading → Reading → Bool
 counts earlier reading =
-    (not reading.takes || nat_lt (count_by (λ r. r.takes) earlier) MAX_MODE_PARAMETERS)
+    (not reading.takes || nat_lt (count_by (λ r. r.takes) earlier) max_mode_parameters)
     && not (reading.once && list_any (is_once_with reading.byte) earlier)
 
 -- what comes of the letters that count, after some that were written before them

@@ -1,3 +1,4 @@
+pub mod Limits
 pub mod Decisions
 pub mod Ping
 pub mod Quit

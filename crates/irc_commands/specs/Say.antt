@@ -3,7 +3,7 @@ use Rattle.std.specs.Prelude.{ℕ, ◌-◌, Bool, true, false, not, ◌&&◌, �
 use Rattle.std.specs.List.{flat_map}
 use Rattle.irc_names.specs.Fold.{key}
 use Rattle.irc_names.specs.Tables.{row}
-use Rattle.irc_line.specs.declared.limits.TheConstants.{MAX_LINE}
+use Rattle.irc_line.specs.Limits.{max_line}
 use Rattle.irc_line.specs.Messages.{full, joined_text}
 use Rattle.irc_users.specs.declared.user.User.{User}
 use Rattle.irc_channels.specs.declared.flags.Flags.{Flags}
@@ -13,7 +13,7 @@ use Rattle.irc_room.specs.declared.effect.Target.{Target}
 use Rattle.irc_room.specs.declared.effect.Target.TheVariants as target
 use Rattle.irc_room.specs.declared.effect.Effect.TheVariants.{Say}
 use Rattle.irc_room.specs.Room.{Room}
-use Rattle.irc_commands.specs.declared.TheConstants.{MAX_TARGETS}
+use Rattle.irc_commands.specs.Limits.{max_targets}
 use Rattle.irc_commands.specs.declared.say.Verb.{Verb}
 use Rattle.irc_commands.specs.declared.say.Verb.TheVariants as verb
 use Rattle.irc_acts.specs.declared.act.Act.{Act}
@@ -53,7 +53,7 @@ say_command verb.Notice = codes "NOTICE"
 abbrev pub said_text : User → Verb → List ℕ → List ℕ → List ℕ
 said_text me which to words =
     let empty = joined_text (record { sender = full me.nick me.user me.host; command = say_command which; middle = to ∷ []; last = Some [] }) in
-    take (MAX_LINE - length empty) words
+    take (max_line - length empty) words
 
 abbrev pub says : User → Verb → Target → List ℕ → List ℕ → List Act
 says me which to name words = Do (Say me.nick (is_notice which) to (kept (said_text me which name words))) ∷ []
@@ -90,7 +90,7 @@ unless_notice verb.Notice steps = filter (λ step. not (is_answer step)) steps
 
 abbrev pub say_to : Room → User → Verb → List ℕ → List ℕ → List Act
 say_to room me which targets words =
-    flat_map (to_one room me which words) (take MAX_TARGETS (entries targets)) ++ too_many (drop MAX_TARGETS (entries targets))
+    flat_map (to_one room me which words) (take max_targets (entries targets)) ++ too_many (drop max_targets (entries targets))
 
 -- what a PRIVMSG or a NOTICE does (RFC 2812 section 3.3)
 unfoldable pub say_steps : Room → User → Verb → List (List ℕ) → List Act

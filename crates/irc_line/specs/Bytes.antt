@@ -1,7 +1,7 @@
 -- The bytes that the protocol names, and a line's limit (RFC 2812 section 2.3.1).
 use Rattle.std.specs.Prelude.{ℕ, Bool, false, ◌||◌, ◌==◌, List, [], ◌∷◌, take}
 use Rattle.std.specs.List.{list_any}
-use Rattle.irc_line.specs.declared.limits.TheConstants.{MAX_LINE}
+use Rattle.irc_line.specs.Limits.{max_line}
 
 abbrev pub carriage_return : ℕ
 carriage_return = 13
@@ -47,4 +47,4 @@ crlf = carriage_return ∷ line_feed ∷ []
 
 -- what a line has room for
 unfoldable pub cut : List ℕ → List ℕ
-cut = take MAX_LINE
+cut = take max_line

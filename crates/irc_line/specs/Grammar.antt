@@ -3,7 +3,7 @@
 -- stand in a word, and the standard's words are not checked here.
 use Rattle.std.specs.Prelude.{◌≡◌, ◌≢◌, ℕ, ◌<◌, ◌-◌, Bool, true, false, not, ◌||◌, Some, None, Result, Ok, Err, List, [], ◌∷◌, ◌++◌}
 use Rattle.std.specs.List.{list_all}
-use Rattle.irc_line.specs.declared.limits.TheConstants.{MAX_PARAMETERS}
+use Rattle.irc_line.specs.Limits.{max_parameters}
 use Rattle.irc_line.specs.declared.reading.LineFault.{LineFault}
 use Rattle.irc_line.specs.declared.reading.LineFault.TheVariants.{Empty, NoCommand, HasNul}
 use Rattle.irc_line.specs.Bytes.{is_space, is_colon, has_nul, begins, colon}
@@ -45,7 +45,7 @@ pub record CommandAt (text command : List ℕ) (params : List (List ℕ)) : Type
   pub no_space : HasNoSpace command
   pub whole : EndsWord more
   pub text_is : text ≡ command ++ more
-  pub params_are : ReadsParams MAX_PARAMETERS more params
+  pub params_are : ReadsParams max_parameters more params
 
 -- A line is read as this message.
 pub data Reads : List ℕ → Parsed → Type 0 where

@@ -4,7 +4,7 @@
 -- line the first 510 bytes count.
 use Rattle.std.specs.Prelude.{◌≡◌, ℕ, ◌<◌, ◌≤◌, Bool, true, false, not, ◌&&◌, ◌||◌, length, Option, Some, None, List, [], ◌∷◌, ◌++◌, if◌then◌else◌}
 use Rattle.std.specs.List.{slice_split, filter_map, list_any}
-use Rattle.irc_line.specs.declared.limits.TheConstants.{MAX_LINE}
+use Rattle.irc_line.specs.Limits.{max_line}
 use Rattle.irc_line.specs.Bytes.{is_line_end, has_nul, cut}
 
 -- the last of some pieces
@@ -75,7 +75,7 @@ HasEnded old false new = (new ≡ nothing_begun) × (line_begun old ≡ None)
 -- what each line is: 1 to 510 bytes, none of them NUL, CR or LF
 pub record IsLine (line : List ℕ) : Type 0 where
   pub some_byte : 0 < length line
-  pub fits : length line ≤ MAX_LINE
+  pub fits : length line ≤ max_line
   pub no_nul : has_nul line ≡ false
   pub no_end : list_any is_line_end line ≡ false
 

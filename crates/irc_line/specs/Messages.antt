@@ -1,7 +1,7 @@
 -- What a line says, and what parts are written as (RFC 2812 section 2.3.1).
 use Rattle.std.specs.Prelude.{◌≡◌, ◌≢◌, ℕ, ◌≤◌, true, false, not, Option, Some, None, List, [], ◌∷◌, ◌++◌, length, option_to_list, unwrap_or}
 use Rattle.std.specs.List.{flat_map, list_all, AllByRecursion}
-use Rattle.irc_line.specs.declared.limits.TheConstants.{MAX_PARAMETERS}
+use Rattle.irc_line.specs.Limits.{max_parameters}
 use Rattle.irc_line.specs.Bytes.{space, colon, exclamation_mark, at_sign, is_space, is_colon, has_nul, begins, crlf, cut}
 
 -- a message: the prefix if there is one, the command as it was given, the parameters
@@ -78,4 +78,4 @@ pub record IsPlain (parts : Written) : Type 0 where
   pub command : IsPlainWord parts.command
   pub middle : AllByRecursion IsPlainWord parts.middle
   pub last_no_nul : has_nul (unwrap_or parts.last []) ≡ false
-  pub count : length (message_of parts).params ≤ MAX_PARAMETERS
+  pub count : length (message_of parts).params ≤ max_parameters

@@ -13,7 +13,7 @@ use Rattle.irc_numerics.specs.declared.replies.Reply.TheVariants.{NeedMoreParams
 use Rattle.irc_room.specs.declared.effect.Effect.TheVariants.{Join, Part}
 use Rattle.irc_room.specs.Room.{Room}
 use Rattle.irc_room.specs.Effects.{is_member}
-use Rattle.irc_membership.specs.declared.TheConstants.{MAX_JOINED}
+use Rattle.irc_membership.specs.Limits.{max_joined}
 use Rattle.irc_acts.specs.declared.act.Act.{Act}
 use Rattle.irc_acts.specs.declared.act.Act.TheVariants.{Answer, Do}
 use Rattle.irc_acts.specs.Ahead.{in_turn}
@@ -85,7 +85,7 @@ abbrev pub join_one : User → Room → Asked → List Act
 join_one me room asked =
     if not (is_channel asked.channel) then Answer (NoSuchChannel (client_words asked.channel)) ∷ []
     else (if is_member room me.nick asked.channel then []
-    else (if nat_le MAX_JOINED (length (own_channels room me)) then Answer (TooManyChannels asked.channel) ∷ []
+    else (if nat_le max_joined (length (own_channels room me)) then Answer (TooManyChannels asked.channel) ∷ []
     else joins_found room me asked (row room.channels (key asked.channel))))
 
 -- the user leaves a channel, with its nickname as the text

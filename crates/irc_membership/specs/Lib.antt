@@ -1,3 +1,4 @@
+pub mod Limits
 pub mod Join
 pub mod Part
 pub mod Laws

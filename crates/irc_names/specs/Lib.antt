@@ -1,3 +1,4 @@
+pub mod Limits
 pub mod Fold
 pub mod FoldLaws
 pub mod MaskLaws

@@ -24,7 +24,7 @@ pub use nick::Nick;
 pub use rules::{is_channel, is_host, is_key, is_mask, is_nick, is_server};
 pub use server_name::ServerName;
 
-// How long names may be, in bytes. Each limit stands here alone: code and definitions cite these constants.
+// How long names may be, in bytes. Each limit of the code stands here alone; the definitions have the same numbers in `specs/Limits.antt`.
 
 /// The longest nickname (RFC 2812, section 1.2.1).
 pub const MAX_NICK: usize = 9;

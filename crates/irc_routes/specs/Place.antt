@@ -2,7 +2,7 @@
 use Rattle.std.specs.Prelude.{ℕ, ◌≤◌, Option, List, [], ◌∷◌, length, nat_eq}
 use Rattle.std.specs.Cmp.Lexicographic.{pointwise}
 use Rattle.std.specs.List.{find}
-use Rattle.irc_names.specs.declared.TheConstants.{MAX_INFO, MAX_CREATED}
+use Rattle.irc_names.specs.Limits.{max_info, max_created}
 use Rattle.irc_names.specs.Names.{IsServer}
 use Rattle.irc_routes.specs.declared.own.Own.{Own}
 
@@ -37,5 +37,5 @@ server_named place name = find (λ server. pointwise nat_eq server.name name) pl
 -- the limits that a configuration keeps (our own choice)
 pub record KeepsLimits (own : Own) : Type 0 where
   pub name : IsServer own.name.items
-  pub info : length own.info.items ≤ MAX_INFO
-  pub created : length own.created.items ≤ MAX_CREATED
+  pub info : length own.info.items ≤ max_info
+  pub created : length own.created.items ≤ max_created

@@ -3,12 +3,12 @@ use Rattle.std.specs.Prelude.{◌≡◌, ℕ, Bool, false, not, ◌&&◌, ◌||�
 use Rattle.std.specs.List.{list_any, list_all}
 use Rattle.std.specs.Char.{is_ascii_graphic}
 use Rattle.std.specs.Cmp.Lexicographic.{pointwise}
-use Rattle.irc_names.specs.declared.TheConstants.{MAX_INFO, MAX_CREATED}
+use Rattle.irc_names.specs.Limits.{max_info, max_created}
 use Rattle.irc_names.specs.Names.{is_server, is_one_of, fits, starts_without_colon}
 use Rattle.irc_room.specs.Laws.{no_room}
 use Rattle.irc_routes.specs.declared.own.Own.{Own}
 use Rattle.irc_routes.specs.Place.{alone}
-use Rattle.irc_server.specs.declared.config.TheConstants.{MAX_PASSWORD}
+use Rattle.irc_server.specs.Limits.{max_password}
 use Rattle.irc_server.specs.declared.config.Peer.{Peer}
 use Rattle.irc_server.specs.declared.config.Config.{Config}
 use Rattle.irc_server.specs.declared.config.ConfigFault.{ConfigFault}
@@ -29,12 +29,12 @@ is_some_text (first ∷ rest) = is_text (first ∷ rest)
 -- a server's name, how it describes itself, and when it was created
 abbrev pub is_own : Own → Bool
 is_own own =
-    is_server own.name.items && (is_text own.info.items && fits MAX_INFO own.info.items)
-    && (is_some_text own.created.items && fits MAX_CREATED own.created.items)
+    is_server own.name.items && (is_text own.info.items && fits max_info own.info.items)
+    && (is_some_text own.created.items && fits max_created own.created.items)
 
 -- bytes from 0x21 to 0x7E of which the first is no colon, so that a password can stand as a middle parameter
 abbrev pub is_password : List ℕ → Bool
-is_password bytes = starts_without_colon bytes && list_all is_ascii_graphic bytes && fits MAX_PASSWORD bytes
+is_password bytes = starts_without_colon bytes && list_all is_ascii_graphic bytes && fits max_password bytes
 
 abbrev pub is_peer : Peer → Bool
 is_peer peer = is_server peer.name.items && is_password peer.password.items

@@ -1,3 +1,4 @@
+pub mod Limits
 pub mod Configuring
 pub mod View
 pub mod Handle

@@ -2,7 +2,7 @@
 use Rattle.std.specs.Prelude.{ℕ, Bool, ◌||◌, ◌≤◌, List, length, take, map, codes, nat_eq, if◌then◌else◌, IsTrue}
 use Rattle.std.specs.List.{list_any, list_all}
 use Rattle.std.specs.Char.{is_ascii_alphanumeric}
-use Rattle.irc_names.specs.declared.TheConstants.{MAX_USER_NAME, MAX_REAL_NAME}
+use Rattle.irc_names.specs.Limits.{max_user_name, max_real_name}
 
 -- what may stand in a user name (our own choice)
 abbrev pub is_user_byte : ℕ → Bool
@@ -13,15 +13,15 @@ clean_user_byte byte = if is_user_byte byte then byte else 95
 
 -- the user name made of any bytes: cut, and each other byte an underscore (our own choice)
 unfoldable pub clean_user : List ℕ → List ℕ
-clean_user bytes = map clean_user_byte (take MAX_USER_NAME bytes)
+clean_user bytes = map clean_user_byte (take max_user_name bytes)
 
 -- the real name made of any bytes: cut (our own choice)
 unfoldable pub cut_real : List ℕ → List ℕ
-cut_real bytes = take MAX_REAL_NAME bytes
+cut_real bytes = take max_real_name bytes
 
 pub record IsUserName (bytes : List ℕ) : Type 0 where
-  pub fits : length bytes ≤ MAX_USER_NAME
+  pub fits : length bytes ≤ max_user_name
   pub clean : IsTrue (list_all is_user_byte bytes)
 
 abbrev pub IsRealName : List ℕ → Type 0
-IsRealName bytes = length bytes ≤ MAX_REAL_NAME
+IsRealName bytes = length bytes ≤ max_real_name

@@ -6,7 +6,7 @@ use Rattle.irc_names.specs.Fold.{key}
 use Rattle.irc_names.specs.Tables.{Table, row}
 use Rattle.irc_users.specs.declared.user.User.{User}
 use Rattle.irc_channels.specs.declared.channel.Channel.{Channel}
-use Rattle.irc_numerics.specs.declared.limits.TheConstants.{MAX_NAMES}
+use Rattle.irc_numerics.specs.Limits.{max_names}
 use Rattle.irc_numerics.specs.declared.replies.Listed.{Listed}
 use Rattle.irc_room.specs.Room.{Room}
 use Rattle.irc_acts.specs.Acts.{effects_among}
@@ -24,7 +24,7 @@ lines_answer channel [] = refl
 lines_answer channel (line ∷ lines) = lines_answer channel lines
 
 names_answer : (users : Table User) (me : User) (channel : Channel) → effects_among (names_of users me channel) ≡ []
-names_answer users me channel = lines_answer channel (in_lines MAX_NAMES (named_members users me channel))
+names_answer users me channel = lines_answer channel (in_lines max_names (named_members users me channel))
 
 known_answer : (users : Table User) (me : User) (found : Option Channel) → effects_among (known_names users me found) ≡ []
 known_answer users me None = refl

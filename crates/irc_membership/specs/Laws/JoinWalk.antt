@@ -6,7 +6,7 @@ use Rattle.irc_names.specs.Tables.{Table, row}
 use Rattle.irc_users.specs.declared.user.User.{User}
 use Rattle.irc_channels.specs.declared.channel.Channel.{Channel}
 use Rattle.irc_channels.specs.Channels.{is_invited, joined, new_channel}
-use Rattle.irc_numerics.specs.declared.limits.TheConstants.{MAX_NAMES}
+use Rattle.irc_numerics.specs.Limits.{max_names}
 use Rattle.irc_numerics.specs.declared.replies.Listed.{Listed}
 use Rattle.irc_numerics.specs.declared.replies.Reply.TheVariants.{NoSuchChannel, TooManyChannels, InviteOnlyChan, BannedFromChan, BadChannelKey, ChannelIsFull}
 use Rattle.irc_room.specs.declared.effect.Effect.{Effect}
@@ -23,7 +23,7 @@ use Rattle.irc_acts.specs.ByTest.{by_test}
 use Rattle.irc_acts.specs.Moves.{own_channels}
 use Rattle.irc_acts.specs.Standing.{is_banned}
 use Rattle.irc_answers.specs.Names.{in_lines, name_line, named_members, names_of, end_of_names}
-use Rattle.irc_membership.specs.declared.TheConstants.{MAX_JOINED}
+use Rattle.irc_membership.specs.Limits.{max_joined}
 use Rattle.irc_membership.specs.Join.{Asked, opens, is_full, kept_out, topic_for_joiner, joins, admitted, joins_found, join_one}
 
 lines_answer : (channel : Channel) (lines : List (List Listed)) → effects_among (map (name_line channel) lines) ≡ []
@@ -40,7 +40,7 @@ told_answers : (users : Table User) (me : User) (name : List ℕ) (now : Channel
 told_answers users me name now =
     none-both (topic_for_joiner now.name now.topic ++ names_of users me now) (end_of_names name ∷ [])
     (none-both (topic_for_joiner now.name now.topic) (names_of users me now) (topic_answers now.name now.topic)
-    (lines_answer now (in_lines MAX_NAMES (named_members users me now))))
+    (lines_answer now (in_lines max_names (named_members users me now))))
     refl
 
 -- the user is outside, and the channel is made, or was found under the name
@@ -76,9 +76,9 @@ module _ (Q : Room → Effect → Type 0) (me : User) (room : Room) where
   one_so asked so =
       let S = λ (acts : List Act). EachInTurn Q room (effects_among acts) in
       let found = joins_found room me asked (row room.channels (key asked.channel)) in
-      let few : List Act = if nat_le MAX_JOINED (length (own_channels room me)) then Answer (TooManyChannels asked.channel) ∷ [] else found in
+      let few : List Act = if nat_le max_joined (length (own_channels room me)) then Answer (TooManyChannels asked.channel) ∷ [] else found in
       let outside : List Act = if is_member room me.nick asked.channel then [] else few in
       by_test S (not (is_channel asked.channel)) (Answer (NoSuchChannel (client_words asked.channel)) ∷ []) outside (λ bad. tt)
       (λ fine. by_test S (is_member room me.nick asked.channel) [] few (λ member. tt)
-      (λ outsider. by_test S (nat_le MAX_JOINED (length (own_channels room me))) (Answer (TooManyChannels asked.channel) ∷ []) found (λ many. tt)
+      (λ outsider. by_test S (nat_le max_joined (length (own_channels room me))) (Answer (TooManyChannels asked.channel) ∷ []) found (λ many. tt)
       (λ some_left. found_so asked so outsider (row room.channels (key asked.channel)) refl)))

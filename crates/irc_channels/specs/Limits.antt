@@ -1,0 +1,18 @@
+-- The limits of modes.
+use Rattle.std.specs.Prelude.{ℕ}
+
+-- how many letters of one MODE count that take a parameter (RFC 2812 section 3.2.3)
+abbrev pub max_mode_parameters : ℕ
+max_mode_parameters = 3
+
+-- what is kept of the word of a letter: one byte more than the longest that any letter takes
+abbrev pub max_mode_word : ℕ
+max_mode_word = 91
+
+-- the greatest limit of members that a channel can have; our own choice
+abbrev pub max_limit : ℕ
+max_limit = 65535
+
+-- the most digits of a limit; our own choice
+abbrev pub max_limit_digits : ℕ
+max_limit_digits = 5
