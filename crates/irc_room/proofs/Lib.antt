@@ -18,3 +18,5 @@ pub mod Keeping
 pub mod ToldLaw
 pub mod KeptRows
 pub mod AudienceLaw
+pub mod FoundInTurn
+pub mod NearLaws

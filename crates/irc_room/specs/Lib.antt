@@ -11,5 +11,6 @@ pub mod Signs
 pub mod LineViews
 pub mod RoomParts
 pub mod Telling
+pub mod Near
 pub mod InTurn
 pub mod InTurnLaws

@@ -4,10 +4,11 @@ ghost use Rattle.std.specs.List.{flat_map};
 ghost use Rattle.std.specs.FinMap.{values};
 ghost use Rattle.irc_room.specs.RoomParts.{room_of};
 ghost use Rattle.irc_room.specs.Seen.{seen, shown_to};
-ghost use Rattle.irc_room.specs.Telling.{viewers_to};
+ghost use Rattle.irc_room.specs.Telling.{viewers_to, AreNamed};
 
 use crate::effect::Effect;
 use crate::effect_lines::effect_line;
+use crate::near::near;
 use crate::room_parts::RoomParts;
 use crate::seeing::{is_idle, sees};
 use irc_names::Nick;
@@ -23,6 +24,7 @@ pub(crate) fn audience(
     parts: RoomParts<'_>,
     effect: &Effect,
 ) -> Result<Vec<Nick, Global>, AllocError>
+    requires { AreNamed parts.users.now }
     ensures { IfOk result (λ viewers. viewers.items ≡ map (λ s. s.viewer) (seen (room_of parts.entry) effect.now)) }
 {
     if is_idle(parts, effect) {
@@ -37,10 +39,24 @@ fn all_viewers(
     parts: RoomParts<'_>,
     effect: &Effect,
 ) -> Result<Vec<Nick, Global>, AllocError>
+    requires { AreNamed parts.users.now }
     ensures { IfOk result (λ viewers. viewers.items ≡ flat_map (viewers_to (room_of parts.entry) effect.now) (values parts.entry.users.now)) }
 {
+    let users = near(alloc, parts, effect)?;
+    viewers_among(alloc, parts, effect, users.as_slice())
+}
+
+/// Those of these users that see an effect.
+fn viewers_among(
+    alloc: Global,
+    parts: RoomParts<'_>,
+    effect: &Effect,
+    users: &[&User],
+) -> Result<Vec<Nick, Global>, AllocError>
+    ensures { IfOk result (λ viewers. viewers.items ≡ flat_map (viewers_to (room_of parts.entry) effect.now) (map (λ user. user.now) users.now)) }
+{
     let mut viewers = Vec::new(alloc);
-    for user in parts.users.as_slice() {
+    for user in users {
         push_viewer(alloc, parts, effect, user, &mut viewers)?;
     }
     Ok(viewers)

@@ -10,6 +10,7 @@ mod fault;
 pub mod laws;
 mod lines;
 mod mode_letters;
+mod near;
 mod refusing;
 mod room;
 mod room_parts;

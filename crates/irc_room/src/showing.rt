@@ -1,5 +1,5 @@
 //! What an effect shows to the users of one server.
-ghost use Rattle.std.specs.Prelude.{◌≡◌, ◌++◌, length, take, OnOk, OnErr};
+ghost use Rattle.std.specs.Prelude.{◌≡◌, ◌++◌, length, map, take, OnOk, OnErr};
 ghost use Rattle.std.specs.List.{flat_map};
 ghost use Rattle.std.specs.FinMap.{values};
 ghost use Rattle.irc_room.specs.RoomParts.{room_of};
@@ -7,6 +7,7 @@ ghost use Rattle.irc_room.specs.Telling.{shown_at, told, AreNamed};
 
 use crate::effect::Effect;
 use crate::effect_lines::effect_line;
+use crate::near::near;
 use crate::room_parts::RoomParts;
 use crate::seeing::{is_idle, sees};
 use irc_line::Text;
@@ -31,23 +32,41 @@ pub(crate) fn show(
         return Ok(());
     }
     match effect_line(alloc, own, parts, effect)? {
-        Some(line) => tell_all(own, parts, effect, &line, out),
+        Some(line) => tell_all(alloc, own, parts, effect, &line, out),
         None => Ok(()),
     }
 }
 
 /// Appends a line for each user of the server that sees an effect.
 fn tell_all(
+    alloc: Global,
     own: &[u8],
     parts: RoomParts<'_>,
     effect: &Effect,
     line: &Text,
     out: &mut Vec<(Nick, Text), Global>,
 ) -> Result<(), AllocError>
+    requires { AreNamed parts.users.now }
     ensures ok { OnOk result (out.new.items ≡ out.old.items ++ flat_map (told own.now (room_of parts.entry) effect.now line.now.items) (values parts.entry.users.now)) }
     ensures front { take (length out.old.items) out.new.items ≡ out.old.items }
 {
-    for user in parts.users.as_slice() {
+    let users = near(alloc, parts, effect)?;
+    tell_each(own, parts, effect, line, users.as_slice(), out)
+}
+
+/// Appends a line for each of these users that is one of the server and sees an effect.
+fn tell_each(
+    own: &[u8],
+    parts: RoomParts<'_>,
+    effect: &Effect,
+    line: &Text,
+    users: &[&User],
+    out: &mut Vec<(Nick, Text), Global>,
+) -> Result<(), AllocError>
+    ensures ok { OnOk result (out.new.items ≡ out.old.items ++ flat_map (told own.now (room_of parts.entry) effect.now line.now.items) (map (λ user. user.now) users.now)) }
+    ensures front { take (length out.old.items) out.new.items ≡ out.old.items }
+{
+    for user in users {
         tell(own, parts, effect, line, user, out)?;
     }
     Ok(())
