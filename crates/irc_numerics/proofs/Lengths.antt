@@ -15,7 +15,7 @@ use Rattle.irc_numerics.specs.declared.replies.Listed.{Listed}
 use Rattle.irc_numerics.specs.declared.replies.OnChannel.{OnChannel}
 use Rattle.irc_numerics.specs.declared.replies.Reply.{Reply}
 use Rattle.irc_numerics.specs.declared.replies.Reply.TheVariants.{Welcome, YourHost, Created, MyInfo, UserModeIs, LuserClient, LuserChannels, LuserMe, IsOn, WhoisUser, WhoisServer, EndOfWho, EndOfWhois, WhoisChannels, List as ListRow, ListEnd, ChannelModeIs, NoTopic, Topic, Inviting, WhoReply, NamReply, EndOfNames, BanList, EndOfBanList, NoSuchNick, NoSuchChannel, CannotSendToChan, TooManyChannels, TooManyTargets, NoOrigin, NoRecipient, NoTextToSend, UnknownCommand, NoMotd, NoNicknameGiven, ErroneousNickname, NicknameInUse, UserNotInChannel, NotOnChannel, UserOnChannel, NotRegistered, NeedMoreParams, AlreadyRegistered, KeySet, ChannelIsFull, UnknownMode, InviteOnlyChan, BannedFromChan, BadChannelKey, BanListFull, ChanOPrivsNeeded, UModeUnknownFlag, UsersDontMatch}
-use Rattle.irc_numerics.specs.Replies.{ReplyWords, number, words, numbered, reply_parts, reply_name, spaced, in_a_row, mark_text, listed, on_channel}
+use Rattle.irc_numerics.specs.Replies.{ReplyWords, number, words, table, numbered, reply_parts, reply_name, spaced, in_a_row, mark_text, listed, on_channel}
 use Rattle.irc_numerics.specs.Laws.{IsWithinLimits, IsWhole}
 
 -- the words, each behind a space
@@ -94,7 +94,7 @@ places_fit (x ∷ xs) fit =
 -- what a reply within its limits says leaves room for the longest server name and nickname
 short : (reply : Reply) → IsWithinLimits reply → length (number reply) + sizes ((words reply).middle) + last_size
     ((words reply).last) ≤ 435
-unfolding number words
+unfolding number words table
 short (Welcome nick user host) limits =
     row_fits (codes "001") []
     (codes "Welcome to the Internet Relay Network " ∷ nick ∷ codes "!" ∷ user.items ∷ codes "@" ∷ host ∷ [])

@@ -1,5 +1,6 @@
--- The words of each reply, in the order of the numbers (RFC 2812 section 5). The numbers are the standard's, the texts our own after it.
-use Rattle.std.specs.Prelude.{ℕ, if◌then◌else◌, Option, Some, None, List, [], ◌∷◌, ◌++◌, map, codes, decimal, option_to_list, unwrap_or}
+-- The replies, a row each, in the order of the numbers (RFC 2812 section 5), and how one is written. The numbers are the standard's, the
+-- texts our own after it.
+use Rattle.std.specs.Prelude.{ℕ, ◌+◌, ◌/◌, ◌%◌, if◌then◌else◌, Option, Some, None, List, [], ◌∷◌, ◌++◌, map, codes, decimal, option_to_list, unwrap_or}
 use Rattle.std.specs.List.{flat_map, join_with_byte}
 use Rattle.std.specs.Option.{option_map}
 use Rattle.irc_line.specs.Bytes.{space}
@@ -56,139 +57,97 @@ listed member = mark_text member.mark ++ member.nick
 abbrev pub on_channel : OnChannel → List ℕ
 on_channel place = mark_text place.mark ++ place.channel
 
--- what stands in the storage of a list where no member does
-abbrev pub blank_member : Listed
-blank_member = record { mark = Plain; nick = codes "x" }
-
--- and where no channel does
-abbrev pub blank_place : OnChannel
-blank_place = record { mark = Plain; channel = codes "#" }
-
 -- a channel and its modes, with its key behind them if there is one, and then its limit
 abbrev pub mode_words : List ℕ → List ℕ → Option (List ℕ) → Option (List ℕ) → List (List ℕ)
 mode_words channel modes key limit = (channel ∷ modes ∷ []) ++ option_to_list key ++ option_to_list limit
 
--- the three digits of each reply
-unfoldable pub number : Reply → List ℕ
-number (Welcome _ _ _) = codes "001"
-number (YourHost _) = codes "002"
-number (Created _) = codes "003"
-number (MyInfo _) = codes "004"
-number (UserModeIs _) = codes "221"
-number (LuserClient _ _) = codes "251"
-number (LuserChannels _) = codes "254"
-number (LuserMe _ _) = codes "255"
-number (IsOn _) = codes "303"
-number (WhoisUser _ _ _ _) = codes "311"
-number (WhoisServer _ _ _) = codes "312"
-number (EndOfWho _) = codes "315"
-number (EndOfWhois _) = codes "318"
-number (WhoisChannels _ _) = codes "319"
-number (ListRow _ _ _) = codes "322"
-number ListEnd = codes "323"
-number (ChannelModeIs _ _ _ _) = codes "324"
-number (NoTopic _) = codes "331"
-number (Topic _ _) = codes "332"
-number (Inviting _ _) = codes "341"
-number (WhoReply _ _ _ _ _ _ _ _) = codes "352"
-number (NamReply _ _ _) = codes "353"
-number (EndOfNames _) = codes "366"
-number (BanList _ _) = codes "367"
-number (EndOfBanList _) = codes "368"
-number (NoSuchNick _) = codes "401"
-number (NoSuchChannel _) = codes "403"
-number (CannotSendToChan _) = codes "404"
-number (TooManyChannels _) = codes "405"
-number (TooManyTargets _) = codes "407"
-number NoOrigin = codes "409"
-number (NoRecipient _) = codes "411"
-number NoTextToSend = codes "412"
-number (UnknownCommand _) = codes "421"
-number NoMotd = codes "422"
-number NoNicknameGiven = codes "431"
-number (ErroneousNickname _) = codes "432"
-number (NicknameInUse _) = codes "433"
-number (UserNotInChannel _ _) = codes "441"
-number (NotOnChannel _) = codes "442"
-number (UserOnChannel _ _) = codes "443"
-number NotRegistered = codes "451"
-number (NeedMoreParams _) = codes "461"
-number AlreadyRegistered = codes "462"
-number (KeySet _) = codes "467"
-number (ChannelIsFull _) = codes "471"
-number (UnknownMode _ _) = codes "472"
-number (InviteOnlyChan _) = codes "473"
-number (BannedFromChan _) = codes "474"
-number (BadChannelKey _) = codes "475"
-number (BanListFull _) = codes "478"
-number (ChanOPrivsNeeded _) = codes "482"
-number UModeUnknownFlag = codes "501"
-number UsersDontMatch = codes "502"
+-- A row: the number of a reply, and the words behind the reply name.
+pub record ReplyRow : Type 0 where
+  pub number : ℕ
+  pub words : ReplyWords
 
--- what each reply says
+-- a row of a number, parameters in order, and a text behind a colon
+abbrev pub says : ℕ → List (List ℕ) → List ℕ → ReplyRow
+says number parameters text = record { number = number; words = saying parameters text }
+
+-- one without a text
+abbrev pub bare : ℕ → List (List ℕ) → ReplyRow
+bare number parameters = record { number = number; words = plain parameters }
+
+-- the table: each reply's number, parameters and text
+unfoldable pub table : Reply → ReplyRow
+table (Welcome nick user host) = says 001 []
+    (in_a_row (codes "Welcome to the Internet Relay Network " ∷ nick ∷ codes "!" ∷ user.items ∷ codes "@" ∷ host ∷ []))
+table (YourHost server) = says 002 [] (in_a_row (codes "Your host is " ∷ server ∷ codes ", running version treeircd-1" ∷ []))
+table (Created created) = says 003 [] (in_a_row (codes "This server was created " ∷ created.items ∷ []))
+table (MyInfo server) = bare 004 (server ∷ codes "treeircd-1" ∷ codes "i" ∷ codes "biklmnopstv" ∷ [])
+table (UserModeIs invisible) = bare 221 ((if invisible then codes "+i" else codes "+") ∷ [])
+table (LuserClient users servers) = says 251 []
+    (in_a_row (codes "There are " ∷ decimal users ∷ codes " users and 0 services on " ∷ decimal servers ∷ codes " servers" ∷ []))
+table (LuserChannels channels) = says 254 (decimal channels ∷ []) (codes "channels formed")
+table (LuserMe clients links) = says 255 []
+    (in_a_row (codes "I have " ∷ decimal clients ∷ codes " clients and " ∷ decimal links ∷ codes " servers" ∷ []))
+table (IsOn nicks) = says 303 [] nicks.items
+table (WhoisUser nick user host real) = says 311 (nick ∷ user.items ∷ host ∷ codes "*" ∷ []) real.items
+table (WhoisServer nick server info) = says 312 (nick ∷ server ∷ []) info.items
+table (EndOfWho name) = says 315 (name.items ∷ []) (codes "End of WHO list")
+table (EndOfWhois nick) = says 318 (nick.items ∷ []) (codes "End of WHOIS list")
+table (WhoisChannels nick channels) = says 319 (nick ∷ []) (spaced (map on_channel channels.items))
+table (ListRow channel count topic) = says 322 (channel ∷ decimal count ∷ []) topic.items
+table ListEnd = says 323 [] (codes "End of LIST")
+table (ChannelModeIs channel modes key limit) = bare 324
+    (mode_words channel modes.items (option_map (λ k. k.items) key) (option_map decimal limit))
+table (NoTopic channel) = says 331 (channel ∷ []) (codes "No topic is set")
+table (Topic channel topic) = says 332 (channel ∷ []) topic.items
+table (Inviting channel nick) = bare 341 (channel ∷ nick ∷ [])
+table (WhoReply channel user host server nick mark hops real) = says 352
+    (unwrap_or channel (codes "*") ∷ user.items ∷ host ∷ server ∷ nick ∷ (codes "H" ++ mark_text mark) ∷ [])
+    (in_a_row (decimal hops ∷ codes " " ∷ real.items ∷ []))
+table (NamReply visibility channel names) = says 353 (visibility_text visibility ∷ channel ∷ []) (spaced (map listed names.items))
+table (EndOfNames name) = says 366 (name.items ∷ []) (codes "End of NAMES list")
+table (BanList channel mask) = bare 367 (channel ∷ mask ∷ [])
+table (EndOfBanList channel) = says 368 (channel ∷ []) (codes "End of channel ban list")
+table (NoSuchNick name) = says 401 (name.items ∷ []) (codes "No such nick/channel")
+table (NoSuchChannel name) = says 403 (name.items ∷ []) (codes "No such channel")
+table (CannotSendToChan channel) = says 404 (channel ∷ []) (codes "Cannot send to channel")
+table (TooManyChannels channel) = says 405 (channel ∷ []) (codes "You have joined too many channels")
+table (TooManyTargets target) = says 407 (target.items ∷ []) (codes "Too many targets")
+table NoOrigin = says 409 [] (codes "No origin specified")
+table (NoRecipient command) = says 411 [] (in_a_row (codes "No recipient given (" ∷ command.items ∷ codes ")" ∷ []))
+table NoTextToSend = says 412 [] (codes "No text to send")
+table (UnknownCommand command) = says 421 (command.items ∷ []) (codes "Unknown command")
+table NoMotd = says 422 [] (codes "MOTD File is missing")
+table NoNicknameGiven = says 431 [] (codes "No nickname given")
+table (ErroneousNickname nick) = says 432 (nick.items ∷ []) (codes "Erroneous nickname")
+table (NicknameInUse nick) = says 433 (nick ∷ []) (codes "Nickname is already in use")
+table (UserNotInChannel nick channel) = says 441 (nick.items ∷ channel ∷ []) (codes "They aren't on that channel")
+table (NotOnChannel channel) = says 442 (channel ∷ []) (codes "You're not on that channel")
+table (UserOnChannel nick channel) = says 443 (nick ∷ channel ∷ []) (codes "is already on channel")
+table NotRegistered = says 451 [] (codes "You have not registered")
+table (NeedMoreParams command) = says 461 (command.items ∷ []) (codes "Not enough parameters")
+table AlreadyRegistered = says 462 [] (codes "Unauthorized command (already registered)")
+table (KeySet channel) = says 467 (channel ∷ []) (codes "Channel key already set")
+table (ChannelIsFull channel) = says 471 (channel ∷ []) (codes "Cannot join channel (+l)")
+table (UnknownMode mode channel) = says 472 ((mode ∷ []) ∷ []) (in_a_row (codes "is unknown mode char to me for " ∷ channel ∷ []))
+table (InviteOnlyChan channel) = says 473 (channel ∷ []) (codes "Cannot join channel (+i)")
+table (BannedFromChan channel) = says 474 (channel ∷ []) (codes "Cannot join channel (+b)")
+table (BadChannelKey channel) = says 475 (channel ∷ []) (codes "Cannot join channel (+k)")
+table (BanListFull channel) = says 478 (channel ∷ codes "b" ∷ []) (codes "Channel list is full")
+table (ChanOPrivsNeeded channel) = says 482 (channel ∷ []) (codes "You're not channel operator")
+table UModeUnknownFlag = says 501 [] (codes "Unknown MODE flag")
+table UsersDontMatch = says 502 [] (codes "Cannot change mode for other users")
+
+-- a number below a thousand in three digits
+abbrev pub three_digits : ℕ → List ℕ
+three_digits n = (48 + n / 100) ∷ (48 + n / 10 % 10) ∷ (48 + n % 10) ∷ []
+
+-- what stands for a reply in its line: its number
+unfoldable pub number : Reply → List ℕ
+number reply = three_digits (table reply).number
+
+-- and its words
 unfoldable pub words : Reply → ReplyWords
-words (Welcome nick user host) = said (in_a_row
-    (codes "Welcome to the Internet Relay Network " ∷ nick ∷ codes "!" ∷ user.items ∷ codes "@" ∷ host ∷ []))
-words (YourHost server) = said (in_a_row (codes "Your host is " ∷ server ∷ codes ", running version treeircd-1" ∷ []))
-words (Created created) = said (in_a_row (codes "This server was created " ∷ created.items ∷ []))
-words (MyInfo server) = plain (server ∷ codes "treeircd-1" ∷ codes "i" ∷ codes "biklmnopstv" ∷ [])
-words (UserModeIs invisible) = plain ((if invisible then codes "+i" else codes "+") ∷ [])
-words (LuserClient users servers) = said (in_a_row
-    (codes "There are " ∷ decimal users ∷ codes " users and 0 services on " ∷ decimal servers ∷ codes " servers" ∷ []))
-words (LuserChannels channels) = saying (decimal channels ∷ []) (codes "channels formed")
-words (LuserMe clients links) = said (in_a_row
-    (codes "I have " ∷ decimal clients ∷ codes " clients and " ∷ decimal links ∷ codes " servers" ∷ []))
-words (IsOn nicks) = said nicks.items
-words (WhoisUser nick user host real) = saying (nick ∷ user.items ∷ host ∷ codes "*" ∷ []) real.items
-words (WhoisServer nick server info) = saying (nick ∷ server ∷ []) info.items
-words (EndOfWho name) = saying (name.items ∷ []) (codes "End of WHO list")
-words (EndOfWhois nick) = saying (nick.items ∷ []) (codes "End of WHOIS list")
-words (WhoisChannels nick channels) = saying (nick ∷ []) (spaced (map on_channel channels.items))
-words (ListRow channel count topic) = saying (channel ∷ decimal count ∷ []) topic.items
-words ListEnd = said (codes "End of LIST")
-words (ChannelModeIs channel modes key limit) = plain (mode_words channel modes.items (option_map (λ k. k.items) key)
-    (option_map decimal limit))
-words (NoTopic channel) = saying (channel ∷ []) (codes "No topic is set")
-words (Topic channel topic) = saying (channel ∷ []) topic.items
-words (Inviting channel nick) = plain (channel ∷ nick ∷ [])
-words (WhoReply channel user host server nick mark hops real) = saying (unwrap_or channel
-    (codes "*") ∷ user.items ∷ host ∷ server ∷ nick ∷ (codes "H" ++ mark_text mark) ∷ []) (in_a_row
-    (decimal hops ∷ codes " " ∷ real.items ∷ []))
-words (NamReply visibility channel names) = saying (visibility_text visibility ∷ channel ∷ []) (spaced
-    (map listed names.items))
-words (EndOfNames name) = saying (name.items ∷ []) (codes "End of NAMES list")
-words (BanList channel mask) = plain (channel ∷ mask ∷ [])
-words (EndOfBanList channel) = saying (channel ∷ []) (codes "End of channel ban list")
-words (NoSuchNick name) = saying (name.items ∷ []) (codes "No such nick/channel")
-words (NoSuchChannel name) = saying (name.items ∷ []) (codes "No such channel")
-words (CannotSendToChan channel) = saying (channel ∷ []) (codes "Cannot send to channel")
-words (TooManyChannels channel) = saying (channel ∷ []) (codes "You have joined too many channels")
-words (TooManyTargets target) = saying (target.items ∷ []) (codes "Too many targets")
-words NoOrigin = said (codes "No origin specified")
-words (NoRecipient command) = said (in_a_row (codes "No recipient given (" ∷ command.items ∷ codes ")" ∷ []))
-words NoTextToSend = said (codes "No text to send")
-words (UnknownCommand command) = saying (command.items ∷ []) (codes "Unknown command")
-words NoMotd = said (codes "MOTD File is missing")
-words NoNicknameGiven = said (codes "No nickname given")
-words (ErroneousNickname nick) = saying (nick.items ∷ []) (codes "Erroneous nickname")
-words (NicknameInUse nick) = saying (nick ∷ []) (codes "Nickname is already in use")
-words (UserNotInChannel nick channel) = saying (nick.items ∷ channel ∷ []) (codes "They aren't on that channel")
-words (NotOnChannel channel) = saying (channel ∷ []) (codes "You're not on that channel")
-words (UserOnChannel nick channel) = saying (nick ∷ channel ∷ []) (codes "is already on channel")
-words NotRegistered = said (codes "You have not registered")
-words (NeedMoreParams command) = saying (command.items ∷ []) (codes "Not enough parameters")
-words AlreadyRegistered = said (codes "Unauthorized command (already registered)")
-words (KeySet channel) = saying (channel ∷ []) (codes "Channel key already set")
-words (ChannelIsFull channel) = saying (channel ∷ []) (codes "Cannot join channel (+l)")
-words (UnknownMode mode channel) = saying ((mode ∷ []) ∷ []) (in_a_row
-    (codes "is unknown mode char to me for " ∷ channel ∷ []))
-words (InviteOnlyChan channel) = saying (channel ∷ []) (codes "Cannot join channel (+i)")
-words (BannedFromChan channel) = saying (channel ∷ []) (codes "Cannot join channel (+b)")
-words (BadChannelKey channel) = saying (channel ∷ []) (codes "Cannot join channel (+k)")
-words (BanListFull channel) = saying (channel ∷ codes "b" ∷ []) (codes "Channel list is full")
-words (ChanOPrivsNeeded channel) = saying (channel ∷ []) (codes "You're not channel operator")
-words UModeUnknownFlag = said (codes "Unknown MODE flag")
-words UsersDontMatch = said (codes "Cannot change mode for other users")
+words reply = (table reply).words
 
 -- whom a reply is for: the nickname, or `*` before there is one
 abbrev pub reply_name : Option (List ℕ) → List ℕ

@@ -1,6 +1,7 @@
 //! What a reply says.
 ghost use Rattle.std.specs.Prelude.{◌≡◌};
-ghost use Rattle.irc_numerics.specs.Replies.{mark_text, visibility_text, blank_member, blank_place};
+ghost use Rattle.irc_numerics.specs.Replies.{mark_text, visibility_text};
+ghost use Rattle.irc_numerics.specs.Blanks.{blank_member, blank_place};
 
 use crate::limits::{MAX_MODE_LETTERS, MAX_NAMES, MAX_WHOIS_CHANNELS};
 use arrayvec::ArrayVec;
