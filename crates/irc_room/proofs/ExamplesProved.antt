@@ -60,7 +60,10 @@ secret_stays_secret =
     (part_is (λ c. c.modes.privacy) (effects (set letter.Private None)) (codes "#rust"), part_is (λ c. c.modes.privacy) (effects (clear letter.Private None)) (codes "#rust"))
 
 pub changes_written : ChangesWritten
-changes_written = (refl, refl)
+unfolding fold fold_table cut line_text
+changes_written =
+    let changes = set letter.Operator (Some (codes "BAR")) ∷ clear letter.Voice (Some (codes "Cy")) ∷ set letter.Limit (Some (codes "5")) ∷ [] in
+    (seen_is two_members (ChangeModes (by.User (codes "foo")) (codes "#rust") changes) (record { users = tt; channels = tt }), λ room. refl)
 
 pub ban_stands_once : BanStandsOnce
 unfolding fold fold_table is_mask

@@ -10,6 +10,7 @@ use Rattle.irc_line.specs.Messages.{Sender, named}
 use Rattle.irc_users.specs.declared.user.User.{User}
 use Rattle.irc_channels.specs.declared.channel.Channel.{Channel}
 use Rattle.irc_channels.specs.Channels.{has_member}
+use Rattle.irc_channels.specs.declared.modes.ModeChange.{ModeChange}
 use Rattle.irc_room.specs.declared.effect.By.{By}
 use Rattle.irc_room.specs.declared.effect.By.TheVariants as by
 use Rattle.irc_room.specs.declared.effect.Target.{Target}
@@ -18,7 +19,7 @@ use Rattle.irc_room.specs.declared.effect.Effect.{Effect}
 use Rattle.irc_room.specs.declared.effect.Effect.TheVariants.{AddUser, Rename, Quit, Join, Part, Kick, ChangeModes, SetTopic, Say, Invite, UserMode}
 use Rattle.irc_room.specs.Room.{Room}
 use Rattle.irc_room.specs.Effects.{is_idle, is_member, has_channel}
-use Rattle.irc_room.specs.Seen.{Showing, seen, shown_to, share_channel, stored_nick, stored_channel, from_nick, full_sender, line_of, changes_words}
+use Rattle.irc_room.specs.Seen.{Showing, seen, shown_to, share_channel, stored_nick, stored_channel, from_nick, full_sender, line_of, letters_text, names_member}
 use Rattle.irc_room.proofs.Rows.{is_some_map}
 use Rattle.irc_room.proofs.Listed.{map_itself, row_listed, entries_listed}
 use Rattle.irc_room.proofs.ListedRooms.{ListedChannel, ListedRoom, channel_of, room_of, lists_member, member_listed}
@@ -70,6 +71,9 @@ abbrev target_by : Asked → Target → List ℕ
 target_by asked (target.User nick) = asked.nick nick
 target_by asked (target.Channel channel) = asked.channel channel
 
+abbrev word_by : Asked → ModeChange → Option (List ℕ)
+word_by asked c = if names_member c.letter then option_map asked.nick c.word else c.word
+
 abbrev pub line_by : Asked → Effect → User → Option (List ℕ)
 line_by asked (AddUser user) viewer = None
 line_by asked (Rename nick new) viewer = line_of (codes "NICK") (new ∷ []) None (asked.sender nick)
@@ -77,7 +81,8 @@ line_by asked (Quit nick reason) viewer = line_of (codes "QUIT") [] (Some reason
 line_by asked (Join nick channel op) viewer = line_of (codes "JOIN") (asked.channel channel ∷ []) None (asked.sender nick)
 line_by asked (Part nick channel reason) viewer = line_of (codes "PART") (asked.channel channel ∷ []) (Some reason) (asked.sender nick)
 line_by asked (Kick by channel nick reason) viewer = line_of (codes "KICK") (asked.channel channel ∷ asked.nick nick ∷ []) (Some reason) (asked.sender by)
-line_by asked (ChangeModes by channel changes) viewer = line_of (codes "MODE") (asked.channel channel ∷ changes_words changes) None (sender_by asked by viewer)
+line_by asked (ChangeModes by channel changes) viewer =
+    line_of (codes "MODE") (asked.channel channel ∷ letters_text changes ∷ filter_map (word_by asked) changes) None (sender_by asked by viewer)
 line_by asked (SetTopic by channel topic) viewer = line_of (codes "TOPIC") (asked.channel channel ∷ []) (Some topic) (sender_by asked by viewer)
 line_by asked (Say by notice to words) viewer =
     line_of (if notice then codes "NOTICE" else codes "PRIVMSG") (target_by asked to ∷ []) (Some (words.items)) (asked.sender by)

@@ -58,17 +58,16 @@ one_option None = refl
 one_option (Some word) = refl
 
 -- the parameter of one change more
-pub word_more : (changes : List ModeChange) (i : ℕ) (d : ModeChange) (words more front : List (List ℕ)) → i < length changes
-    → more ≡ words ++ option_to_list (get_or changes i d).word
-    → words ≡ front ++ filter_map (λ c. c.word) (take i changes)
-    → more ≡ front ++ filter_map (λ c. c.word) (take (i + 1) changes)
-word_more changes i d words more front within more_is words_is =
-    let word = λ (c : ModeChange). c.word in
+pub word_more : (written : ModeChange → Option (List ℕ)) (changes : List ModeChange) (i : ℕ) (d : ModeChange) (words more front : List (List ℕ)) → i < length changes
+    → more ≡ words ++ option_to_list (written (get_or changes i d))
+    → words ≡ front ++ filter_map written (take i changes)
+    → more ≡ front ++ filter_map written (take (i + 1) changes)
+word_more written changes i d words more front within more_is words_is =
     let c = get_or changes i d in
     more_is
-    ∙ ap (λ ws. ws ++ option_to_list c.word) words_is
-    ∙ append_assoc front (filter_map word (take i changes)) (option_to_list c.word)
+    ∙ ap (λ ws. ws ++ option_to_list (written c)) words_is
+    ∙ append_assoc front (filter_map written (take i changes)) (option_to_list (written c))
     ∙ ap (λ ws. front ++ ws)
-    (ap (λ ws. filter_map word (take i changes) ++ ws) (sym (one_option c.word))
-    ∙ sym (filter_map-append word (take i changes) (c ∷ []))
-    ∙ ap (filter_map word) (sym (take_more changes i d within)))
+    (ap (λ ws. filter_map written (take i changes) ++ ws) (sym (one_option (written c)))
+    ∙ sym (filter_map-append written (take i changes) (c ∷ []))
+    ∙ ap (filter_map written) (sym (take_more changes i d within)))

@@ -114,12 +114,16 @@ SecretStaysSecret =
     of_channel (λ c. c.modes.privacy) (room_after (two_members ++ ChangeModes by.Home (codes "#rust") (set letter.Secret None ∷ last ∷ []) ∷ [])) (codes "#rust") in
     (privacy_after (set letter.Private None) ≡ Some Secret) × (privacy_after (clear letter.Private None) ≡ Some Secret)
 
--- changes are written with a sign where it differs from the one before, and their parameters behind
+-- changes are written with a sign where it differs from the one before, and their parameters behind: a user's nickname as it is stored,
+-- that of nobody as it was given
 abbrev pub ChangesWritten : Type 0
 ChangesWritten =
-    (changes_words (set letter.Operator (Some (codes "bo")) ∷ clear letter.Voice (Some (codes "cy")) ∷ set letter.Limit (Some (codes "5")) ∷ [])
-    ≡ codes "+o-v+l" ∷ codes "bo" ∷ codes "cy" ∷ codes "5" ∷ [])
-    × (changes_words (clear letter.Secret None ∷ clear letter.Ban (Some (codes "x!*@*")) ∷ set letter.Moderated None ∷ set letter.TopicLocked None ∷ [])
+    let changes = set letter.Operator (Some (codes "BAR")) ∷ clear letter.Voice (Some (codes "Cy")) ∷ set letter.Limit (Some (codes "5")) ∷ [] in
+    (seen (room_after two_members) (ChangeModes (by.User (codes "foo")) (codes "#rust") changes)
+    ≡ record { viewer = codes "bar"; line = codes ":Foo!u@h MODE #Rust +o-v+l bar Cy 5" ++ crlf }
+    ∷ record { viewer = codes "Foo"; line = codes ":Foo!u@h MODE #Rust +o-v+l bar Cy 5" ++ crlf } ∷ [])
+    × ((room : Room)
+    → changes_words room (clear letter.Secret None ∷ clear letter.Ban (Some (codes "x!*@*")) ∷ set letter.Moderated None ∷ set letter.TopicLocked None ∷ [])
     ≡ codes "-sb+mt" ∷ codes "x!*@*" ∷ [])
 
 -- a ban that is set once more in another case of letters stands once, as it was first spelled

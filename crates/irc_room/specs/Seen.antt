@@ -8,6 +8,8 @@ use Rattle.irc_names.specs.Tables.{row}
 use Rattle.irc_line.specs.Messages.{Sender, named, full, text}
 use Rattle.irc_users.specs.declared.user.User.{User}
 use Rattle.irc_channels.specs.declared.modes.ModeChange.{ModeChange}
+use Rattle.irc_channels.specs.declared.modes.ModeLetter.{ModeLetter}
+use Rattle.irc_channels.specs.declared.modes.ModeLetter.TheVariants as letter
 use Rattle.irc_channels.specs.declared.channel.Channel.{Channel}
 use Rattle.irc_channels.specs.Channels.{has_member}
 use Rattle.irc_channels.specs.Letters.{letter_byte, sign_byte}
@@ -60,9 +62,19 @@ abbrev pub letters_text : List ModeChange → List ℕ
 letters_text [] = []
 letters_text (c ∷ changes) = sign_byte c.plus ∷ letter_byte c.letter ∷ letters_behind c.plus changes
 
+-- the letters whose parameter is a member's nickname
+abbrev pub names_member : ModeLetter → Bool
+names_member letter.Operator = true
+names_member letter.Voice = true
+names_member other = false
+
+-- a change's parameter as it is written: behind o and v the nickname as stored, however it was given
+abbrev pub written_word : Room → ModeChange → Option (List ℕ)
+written_word room c = if names_member c.letter then option_map (stored_nick room) c.word else c.word
+
 -- the words that changes are written as
-abbrev pub changes_words : List ModeChange → List (List ℕ)
-changes_words changes = letters_text changes ∷ filter_map (λ c. c.word) changes
+abbrev pub changes_words : Room → List ModeChange → List (List ℕ)
+changes_words room changes = letters_text changes ∷ filter_map (written_word room) changes
 
 -- the user that does it, as it is before the effect
 abbrev pub full_sender : User → Sender
@@ -93,7 +105,7 @@ shown_line room (Part nick channel reason) viewer = line_of (codes "PART") (stor
 shown_line room (Kick by channel nick reason) viewer =
     line_of (codes "KICK") (stored_channel room channel ∷ stored_nick room nick ∷ []) (Some reason) (from_nick room by)
 shown_line room (ChangeModes by channel changes) viewer =
-    line_of (codes "MODE") (stored_channel room channel ∷ changes_words changes) None (from_by room by viewer)
+    line_of (codes "MODE") (stored_channel room channel ∷ changes_words room changes) None (from_by room by viewer)
 shown_line room (SetTopic by channel topic) viewer = line_of (codes "TOPIC") (stored_channel room channel ∷ []) (Some topic) (from_by room by viewer)
 shown_line room (Say by notice to words) viewer =
     line_of (if notice then codes "NOTICE" else codes "PRIVMSG") (target_name room to ∷ []) (Some (words.items)) (from_nick room by)

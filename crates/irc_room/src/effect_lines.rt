@@ -28,6 +28,7 @@ pub(crate) fn effect_line(
             changes,
         } => mode_line(
             alloc,
+            parts,
             from_by(own, parts, by),
             stored_channel(parts, channel),
             changes.as_slice(),
@@ -68,12 +69,12 @@ fn member_line(parts: RoomParts<'_>, effect: &Effect) -> Option<Text>
         } => kick_line(
             from_nick(parts, by),
             stored_channel(parts, channel),
-            stored_nick(parts, nick),
+            stored_nick(parts, nick.as_bytes()),
             text.as_bytes(),
         ),
         Effect::Invite { by, nick, channel } => invite_line(
             from_nick(parts, by),
-            stored_nick(parts, nick),
+            stored_nick(parts, nick.as_bytes()),
             stored_channel(parts, channel),
         ),
         _ => user_line(parts, effect),
@@ -102,7 +103,7 @@ fn user_line(parts: RoomParts<'_>, effect: &Effect) -> Option<Text>
         ),
         Effect::UserMode { nick, invisible } => user_mode_line(
             from_nick(parts, nick),
-            stored_nick(parts, nick),
+            stored_nick(parts, nick.as_bytes()),
             *invisible,
         ),
         _ => unreachable!(),

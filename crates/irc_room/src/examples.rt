@@ -80,7 +80,7 @@ pub fn secret_stays_secret()
     ensures { SecretStaysSecret }
 {}
 
-/// Changes of modes are written with a sign where it differs from the one before.
+/// Changes of modes are written with a sign where it differs from the one before, and with stored spellings of nicknames.
 pub fn changes_written()
     ensures { ChangesWritten }
 {}

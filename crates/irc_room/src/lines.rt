@@ -5,8 +5,10 @@ ghost use Rattle.irc_line.specs.MessageViews.{optional_now};
 ghost use Rattle.irc_line.specs.PartViews.{sender, words_now};
 ghost use Rattle.irc_room.specs.Seen.{changes_words, full_sender, line_of};
 ghost use Rattle.irc_room.specs.LineViews.{line_bytes};
+ghost use Rattle.irc_room.specs.RoomParts.{room_of};
 
 use crate::mode_letters::{letters_text, words_behind};
+use crate::room_parts::RoomParts;
 use irc_channels::ModeChange;
 use irc_line::{Parts, Prefix, Text, write_message};
 use irc_users::User;
@@ -86,14 +88,15 @@ pub(crate) fn kick_line<'a>(
 /// A channel's modes change (RFC 2812 section 3.2.3).
 pub(crate) fn mode_line(
     alloc: Global,
+    parts: RoomParts<'_>,
     doer: Option<Prefix<'_>>,
     channel: &[u8],
     changes: &[ModeChange],
 ) -> Result<Option<Text>, AllocError>
-    ensures { IfOk result (λ line. line_bytes line ≡ line_of (codes "MODE") (channel.now ∷ changes_words changes.now) None (option_map sender doer.entry)) }
+    ensures { IfOk result (λ line. line_bytes line ≡ line_of (codes "MODE") (channel.now ∷ changes_words (room_of parts.entry) changes.now) None (option_map sender doer.entry)) }
 {
     let letters = letters_text(alloc, changes)?;
-    let words = words_behind(alloc, channel, &letters, changes)?;
+    let words = words_behind(alloc, parts, channel, &letters, changes)?;
     Ok(line_of(doer, b"MODE", &words, None))
 }
 

@@ -1,11 +1,14 @@
 //! Changes of modes as they are written (RFC 2812 section 3.2.3).
 ghost use Rattle.std.specs.Prelude.{◌≡◌, [], ◌∷◌, ◌++◌, IfOk, OnOk, option_to_list};
 ghost use Rattle.std.specs.List.{filter_map};
+ghost use Rattle.irc_line.specs.MessageViews.{optional_now};
 ghost use Rattle.irc_line.specs.PartViews.{words_now};
 ghost use Rattle.irc_channels.specs.Letters.{letter_byte, sign_byte};
-ghost use Rattle.irc_room.specs.Seen.{letters_text};
+ghost use Rattle.irc_room.specs.RoomParts.{room_of};
+ghost use Rattle.irc_room.specs.Seen.{letters_text, names_member, written_word};
 ghost use Rattle.irc_room.specs.Signs.{sign_between};
 
+use crate::room_parts::{RoomParts, stored_nick};
 use irc_channels::{ModeChange, ModeLetter};
 use std::alloc::{AllocError, Global};
 
@@ -70,30 +73,50 @@ fn push_sign(
 /// A channel's name, the letters of changes, and their parameters in order.
 pub(crate) fn words_behind<'a>(
     alloc: Global,
+    parts: RoomParts<'a>,
     channel: &'a [u8],
     letters: &'a [u8],
     changes: &'a [ModeChange],
 ) -> Result<Vec<&'a [u8], Global>, AllocError>
-    ensures { IfOk result (λ words. words_now words.items ≡ channel.now ∷ letters.now ∷ filter_map (λ c. c.word) changes.now) }
+    ensures { IfOk result (λ words. words_now words.items ≡ channel.now ∷ letters.now ∷ filter_map (written_word (room_of parts.entry)) changes.now) }
 {
     let mut words = Vec::new(alloc);
     words.push(channel)?;
     words.push(letters)?;
     for change in changes {
-        push_word(&mut words, change)?;
+        push_word(parts, change, &mut words)?;
     }
     Ok(words)
 }
 
 /// Appends the parameter of a change, if it has one.
 fn push_word<'a>(
-    words: &mut Vec<&'a [u8], Global>,
+    parts: RoomParts<'a>,
     change: &'a ModeChange,
+    words: &mut Vec<&'a [u8], Global>,
 ) -> Result<(), AllocError>
-    ensures { OnOk result (words_now words.new.items ≡ words_now words.old.items ++ option_to_list change.now.word) }
+    ensures { OnOk result (words_now words.new.items ≡ words_now words.old.items ++ option_to_list (written_word (room_of parts.entry) change.now)) }
 {
-    if let Some(word) = &change.word {
-        words.push(word.as_bytes())?;
+    if let Some(word) = written_word(parts, change) {
+        words.push(word)?;
     }
     Ok(())
+}
+
+/// The parameter of a change, if it has one: a member's nickname as it is stored, anything else as it was given.
+fn written_word<'a>(parts: RoomParts<'a>, change: &'a ModeChange) -> Option<&'a [u8]>
+    ensures { optional_now result ≡ written_word (room_of parts.entry) change.now }
+{
+    match &change.word {
+        Some(word) if names_member(change.letter) => Some(stored_nick(parts, word.as_bytes())),
+        Some(word) => Some(word.as_bytes()),
+        None => None,
+    }
+}
+
+/// Whether a letter's parameter is a member's nickname.
+fn names_member(letter: ModeLetter) -> bool
+    ensures { result ≡ names_member letter }
+{
+    matches!(letter, ModeLetter::Operator | ModeLetter::Voice)
 }

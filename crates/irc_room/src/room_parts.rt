@@ -45,13 +45,13 @@ pub(crate) fn from_by<'a>(own: &'a [u8], parts: RoomParts<'a>, by: &By) -> Optio
     }
 }
 
-/// A nickname as it is stored, or as it was given where there is no such user.
-pub(crate) fn stored_nick<'a>(parts: RoomParts<'a>, nick: &'a Nick) -> &'a [u8]
+/// The nickname that these bytes are under the fold, as it is stored, or the bytes as given where there is no such user.
+pub(crate) fn stored_nick<'a>(parts: RoomParts<'a>, nick: &'a [u8]) -> &'a [u8]
     ensures { result.now ≡ stored_nick (room_of parts.entry) nick.now }
 {
-    match parts.users.find(nick) {
+    match parts.users.find_named(nick) {
         Some(user) => user.nick.as_bytes(),
-        None => nick.as_bytes(),
+        None => nick,
     }
 }
 
@@ -70,7 +70,7 @@ pub(crate) fn target_name<'a>(parts: RoomParts<'a>, target: &'a Target) -> &'a [
     ensures { result.now ≡ target_name (room_of parts.entry) target.now }
 {
     match target {
-        Target::User(nick) => stored_nick(parts, nick),
+        Target::User(nick) => stored_nick(parts, nick.as_bytes()),
         Target::Channel(channel) => stored_channel(parts, channel),
     }
 }

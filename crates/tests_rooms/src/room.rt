@@ -15,6 +15,7 @@ part cy #d x =
 kick al #d cy =
 mode al #C +mo-v bo al = al bo (cy) :al!u@h MODE #c +mo-v bo al
 mode * #c +o-v+l bo cy 5 = al bo (cy) :a.net MODE #c +o-v+l bo cy 5
+mode al #c +v-o+v BO Nobody CY = al bo (cy) :al!u@h MODE #c +v-o+v bo Nobody cy
 topic bo #c hello there = al bo (cy) :bo!u@h TOPIC #c :hello there
 topic * #C  = al bo (cy) :a.net TOPIC #c :
 say al #C hi = bo (cy) :al!u@h PRIVMSG #c :hi
