@@ -5,12 +5,12 @@ ghost use Rattle.std.specs.Result.{result_err};
 ghost use Rattle.std.specs.FinMap.{empty, keys, values};
 ghost use Rattle.irc_names.specs.Fold.{key};
 ghost use Rattle.irc_names.specs.Tables.{row, alter, moved};
-ghost use Rattle.irc_tables.specs.FoldedRows.{table_of, IsInFoldedOrder, IsPlaceOf};
+ghost use Rattle.irc_tables.specs.FoldedRows.{table_of, IsInFoldedOrder, IsPlaceOf, StandsAt};
 ghost use Rattle.irc_users.specs.UserTable.{entry, with_nick, with_invisible, is_taken, rename_fault, is_home, is_found_by};
 
 use crate::fault::{RenameFault, UsersFault};
 use crate::user::User;
-use irc_names::{Mask, Nick, ServerName, compare, mask_matches};
+use irc_names::{Mask, Nick, ServerName, compare, mask_matches, same};
 use std::alloc::{AllocError, Global};
 use std::marker::Model;
 
@@ -119,6 +119,24 @@ impl Users {
         match place_named(&self.rows, name) {
             Ok(place) => Some(&self.rows[place]),
             Err(_) => None,
+        }
+    }
+
+    /// The user that [`Users::find_named`] finds for these bytes. It is looked for at the place
+    /// `near` and at the one after it before all users are searched, and `near` becomes the place where it stands, or would stand. Any number
+    /// will do. It serves walks over names in folded order: where no other user stands between two of them, the second is found at once.
+    pub fn find_near(&self, near: &mut usize, name: &[u8]) -> Option<&User>
+        ensures { option_copied result ≡ row self.now (key name.now) }
+    {
+        match place_near(&self.rows, *near, name) {
+            Ok(place) => {
+                *near = place;
+                Some(&self.rows[place])
+            }
+            Err(place) => {
+                *near = place;
+                None
+            }
         }
     }
 
@@ -247,4 +265,29 @@ fn place_named(users: &[User], name: &[u8]) -> Result<usize, usize>
     ensures known { is_ok result ≡ is_some (row (table_of entry users.now) (key name.now)) }
 {
     users.binary_search_by(|user| compare(user.nick.as_bytes(), name))
+}
+
+/// Where the user with these bytes for a nickname stands, or where it would stand: looked for first at a place and the one after it.
+fn place_near(users: &[User], near: usize, name: &[u8]) -> Result<usize, usize>
+    requires { IsInFoldedOrder entry users.now }
+    ensures { IsPlaceOf entry users.now (key name.now) result }
+{
+    let next = near.saturating_add(1);
+    if is_named(users, near, name) {
+        Ok(near)
+    } else if is_named(users, next, name) {
+        Ok(next)
+    } else {
+        place_named(users, name)
+    }
+}
+
+/// Whether the user with these bytes for a nickname stands at a place.
+fn is_named(users: &[User], place: usize, name: &[u8]) -> bool
+    ensures { IsTrue result → StandsAt entry users.now (key name.now) place }
+{
+    match users.get(place) {
+        Some(user) => same(user.nick.as_bytes(), name),
+        None => false,
+    }
 }
