@@ -6,7 +6,7 @@ use Rattle.std.specs.Option.{option_map}
 use Rattle.std.specs.Ordering.{is_lt}
 use Rattle.std.specs.FinMap.{empty, keys}
 use Rattle.irc_names.specs.Fold.{key, same, name_cmp}
-use Rattle.irc_names.specs.Names.{fits, is_key, is_mask}
+use Rattle.irc_names.specs.Names.{fits, is_key, is_ban_mask}
 use Rattle.irc_names.specs.Tables.{row, alter, moved}
 use Rattle.irc_channels.specs.Limits.{max_limit, max_limit_digits}
 use Rattle.irc_channels.specs.declared.channel.Channel.{Channel}
@@ -136,7 +136,7 @@ ban_changed false mask bans = without_ban mask bans
 
 -- a ban is set or taken away; a parameter that is no mask changes nothing
 abbrev pub bans_changed : Bool → List ℕ → List (List ℕ) → List (List ℕ)
-bans_changed plus word bans = if is_mask word then ban_changed plus word bans else bans
+bans_changed plus word bans = if is_ban_mask word then ban_changed plus word bans else bans
 
 abbrev pub bans_by_word : Bool → Option (List ℕ) → List (List ℕ) → List (List ℕ)
 bans_by_word plus (Some word) bans = bans_changed plus word bans

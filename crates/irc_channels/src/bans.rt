@@ -5,14 +5,14 @@ ghost use Rattle.irc_names.specs.Fold.{same};
 ghost use Rattle.irc_channels.specs.Bans.{before, IsBanList, some_matches};
 ghost use Rattle.irc_channels.specs.Channels.{is_nil, with_ban, without_ban};
 
-use irc_names::{Mask, mask_matches};
+use irc_names::{BanMask, mask_matches};
 use std::alloc::{AllocError, Global};
 use std::marker::Model;
 
 /// The masks of a channel's bans, in folded order, no two of them alike under the fold.
 #[derive(Drop)]
 pub struct BanList {
-    masks: Vec<Mask, Global>,
+    masks: Vec<BanMask, Global>,
 }
 
 /// In a clause it is the list of its masks.
@@ -52,7 +52,7 @@ impl BanList {
     }
 
     /// The masks, in folded order.
-    pub fn as_slice(&self) -> &[Mask]
+    pub fn as_slice(&self) -> &[BanMask]
         ensures value { result.now ≡ self.now }
         ensures ordered { IsBanList self.now }
     {
@@ -69,7 +69,7 @@ impl BanList {
     }
 
     /// The ban that is the same under the fold, as it is spelled here.
-    pub fn find(&self, mask: &Mask) -> Option<&Mask>
+    pub fn find(&self, mask: &BanMask) -> Option<&BanMask>
         ensures { option_copied result ≡ find (same mask.now) self.now }
     {
         self.masks.iter().find(|ban| mask == *ban)
@@ -86,7 +86,7 @@ impl BanList {
 
     /// Adds a ban in its place, unless one that is the same under the fold is there already, which then keeps its spelling. Where
     /// there is no memory nothing has changed.
-    pub fn insert(&mut self, mask: Mask) -> Result<(), AllocError>
+    pub fn insert(&mut self, mask: BanMask) -> Result<(), AllocError>
         ensures { self.new ≡ (if is_ok result then with_ban mask self.old else self.old) }
     {
         if position_of(&self.masks, &mask).is_some() {
@@ -98,7 +98,7 @@ impl BanList {
     }
 
     /// Takes the ban out that is the same under the fold, and hands it back as it was spelled here.
-    pub fn remove(&mut self, mask: &Mask) -> Option<Mask>
+    pub fn remove(&mut self, mask: &BanMask) -> Option<BanMask>
         ensures value { result ≡ find (same mask.now) self.old }
         ensures after { self.new ≡ without_ban mask.now self.old }
     {
@@ -110,14 +110,14 @@ impl BanList {
 }
 
 /// Where the ban stands that is the same under the fold.
-fn position_of(bans: &[Mask], mask: &Mask) -> Option<usize>
+fn position_of(bans: &[BanMask], mask: &BanMask) -> Option<usize>
     ensures { result ≡ position (same mask.now) bans.now }
 {
     bans.iter().position(|ban| mask == ban)
 }
 
 /// How many bans stand before a mask.
-fn place_of(bans: &[Mask], mask: &Mask) -> usize
+fn place_of(bans: &[BanMask], mask: &BanMask) -> usize
     ensures value { result ≡ length (filter (λ ban. before ban mask.now) bans.now) }
     ensures within { result ≤ length bans.now }
 {

@@ -35,8 +35,8 @@ pub const MAX_BANS: usize = 30;
 pub const MAX_MODE_PARAMETERS: usize = 3;
 
 /// The longest parameter of a mode that is kept whole: one byte more than the longest that any mode takes, which is a mask of
-/// `irc_names::MAX_MASK` bytes. So a word that had to be cut is still refused for its length, by whichever mode it is for.
-pub const MAX_MODE_WORD: usize = irc_names::MAX_MASK + 1;
+/// `irc_names::MAX_BAN_MASK` bytes. So a word that had to be cut is still refused for its length, by whichever mode it is for.
+pub const MAX_MODE_WORD: usize = irc_names::MAX_BAN_MASK + 1;
 
 /// The greatest limit of members that a channel can have (our own choice).
 pub const MAX_LIMIT: u16 = 65_535;

@@ -8,7 +8,7 @@ use crate::bans::BanList;
 use crate::key::Key;
 use crate::limit::read_limit;
 use crate::modes::{ModeChange, ModeLetter, Modes, Privacy};
-use irc_names::Mask;
+use irc_names::BanMask;
 use std::alloc::{AllocError, Global};
 
 impl Modes {
@@ -170,7 +170,7 @@ fn change_bans(bans: &mut BanList, plus: bool, word: Option<&[u8]>) -> Result<()
     ensures refused { OnErr result (bans.new ≡ bans.old) }
 {
     let Some(bytes) = word else { return Ok(()) };
-    let Some(mask) = Mask::read(bytes) else {
+    let Some(mask) = BanMask::read(bytes) else {
         return Ok(());
     };
     if plus {

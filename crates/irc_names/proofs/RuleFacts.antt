@@ -5,8 +5,8 @@ use Rattle.std.proofs.lemmas.Bool.Decides.{nat_tests}
 use Rattle.std.proofs.lemmas.Bool.{eqb-true}
 use Rattle.std.specs.Cmp.{first_so, second_so}
 use Rattle.std.specs.Char.{is_ascii_alphabetic, is_ascii_alphanumeric}
-use Rattle.irc_names.specs.Names.{fits, is_special, is_nick_byte, is_channel_byte, is_host_byte, is_server_byte, is_key_byte, is_mask_byte, starts_without_colon, is_nick, is_channel, is_host, is_server, is_key, is_mask}
-use Rattle.irc_names.specs.declared.TheConstants.{MAX_NICK, MAX_CHANNEL, MAX_HOST, MAX_SERVER, MAX_KEY, MAX_MASK}
+use Rattle.irc_names.specs.Names.{fits, is_special, is_nick_byte, is_channel_byte, is_host_byte, is_server_byte, is_key_byte, is_ban_mask_byte, starts_without_colon, is_nick, is_channel, is_host, is_server, is_key, is_ban_mask}
+use Rattle.irc_names.specs.declared.TheConstants.{MAX_NICK, MAX_CHANNEL, MAX_HOST, MAX_SERVER, MAX_KEY, MAX_BAN_MASK}
 
 -- ---- lengths
 
@@ -32,9 +32,9 @@ pub key-fits : (bytes : List ℕ) → is_key bytes ≡ true → length bytes ≤
 unfolding is_key
 key-fits bytes h = grind (arith, nat_tests)
 
-pub mask-fits : (bytes : List ℕ) → is_mask bytes ≡ true → length bytes ≤ MAX_MASK
-unfolding is_mask
-mask-fits bytes h = grind (arith, nat_tests)
+pub ban_mask-fits : (bytes : List ℕ) → is_ban_mask bytes ≡ true → length bytes ≤ MAX_BAN_MASK
+unfolding is_ban_mask
+ban_mask-fits bytes h = grind (arith, nat_tests)
 
 -- ---- bytes
 
@@ -79,9 +79,9 @@ pub key-bytes : (bytes : List ℕ) → is_key bytes ≡ true → list_all is_key
 unfolding is_key
 key-bytes bytes h = grind (arith, nat_tests)
 
-pub mask-bytes : (bytes : List ℕ) → is_mask bytes ≡ true → list_all is_mask_byte bytes ≡ true
-unfolding is_mask
-mask-bytes bytes h = grind (arith, nat_tests)
+pub ban_mask-bytes : (bytes : List ℕ) → is_ban_mask bytes ≡ true → list_all is_ban_mask_byte bytes ≡ true
+unfolding is_ban_mask
+ban_mask-bytes bytes h = grind (arith, nat_tests)
 
 -- A byte that a rule refuses is nowhere in bytes that all meet it. At a rule of this crate and a numeral, as NUL or a space, the
 -- premise is `refl`.
@@ -122,9 +122,9 @@ pub key-starts : (bytes : List ℕ) → is_key bytes ≡ true → starts_without
 unfolding is_key
 key-starts bytes h = grind (arith, nat_tests)
 
-pub mask-starts : (bytes : List ℕ) → is_mask bytes ≡ true → starts_without_colon bytes ≡ true
-unfolding is_mask
-mask-starts bytes h = grind (arith, nat_tests)
+pub ban_mask-starts : (bytes : List ℕ) → is_ban_mask bytes ≡ true → starts_without_colon bytes ≡ true
+unfolding is_ban_mask
+ban_mask-starts bytes h = grind (arith, nat_tests)
 
 -- a channel's name begins with `#`
 pub channel-hash : (first : ℕ) (rest : List ℕ) → is_channel (first ∷ rest) ≡ true → first ≡ 0x23
@@ -145,4 +145,4 @@ server-not_nick bytes server = by (is_nick bytes) refl
         cc
 
 -- how long each kind is, for proofs that name this set
-pub ruleset lengths = (nick-fits, channel-fits, host-fits, server-fits, key-fits, mask-fits)
+pub ruleset lengths = (nick-fits, channel-fits, host-fits, server-fits, key-fits, ban_mask-fits)

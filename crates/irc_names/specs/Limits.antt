@@ -22,8 +22,8 @@ abbrev pub max_key : ℕ
 max_key = 23
 
 -- the longest mask of a ban; our own choice
-abbrev pub max_mask : ℕ
-max_mask = 90
+abbrev pub max_ban_mask : ℕ
+max_ban_mask = 90
 
 -- the longest user name; our own choice
 abbrev pub max_user_name : ℕ

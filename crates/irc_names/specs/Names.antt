@@ -4,7 +4,7 @@
 use Rattle.std.specs.Prelude.{ℕ, Bool, false, ◌&&◌, ◌||◌, not, List, [], ◌∷◌, length, nat_eq, nat_le, codes, IsTrue}
 use Rattle.std.specs.List.{list_any, list_all}
 use Rattle.std.specs.Char.{is_ascii_alphabetic, is_ascii_alphanumeric, is_ascii_digit, is_ascii_lowercase, is_ascii_graphic}
-use Rattle.irc_names.specs.Limits.{max_nick, max_channel, max_host, max_server, max_key, max_mask}
+use Rattle.irc_names.specs.Limits.{max_nick, max_channel, max_host, max_server, max_key, max_ban_mask}
 
 -- whether the byte is one of the bytes of a text
 abbrev pub is_one_of : List ℕ → ℕ → Bool
@@ -68,12 +68,12 @@ unfoldable pub is_key : List ℕ → Bool
 is_key bytes = starts_without_colon bytes && list_all is_key_byte bytes && fits max_key bytes
 
 -- what a mask is made of: any byte but a space
-abbrev pub is_mask_byte : ℕ → Bool
-is_mask_byte byte = not (nat_eq byte 0x20)
+abbrev pub is_ban_mask_byte : ℕ → Bool
+is_ban_mask_byte byte = not (nat_eq byte 0x20)
 
 -- A mask that a ban can keep (our own choice): bytes that a middle parameter can have, the first not `:`.
-unfoldable pub is_mask : List ℕ → Bool
-is_mask bytes = starts_without_colon bytes && list_all is_mask_byte bytes && fits max_mask bytes
+unfoldable pub is_ban_mask : List ℕ → Bool
+is_ban_mask bytes = starts_without_colon bytes && list_all is_ban_mask_byte bytes && fits max_ban_mask bytes
 
 abbrev pub IsNick : List ℕ → Type 0
 IsNick bytes = IsTrue (is_nick bytes)
@@ -87,5 +87,5 @@ IsHost bytes = IsTrue (is_host bytes)
 abbrev pub IsServer : List ℕ → Type 0
 IsServer bytes = IsTrue (is_server bytes)
 
-abbrev pub IsMask : List ℕ → Type 0
-IsMask bytes = IsTrue (is_mask bytes)
+abbrev pub IsBanMask : List ℕ → Type 0
+IsBanMask bytes = IsTrue (is_ban_mask bytes)

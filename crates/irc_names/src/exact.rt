@@ -6,7 +6,7 @@ ghost use Rattle.std.specs.Hash as fed;
 ghost use Rattle.irc_names.specs.Spellings.{exactly_same, exact_cmp, exactly_same-equivalence, exact_cmp-total, exactly_same-ties, bytes_fed, exactly_same-fed};
 
 use crate::case_fold::compare;
-use crate::{ChannelName, Mask, Nick};
+use crate::{BanMask, ChannelName, Nick};
 use std::cmp::Ordering;
 use std::hash::{Hash, Hasher};
 
@@ -36,11 +36,11 @@ impl Folded for ChannelName {
     }
 }
 
-impl Folded for Mask {
+impl Folded for BanMask {
     ghost spelling = { λ mask. mask };
 
     fn as_bytes(&self) -> &[u8] {
-        Mask::as_bytes(self)
+        BanMask::as_bytes(self)
     }
 }
 

@@ -1,27 +1,27 @@
 //! Names of an IRC network: their case fold, their rules, their types, and masks.
 #![tactic(auto)]
 
+mod ban_mask;
 mod case_fold;
 mod channel_name;
 mod copying;
 mod exact;
 mod hashing;
 mod host;
-mod mask;
 mod matching;
 mod nick;
 mod rules;
 mod server_name;
 
+pub use ban_mask::BanMask;
 pub use case_fold::{compare, fold, same};
 pub use channel_name::ChannelName;
 pub use copying::{copied, cut_copy, first_bytes};
 pub use exact::{Exact, Folded};
 pub use host::Host;
-pub use mask::Mask;
 pub use matching::mask_matches;
 pub use nick::Nick;
-pub use rules::{is_channel, is_host, is_key, is_mask, is_nick, is_server};
+pub use rules::{is_ban_mask, is_channel, is_host, is_key, is_nick, is_server};
 pub use server_name::ServerName;
 
 // How long names may be, in bytes. Each limit of the code stands here alone; the definitions have the same numbers in `specs/Limits.antt`.
@@ -42,7 +42,7 @@ pub const MAX_SERVER: usize = 63;
 pub const MAX_KEY: usize = 23;
 
 /// The longest mask of a ban (our own choice).
-pub const MAX_MASK: usize = 90;
+pub const MAX_BAN_MASK: usize = 90;
 
 /// The longest user name (our own choice).
 pub const MAX_USER_NAME: usize = 10;

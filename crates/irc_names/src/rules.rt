@@ -1,9 +1,9 @@
 //! What is a name of each kind (RFC 2812, section 2.3.1, and our own choices).
 ghost use Rattle.std.specs.Prelude.{◌≡◌};
 ghost use Rattle.std.specs.List.{list_all};
-ghost use Rattle.irc_names.specs.Names.{starts_without_colon, is_special, is_nick_byte, is_nick, is_channel_byte, is_channel, is_host_byte, is_host, is_server_byte, is_server, is_key_byte, is_key, is_mask_byte, is_mask};
+ghost use Rattle.irc_names.specs.Names.{starts_without_colon, is_special, is_nick_byte, is_nick, is_channel_byte, is_channel, is_host_byte, is_host, is_server_byte, is_server, is_key_byte, is_key, is_ban_mask_byte, is_ban_mask};
 
-use crate::{MAX_CHANNEL, MAX_HOST, MAX_KEY, MAX_MASK, MAX_NICK, MAX_SERVER};
+use crate::{MAX_BAN_MASK, MAX_CHANNEL, MAX_HOST, MAX_KEY, MAX_NICK, MAX_SERVER};
 
 /// One of the bytes that a nickname may have beside letters, digits and `-`.
 fn is_special(byte: u8) -> bool
@@ -134,25 +134,25 @@ pub fn is_key(bytes: &[u8]) -> bool
 }
 
 /// A byte that a mask may have.
-fn is_mask_byte(byte: u8) -> bool
-    ensures { result ≡ is_mask_byte byte }
+fn is_ban_mask_byte(byte: u8) -> bool
+    ensures { result ≡ is_ban_mask_byte byte }
 {
     byte != b' '
 }
 
-fn are_mask_bytes(bytes: &[u8]) -> bool
-    ensures { result ≡ list_all is_mask_byte bytes.now }
+fn are_ban_mask_bytes(bytes: &[u8]) -> bool
+    ensures { result ≡ list_all is_ban_mask_byte bytes.now }
 {
-    bytes.iter().all(|byte| is_mask_byte(*byte))
+    bytes.iter().all(|byte| is_ban_mask_byte(*byte))
 }
 
-/// Whether a ban can keep these bytes as its mask: 1 to [`MAX_MASK`] bytes, none of them a space, and no `:` in front
+/// Whether a ban can keep these bytes as its mask: 1 to [`MAX_BAN_MASK`] bytes, none of them a space, and no `:` in front
 /// (our own choice).
-#[tactic(auto, unfolding(crate::specs::Names::is_mask))]
-pub fn is_mask(bytes: &[u8]) -> bool
-    ensures { result ≡ is_mask bytes.now }
+#[tactic(auto, unfolding(crate::specs::Names::is_ban_mask))]
+pub fn is_ban_mask(bytes: &[u8]) -> bool
+    ensures { result ≡ is_ban_mask bytes.now }
 {
-    starts_without_colon(bytes) && are_mask_bytes(bytes) && bytes.len() <= MAX_MASK
+    starts_without_colon(bytes) && are_ban_mask_bytes(bytes) && bytes.len() <= MAX_BAN_MASK
 }
 
 /// Whether there is a first byte, and it is not `:`, with which a line begins its last parameter.

@@ -4,7 +4,7 @@ use Rattle.std.specs.List.{AllByRecursion}
 use Rattle.irc_line.specs.Limits.{max_line}
 use Rattle.irc_line.specs.Bytes.{crlf}
 use Rattle.irc_line.specs.Messages.{joined_text}
-use Rattle.irc_names.specs.Limits.{max_nick, max_channel, max_host, max_server, max_key, max_mask, max_user_name, max_real_name, max_words, max_info, max_created}
+use Rattle.irc_names.specs.Limits.{max_nick, max_channel, max_host, max_server, max_key, max_ban_mask, max_user_name, max_real_name, max_words, max_info, max_created}
 use Rattle.irc_numerics.specs.Limits.{max_names, max_whois_channels, max_mode_letters}
 use Rattle.irc_numerics.specs.declared.replies.Reply.{Reply}
 use Rattle.irc_numerics.specs.declared.replies.Reply.TheVariants.{Welcome, YourHost, Created, MyInfo, UserModeIs, LuserClient, LuserChannels, LuserMe, IsOn, WhoisUser, WhoisServer, EndOfWho, EndOfWhois, WhoisChannels, List as ListRow, ListEnd, ChannelModeIs, NoTopic, Topic, Inviting, WhoReply, NamReply, EndOfNames, BanList, EndOfBanList, NoSuchNick, NoSuchChannel, CannotSendToChan, TooManyChannels, TooManyTargets, NoOrigin, NoRecipient, NoTextToSend, UnknownCommand, NoMotd, NoNicknameGiven, ErroneousNickname, NicknameInUse, UserNotInChannel, NotOnChannel, UserOnChannel, NotRegistered, NeedMoreParams, AlreadyRegistered, KeySet, ChannelIsFull, UnknownMode, InviteOnlyChan, BannedFromChan, BadChannelKey, BanListFull, ChanOPrivsNeeded, UModeUnknownFlag, UsersDontMatch}
@@ -45,7 +45,7 @@ IsWithinLimits (WhoReply channel user host server nick _ hops real) = (IfSome ch
 IsWithinLimits (NamReply _ channel names) = (length channel ≤ max_channel) × (length names.items ≤ max_names) ×
     (AllByRecursion (λ member. length member.nick ≤ max_nick) names.items)
 IsWithinLimits (EndOfNames _) = ⊥
-IsWithinLimits (BanList channel mask) = (length channel ≤ max_channel) × (length mask ≤ max_mask)
+IsWithinLimits (BanList channel mask) = (length channel ≤ max_channel) × (length mask ≤ max_ban_mask)
 IsWithinLimits (EndOfBanList channel) = length channel ≤ max_channel
 IsWithinLimits (NoSuchNick _) = ⊥
 IsWithinLimits (NoSuchChannel _) = ⊥

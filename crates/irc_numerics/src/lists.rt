@@ -12,7 +12,7 @@ use crate::writing::{Head, push_entry};
 use arrayvec::ArrayVec;
 use irc_line::limits::MAX_PARAMETERS;
 use irc_line::{Line, Text};
-use irc_names::{ChannelName, Mask};
+use irc_names::{BanMask, ChannelName};
 use itoa::Buffer;
 
 /// The line of a reply of a list, and of each reply with a higher number.
@@ -91,7 +91,7 @@ fn names_line<'a>(
 }
 
 /// The line of one ban of a channel.
-fn ban_line<'a>(head: Head<'_>, channel: &'a ChannelName, mask: &'a Mask) -> Text
+fn ban_line<'a>(head: Head<'_>, channel: &'a ChannelName, mask: &'a BanMask) -> Text
     ensures { result.items ≡ line_of head.entry (codes "367") (plain (channel.now ∷ mask.now ∷ [])) }
 {
     head.plain(b"367", &[channel.as_bytes(), mask.as_bytes()])

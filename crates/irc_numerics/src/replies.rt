@@ -7,8 +7,8 @@ use crate::limits::{MAX_MODE_LETTERS, MAX_NAMES, MAX_WHOIS_CHANNELS};
 use arrayvec::ArrayVec;
 use irc_line::Line;
 use irc_names::{
-    ChannelName, Host, MAX_CREATED, MAX_INFO, MAX_KEY, MAX_REAL_NAME, MAX_USER_NAME, MAX_WORDS,
-    Mask, Nick, ServerName,
+    BanMask, ChannelName, Host, MAX_CREATED, MAX_INFO, MAX_KEY, MAX_REAL_NAME, MAX_USER_NAME,
+    MAX_WORDS, Nick, ServerName,
 };
 
 /// A client's own words, as it gave them.
@@ -256,7 +256,7 @@ pub enum Reply {
     /// 367.
     BanList {
         channel: ChannelName,
-        mask: Mask,
+        mask: BanMask,
     },
     /// 368.
     EndOfBanList {

@@ -1,7 +1,7 @@
 -- The examples, each by computing what the lists say.
 use Rattle.std.proofs.Common.{true, false, not, ◌||◌, Some, None, [], ◌∷◌, ◌++◌, refl, ap, is_some, codes}
 use Rattle.irc_names.specs.Fold.{fold, fold_table}
-use Rattle.irc_names.specs.Names.{is_mask}
+use Rattle.irc_names.specs.Names.{is_ban_mask}
 use Rattle.irc_line.specs.Bytes.{cut}
 use Rattle.irc_line.specs.Messages.{line_text}
 use Rattle.irc_channels.specs.declared.modes.ModeChange.{ModeChange}
@@ -66,7 +66,7 @@ changes_written =
     (seen_is two_members (ChangeModes (by.User (codes "foo")) (codes "#rust") changes) (record { users = tt; channels = tt }), λ room. refl)
 
 pub ban_stands_once : BanStandsOnce
-unfolding fold fold_table is_mask
+unfolding fold fold_table is_ban_mask
 ban_stands_once =
     part_is (λ c. c.modes.bans)
     (two_members ++ ChangeModes (by.User (codes "foo")) (codes "#rust") (set letter.Ban (Some (codes "a[!*@*")) ∷ set letter.Ban (Some (codes "A{!*@*")) ∷ []) ∷ [])

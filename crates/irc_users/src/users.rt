@@ -10,7 +10,7 @@ ghost use Rattle.irc_users.specs.UserTable.{entry, with_nick, with_invisible, is
 
 use crate::fault::{RenameFault, UsersFault};
 use crate::user::User;
-use irc_names::{Mask, Nick, ServerName, compare, mask_matches, same};
+use irc_names::{BanMask, Nick, ServerName, compare, mask_matches, same};
 use std::alloc::{AllocError, Global};
 use std::marker::Model;
 
@@ -159,7 +159,7 @@ impl Users {
     }
 
     /// The users whose nickname, host, server or real name a mask matches, in folded order of their nicknames.
-    pub fn matching(&self, alloc: Global, mask: &Mask) -> Result<Vec<&User, Global>, AllocError>
+    pub fn matching(&self, alloc: Global, mask: &BanMask) -> Result<Vec<&User, Global>, AllocError>
         ensures { IfOk result (λ found. map (λ user. user.now) found.items ≡ filter (is_found_by mask.now) (values self.now)) }
     {
         matched_by(self.as_slice(), alloc, mask)
@@ -184,7 +184,7 @@ fn homed_at<'a>(
 fn matched_by<'a>(
     users: &'a [User],
     alloc: Global,
-    mask: &Mask,
+    mask: &BanMask,
 ) -> Result<Vec<&'a User, Global>, AllocError>
     ensures { IfOk result (λ found. map (λ user. user.now) found.items ≡ filter (is_found_by mask.now) users.now) }
 {
@@ -202,7 +202,7 @@ fn is_home(user: &User, home: &ServerName) -> bool
 }
 
 /// Whether a mask matches the nickname, the host, the server or the real name of a user.
-fn is_found_by(user: &User, mask: &Mask) -> bool
+fn is_found_by(user: &User, mask: &BanMask) -> bool
     ensures { result ≡ is_found_by mask.now user.now }
 {
     let mask = mask.as_bytes();

@@ -1,6 +1,6 @@
 //! Users by their server and by masks.
 use crate::script::{Row, Shown, Stage, append, script_holds, server, show_users, user};
-use irc_names::Mask;
+use irc_names::BanMask;
 use irc_users::{UserName, Users, UsersFault};
 use std::alloc::Global;
 use std::process::Abort;
@@ -25,7 +25,7 @@ fn find(rt: &impl Abort, alloc: Global, users: &Users, row: Row<'_>, shown: &mut
         "home" => users.by_home(alloc, &server(rt, row.first)),
         _ => users.matching(
             alloc,
-            &Mask::read(row.first.as_bytes()).expect(rt, "a mask"),
+            &BanMask::read(row.first.as_bytes()).expect(rt, "a mask"),
         ),
     };
     show_users(&found.unwrap_or(Vec::new(alloc)), shown);

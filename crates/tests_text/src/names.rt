@@ -8,8 +8,8 @@
 //! - `same KIND NAME NAME`, `less KIND NAME NAME`: the names are the same, or the first comes before the second. The kind `exact`
 //!   is of nicknames as they are spelled.
 use irc_names::{
-    ChannelName, Exact, Host, Mask, Nick, ServerName, fold, is_channel, is_host, is_key, is_mask,
-    is_nick, is_server, mask_matches,
+    BanMask, ChannelName, Exact, Host, Nick, ServerName, fold, is_ban_mask, is_channel, is_host,
+    is_key, is_nick, is_server, mask_matches,
 };
 use std::hash::{DefaultHasher, Hash, Hasher};
 
@@ -134,7 +134,7 @@ fn is_name(kind: &str, bytes: &[u8]) -> Option<bool> {
         "host" => Some(is_host(bytes)),
         "server" => Some(is_server(bytes)),
         "key" => Some(is_key(bytes)),
-        "mask" => Some(is_mask(bytes)),
+        "mask" => Some(is_ban_mask(bytes)),
         _ => None,
     }
 }
@@ -176,7 +176,7 @@ fn names_relate(verb: &str, kind: &str, left: &[u8], right: &[u8]) -> bool {
     match kind {
         "nick" => both(verb, Nick::read(left), Nick::read(right)),
         "channel" => both(verb, ChannelName::read(left), ChannelName::read(right)),
-        "mask" => both(verb, Mask::read(left), Mask::read(right)),
+        "mask" => both(verb, BanMask::read(left), BanMask::read(right)),
         "host" => both(verb, Host::read(left), Host::read(right)),
         "server" => both(verb, ServerName::read(left), ServerName::read(right)),
         "exact" => both(verb, exact(left), exact(right)),

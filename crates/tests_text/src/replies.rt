@@ -1,7 +1,7 @@
 //! The words of each reply.
 use arrayvec::ArrayVec;
 use irc_line::body;
-use irc_names::{ChannelName, Host, Mask, Nick, ServerName, cut_copy};
+use irc_names::{BanMask, ChannelName, Host, Nick, ServerName, cut_copy};
 use irc_numerics::{Listed, Mark, OnChannel, Reply, Visibility, Words, reply_line};
 use std::process::Abort;
 
@@ -66,7 +66,7 @@ struct Named {
     channel: ChannelName,
     host: Host,
     server: ServerName,
-    mask: Mask,
+    mask: BanMask,
 }
 
 fn given(rt: &impl Abort) -> Named {
@@ -75,7 +75,7 @@ fn given(rt: &impl Abort) -> Named {
         channel: ChannelName::read(b"#c").expect(rt, "a channel's name"),
         host: Host::read(b"h").expect(rt, "a host"),
         server: ServerName::read(b"a.net").expect(rt, "a server's name"),
-        mask: Mask::read(b"a!*@*").expect(rt, "a mask"),
+        mask: BanMask::read(b"a!*@*").expect(rt, "a ban's mask"),
     }
 }
 

@@ -3,47 +3,47 @@ ghost use Rattle.std.specs.Prelude.{◌≡◌, ◌≤◌, length, ⊤, refl};
 ghost use Rattle.std.specs.Option.{SomeIff};
 ghost use Rattle.std.specs.Ordering.{as_partial_cmp};
 ghost use Rattle.std.specs.Cmp.{partial_equiv_from_equiv, po};
-ghost use Rattle.irc_names.specs.Names.{IsMask};
+ghost use Rattle.irc_names.specs.Names.{IsBanMask};
 ghost use Rattle.irc_names.specs.Fold.{same, name_cmp};
 ghost use Rattle.irc_names.specs.FoldLaws.{same-equivalence, name_cmp-total, same-ties, folds_fed, same-fed};
 
 use crate::case_fold::compare;
 use crate::copying::copied;
 use crate::hashing::hash_folds;
-use crate::{MAX_MASK, is_mask, same};
+use crate::{MAX_BAN_MASK, is_ban_mask, same};
 use arrayvec::ArrayVec;
 use std::alloc::AllocError;
 use std::cmp::Ordering;
 use std::hash::{Hash, Hasher};
 use std::marker::Model;
 
-/// The mask of a ban: at most [`MAX_MASK`] bytes that [`is_mask`] takes, as spelled. Two are equal where
+/// The mask of a ban: at most [`MAX_BAN_MASK`] bytes that [`is_ban_mask`] takes, as spelled. Two are equal where
 /// their folds are, and stand in the order of their folds.
 #[derive(Drop)]
-pub struct Mask(ArrayVec<u8, MAX_MASK>);
+pub struct BanMask(ArrayVec<u8, MAX_BAN_MASK>);
 
 /// In a clause it is the list of its bytes, of which its rule holds always.
-impl Model for Mask {
+impl Model for BanMask {
     ghost use Rattle.std.specs.Prelude.{ℕ, List};
-    ghost use Rattle.irc_names.specs.Names.{IsMask};
+    ghost use Rattle.irc_names.specs.Names.{IsBanMask};
 
     ghost Value = { List ℕ };
 
     ghost view = { λ mask. mask.0.items };
 
-    ghost invariant = { λ mask. IsMask mask.0.items };
+    ghost invariant = { λ mask. IsBanMask mask.0.items };
 
     ghost inverse = { λ bytes. record { 0 = record { items = bytes } } };
 }
 
-impl Mask {
-    /// The mask that these bytes are, where [`is_mask`] takes them.
+impl BanMask {
+    /// The mask that these bytes are, where [`is_ban_mask`] takes them.
     #[tactic(auto, using(crate::proofs::RuleFacts::lengths))]
     pub fn read(bytes: &[u8]) -> Option<Self>
-        ensures { SomeIff result (IsMask bytes.now) bytes.now }
+        ensures { SomeIff result (IsBanMask bytes.now) bytes.now }
     {
-        if is_mask(bytes) {
-            Some(Mask(copied(bytes)))
+        if is_ban_mask(bytes) {
+            Some(BanMask(copied(bytes)))
         } else {
             None
         }
@@ -52,8 +52,8 @@ impl Mask {
     /// The bytes of the mask.
     pub fn as_bytes(&self) -> &[u8]
         ensures value { result.now ≡ self.now }
-        ensures rule { IsMask self.now }
-        ensures fits { length result.now ≤ MAX_MASK }
+        ensures rule { IsBanMask self.now }
+        ensures fits { length result.now ≤ MAX_BAN_MASK }
     {
         self.0.as_slice()
     }
@@ -62,11 +62,11 @@ impl Mask {
     pub fn copy(&self) -> Self
         ensures { result ≡ self.now }
     {
-        Mask(copied(self.as_bytes()))
+        BanMask(copied(self.as_bytes()))
     }
 }
 
-impl Clone for Mask {
+impl Clone for BanMask {
     ghost is_clone = { λ mask clone. clone ≡ mask };
 
     ghost is_infallible = { λ _. ⊤ };
@@ -76,7 +76,7 @@ impl Clone for Mask {
     }
 }
 
-impl PartialEq for Mask {
+impl PartialEq for BanMask {
     ghost eq = { same };
 
     ghost laws = { partial_equiv_from_equiv same-equivalence };
@@ -86,11 +86,11 @@ impl PartialEq for Mask {
     }
 }
 
-impl Eq for Mask {
+impl Eq for BanMask {
     ghost laws = { same-equivalence };
 }
 
-impl PartialOrd for Mask {
+impl PartialOrd for BanMask {
     ghost partial_cmp = { as_partial_cmp name_cmp };
 
     ghost laws = { po name_cmp-total same-ties };
@@ -100,7 +100,7 @@ impl PartialOrd for Mask {
     }
 }
 
-impl Ord for Mask {
+impl Ord for BanMask {
     ghost cmp = { name_cmp };
 
     ghost total = { name_cmp-total };
@@ -114,7 +114,7 @@ impl Ord for Mask {
     }
 }
 
-impl Hash for Mask {
+impl Hash for BanMask {
     ghost hash_input = { folds_fed };
 
     ghost respects_eq = { same-fed };
