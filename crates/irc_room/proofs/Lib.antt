@@ -20,3 +20,5 @@ pub mod KeptRows
 pub mod AudienceLaw
 pub mod FoundInTurn
 pub mod NearLaws
+pub mod IndexChanges
+pub mod Memberships

@@ -33,7 +33,7 @@ folk channel = record { name = refl; invited = refl; members = λ q. refl }
 member_folk : (nick : List ℕ) (f : Flags → Flags) (channel : Channel) → HasSameFolk channel (member_changed nick f channel)
 member_folk nick f channel = record { name = refl; invited = refl; members = same_rows (key nick) f channel.members }
 
-letter_folk : (plus : Bool) (which : ModeLetter) (word : Option (List ℕ)) (channel : Channel) → HasSameFolk channel (letter_changed plus which word channel)
+pub letter_folk : (plus : Bool) (which : ModeLetter) (word : Option (List ℕ)) (channel : Channel) → HasSameFolk channel (letter_changed plus which word channel)
 letter_folk plus letter.InviteOnly word channel = record { name = refl; invited = refl; members = λ q. refl }
 letter_folk plus letter.Moderated word channel = record { name = refl; invited = refl; members = λ q. refl }
 letter_folk plus letter.NoOutside word channel = record { name = refl; invited = refl; members = λ q. refl }

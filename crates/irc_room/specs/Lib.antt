@@ -12,5 +12,6 @@ pub mod LineViews
 pub mod RoomParts
 pub mod Telling
 pub mod Near
+pub mod Indexes
 pub mod InTurn
 pub mod InTurnLaws
