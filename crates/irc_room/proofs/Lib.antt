@@ -22,3 +22,4 @@ pub mod FoundInTurn
 pub mod NearLaws
 pub mod IndexChanges
 pub mod Memberships
+pub mod OwnNames

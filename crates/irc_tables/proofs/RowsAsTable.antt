@@ -1,6 +1,6 @@
 -- Rows in folded order, seen as a table.
 use Rattle.std.specs.Prelude.{T, OnOk}
-use Rattle.std.proofs.Common.{◌≡◌, ℕ, ◌<◌, suc, Bool, true, false, not, cond, List, [], ◌∷◌, ◌++◌, map, take, drop, length, get_or, refl, sym, ◌∙◌, ap, subst, Option, Some, None, Result, Ok, Err, is_some, is_ok, arith, drop-cons, add-one, set}
+use Rattle.std.proofs.Common.{◌≡◌, ℕ, ◌<◌, suc, Bool, true, false, not, cond, List, [], ◌∷◌, ◌++◌, map, take, drop, length, get_or, refl, sym, ◌∙◌, ap, subst, Option, Some, None, Result, Ok, Err, is_some, is_ok, arith, drop-cons, add-one, set, option_map}
 use Rattle.std.proofs.lemmas.List.{get_or_default, length-map, map-append, take-append-drop, take-set, drop-set, drop-set-lt}
 use Rattle.std.proofs.lemmas.List.Folds.{list_all-map}
 use Rattle.std.specs.List.{insert, remove}
@@ -228,6 +228,12 @@ pub row-stands : {X V : Type 0} (entry : X → List ℕ × V) (rows : List X) (f
     → row (table_of entry rows) fold ≡ Some ((entry x).1)
 row-stands entry rows fold i x sorted at is =
     row-present entry rows fold i x (entry x).1 sorted at.within is (ap (λ k. (k, (entry x).1)) (ap (λ u. (entry u).0) is ∙ at.named x))
+
+-- the row itself, as an entry
+pub entry-stands : {X V : Type 0} (entry : X → List ℕ × V) (rows : List X) (fold : List ℕ) (i : ℕ) (x : X) → IsInFoldedOrder entry rows → StandsAt entry rows fold i → x ≡ get_or rows i x
+    → Some (entry x) ≡ option_map (λ v. (fold, v)) (row (table_of entry rows) fold)
+entry-stands entry rows fold i x sorted at is =
+    ap (λ k. Some (k, (entry x).1)) (ap (λ u. (entry u).0) is ∙ at.named x) ∙ sym (ap (option_map (λ v. (fold, v))) (row-stands entry rows fold i x sorted at is))
 
 -- a row that is taken out and put in under another name is moved
 pub moved_there : {V : Type 0} (table rest after : Table V) (old new : List ℕ) (v : V) → Some v ≡ row table old → rest ≡ alter old (λ _. None) table

@@ -109,6 +109,16 @@ impl<V: Drop> NameTable<V> {
         }
     }
 
+    /// The row of a name, if there is one.
+    pub fn get_row(&self, name: &[u8]) -> Option<&Row<V>>
+        ensures { option_map row_entry (option_copied result) ≡ option_map (λ value. (key name.now, value)) (row self.now (key name.now)) }
+    {
+        match place_of(&self.rows, name) {
+            Ok(place) => Some(&self.rows[place]),
+            Err(_) => None,
+        }
+    }
+
     /// All rows, in folded order of their names.
     pub fn as_slice(&self) -> &[Row<V>]
         ensures { map row_entry result.now ≡ entries self.now }
