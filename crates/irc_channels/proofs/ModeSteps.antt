@@ -1,11 +1,11 @@
 -- The reading of the words of a MODE, one letter at a time.
 use Rattle.std.proofs.Common.{◌≡◌, ℕ, ◌+◌, ◌<◌, ◌≤◌, Bool, true, false, cond, Some, None, List, [], ◌∷◌, ◌++◌, length, get_or, drop, map, nat_eq, refl, sym, ap, ◌∙◌, append_assoc}
-use Rattle.std.proofs.lemmas.List.{drop_more, drop_all, drop-drop, drop-map, append-nil}
+use Rattle.std.proofs.lemmas.List.{drop_more, drop_all, drop-drop, drop-map, append-nil, map-append}
 use Rattle.irc_channels.specs.declared.TheConstants.{MAX_MODE_PARAMETERS}
-use Rattle.irc_channels.specs.declared.mode_words.ModeItem.{ModeItem}
-use Rattle.irc_channels.specs.declared.mode_words.Reading.{Reading}
 use Rattle.irc_channels.specs.declared.mode_words.Limits.{Limits}
-use Rattle.irc_channels.specs.ModeWords.{next_word, letter_asks, mode_of, words_after, is_sign, reading, letters_read, counted}
+use Rattle.irc_channels.specs.ModeWords.{Asked, Reading, next_word, letter_asks, mode_of, words_after, is_sign, reading, letters_read, counted}
+use Rattle.irc_channels.specs.declared.mode_words.ModeItem.{ModeItem}
+use Rattle.irc_channels.specs.ModeViews.{asked, all_asked}
 use Rattle.irc_channels.specs.Letters.{plus_byte}
 use Rattle.irc_channels.specs.ModeLimits.{Remembers, Judges}
 
@@ -40,12 +40,12 @@ pub ruleset word_places = (next_at, next_past, after_none, after_one, after_past
 -- ---- the letters in turn
 
 -- What was read so far: with what the letters that are left give, it is the whole.
-pub record Standing (plus : Bool) (letters : List ℕ) (words : List (List ℕ)) (limits : Limits) (items whole : List ModeItem) : Type 0 where
+pub record Standing (plus : Bool) (letters : List ℕ) (words : List (List ℕ)) (limits : Limits) (items whole : List Asked) : Type 0 where
   pub earlier : List Reading
   pub remembers : Remembers limits earlier
   pub completes : items ++ counted earlier (letters_read plus letters words) ≡ whole
 
-pub begins : (letters : List ℕ) (words : List (List ℕ)) (limits : Limits) (items : List ModeItem) → limits.room ≡ MAX_MODE_PARAMETERS → limits.met.items ≡ [] → items ≡ []
+pub begins : (letters : List ℕ) (words : List (List ℕ)) (limits : Limits) (items : List Asked) → limits.room ≡ MAX_MODE_PARAMETERS → limits.met.items ≡ [] → items ≡ []
     → Standing true letters words limits items (counted [] (letters_read true letters words))
 begins letters words limits items room met none = record {
   earlier = [];
@@ -64,7 +64,7 @@ letter_read plus byte letters words is =
     ap (λ b. cond b (letters_read (nat_eq byte plus_byte) letters words) (reading plus byte (next_word words) ∷ letters_read plus letters (words_after plus byte words))) is
 
 -- a sign was read
-pub after_sign : (plus next : Bool) (letters : List ℕ) (i : ℕ) (words : List (List ℕ)) (limits : Limits) (items whole : List ModeItem)
+pub after_sign : (plus next : Bool) (letters : List ℕ) (i : ℕ) (words : List (List ℕ)) (limits : Limits) (items whole : List Asked)
     → i < length letters → is_sign (get_or letters i 0) ≡ true → next ≡ nat_eq (get_or letters i 0) plus_byte
     → Standing plus (drop i letters) words limits items whole → Standing next (drop (i + 1) letters) words limits items whole
 after_sign plus next letters i words limits items whole within is sign standing = record {
@@ -78,15 +78,21 @@ after_sign plus next letters i words limits items whole within is sign standing 
       ∙ standing.completes;
 }
 
-abbrev pub if_counts : Bool → ModeItem → List ModeItem
+abbrev pub if_counts : Bool → Asked → List Asked
 if_counts verdict item = cond verdict (item ∷ []) []
 
+-- an item more, without where the bytes of its word lie
+pub one_more : (verdict : Bool) (item : ModeItem) (before after : List ModeItem) → after ≡ before ++ cond verdict (item ∷ []) []
+    → all_asked after ≡ all_asked before ++ if_counts verdict (asked item)
+one_more true item before after is = ap all_asked is ∙ map-append asked before (item ∷ [])
+one_more false item before after is = ap all_asked is ∙ map-append asked before []
+
 -- another letter was read
-pub after_letter : (plus : Bool) (letters : List ℕ) (i : ℕ) (words left : List (List ℕ)) (limits later : Limits) (items more whole : List ModeItem)
+pub after_letter : (plus : Bool) (letters : List ℕ) (i : ℕ) (words left : List (List ℕ)) (limits later : Limits) (items more whole : List Asked)
     (read : Reading) (verdict : Bool)
     → i < length letters → is_sign (get_or letters i 0) ≡ false
     → read ≡ reading plus (get_or letters i 0) (next_word words) → left ≡ words_after plus (get_or letters i 0) words
-    → Judges limits read verdict later → more ≡ items ++ if_counts verdict read.item
+    → Judges limits read verdict later → more ≡ items ++ if_counts verdict read.asked
     → Standing plus (drop i letters) words limits items whole → Standing plus (drop (i + 1) letters) left later more whole
 after_letter plus letters i words left limits later items more whole read verdict within is read_is left_is judged more_is standing =
     let earlier = standing.earlier in
@@ -102,14 +108,14 @@ after_letter plus letters i words left limits later items more whole read verdic
       remembers = judged.remembering earlier standing.remembers;
       completes =
           ap (λ xs. xs ++ rest) more_is
-          ∙ append_assoc items (if_counts verdict read.item) rest
-          ∙ ap (λ v. items ++ (if_counts v read.item ++ rest)) (judged.counting earlier standing.remembers)
+          ∙ append_assoc items (if_counts verdict read.asked) rest
+          ∙ ap (λ v. items ++ (if_counts v read.asked ++ rest)) (judged.counting earlier standing.remembers)
           ∙ ap (λ rs. items ++ counted earlier rs) all_read
           ∙ standing.completes;
     }
 
 -- no letter is left
-pub at_end : (plus : Bool) (letters : List ℕ) (i : ℕ) (words : List (List ℕ)) (limits : Limits) (items whole : List ModeItem)
+pub at_end : (plus : Bool) (letters : List ℕ) (i : ℕ) (words : List (List ℕ)) (limits : Limits) (items whole : List Asked)
     → length letters ≤ i → Standing plus (drop i letters) words limits items whole → items ≡ whole
 at_end plus letters i words limits items whole past standing =
     sym (append-nil items)

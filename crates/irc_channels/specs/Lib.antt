@@ -6,4 +6,5 @@ pub mod ManyChanges
 pub mod ChannelTable
 pub mod Letters
 pub mod ModeWords
+pub mod ModeViews
 pub mod ModeLimits

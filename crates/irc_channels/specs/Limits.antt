@@ -5,9 +5,9 @@ use Rattle.std.specs.Prelude.{ℕ}
 abbrev pub max_mode_parameters : ℕ
 max_mode_parameters = 3
 
--- what is kept of the word of a letter: one byte more than the longest that any letter takes
+-- the longest word that any letter takes: the mask of a ban
 abbrev pub max_mode_word : ℕ
-max_mode_word = 91
+max_mode_word = 90
 
 -- the greatest limit of members that a channel can have; our own choice
 abbrev pub max_limit : ℕ

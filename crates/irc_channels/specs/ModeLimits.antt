@@ -2,9 +2,8 @@
 use Rattle.std.specs.Prelude.{◌≡◌, ℕ, ◌-◌, ◌++◌, Bool, List, [], ◌∷◌, nat_eq, count_by}
 use Rattle.std.specs.List.{list_any}
 use Rattle.irc_channels.specs.Limits.{max_mode_parameters}
-use Rattle.irc_channels.specs.declared.mode_words.Reading.{Reading}
 use Rattle.irc_channels.specs.declared.mode_words.Limits.{Limits}
-use Rattle.irc_channels.specs.ModeWords.{is_once_with, counts}
+use Rattle.irc_channels.specs.ModeWords.{Reading, is_once_with, counts}
 
 -- how many parameters may still count, and which of the letters that count once were there
 pub record Remembers (limits : Limits) (earlier : List Reading) : Type 0 where

@@ -3,16 +3,27 @@
 -- command drop letters.
 use Rattle.std.specs.Prelude.{ℕ, Bool, true, false, not, ◌&&◌, ◌||◌, Option, Some, None, is_some, List, [], ◌∷◌, ◌++◌, drop, nat_eq, nat_lt, count_by, if◌then◌else◌}
 use Rattle.std.specs.List.{list_any}
-use Rattle.irc_channels.specs.Texts.{cut_mode_word}
 use Rattle.irc_channels.specs.Letters.{letter_byte, plus_byte, minus_byte}
 use Rattle.irc_channels.specs.Limits.{max_mode_parameters}
 use Rattle.irc_channels.specs.declared.modes.ModeLetter.{ModeLetter}
 use Rattle.irc_channels.specs.declared.modes.ModeLetter.TheVariants as letter
-use Rattle.irc_channels.specs.declared.mode_words.ModeItem.{ModeItem}
-use Rattle.irc_channels.specs.declared.mode_words.ModeItem.TheVariants as item
 use Rattle.irc_channels.specs.declared.mode_words.Asks.{Asks}
 use Rattle.irc_channels.specs.declared.mode_words.Asks.TheVariants.{Nothing, Word, WordIfAny, WordOrList}
-use Rattle.irc_channels.specs.declared.mode_words.Reading.{Reading}
+
+-- what a letter asks for: a change of a mode, the list of the bans, nothing for want of its parameter, nothing since no mode has it
+pub data Asked : Type 0 where
+  change : (plus : Bool) → ModeLetter → (word : Option (List ℕ)) → Asked
+  list : Asked
+  no_word : Asked
+  unknown : (byte : ℕ) → Asked
+
+-- a letter as it was read: whether it is one of those that take a parameter, whether only the first such letter of a command counts, and
+-- what it asks for if it counts
+pub record Reading : Type 0 where
+  pub byte : ℕ
+  pub takes : Bool
+  pub once : Bool
+  pub asked : Asked
 
 -- the mode that a letter names: one of imntpsklbov
 abbrev pub mode_of : ℕ → Option ModeLetter
@@ -42,19 +53,15 @@ needs plus letter.Operator = Word
 needs plus letter.Voice = Word
 needs plus other = Nothing
 
--- a change of a mode
-abbrev pub change : Bool → ModeLetter → Option (List ℕ) → ModeItem
-change plus letter word = item.Change (record { plus = plus; letter = letter; word = word })
-
--- what comes of a letter, by what it asks and the next parameter, where one is left
-abbrev pub answer : Asks → Bool → ModeLetter → Option (List ℕ) → ModeItem
+-- what a letter asks for, by what it asks of the parameters and the next one, where one is left; a parameter is taken whole
+abbrev pub answer : Asks → Bool → ModeLetter → Option (List ℕ) → Asked
 answer Nothing plus letter next = change plus letter None
-answer Word plus letter (Some word) = change plus letter (Some (cut_mode_word word))
-answer Word plus letter None = item.NoWord
-answer WordIfAny plus letter (Some word) = change plus letter (Some (cut_mode_word word))
+answer Word plus letter (Some word) = change plus letter (Some word)
+answer Word plus letter None = no_word
+answer WordIfAny plus letter (Some word) = change plus letter (Some word)
 answer WordIfAny plus letter None = change plus letter None
-answer WordOrList plus letter (Some word) = change plus letter (Some (cut_mode_word word))
-answer WordOrList plus letter None = item.List
+answer WordOrList plus letter (Some word) = change plus letter (Some word)
+answer WordOrList plus letter None = list
 
 -- whether it is one of the letters that take a parameter: also where there is none, but for a request of the list
 abbrev pub takes : Asks → Bool → Bool
@@ -71,12 +78,12 @@ once letter.Voice has_next = false
 once other has_next = true
 
 abbrev pub reading_of : Bool → ℕ → Option ModeLetter → Option (List ℕ) → Reading
-reading_of plus byte None next = record { byte = byte; takes = false; once = false; item = item.Unknown byte }
+reading_of plus byte None next = record { byte = byte; takes = false; once = false; asked = unknown byte }
 reading_of plus byte (Some letter) next = record {
   byte = byte;
   takes = takes (needs plus letter) (is_some next);
   once = once letter (is_some next);
-  item = answer (needs plus letter) plus letter next;
+  asked = answer (needs plus letter) plus letter next;
 }
 
 -- what a letter is read as, before the next parameter
@@ -123,12 +130,12 @@ counts earlier reading =
     && not (reading.once && list_any (is_once_with reading.byte) earlier)
 
 -- what comes of the letters that count, after some that were written before them
-abbrev pub counted : List Reading → List Reading → List ModeItem
+abbrev pub counted : List Reading → List Reading → List Asked
 counted earlier [] = []
 counted earlier (reading ∷ later) =
-    (if counts earlier reading then reading.item ∷ [] else []) ++ counted (earlier ++ reading ∷ []) later
+    (if counts earlier reading then reading.asked ∷ [] else []) ++ counted (earlier ++ reading ∷ []) later
 
 -- what the words of a MODE ask for, in the order of its letters; the first sign is `+`
-abbrev pub modes_read : List (List ℕ) → List ModeItem
+abbrev pub modes_read : List (List ℕ) → List Asked
 modes_read [] = []
 modes_read (letters ∷ words) = counted [] (letters_read true letters words)

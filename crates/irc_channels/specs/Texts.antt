@@ -1,5 +1,5 @@
 -- The texts of a channel.
-use Rattle.std.specs.Prelude.{ℕ, ◌≤◌, List, length, take, IsTrue}
+use Rattle.std.specs.Prelude.{ℕ, ◌≤◌, ⊤, Option, Some, None, List, length, take, IsTrue}
 use Rattle.irc_names.specs.Limits.{max_words}
 use Rattle.irc_names.specs.Names.{is_key}
 use Rattle.irc_channels.specs.Limits.{max_mode_word}
@@ -10,10 +10,10 @@ IsKey bytes = IsTrue (is_key bytes)
 abbrev pub IsModeWord : List ℕ → Type 0
 IsModeWord bytes = length bytes ≤ max_mode_word
 
--- The parameter of a mode, made of any bytes: cut (our own choice). What is left of a word that was longer has one byte more than the
--- longest word that any mode takes, so it is refused as the whole word would be.
-unfoldable pub cut_mode_word : List ℕ → List ℕ
-cut_mode_word bytes = take max_mode_word bytes
+-- the parameter of a change, where it has one, as a change keeps it
+abbrev pub IsKept : Option (List ℕ) → Type 0
+IsKept None = ⊤
+IsKept (Some word) = IsModeWord word
 
 abbrev pub IsWords : List ℕ → Type 0
 IsWords bytes = length bytes ≤ max_words

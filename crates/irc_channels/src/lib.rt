@@ -25,7 +25,7 @@ pub use key::Key;
 pub use limit::read_limit;
 pub use mode_word::ModeWord;
 pub use mode_words::{ModeItem, read_modes};
-pub use modes::{ModeChange, ModeLetter, Modes, Privacy};
+pub use modes::{AskedChange, ModeChange, ModeLetter, Modes, Privacy};
 pub use words::Words;
 
 /// The most bans that clients may set on a channel (our own choice).
@@ -34,9 +34,8 @@ pub const MAX_BANS: usize = 30;
 /// How many letters of one MODE count that take a parameter (RFC 2812 section 3.2.3).
 pub const MAX_MODE_PARAMETERS: usize = 3;
 
-/// The longest parameter of a mode that is kept whole: one byte more than the longest that any mode takes, which is a mask of
-/// `irc_names::MAX_BAN_MASK` bytes. So a word that had to be cut is still refused for its length, by whichever mode it is for.
-pub const MAX_MODE_WORD: usize = irc_names::MAX_BAN_MASK + 1;
+/// The longest parameter that any mode takes: the mask of a ban.
+pub const MAX_MODE_WORD: usize = irc_names::MAX_BAN_MASK;
 
 /// The greatest limit of members that a channel can have (our own choice).
 pub const MAX_LIMIT: u16 = 65_535;

@@ -1,11 +1,11 @@
 //! The parameter of a mode.
 ghost use Rattle.std.specs.Prelude.{◌≡◌, ◌≤◌, length};
 ghost use Rattle.std.specs.Option.{SomeIff};
-ghost use Rattle.irc_channels.specs.Texts.{cut_mode_word, IsModeWord};
+ghost use Rattle.irc_channels.specs.Texts.{IsModeWord};
 
 use crate::MAX_MODE_WORD;
 use arrayvec::ArrayVec;
-use irc_names::{copied, cut_copy};
+use irc_names::copied;
 use std::marker::Model;
 
 /// The parameter of a mode: a nickname, a key, a limit or a mask, as it is written, of at most [`MAX_MODE_WORD`] bytes.
@@ -36,15 +36,6 @@ impl ModeWord {
         } else {
             None
         }
-    }
-
-    /// The word made of any bytes: those past [`MAX_MODE_WORD`] are cut off. A word that is cut is one byte too long for every
-    /// mode still, so no mode takes it.
-    #[tactic(auto, unfolding(crate::specs::Texts::cut_mode_word))]
-    pub fn cut(bytes: &[u8]) -> Self
-        ensures { result ≡ cut_mode_word bytes.now }
-    {
-        ModeWord(cut_copy(bytes))
     }
 
     /// The bytes of the word.

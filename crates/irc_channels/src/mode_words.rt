@@ -2,18 +2,18 @@
 ghost use Rattle.std.specs.Prelude.{◌≡◌, ◌≤◌, [], ◌∷◌, ◌++◌, true, drop, length, map, IfOk, if◌then◌else◌};
 ghost use Rattle.std.specs.Option.{option_copied};
 ghost use Rattle.irc_channels.specs.ModeWords.{answer, change, counted, is_sign, letter_asks, letters_read, mode_of, modes_read, needs, next_word, once, reading, takes, words_after};
+ghost use Rattle.irc_channels.specs.ModeViews.{all_asked, asked, letter_read};
 ghost use Rattle.irc_channels.specs.ModeLimits.{Judges};
 
 use crate::MAX_MODE_PARAMETERS;
-use crate::mode_word::ModeWord;
-use crate::modes::{ModeChange, ModeLetter};
+use crate::modes::{AskedChange, ModeLetter};
 use std::alloc::{AllocError, Global};
 
-/// What a letter of a MODE asks for.
-#[derive(Drop)]
-pub enum ModeItem {
+/// What a letter of a MODE asks for. Its words are those of the command, whole.
+#[derive(Clone, Copy)]
+pub enum ModeItem<'a> {
     /// A change of a mode.
-    Change(ModeChange),
+    Change(AskedChange<'a>),
     /// The list of the bans.
     List,
     /// Nothing, for want of the parameter that the letter needs.
@@ -36,8 +36,8 @@ enum Asks {
 }
 
 /// A letter as it was read.
-#[derive(Drop)]
-struct Reading {
+#[derive(Clone, Copy)]
+struct Reading<'a> {
     /// The letter itself.
     byte: u8,
     /// Whether it is one of the letters that take a parameter.
@@ -45,7 +45,7 @@ struct Reading {
     /// Whether only the first such letter of a command counts.
     once: bool,
     /// What it asks for, if it counts.
-    item: ModeItem,
+    item: ModeItem<'a>,
 }
 
 /// What the limits of one command need to know of the letters before.
@@ -60,9 +60,13 @@ struct Limits {
 /// What the words of a MODE after the channel ask for: the first word has the letters, the others are parameters.
 ///
 /// Each letter in turn takes its parameter, whether it will count or not. Of the letters that take a parameter only the first three
-/// count, and of each of i, m, n, p, s, t, k, l and a request of the list only the first. Words that no letter takes are ignored.
-pub fn read_modes(alloc: Global, params: &[&[u8]]) -> Result<Vec<ModeItem>, AllocError>
-    ensures { IfOk result (λ items. items.items ≡ modes_read (map (λ param. param.now) params.now)) }
+/// count, and of each of i, m, n, p, s, t, k, l and a request of the list only the first. Words that no letter takes are ignored. A word
+/// is lent as it was given, whatever its length and whether or not its mode takes it.
+///
+/// # Errors
+/// Where memory runs out.
+pub fn read_modes<'a>(alloc: Global, params: &[&'a [u8]]) -> Result<Vec<ModeItem<'a>>, AllocError>
+    ensures { IfOk result (λ items. all_asked items.items ≡ modes_read (map (λ param. param.now) params.now)) }
 {
     match params.split_first() {
         Some((letters, words)) => read_letters(alloc, letters, words),
@@ -71,8 +75,12 @@ pub fn read_modes(alloc: Global, params: &[&[u8]]) -> Result<Vec<ModeItem>, Allo
 }
 
 /// What letters ask for, with these parameters.
-fn read_letters(alloc: Global, letters: &[u8], words: &[&[u8]]) -> Result<Vec<ModeItem>, AllocError>
-    ensures { IfOk result (λ items. items.items ≡ counted [] (letters_read true letters.now (map (λ word. word.now) words.now))) }
+fn read_letters<'a>(
+    alloc: Global,
+    letters: &[u8],
+    words: &[&'a [u8]],
+) -> Result<Vec<ModeItem<'a>>, AllocError>
+    ensures { IfOk result (λ items. all_asked items.items ≡ counted [] (letters_read true letters.now (map (λ word. word.now) words.now))) }
 {
     let mut plus = true;
     let mut used = 0;
@@ -95,8 +103,8 @@ fn read_letters(alloc: Global, letters: &[u8], words: &[&[u8]]) -> Result<Vec<Mo
 }
 
 /// Whether a letter counts; it is remembered, whether it does or not.
-fn judge(limits: &mut Limits, reading: &Reading) -> Result<bool, AllocError>
-    ensures { IfOk result (λ verdict. Judges limits.old reading.now verdict limits.new) }
+fn judge(limits: &mut Limits, reading: &Reading<'_>) -> Result<bool, AllocError>
+    ensures { IfOk result (λ verdict. Judges limits.old (letter_read reading.now) verdict limits.new) }
 {
     let has_room = limits.room > 0;
     let is_met = limits.met.contains(&reading.byte);
@@ -116,8 +124,12 @@ fn meet(wanted: bool, byte: u8, met: &mut Vec<u8>) -> Result<(), AllocError>
 }
 
 /// Adds an item, if it counts.
-fn add_if(counts: bool, item: ModeItem, items: &mut Vec<ModeItem>) -> Result<(), AllocError>
-    ensures { IfOk result (λ _. items.new.items ≡ items.old.items ++ (if counts then item ∷ [] else [])) }
+fn add_if<'a>(
+    counts: bool,
+    item: ModeItem<'a>,
+    items: &mut Vec<ModeItem<'a>>,
+) -> Result<(), AllocError>
+    ensures { IfOk result (λ _. items.new.items ≡ items.old.items ++ (if counts then item.entry ∷ [] else [])) }
 {
     if counts {
         items.push(item)?;
@@ -126,8 +138,8 @@ fn add_if(counts: bool, item: ModeItem, items: &mut Vec<ModeItem>) -> Result<(),
 }
 
 /// What a letter is read as, before the next parameter.
-fn read_letter(plus: bool, byte: u8, next: Option<&[u8]>) -> Reading
-    ensures { result ≡ reading plus byte (option_copied next.entry) }
+fn read_letter(plus: bool, byte: u8, next: Option<&[u8]>) -> Reading<'_>
+    ensures { letter_read result ≡ reading plus byte (option_copied next.entry) }
 {
     match mode_of(byte) {
         Some(letter) => {
@@ -250,21 +262,21 @@ fn once(letter: ModeLetter, has_next: bool) -> bool
 }
 
 /// A change of a mode.
-fn change(plus: bool, letter: ModeLetter, word: Option<ModeWord>) -> ModeItem
-    ensures { result ≡ change plus letter word }
+fn change(plus: bool, letter: ModeLetter, word: Option<&[u8]>) -> ModeItem<'_>
+    ensures { asked result ≡ change plus letter (option_copied word.entry) }
 {
-    ModeItem::Change(ModeChange { plus, letter, word })
+    ModeItem::Change(AskedChange { plus, letter, word })
 }
 
 /// What comes of a letter, by what it asks and the next parameter.
-fn answer(asks: Asks, plus: bool, letter: ModeLetter, next: Option<&[u8]>) -> ModeItem
-    ensures { result ≡ answer asks plus letter (option_copied next.entry) }
+fn answer(asks: Asks, plus: bool, letter: ModeLetter, next: Option<&[u8]>) -> ModeItem<'_>
+    ensures { asked result ≡ answer asks plus letter (option_copied next.entry) }
 {
     if let Asks::Nothing = asks {
         return change(plus, letter, None);
     }
     match (next, asks) {
-        (Some(word), _) => change(plus, letter, Some(ModeWord::cut(word))),
+        (Some(word), _) => change(plus, letter, Some(word)),
         (None, Asks::Word) => ModeItem::NoWord,
         (None, Asks::WordOrList) => ModeItem::List,
         (None, _) => change(plus, letter, None),

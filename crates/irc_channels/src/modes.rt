@@ -1,5 +1,7 @@
 //! A channel's modes, and a change of one.
 ghost use Rattle.std.specs.Prelude.{◌≡◌};
+ghost use Rattle.std.specs.Option.{option_copied, SomeIff};
+ghost use Rattle.irc_channels.specs.Texts.{IsKept};
 
 use crate::bans::BanList;
 use crate::key::Key;
@@ -62,6 +64,34 @@ pub enum ModeLetter {
     Operator,
     /// `v`
     Voice,
+}
+
+/// A change of one mode as a command asks for it (RFC 2811 section 4): its parameter is one of the command's, whole.
+#[derive(Clone, Copy)]
+pub struct AskedChange<'a> {
+    /// Whether it is to be set, or taken away.
+    pub plus: bool,
+    /// Which mode.
+    pub letter: ModeLetter,
+    /// Its parameter as it was given, if it has one.
+    pub word: Option<&'a [u8]>,
+}
+
+impl<'a> AskedChange<'a> {
+    /// The change with a parameter of its own; none where the parameter is longer than any mode takes. It takes no memory.
+    pub fn kept(&self) -> Option<ModeChange>
+        ensures { SomeIff result (IsKept (option_copied self.now.word)) (record { plus = self.now.plus; letter = self.now.letter; word = option_copied self.now.word }) }
+    {
+        let word = match self.word {
+            Some(bytes) => Some(ModeWord::read(bytes)?),
+            None => None,
+        };
+        Some(ModeChange {
+            plus: self.plus,
+            letter: self.letter,
+            word,
+        })
+    }
 }
 
 /// A change of one mode (RFC 2811 section 4).

@@ -89,7 +89,9 @@ fn changes(alloc: Global, words: &str) -> ModeChanges {
     }
     let mut made = Vec::new(alloc);
     for item in read_modes(alloc, &params).unwrap_or(Vec::new(alloc)) {
-        if let ModeItem::Change(change) = item {
+        if let ModeItem::Change(asked) = item
+            && let Some(change) = asked.kept()
+        {
             let _ = made.push(change);
         }
     }
