@@ -10,7 +10,7 @@ ghost use Rattle.irc_users.specs.UserTable.{entry, with_nick, with_invisible, is
 
 use crate::fault::{RenameFault, UsersFault};
 use crate::user::User;
-use irc_names::{BanMask, Nick, ServerName, compare, mask_matches, same};
+use irc_names::{Nick, ServerName, compare, mask_matches, same};
 use std::alloc::{AllocError, Global};
 use std::marker::Model;
 
@@ -148,21 +148,24 @@ impl Users {
     }
 
     /// The users that are connected to a server, in folded order of their nicknames.
-    pub fn by_home(
-        &self,
-        alloc: Global,
-        home: &ServerName,
-    ) -> Result<Vec<&User, Global>, AllocError>
+    ///
+    /// # Errors
+    /// Where memory runs out.
+    pub fn by_home(&self, home: &ServerName) -> Result<Vec<&User, Global>, AllocError>
         ensures { IfOk result (λ found. map (λ user. user.now) found.items ≡ filter (is_home home.now) (values self.now)) }
     {
-        homed_at(self.as_slice(), alloc, home)
+        homed_at(self.as_slice(), *self.rows.allocator(), home)
     }
 
-    /// The users whose nickname, host, server or real name a mask matches, in folded order of their nicknames.
-    pub fn matching(&self, alloc: Global, mask: &BanMask) -> Result<Vec<&User, Global>, AllocError>
+    /// The users whose nickname, host, server or real name a mask matches, in folded order of their nicknames. Any bytes are a mask
+    /// (RFC 2812 section 3.6.1).
+    ///
+    /// # Errors
+    /// Where memory runs out.
+    pub fn matching(&self, mask: &[u8]) -> Result<Vec<&User, Global>, AllocError>
         ensures { IfOk result (λ found. map (λ user. user.now) found.items ≡ filter (is_found_by mask.now) (values self.now)) }
     {
-        matched_by(self.as_slice(), alloc, mask)
+        matched_by(self.as_slice(), *self.rows.allocator(), mask)
     }
 }
 
@@ -184,7 +187,7 @@ fn homed_at<'a>(
 fn matched_by<'a>(
     users: &'a [User],
     alloc: Global,
-    mask: &BanMask,
+    mask: &[u8],
 ) -> Result<Vec<&'a User, Global>, AllocError>
     ensures { IfOk result (λ found. map (λ user. user.now) found.items ≡ filter (is_found_by mask.now) users.now) }
 {
@@ -202,10 +205,9 @@ fn is_home(user: &User, home: &ServerName) -> bool
 }
 
 /// Whether a mask matches the nickname, the host, the server or the real name of a user.
-fn is_found_by(user: &User, mask: &BanMask) -> bool
+fn is_found_by(user: &User, mask: &[u8]) -> bool
     ensures { result ≡ is_found_by mask.now user.now }
 {
-    let mask = mask.as_bytes();
     mask_matches(mask, user.nick.as_bytes())
         || mask_matches(mask, user.host.as_bytes())
         || mask_matches(mask, user.home.as_bytes())

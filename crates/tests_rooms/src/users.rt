@@ -1,6 +1,5 @@
 //! Users by their server and by masks.
 use crate::script::{Row, Shown, Stage, append, script_holds, server, show_users, user};
-use irc_names::BanMask;
 use irc_users::{UserName, Users, UsersFault};
 use std::alloc::Global;
 use std::process::Abort;
@@ -22,11 +21,8 @@ like nobody =";
 /// Shows those users that a row asks for.
 fn find(rt: &impl Abort, alloc: Global, users: &Users, row: Row<'_>, shown: &mut Shown) {
     let found = match row.verb {
-        "home" => users.by_home(alloc, &server(rt, row.first)),
-        _ => users.matching(
-            alloc,
-            &BanMask::read(row.first.as_bytes()).expect(rt, "a mask"),
-        ),
+        "home" => users.by_home(&server(rt, row.first)),
+        _ => users.matching(row.first.as_bytes()),
     };
     show_users(&found.unwrap_or(Vec::new(alloc)), shown);
 }
