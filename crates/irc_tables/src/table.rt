@@ -15,7 +15,7 @@ use std::marker::Model;
 /// A row of a table.
 #[derive(Drop)]
 pub struct Row<V> {
-    /// The name that it stands under, as spelled.
+    /// The name that it stands under. In a clause only its fold counts: it may have the spelling of any call that put the row there.
     pub name: ArrayVec<u8, MAX_CHANNEL>,
     /// What stands there.
     pub value: V,
@@ -174,13 +174,14 @@ impl<V: Drop> NameTable<V> {
         }
     }
 
-    /// Tries a change of what stands under a name; where nothing does, nothing changes.
+    /// Tries a change of what stands under a name; where nothing does, nothing changes, and no memory is wanted.
     ///
     /// # Errors
     /// Where memory runs out; nothing has changed then.
     pub fn try_at<C: RowAttempt<V>>(&mut self, name: &[u8], change: &C) -> Result<(), AllocError>
         ensures ok { OnOk result (self.new ≡ alter (key name.now) (option_map (C.tried change.now)) self.old) }
         ensures refused { OnErr result (self.new ≡ self.old) }
+        ensures absent { row self.old (key name.now) ≡ None → IsOk result }
     {
         match place_of(&self.rows, name) {
             Ok(place) => try_row(&mut self.rows, place, name, change),
