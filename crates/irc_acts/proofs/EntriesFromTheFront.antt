@@ -2,7 +2,7 @@
 use Rattle.std.proofs.Common.{◌≡◌, ◌≢◌, ℕ, ◌+◌, ◌-◌, ◌≤◌, ◌<◌, Bool, true, false, ◌||◌, not, cond, zero, suc, List, [], ◌∷◌, ◌++◌, length, take, drop, filter, get_or, refl, sym, ◌∙◌, ap, arith, take-append-drop, length-take, length-drop, append-nil, eqb}
 use Rattle.std.specs.List.{list_any, slice_split, onto_first}
 use Rattle.std.proofs.lemmas.Bool.{eqb-true}
-use Rattle.std.proofs.lemmas.List.{drop_more, drop_all, take_all, take_rest}
+use Rattle.std.proofs.lemmas.List.{drop_more, take_all, take_rest}
 use Rattle.irc_line.specs.Bytes.{begins}
 use Rattle.irc_channels.specs.Channels.{is_nil}
 use Rattle.irc_acts.specs.CommaLists.{is_comma, pieces, entries}
@@ -19,9 +19,6 @@ one_comma list i d within comma = ap entries (drop_more list i d within) ∙ aft
 pub no_entries : entries [] ≡ []
 unfolding entries
 no_entries = refl
-
-pub only_commas : (list : List ℕ) (i : ℕ) → length list ≤ i → entries (drop i list) ≡ entries []
-only_commas list i all = ap entries (drop_all i list all)
 
 -- the pieces behind the first comma
 behind_comma : List ℕ → List (List ℕ)

@@ -12,7 +12,6 @@ use Rattle.irc_room.specs.declared.effect.Effect.{Effect}
 use Rattle.irc_room.specs.declared.effect.Effect.TheVariants.{AddUser, Rename, Quit, Join, Part, Kick, ChangeModes, SetTopic, Say, Invite, UserMode}
 use Rattle.irc_room.specs.Room.{Room, IsWellFormed}
 use Rattle.irc_room.specs.Effects.{is_member}
-use Rattle.irc_room.specs.Readers.{flags_at}
 use Rattle.irc_room.specs.After.{after, alter_channel}
 use Rattle.irc_room.specs.InTurn.{after_all, EachInTurn}
 use Rattle.irc_room.specs.InTurnLaws.{each-so, each-keeps}
@@ -60,14 +59,6 @@ joins_in nick op channel = by_member (has_member nick channel) refl
     by_member true e = e
     by_member false e = ap is_some (row-alter_same nick (λ _. Some (record { op = op; voice = false })) channel.members)
 
--- who is a member is one with flags
-pub member_by_flags : (room : Room) (nick name : List ℕ) → is_member room nick name ≡ is_some (flags_at room (key nick) (key name))
-member_by_flags room nick name = by_channel (row room.channels (key name))
-  where
-    by_channel : (o : Option Channel) → option_map_or (has_member (key nick)) o false ≡ is_some (option_and_then (λ (c : Channel). row c.members (key nick)) o)
-    by_channel None = refl
-    by_channel (Some c) = refl
-
 -- ---- members that leave
 
 leave_is_move : (room : Room) (effect : Effect) → IsLeave room effect → IsMove room effect
@@ -103,9 +94,6 @@ move_keeps_users room (UserMode nick invisible) moves = absurd moves
 pub moves_keep_users : (room : Room) (acts : List Act) → AreMoves room acts → (ahead room acts).users ≡ room.users
 moves_keep_users room acts moves =
     each-keeps IsMove (λ now. now.users ≡ room.users) (λ now effect is so. move_keeps_users now effect is ∙ so) room (effects_among acts) moves refl
-
-pub leaves_keep_users : (room : Room) (acts : List Act) → AreLeaves room acts → (ahead room acts).users ≡ room.users
-leaves_keep_users room acts leaves = moves_keep_users room acts (leaves_are_moves room acts leaves)
 
 -- ---- a user that joins channels which it is not in
 

@@ -1,5 +1,5 @@
 -- Names that come one after another, and lines that are sent when they are full.
-use Rattle.std.proofs.Common.{◌≡◌, ℕ, ◌+◌, ◌<◌, ◌≤◌, zero, suc, false, eqb, Option, List, [], ◌∷◌, ◌++◌, length, map, take, get_or, refl, sym, ◌∙◌, ap, arith, append_assoc, append-nil}
+use Rattle.std.proofs.Common.{◌≡◌, ℕ, ◌+◌, ◌<◌, ◌≤◌, zero, suc, false, eqb, Option, List, [], ◌∷◌, ◌++◌, length, map, take, get_or, sym, ◌∙◌, ap, arith, append_assoc, append-nil}
 use Rattle.std.proofs.lemmas.List.{map_more}
 use Rattle.std.proofs.lemmas.List.Elements.{filter_map-append}
 use Rattle.std.specs.List.{filter_map}
@@ -13,9 +13,6 @@ use Rattle.irc_acts.specs.declared.act.Act.{Act}
 use Rattle.irc_answers.specs.Names.{name_line, name_lines}
 use Rattle.irc_answers.specs.Loops.NameLines.{Came}
 use Rattle.irc_answers.proofs.NameChunks.{full_first, no_line, last_line}
-
-pub none_came : (channel : Channel) (steps : List Act) (held : List Listed) → Came channel steps held [] steps held
-none_came channel steps held = record { lines = λ later. refl }
 
 -- some names, and then others
 pub more_came : (channel : Channel) (before middle after : List Act) (held between left names more : List Listed)

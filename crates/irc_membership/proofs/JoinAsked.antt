@@ -1,5 +1,5 @@
 -- The channels that a JOIN asks for, read from the front of its two lists.
-use Rattle.std.proofs.Common.{◌≡◌, ℕ, Bool, true, false, not, Option, Some, None, List, [], ◌∷◌, ◌++◌, filter, length, map, eqb, refl, sym, ◌∙◌, ap, subst, append-nil, if◌then◌else◌}
+use Rattle.std.proofs.Common.{◌≡◌, ℕ, Bool, true, false, not, Option, Some, None, List, [], ◌∷◌, ◌++◌, filter, length, map, eqb, refl, sym, ◌∙◌, ap, subst, if◌then◌else◌}
 use Rattle.std.specs.Borrow.{Bor}
 use Rattle.irc_line.specs.PartViews.{words_now}
 use Rattle.irc_users.specs.declared.user.User.{User}
@@ -42,13 +42,6 @@ module _ (me : User) (room : Room) (names keys more_names more_keys : Option (Li
   abbrev rest : List Asked
   rest = asked_left more_names more_keys
 
-  -- an entry without a name is skipped, and its key with it
-  pub skipped : is_nil name ≡ true → acts ++ in_turn (join_one me) (ahead room acts) rest ≡ total
-  skipped none =
-      ap (λ asked. acts ++ in_turn (join_one me) (ahead room acts) asked)
-      (sym (asked_more names keys more_names more_keys name given parted next ∙ ap (λ b. if not b then asks name given ∷ rest else rest) none))
-      ∙ so_far
-
   -- another is served
   pub served : (new : List Act) → is_nil name ≡ false → new ≡ acts ++ join_one me (ahead room acts) (asks name given)
       → new ++ in_turn (join_one me) (ahead room new) rest ≡ total
@@ -67,10 +60,6 @@ pub all_to_serve : (me : User) (room : Room) (names keys : List ℕ) (steps : Li
 all_to_serve me room names keys steps none =
     ap (λ acts. acts ++ in_turn (join_one me) (ahead room acts) (asked_left (Some names) (Some keys))) none
     ∙ ap (in_turn (join_one me) room) (sym (all_asked names keys))
-
-pub nothing_left : (me : User) (room : Room) (keys : Option (List ℕ)) (acts total : List Act)
-    → acts ++ in_turn (join_one me) (ahead room acts) (asked_left None keys) ≡ total → acts ≡ total
-nothing_left me room keys acts total so_far = sym (append-nil acts) ∙ so_far
 
 pub some_name : (name : List ℕ) (b : Bool) → b ≡ eqb (length name) 0 → b ≡ false → is_nil name ≡ false
 some_name [] b is some = sym is ∙ some

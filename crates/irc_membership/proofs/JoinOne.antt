@@ -50,16 +50,6 @@ module _ (me : User) (now : Room) (name given : List ℕ) where
   abbrev asked : Asked
   asked = record { channel = name; key = given }
 
-  few : List Act → List Act
-  few found = if nat_le MAX_JOINED (length (own_channels now me)) then Answer (TooManyChannels name) ∷ [] else found
-
-  pub no_name : is_channel name ≡ false → join_one me now asked ≡ Answer (NoSuchChannel (client_words name)) ∷ []
-  no_name bad =
-      ap (λ b. if not b then Answer (NoSuchChannel (client_words name)) ∷ []
-      else (if is_member now me.nick name then []
-      else (if nat_le MAX_JOINED (length (own_channels now me)) then Answer (TooManyChannels name) ∷ []
-      else joins_found now me asked (row now.channels (key name))))) bad
-
   named : is_channel name ≡ true → join_one me now asked
       ≡ (if is_member now me.nick name then []
       else (if nat_le MAX_JOINED (length (own_channels now me)) then Answer (TooManyChannels name) ∷ []
@@ -70,13 +60,6 @@ module _ (me : User) (now : Room) (name given : List ℕ) where
       else (if nat_le MAX_JOINED (length (own_channels now me)) then Answer (TooManyChannels name) ∷ []
       else joins_found now me asked (row now.channels (key name))))) fine
 
-  pub inside : is_channel name ≡ true → is_member now me.nick name ≡ true → join_one me now asked ≡ []
-  inside fine member =
-      named fine
-      ∙ ap (λ b. if b then []
-      else (if nat_le MAX_JOINED (length (own_channels now me)) then Answer (TooManyChannels name) ∷ []
-      else joins_found now me asked (row now.channels (key name)))) member
-
   outside : is_channel name ≡ true → is_member now me.nick name ≡ false → join_one me now asked
       ≡ (if nat_le MAX_JOINED (length (own_channels now me)) then Answer (TooManyChannels name) ∷ []
       else joins_found now me asked (row now.channels (key name)))
@@ -85,12 +68,6 @@ module _ (me : User) (now : Room) (name given : List ℕ) where
       ∙ ap (λ b. if b then []
       else (if nat_le MAX_JOINED (length (own_channels now me)) then Answer (TooManyChannels name) ∷ []
       else joins_found now me asked (row now.channels (key name)))) none
-
-  pub in_too_many : is_channel name ≡ true → is_member now me.nick name ≡ false → nat_le MAX_JOINED (length (own_channels now me)) ≡ true
-      → join_one me now asked ≡ Answer (TooManyChannels name) ∷ []
-  in_too_many fine none many =
-      outside fine none
-      ∙ ap (λ b. if b then Answer (TooManyChannels name) ∷ [] else joins_found now me asked (row now.channels (key name))) many
 
   pub one_more : is_channel name ≡ true → is_member now me.nick name ≡ false → nat_le MAX_JOINED (length (own_channels now me)) ≡ false
       → join_one me now asked ≡ joins_found now me asked (row now.channels (key name))
@@ -141,11 +118,6 @@ joins_more me room acts new asked well all new_is =
           let named = (well.channels_sound (key asked.channel) channel (sym (joined_as_it_was me.nick asked.channel room acts all out) ∙ is)).named in
           (refl, ap (λ fold. option_map_or (has_member (key me.nick)) (row now.channels fold) false) named ∙ out);
     })))
-
--- who is a member of no channel is none of the one that is found
-pub not_in_found : (me : User) (room : Room) (name : List ℕ) (channel : Channel) → is_member room me.nick name ≡ false
-    → row room.channels (key name) ≡ Some channel → has_member (key me.nick) channel ≡ false
-not_in_found me room name channel out is = sym (ap (λ o. option_map_or (has_member (key me.nick)) o false) is) ∙ out
 
 pub nobody_in_new : (nick name : List ℕ) → has_member nick (new_channel name) ≡ false
 nobody_in_new nick name = ap is_some (get-empty fold_cmp nick)
