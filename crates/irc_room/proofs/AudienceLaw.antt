@@ -1,33 +1,87 @@
 -- All who see an effect, user by user, are those to whom it is shown.
-use Rattle.std.proofs.Common.{◌≡◌, ℕ, true, false, Option, Some, None, List, [], ◌∷◌, ◌++◌, refl, sym, ◌∙◌, ap, map, filter_map, if◌then◌else◌, option_to_list}
-use Rattle.std.specs.List.{cons_option, flat_map}
+use Rattle.std.specs.Borrow.{Bor}
+use Rattle.std.proofs.Common.{◌≡◌, ℕ, Bool, true, false, cond, Option, Some, None, List, [], ◌∷◌, refl, sym, ◌∙◌, ap, map, filter, filter_map, is_some, if◌then◌else◌, option_map}
+use Rattle.std.specs.List.{cons_option}
 use Rattle.std.specs.FinMap.{values}
 use Rattle.irc_users.specs.declared.user.User.{User}
 use Rattle.irc_room.specs.declared.effect.Effect.{Effect}
 use Rattle.irc_room.specs.Room.{Room}
 use Rattle.irc_room.specs.Effects.{is_idle}
-use Rattle.irc_room.specs.Seen.{Showing, seen, shown_to}
-use Rattle.irc_room.specs.Telling.{viewers_to}
+use Rattle.irc_room.specs.Loops.Viewing.{viewers}
+use Rattle.irc_room.specs.Seen.{Showing, seen, shown_to, shown_line, sees}
+use Rattle.irc_room.proofs.Rows.{not_true}
 
 abbrev nicks : List Showing → List (List ℕ)
 nicks = map (λ (s : Showing). s.viewer)
 
-first_viewer : (o : Option Showing) (rest : List Showing) → nicks (option_to_list o) ++ nicks rest ≡ nicks (cons_option o rest)
-first_viewer None rest = refl
-first_viewer (Some s) rest = refl
+-- whether an effect shows each viewer a line, or none
+abbrev IsLined : Room → Effect → Bool → Type 0
+IsLined room effect lined = (viewer : User) → is_some (shown_line room effect viewer) ≡ lined
 
-all_seen : (room : Room) (effect : Effect) (users : List User) → flat_map (viewers_to room effect) users ≡ nicks (filter_map (shown_to room effect) users)
-all_seen room effect [] = refl
-all_seen room effect (user ∷ users) =
-    ap (λ rest. viewers_to room effect user ++ rest) (all_seen room effect users)
-    ∙ first_viewer (shown_to room effect user) (filter_map (shown_to room effect) users)
+one_nick : (user : User) (line : Option (List ℕ)) → is_some line ≡ true → (rest : List Showing)
+    → nicks (cons_option (option_map (λ l. record { viewer = user.nick; line = l }) line) rest) ≡ user.nick ∷ nicks rest
+one_nick user None lined rest = not_true lined
+one_nick user (Some l) lined rest = refl
+
+-- what is shown to a user, if it sees the effect
+abbrev shown_if : Room → Effect → User → Bool → Option Showing
+shown_if room effect user b = if b then option_map (λ l. record { viewer = user.nick; line = l }) (shown_line room effect user) else None
+
+all_seen : (room : Room) (effect : Effect) → IsLined room effect true → (users : List User)
+    → map (λ (user : User). user.nick) (filter (λ user. sees room effect user.nick) users) ≡ nicks (filter_map (shown_to room effect) users)
+all_seen room effect lined [] = refl
+all_seen room effect lined (user ∷ users) = by_sight (all_seen room effect lined users) (sees room effect user.nick) refl
+  where
+    by_sight : map (λ (user : User). user.nick) (filter (λ user. sees room effect user.nick) users) ≡ nicks (filter_map (shown_to room effect) users)
+        → (b : Bool) → sees room effect user.nick ≡ b
+        → map (λ (user : User). user.nick) (filter (λ user. sees room effect user.nick) (user ∷ users)) ≡ nicks (filter_map (shown_to room effect) (user ∷ users))
+    by_sight rest true seen =
+        ap (λ b. map (λ (user : User). user.nick) (cond b (user ∷ filter (λ user. sees room effect user.nick) users) (filter (λ user. sees room effect user.nick) users))) seen
+        ∙ ap (λ xs. user.nick ∷ xs) rest
+        ∙ sym (one_nick user (shown_line room effect user) (lined user) (filter_map (shown_to room effect) users))
+        ∙ ap (λ b. nicks (cons_option (shown_if room effect user b) (filter_map (shown_to room effect) users))) (sym seen)
+    by_sight rest false unseen =
+        ap (λ b. map (λ (user : User). user.nick) (cond b (user ∷ filter (λ user. sees room effect user.nick) users) (filter (λ user. sees room effect user.nick) users))) unseen
+        ∙ rest
+        ∙ ap (λ b. nicks (cons_option (shown_if room effect user b) (filter_map (shown_to room effect) users))) (sym unseen)
+
+no_line : (line : Option (List ℕ)) → is_some line ≡ false → line ≡ None
+no_line None none = refl
+no_line (Some l) none = not_true (sym none)
+
+none_shown : (b : Bool) (user : User) (line : Option (List ℕ)) → line ≡ None
+    → ◌≡◌ {A = Option Showing} (if b then option_map (λ l. record { viewer = user.nick; line = l }) line else None) None
+none_shown true user line none = ap (option_map (λ l. record { viewer = user.nick; line = l })) none
+none_shown false user line none = refl
+
+none_seen : (room : Room) (effect : Effect) → IsLined room effect false → (users : List User) → filter_map (shown_to room effect) users ≡ []
+none_seen room effect lined [] = refl
+none_seen room effect lined (user ∷ users) =
+    ap (λ o. cons_option o (filter_map (shown_to room effect) users))
+    (none_shown (sees room effect user.nick) user (shown_line room effect user) (no_line (shown_line room effect user) (lined user)))
+    ∙ none_seen room effect lined users
 
 pub idle_has_no_viewers : (room : Room) (effect : Effect) → is_idle room effect ≡ true → [] ≡ nicks (seen room effect)
 unfolding seen
 idle_has_no_viewers room effect idle = ap (λ b. nicks (if b then [] else filter_map (shown_to room effect) (values room.users))) (sym idle)
 
-pub viewers_are_seen : (room : Room) (effect : Effect) → is_idle room effect ≡ false → flat_map (viewers_to room effect) (values room.users) ≡ nicks (seen room effect)
+pub no_line_no_viewers : (room : Room) (effect : Effect) → IsLined room effect false → [] ≡ nicks (seen room effect)
 unfolding seen
-viewers_are_seen room effect busy =
-    all_seen room effect (values room.users)
+no_line_no_viewers room effect lined = by_idle (is_idle room effect)
+  where
+    by_idle : (b : Bool) → [] ≡ nicks (if b then [] else filter_map (shown_to room effect) (values room.users))
+    by_idle true = refl
+    by_idle false = ap nicks (sym (none_seen room effect lined (values room.users)))
+
+of_users : (users : List (Bor User)) → map (λ (user : Bor User). user.now.nick) users ≡ map (λ (user : User). user.nick) (map (λ (user : Bor User). user.now) users)
+of_users [] = refl
+of_users (user ∷ users) = ap (λ xs. user.now.nick ∷ xs) (of_users users)
+
+pub viewers_are_seen : (room : Room) (effect : Effect) → is_idle room effect ≡ false → IsLined room effect true → (users : List (Bor User))
+    → map (λ (user : Bor User). user.now) users ≡ viewers room effect → map (λ (user : Bor User). user.now.nick) users ≡ nicks (seen room effect)
+unfolding seen
+viewers_are_seen room effect busy lined users are =
+    of_users users
+    ∙ ap (map (λ (user : User). user.nick)) are
+    ∙ all_seen room effect lined (values room.users)
     ∙ ap (λ b. nicks (if b then [] else filter_map (shown_to room effect) (values room.users))) (sym busy)

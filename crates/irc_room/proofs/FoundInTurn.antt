@@ -1,7 +1,7 @@
 -- Two lists of entries in folded order: what is found of the one under the folds of the other, in turn, is all of the one that has
--- a fold of the other.
+-- a fold of the other. So the users under some names are just those that pass a test of their folds.
 use Rattle.std.specs.Prelude.{T}
-use Rattle.std.proofs.Common.{◌≡◌, ℕ, Bool, true, false, cond, Some, None, List, [], ◌∷◌, ◌++◌, refl, sym, ◌∙◌, ap, map, filter, is_some, option_to_list}
+use Rattle.std.proofs.Common.{◌≡◌, ℕ, Bool, true, false, cond, Option, Some, None, List, [], ◌∷◌, ◌++◌, refl, sym, ◌∙◌, ap, map, filter, is_some, option_to_list}
 use Rattle.std.proofs.lemmas.Bool.{and_parts, and_from}
 use Rattle.std.proofs.lemmas.List.{append_assoc}
 use Rattle.std.specs.declared.cmp.Ordering.{Ordering}
@@ -15,7 +15,7 @@ use Rattle.std.specs.FinMap.Entries.{below_all}
 use Rattle.irc_names.specs.Tables.{Table, fold_cmp, row}
 use Rattle.irc_tables.proofs.OrderedEntries.{less_is, turned, above-is, find-above, find-there, sorted-below}
 use Rattle.irc_users.specs.declared.user.User.{User}
-use Rattle.irc_room.specs.Near.{Covers, users_under}
+use Rattle.irc_room.specs.Loops.Viewing.{users_under}
 
 order : IsTotalOrder fold_cmp
 order = nat_list_cmp_total
@@ -118,11 +118,45 @@ module _ {V : Type 0} (users : Table User) (names : List (List ℕ × V)) (rise 
       ap (filter p) (looked_up names)
       ∙ in_turn V p (entries users) (true_is _ (entries_sorted users)) names rise (all_miss [] (entries users) refl)
 
--- the users under the folds of entries in order, or of a table, are all that stand under one of these folds
-pub entries_cover : {V : Type 0} (users : Table User) (names : List (List ℕ × V)) → is_sorted fold_cmp names ≡ true
-    → Covers users (λ fold. is_some (find fold_cmp fold names)) (users_under users names)
-entries_cover users names rise = λ p fails. covered users names rise p fails
+-- each entry's user, if it has one, passes a test
+abbrev pub AllPass : {V : Type 0} → Table User → (User → Bool) → List (List ℕ × V) → Type 0
+AllPass users p names = AllByRecursion (λ e. (user : User) → row users e.0 ≡ Some user → p user ≡ true) names
 
-pub table_covers : {V : Type 0} (users : Table User) (names : Table V) → Covers users (λ fold. is_some (row names fold)) (users_under users (entries names))
-table_covers users names = λ p fails.
-    entries_cover users (entries names) (true_is _ (entries_sorted names)) p (λ fold user at none. fails fold user at (ap is_some (get-entries names fold) ∙ none))
+one_kept : (p : User → Bool) (o : Option User) → ((user : User) → o ≡ Some user → p user ≡ true) → (rest : List User)
+    → filter p (option_to_list o ++ rest) ≡ option_to_list o ++ filter p rest
+one_kept p None pass rest = refl
+one_kept p (Some user) pass rest = ap (λ b. cond b (user ∷ filter p rest) (filter p rest)) (pass user refl)
+
+all_kept : {V : Type 0} (users : Table User) (p : User → Bool) (names : List (List ℕ × V)) → AllPass users p names → filter p (users_under users names) ≡ users_under users names
+all_kept users p [] pass = refl
+all_kept users p (e ∷ names) pass =
+    one_kept p (row users e.0) pass.0 (users_under users names) ∙ ap (λ rest. option_to_list (row users e.0) ++ rest) (all_kept users p names pass.1)
+
+-- the users under the folds of entries in order are all that pass a test which only those under one of these folds pass
+pub entries_choose : {V : Type 0} (users : Table User) (names : List (List ℕ × V)) → is_sorted fold_cmp names ≡ true → (p : User → Bool) → AllPass users p names
+    → ((fold : List ℕ) (user : User) → row users fold ≡ Some user → is_some (find fold_cmp fold names) ≡ false → p user ≡ false)
+    → users_under users names ≡ filter p (values users)
+entries_choose users names rise p pass fails = sym (all_kept users p names pass) ∙ covered users names rise p fails
+
+-- each entry of a table is found in it
+all_there : {V : Type 0} (names : Table V) (front es : List (List ℕ × V)) → front ++ es ≡ entries names → AllByRecursion (λ e. is_some (row names e.0) ≡ true) es
+all_there names front [] is = tt
+all_there names front (e ∷ es) is =
+    let sorted : is_sorted fold_cmp (front ++ e ∷ es) ≡ true = ap (is_sorted fold_cmp) is ∙ true_is _ (entries_sorted names) in (
+      ap is_some (get-entries names e.0 ∙ ap (find fold_cmp e.0) (sym is) ∙ find-there order e.0 e.1 front es (sorted-below order e.0 e.1 front es sorted)),
+      all_there names (front ++ e ∷ []) es (append_assoc front (e ∷ []) es ∙ is),
+    )
+
+all_pass : {V : Type 0} (users : Table User) (names : Table V) (p : User → Bool)
+    → ((fold : List ℕ) (user : User) → row users fold ≡ Some user → is_some (row names fold) ≡ p user)
+    → (es : List (List ℕ × V)) → AllByRecursion (λ e. is_some (row names e.0) ≡ true) es → AllPass users p es
+all_pass users names p tells [] there = tt
+all_pass users names p tells (e ∷ es) there = (λ user at. sym (tells e.0 user at) ∙ there.0, all_pass users names p tells es there.1)
+
+-- the same for the entries of a table
+pub table_chooses : {V : Type 0} (users : Table User) (names : Table V) (p : User → Bool)
+    → ((fold : List ℕ) (user : User) → row users fold ≡ Some user → is_some (row names fold) ≡ p user)
+    → users_under users (entries names) ≡ filter p (values users)
+table_chooses users names p tells =
+    entries_choose users (entries names) (true_is _ (entries_sorted names)) p (all_pass users names p tells (entries names) (all_there names [] (entries names) refl))
+    (λ fold user at none. sym (tells fold user at) ∙ ap is_some (get-entries names fold) ∙ none)

@@ -19,7 +19,7 @@ pub mod ToldLaw
 pub mod KeptRows
 pub mod AudienceLaw
 pub mod FoundInTurn
-pub mod NearLaws
+pub mod WhoSees
 pub mod IndexChanges
 pub mod Memberships
 pub mod OwnNames

@@ -17,7 +17,8 @@ use Rattle.irc_room.specs.Effects.{is_idle}
 use Rattle.irc_room.specs.Seen.{Showing, seen, shown_to, shown_line, sees}
 use Rattle.irc_room.specs.Applying.{Kept, is_own, handed}
 use Rattle.irc_room.specs.RoomParts.{ShowsAt}
-use Rattle.irc_room.specs.Telling.{shown_at, told, AreNamed}
+use Rattle.irc_room.specs.Telling.{shown_at, AreNamed}
+use Rattle.irc_room.specs.Loops.Viewing.{told, viewers}
 
 true_is : (b : Bool) → T b → b ≡ true
 true_is true h = refl
@@ -43,7 +44,7 @@ module _ (own : List ℕ) (room : Room) (effect : Effect) (line : Option (List �
   -- the line, if there is one, for a user
   abbrev told_line : Option (List ℕ) → User → List (List ℕ × ArrayVec ℕ)
   told_line None user = []
-  told_line (Some l) user = told own room effect l user
+  told_line (Some l) user = if is_home own user && sees room effect user.nick then (user.nick, record { items = l }) ∷ [] else []
 
   abbrev here : List Showing → List (List ℕ × ArrayVec ℕ)
   here showings = map handed (filter (is_own kept) showings)
@@ -107,11 +108,53 @@ module _ (own : List ℕ) (room : Room) (effect : Effect) (line : Option (List �
       one_told e.1 stored.0 (filter_map (shown_to room effect) (map (λ e. e.1) es))
       ∙ ap (λ t. told_line line e.1 ++ t) (all_told es stored.1)
 
-  pub shown_is_told : AreNamed room.users → is_idle room effect ≡ false → shown_at own room effect ≡ flat_map (told_line line) (values room.users)
+  shown_is_told : AreNamed room.users → is_idle room effect ≡ false → shown_at own room effect ≡ flat_map (told_line line) (values room.users)
   unfolding seen
   shown_is_told named busy =
       ap (λ b. here (if b then [] else filter_map (shown_to room effect) (values room.users))) busy
       ∙ all_told (entries room.users) (all_stored room.users named [] (entries room.users) refl)
+
+-- a viewer of the server is told the line
+told_alike : (home : Bool) (user : User) (line : List ℕ) (rest : List (List ℕ × ArrayVec ℕ))
+    → (if home && true then (user.nick, record { items = line }) ∷ [] else []) ++ rest ≡ (if home then (user.nick, record { items = line }) ∷ [] else []) ++ rest
+told_alike true user line rest = refl
+told_alike false user line rest = refl
+
+told_not : (home : Bool) (user : User) (line : List ℕ) (rest : List (List ℕ × ArrayVec ℕ))
+    → (if home && false then (user.nick, record { items = line }) ∷ [] else []) ++ rest ≡ rest
+told_not true user line rest = refl
+told_not false user line rest = refl
+
+-- the line, for each user of the server that sees the effect; and those of all users that see it
+abbrev each_told : List ℕ → Room → Effect → List ℕ → List User → List (List ℕ × ArrayVec ℕ)
+each_told own room effect line users = flat_map (λ (user : User). if is_home own user && sees room effect user.nick then (user.nick, record { items = line }) ∷ [] else []) users
+
+abbrev who_see : Room → Effect → List User → List User
+who_see room effect users = filter (λ (user : User). sees room effect user.nick) users
+
+viewers_told : (own : List ℕ) (room : Room) (effect : Effect) (line : List ℕ) (users : List User)
+    → each_told own room effect line users ≡ flat_map (told own line) (who_see room effect users)
+viewers_told own room effect line [] = refl
+viewers_told own room effect line (user ∷ users) = by_sight (viewers_told own room effect line users) (sees room effect user.nick) refl
+  where
+    by_sight : each_told own room effect line users ≡ flat_map (told own line) (who_see room effect users) → (b : Bool) → sees room effect user.nick ≡ b
+        → each_told own room effect line (user ∷ users) ≡ flat_map (told own line) (who_see room effect (user ∷ users))
+    by_sight rest true seen =
+        ap (λ b. (if is_home own user && b then (user.nick, record { items = line }) ∷ [] else []) ++ each_told own room effect line users) seen
+        ∙ told_alike (is_home own user) user line (each_told own room effect line users)
+        ∙ ap (λ lines. told own line user ++ lines) rest
+        ∙ ap (λ b. flat_map (told own line) (cond b (user ∷ who_see room effect users) (who_see room effect users))) (sym seen)
+    by_sight rest false unseen =
+        ap (λ b. (if is_home own user && b then (user.nick, record { items = line }) ∷ [] else []) ++ each_told own room effect line users) unseen
+        ∙ told_not (is_home own user) user line (each_told own room effect line users)
+        ∙ rest
+        ∙ ap (λ b. flat_map (told own line) (cond b (user ∷ who_see room effect users) (who_see room effect users))) (sym unseen)
+
+-- what is told to those who see an effect is all that it shows
+pub all_is_told : (own : List ℕ) (room : Room) (effect : Effect) (line : List ℕ) → ShowsAt room effect own (Some line) → AreNamed room.users → is_idle room effect ≡ false
+    → shown_at own room effect ≡ flat_map (told own line) (viewers room effect)
+all_is_told own room effect line shows named busy =
+    shown_is_told own room effect (Some line) shows named busy ∙ viewers_told own room effect line (values room.users)
 
 -- an idle effect shows nothing
 pub idle_tells_nothing : (own : List ℕ) (room : Room) (effect : Effect) → is_idle room effect ≡ true → shown_at own room effect ≡ []

@@ -11,7 +11,7 @@ pub mod Signs
 pub mod LineViews
 pub mod RoomParts
 pub mod Telling
-pub mod Near
+pub mod Loops
 pub mod Indexes
 pub mod InTurn
 pub mod InTurnLaws

@@ -7,15 +7,15 @@ mod effect;
 mod effect_lines;
 pub mod examples;
 mod fault;
+mod idle;
 pub mod laws;
 mod lines;
 mod mode_letters;
-mod near;
 mod refusing;
 mod room;
 mod room_parts;
-mod seeing;
 mod showing;
+mod viewers;
 
 pub use effect::{By, Effect, ModeChanges, Target};
 pub use fault::RoomFault;

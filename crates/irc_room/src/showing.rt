@@ -1,15 +1,15 @@
 //! What an effect shows to the users of one server.
 ghost use Rattle.std.specs.Prelude.{◌≡◌, ◌++◌, length, map, take, OnOk, OnErr};
 ghost use Rattle.std.specs.List.{flat_map};
-ghost use Rattle.std.specs.FinMap.{values};
+ghost use Rattle.irc_room.specs.Loops.Viewing.{told, viewers};
 ghost use Rattle.irc_room.specs.RoomParts.{room_of};
-ghost use Rattle.irc_room.specs.Telling.{shown_at, told, AreNamed};
+ghost use Rattle.irc_room.specs.Telling.{shown_at, AreNamed};
 
 use crate::effect::Effect;
 use crate::effect_lines::effect_line;
-use crate::near::near;
+use crate::idle::is_idle;
 use crate::room_parts::RoomParts;
-use crate::seeing::{is_idle, sees};
+use crate::viewers::viewers;
 use irc_line::Text;
 use irc_names::{Nick, copied};
 use irc_users::User;
@@ -32,13 +32,13 @@ pub(crate) fn show(
         return Ok(());
     }
     match effect_line(alloc, own, parts, effect)? {
-        Some(line) => tell_all(alloc, own, parts, effect, &line, out),
+        Some(line) => tell_viewers(alloc, own, parts, effect, &line, out),
         None => Ok(()),
     }
 }
 
 /// Appends a line for each user of the server that sees an effect.
-fn tell_all(
+fn tell_viewers(
     alloc: Global,
     own: &[u8],
     parts: RoomParts<'_>,
@@ -47,44 +47,40 @@ fn tell_all(
     out: &mut Vec<(Nick, Text), Global>,
 ) -> Result<(), AllocError>
     requires { AreNamed parts.users.now }
-    ensures ok { OnOk result (out.new.items ≡ out.old.items ++ flat_map (told own.now (room_of parts.entry) effect.now line.now.items) (values parts.entry.users.now)) }
+    ensures ok { OnOk result (out.new.items ≡ out.old.items ++ flat_map (told own.now line.now.items) (viewers (room_of parts.entry) effect.now)) }
     ensures front { take (length out.old.items) out.new.items ≡ out.old.items }
 {
-    let users = near(alloc, parts, effect)?;
-    tell_each(own, parts, effect, line, users.as_slice(), out)
+    let users = viewers(alloc, parts, effect)?;
+    tell_each(own, users.as_slice(), line, out)
 }
 
-/// Appends a line for each of these users that is one of the server and sees an effect.
+/// Appends a line for each of these users that is one of the server.
 fn tell_each(
     own: &[u8],
-    parts: RoomParts<'_>,
-    effect: &Effect,
-    line: &Text,
     users: &[&User],
+    line: &Text,
     out: &mut Vec<(Nick, Text), Global>,
 ) -> Result<(), AllocError>
-    ensures ok { OnOk result (out.new.items ≡ out.old.items ++ flat_map (told own.now (room_of parts.entry) effect.now line.now.items) (map (λ user. user.now) users.now)) }
+    ensures ok { OnOk result (out.new.items ≡ out.old.items ++ flat_map (told own.now line.now.items) (map (λ user. user.now) users.now)) }
     ensures front { take (length out.old.items) out.new.items ≡ out.old.items }
 {
     for user in users {
-        tell(own, parts, effect, line, user, out)?;
+        tell(own, user, line, out)?;
     }
     Ok(())
 }
 
-/// Appends a line for a user, if it is one of the server and sees an effect.
+/// Appends a line for a user, if it is one of the server.
 fn tell(
     own: &[u8],
-    parts: RoomParts<'_>,
-    effect: &Effect,
-    line: &Text,
     user: &User,
+    line: &Text,
     out: &mut Vec<(Nick, Text), Global>,
 ) -> Result<(), AllocError>
-    ensures ok { OnOk result (out.new.items ≡ out.old.items ++ told own.now (room_of parts.entry) effect.now line.now.items user.now) }
+    ensures ok { OnOk result (out.new.items ≡ out.old.items ++ told own.now line.now.items user.now) }
     ensures refused { OnErr result (out.new.items ≡ out.old.items) }
 {
-    if user.home.as_bytes() == own && sees(parts, effect, &user.nick) {
+    if user.home.as_bytes() == own {
         out.push((user.nick.copy(), copied(line.as_slice())))?;
     }
     Ok(())

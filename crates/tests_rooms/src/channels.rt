@@ -59,7 +59,7 @@ mode * #c +b-t a!*@* = al Bo :a.net MODE #c +b-t a!*@*
 state #c = #c +i 65535 a!*@* A[!*@* : @al Bo
 mode * #c -bi+b a{!*@* b!*@* = al Bo :a.net MODE #c -bi+b a{!*@* b!*@*
 state #c = #c + 65535 a!*@* b!*@* : @al Bo
-mode * #c +o-o+v bo AL al = al Bo :a.net MODE #c +o-o+v bo AL al
+mode * #c +o-o+v bo AL al = al Bo :a.net MODE #c +o-o+v Bo al al
 mode * #c +o nobody = al Bo :a.net MODE #c +o nobody
 state #c = #c + 65535 a!*@* b!*@* : +al @Bo";
 

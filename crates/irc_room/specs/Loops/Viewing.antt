@@ -1,0 +1,38 @@
+-- The users that see an effect, and how they are found by names.
+use Rattle.std.specs.Prelude.{◌≡◌, ℕ, Bool, ◌&&◌, ◌||◌, is_some, List, [], ◌∷◌, nat_eq, filter, option_to_list, if◌then◌else◌}
+use Rattle.std.specs.List.{flat_map}
+use Rattle.std.specs.Cmp.Lexicographic.{pointwise}
+use Rattle.std.specs.FinMap.{values}
+use Rattle.arrayvec.specs.ArrayVec.{ArrayVec}
+use Rattle.irc_names.specs.Tables.{Table, row}
+use Rattle.irc_users.specs.declared.user.User.{User}
+use Rattle.irc_channels.specs.declared.channel.Channel.{Channel}
+use Rattle.irc_channels.specs.declared.flags.Flags.{Flags}
+use Rattle.irc_channels.specs.Channels.{has_member}
+use Rattle.irc_room.specs.declared.effect.Effect.{Effect}
+use Rattle.irc_room.specs.Room.{Room}
+use Rattle.irc_room.specs.Seen.{sees}
+
+-- those of all users whose nicknames pass a test, in folded order
+abbrev pub users_who : Table User → (List ℕ → Bool) → List User
+users_who users test = filter (λ (user : User). test user.nick) (values users)
+
+-- those that see an effect
+abbrev pub viewers : Room → Effect → List User
+viewers room effect = users_who room.users (sees room effect)
+
+-- the line, for a user of the server of this name
+abbrev pub told : List ℕ → List ℕ → User → List (List ℕ × ArrayVec ℕ)
+told own line user = if pointwise nat_eq user.home own then (user.nick, record { items = line }) ∷ [] else []
+
+-- whether a channel has both members
+abbrev pub joins_both : List ℕ → List ℕ → Channel → Bool
+joins_both one other channel = has_member one channel && has_member other channel
+
+-- the users under the folds of some entries, as far as there are any
+abbrev pub users_under : {V : Type 0} → Table User → List (List ℕ × V) → List User
+users_under users es = flat_map (λ e. option_to_list (row users e.0)) es
+
+-- a table that has rows under these folds, too
+abbrev pub Gains : Table Flags → Table Flags → (List ℕ → Bool) → Type 0
+Gains before after new = (fold : List ℕ) → is_some (row after fold) ≡ (is_some (row before fold) || new fold)

@@ -1,0 +1,250 @@
+//! The users that see an effect, in folded order.
+ghost use Rattle.std.specs.Prelude.{◌≡◌, ◌≤◌, ◌++◌, ◌&&◌, ◌||◌, ℕ, Bool, List, not, length, map, filter, is_some, option_to_list, IfOk, OnOk};
+ghost use Rattle.std.specs.List.{list_any};
+ghost use Rattle.std.specs.FinMap.{values};
+ghost use Rattle.arrayvec.specs.ArrayVec.{ArrayVec};
+ghost use Rattle.irc_names.specs.Fold.{key, same};
+ghost use Rattle.irc_names.specs.Tables.{row};
+ghost use Rattle.irc_names.specs.TableLaws.{same_fold};
+ghost use Rattle.irc_tables.specs.RowViews.{row_entry};
+ghost use Rattle.irc_room.specs.declared.effect.Effect.TheVariants.{Say};
+ghost use Rattle.irc_room.specs.Effects.{is_member};
+ghost use Rattle.irc_room.specs.Loops.Viewing.{joins_both, users_under, users_who, Gains};
+ghost use Rattle.irc_room.specs.RoomParts.{room_of};
+ghost use Rattle.irc_room.specs.Seen.{sees, share_channel};
+ghost use Rattle.irc_room.specs.Telling.{AreNamed};
+
+use crate::effect::{Effect, Target};
+use crate::room_parts::{RoomParts, has_member};
+use irc_channels::{Channel, Flags};
+use irc_names::{ChannelName, MAX_CHANNEL, Nick};
+use irc_tables::{NameTable, Row};
+use irc_users::{User, Users};
+use std::alloc::{AllocError, Global};
+
+/// The users that see an effect: none besides them is looked at, but for the doer and who shares more than one channel with it.
+pub(crate) fn viewers<'a>(
+    alloc: Global,
+    parts: RoomParts<'a>,
+    effect: &Effect,
+) -> Result<Vec<&'a User, Global>, AllocError>
+    requires { AreNamed parts.users.now }
+    ensures { IfOk result (λ found. map (λ user. user.now) found.items ≡ users_who parts.entry.users.now (sees (room_of parts.entry) effect.now)) }
+{
+    match effect {
+        Effect::AddUser(_) => Ok(Vec::new(alloc)),
+        Effect::Rename { nick, .. } => with_sharers(alloc, parts, nick),
+        Effect::Quit { nick, .. } => sharers(alloc, parts, nick),
+        Effect::Join { nick, channel, .. } => with_joiner(alloc, parts, nick, channel),
+        Effect::Part { channel, .. }
+        | Effect::Kick { channel, .. }
+        | Effect::ChangeModes { channel, .. }
+        | Effect::SetTopic { channel, .. } => members(alloc, parts, channel),
+        Effect::Say { by, target, .. } => hearers(alloc, parts, by, target),
+        Effect::Invite { nick, .. } | Effect::UserMode { nick, .. } => only(alloc, parts, nick),
+    }
+}
+
+/// Those that are shown what a user says.
+fn hearers<'a>(
+    alloc: Global,
+    parts: RoomParts<'a>,
+    by: &Nick,
+    target: &Target,
+) -> Result<Vec<&'a User, Global>, AllocError>
+    requires { AreNamed parts.users.now }
+    ensures { (notice : Bool) (text : ArrayVec ℕ) → IfOk result (λ found. map (λ user. user.now) found.items ≡ users_who parts.entry.users.now (sees (room_of parts.entry) (Say by.now notice target.now text))) }
+{
+    match target {
+        Target::User(nick) => only(alloc, parts, nick),
+        Target::Channel(channel) => others(alloc, parts, by, channel),
+    }
+}
+
+/// The user of a nickname, if it is there.
+fn only<'a>(
+    alloc: Global,
+    parts: RoomParts<'a>,
+    nick: &Nick,
+) -> Result<Vec<&'a User, Global>, AllocError>
+    requires { AreNamed parts.users.now }
+    ensures { IfOk result (λ found. map (λ user. user.now) found.items ≡ users_who parts.entry.users.now (same nick.now)) }
+{
+    let mut found = Vec::new(alloc);
+    add_named(parts.users, nick.as_bytes(), &mut found)?;
+    Ok(found)
+}
+
+/// The members of a channel.
+fn members<'a>(
+    alloc: Global,
+    parts: RoomParts<'a>,
+    channel: &ChannelName,
+) -> Result<Vec<&'a User, Global>, AllocError>
+    requires { AreNamed parts.users.now }
+    ensures { IfOk result (λ found. map (λ user. user.now) found.items ≡ users_who parts.entry.users.now (λ viewer. is_member (room_of parts.entry) viewer channel.now)) }
+{
+    users_of(
+        alloc,
+        parts.users,
+        parts.channels.members(channel.as_bytes()),
+    )
+}
+
+/// The members of a channel but for one user.
+fn others<'a>(
+    alloc: Global,
+    parts: RoomParts<'a>,
+    by: &Nick,
+    channel: &ChannelName,
+) -> Result<Vec<&'a User, Global>, AllocError>
+    requires { AreNamed parts.users.now }
+    ensures { IfOk result (λ found. map (λ user. user.now) found.items ≡ users_who parts.entry.users.now (λ viewer. not (same by.now viewer) && is_member (room_of parts.entry) viewer channel.now)) }
+{
+    let mut found = members(alloc, parts, channel)?;
+    leave_out(&mut found, by);
+    Ok(found)
+}
+
+/// Takes the user of a nickname out of those that were found.
+fn leave_out(found: &mut Vec<&User, Global>, nick: &Nick)
+    ensures { found.new.items ≡ filter (λ user. not (same nick.now user.now.nick)) found.old.items }
+{
+    found.retain(|user| *nick != user.nick);
+}
+
+/// The members of a channel, and a user that joins it.
+fn with_joiner<'a>(
+    alloc: Global,
+    parts: RoomParts<'a>,
+    nick: &Nick,
+    channel: &ChannelName,
+) -> Result<Vec<&'a User, Global>, AllocError>
+    requires { AreNamed parts.users.now }
+    ensures { IfOk result (λ found. map (λ user. user.now) found.items ≡ users_who parts.entry.users.now (λ viewer. same nick.now viewer || is_member (room_of parts.entry) viewer channel.now)) }
+{
+    let mut names = NameTable::new(alloc);
+    put_rows(&mut names, parts.channels.members(channel.as_bytes()))?;
+    put_name(&mut names, nick.as_bytes())?;
+    users_of(alloc, parts.users, names.as_slice())
+}
+
+/// A user, and those that share a channel with it.
+fn with_sharers<'a>(
+    alloc: Global,
+    parts: RoomParts<'a>,
+    nick: &Nick,
+) -> Result<Vec<&'a User, Global>, AllocError>
+    requires { AreNamed parts.users.now }
+    ensures { IfOk result (λ found. map (λ user. user.now) found.items ≡ users_who parts.entry.users.now (λ viewer. same nick.now viewer || share_channel (room_of parts.entry) nick.now viewer)) }
+{
+    let mut names = names_sharing(alloc, parts, nick)?;
+    put_name(&mut names, nick.as_bytes())?;
+    users_of(alloc, parts.users, names.as_slice())
+}
+
+/// Those that share a channel with a user, but for the user.
+fn sharers<'a>(
+    alloc: Global,
+    parts: RoomParts<'a>,
+    nick: &Nick,
+) -> Result<Vec<&'a User, Global>, AllocError>
+    requires { AreNamed parts.users.now }
+    ensures { IfOk result (λ found. map (λ user. user.now) found.items ≡ users_who parts.entry.users.now (λ viewer. not (same nick.now viewer) && share_channel (room_of parts.entry) nick.now viewer)) }
+{
+    let mut names = names_sharing(alloc, parts, nick)?;
+    names.remove(nick.as_bytes());
+    users_of(alloc, parts.users, names.as_slice())
+}
+
+/// The nicknames of all members of the channels that a user is in, each once.
+fn names_sharing(
+    alloc: Global,
+    parts: RoomParts<'_>,
+    nick: &Nick,
+) -> Result<NameTable<Flags>, AllocError>
+    ensures { IfOk result (λ names. (fold : List ℕ) → is_some (row names fold) ≡ list_any (joins_both (key nick.now) fold) (values parts.entry.channels.now)) }
+{
+    let mut names = NameTable::new(alloc);
+    put_shared(&mut names, parts.channels.as_slice(), nick)?;
+    Ok(names)
+}
+
+/// The users that stand under the names of some rows.
+fn users_of<'a>(
+    alloc: Global,
+    users: &'a Users,
+    rows: &[Row<Flags>],
+) -> Result<Vec<&'a User, Global>, AllocError>
+    ensures { IfOk result (λ found. map (λ user. user.now) found.items ≡ users_under users.now (map row_entry rows.now)) }
+{
+    let mut found = Vec::new(alloc);
+    for row in rows {
+        add_named(users, row.name.as_slice(), &mut found)?;
+    }
+    Ok(found)
+}
+
+/// Appends the user of a nickname, if it is there.
+fn add_named<'a>(
+    users: &'a Users,
+    name: &[u8],
+    found: &mut Vec<&'a User, Global>,
+) -> Result<(), AllocError>
+    ensures { OnOk result (map (λ user. user.now) found.new.items ≡ map (λ user. user.now) found.old.items ++ option_to_list (row users.now (key name.now))) }
+{
+    if let Some(user) = users.find_named(name) {
+        found.push(user)?;
+    }
+    Ok(())
+}
+
+/// Adds the members of those channels that a user is in.
+fn put_shared(
+    names: &mut NameTable<Flags>,
+    channels: &[Row<Channel>],
+    nick: &Nick,
+) -> Result<(), AllocError>
+    ensures { OnOk result (Gains names.old names.new (λ fold. list_any (λ row. joins_both (key nick.now) fold row.value) channels.now)) }
+{
+    for row in channels {
+        put_members(names, &row.value, nick)?;
+    }
+    Ok(())
+}
+
+/// Adds the members of a channel, if a user is one of them.
+fn put_members(
+    names: &mut NameTable<Flags>,
+    channel: &Channel,
+    nick: &Nick,
+) -> Result<(), AllocError>
+    ensures { OnOk result (Gains names.old names.new (λ fold. joins_both (key nick.now) fold channel.now)) }
+{
+    if has_member(channel, nick) {
+        return put_rows(names, channel.members.as_slice());
+    }
+    Ok(())
+}
+
+/// Adds the names of some rows.
+fn put_rows(names: &mut NameTable<Flags>, rows: &[Row<Flags>]) -> Result<(), AllocError>
+    ensures { OnOk result (Gains names.old names.new (λ fold. list_any (λ row. same_fold fold (key row.name.items)) rows.now)) }
+{
+    for row in rows {
+        put_name(names, row.name.as_slice())?;
+    }
+    Ok(())
+}
+
+/// Adds a name.
+fn put_name(names: &mut NameTable<Flags>, name: &[u8]) -> Result<(), AllocError>
+    requires { length name.now ≤ MAX_CHANNEL }
+    ensures { OnOk result (Gains names.old names.new (λ fold. same_fold fold (key name.now))) }
+{
+    let flags = Flags {
+        op: false,
+        voice: false,
+    };
+    names.insert(name, flags)
+}
