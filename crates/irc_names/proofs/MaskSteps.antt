@@ -1,9 +1,11 @@
 -- How a mask matches, one step at a time: what the front of the mask asks of the text, and what a search that went one step
 -- further knows.
 use Rattle.std.proofs.Common.{Bor, ◌≡◌, ◌≢◌, ℕ, ◌+◌, ◌<◌, ◌≤◌, true, List, [], ◌∷◌, ◌++◌, length, refl, sym, ap, subst, ◌∙◌, append_assoc, arith}
-use Rattle.irc_names.specs.Masks.{Empty, Begins, front, accepts, Matches, one, end}
+use Rattle.irc_names.specs.Masks.{Matches}
+use Rattle.irc_names.specs.Loops.Fronts.{Empty, Begins, front, accepts}
+use Rattle.irc_names.specs.Loops.FrontLaws.{matches_byte, matches_end}
 use Rattle.irc_names.specs.MaskLaws.{Somewhere, somewhere_here, somewhere_after, somewhere_past, run-sound, run-complete, TakesOne, one-complete, end-complete}
-use Rattle.irc_names.specs.Walks.{RestsOn, Tells, IsFirst}
+use Rattle.irc_names.specs.Loops.Walks.{RestsOn, Tells, IsFirst}
 use Rattle.irc_names.specs.declared.matching.Part.{Part}
 use Rattle.irc_names.specs.declared.matching.Part.TheVariants.{Run}
 use Rattle.irc_names.specs.declared.matching.Walk.{Walk}
@@ -45,7 +47,7 @@ pub follows_one : {part : Part} {mask text mask_left text_left mask_after text_a
     → front mask_left ≡ Begins part mask_after → part ≢ Run → text_left ≡ byte ∷ text_after → accepts part byte ≡ true
     → length mask_after < length mask_left → Follows mask text mask_left text_left → Follows mask text mask_after text_after
 follows_one {part} {mask} {text} {mask_left} {text_left} {mask_after} {text_after} {byte} begins other split accepted less so_far = record {
-  sound = λ m. so_far.sound (one begins split accepted m);
+  sound = λ m. so_far.sound (matches_byte begins split accepted m);
   complete = λ m. go (one-complete begins other (so_far.complete m));
   later = λ m. later_one byte text_after begins other (subst (λ t. Somewhere mask_left t) split (so_far.later m));
   shorter = omega (arith, so_far.shorter);
@@ -76,7 +78,7 @@ first_at_star {part} {mask} {text} {mask_left} {text_left} {mask_after} begins s
 
 -- at the end of the mask
 pub matches_at_end : {mask text mask_left text_left : List ℕ} → front mask_left ≡ Empty → text_left ≡ [] → Follows mask text mask_left text_left → Matches mask text
-matches_at_end empty none so_far = so_far.sound (end empty none)
+matches_at_end empty none so_far = so_far.sound (matches_end empty none)
 
 pub differs_after_end : {mask text mask_left text_left : List ℕ} → front mask_left ≡ Empty → text_left ≢ [] → Follows mask text mask_left text_left
     → ¬ (Matches mask text)

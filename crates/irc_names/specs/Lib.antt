@@ -5,6 +5,6 @@ pub mod MaskLaws
 pub mod Masks
 pub mod Names
 pub mod Spellings
-pub mod Walks
+pub mod Loops
 pub mod Tables
 pub mod TableLaws

@@ -1,8 +1,10 @@
--- The laws of `Matches`, by the front of the mask, and `matches`, the test that tells whether it holds.
-use Rattle.std.specs.Prelude.{◌≡◌, ◌≢◌, ℕ, ◌<◌, Bool, true, false, cond, ◌⊎◌, List, [], ◌∷◌, ◌++◌, length, nat_eq, IsTrue}
+-- `matches`, the test that tells whether a mask matches a text, and that it does tell it.
+use Rattle.std.specs.Prelude.{◌≡◌, ◌≢◌, ℕ, ◌<◌, Bool, true, false, ◌⊎◌, List, [], ◌∷◌, ◌++◌, length, IsTrue}
 use Rattle.std.proofs.Common.{refl, sym, ap, subst, ◌∙◌, append_assoc, arith, inl, inr, suc, zero}
 use Rattle.std.specs.Bool.{Decides}
-use Rattle.irc_names.specs.Masks.{Front, Empty, Begins, front, front_after_backslash, is_wild, accepts, Matches, run, one, end}
+use Rattle.irc_names.specs.Masks.{Matches}
+use Rattle.irc_names.specs.Loops.Fronts.{Front, Empty, Begins, front, accepts}
+use Rattle.irc_names.specs.Loops.FrontLaws.{Step, at_run, at_byte, at_end, step, matches_run, matches_byte, matches_end, begins-shorter}
 use Rattle.irc_names.specs.declared.matching.Part.{Part}
 use Rattle.irc_names.specs.declared.matching.Part.TheVariants.{Run, AnyByte, Escaped, Plain}
 
@@ -52,17 +54,20 @@ somewhere_in_nothing {mask} here = by here.skipped here.split
 -- ---- what the front of a mask asks
 
 pub run-sound : {mask rest text : List ℕ} → front mask ≡ Begins Run rest → Somewhere rest text → Matches mask text
-run-sound begins here = run here.skipped begins here.split here.matches
+run-sound begins here = matches_run here.skipped begins here.split here.matches
 
 pub run-complete : {mask rest text : List ℕ} → front mask ≡ Begins Run rest → Matches mask text → Somewhere rest text
-run-complete {mask} {rest} {text} begins (run {rest = own} {more = more} skipped own_begins split matches) =
-    let same : own ≡ rest = cc in
-    record { skipped = skipped; more = more; split = split; matches = subst (λ r. Matches r more) same matches }
-run-complete {mask} {rest} {text} begins (one {part = part} {byte = byte} own_begins split accepted matches) =
-    let same : part ≡ Run = cc in
-    let taken : false ≡ true = subst (λ p. accepts p byte ≡ true) same accepted in
-    cc
-run-complete begins (end empty split) = cc
+run-complete {mask} {rest} {text} begins all = by (step all)
+  where
+    by : Step mask text → Somewhere rest text
+    by (at_run {rest = own} {more = more} skipped own_begins split matches) =
+        let same : own ≡ rest = cc in
+        record { skipped = skipped; more = more; split = split; matches = subst (λ r. Matches r more) same matches }
+    by (at_byte {part = part} {byte = byte} own_begins split accepted matches) =
+        let same : part ≡ Run = cc in
+        let taken : false ≡ true = subst (λ p. accepts p byte ≡ true) same accepted in
+        cc
+    by (at_end empty split) = cc
 
 -- a text whose first byte a part takes, and the mask after it matches the rest
 pub record TakesOne (part : Part) (rest text : List ℕ) : Type 0 where
@@ -73,25 +78,31 @@ pub record TakesOne (part : Part) (rest text : List ℕ) : Type 0 where
   pub matches : Matches rest more
 
 pub one-complete : {part : Part} {mask rest text : List ℕ} → front mask ≡ Begins part rest → part ≢ Run → Matches mask text → TakesOne part rest text
-one-complete {part} {mask} {rest} {text} begins other (run skipped own_begins split matches) =
-    let same : part ≡ Run = cc in
-    absurd (other same)
-one-complete {part} {mask} {rest} {text} begins other (one {rest = own_rest} {more = more} {part = own} {byte = byte} own_begins split accepted matches) =
-    let same_part : own ≡ part = cc in
-    let same_rest : own_rest ≡ rest = cc in
-    record {
-      byte = byte;
-      more = more;
-      split = split;
-      accepted = subst (λ p. IsTrue (accepts p byte)) same_part accepted;
-      matches = subst (λ r. Matches r more) same_rest matches;
-    }
-one-complete begins other (end empty split) = cc
+one-complete {part} {mask} {rest} {text} begins other all = by (step all)
+  where
+    by : Step mask text → TakesOne part rest text
+    by (at_run skipped own_begins split matches) =
+        let same : part ≡ Run = cc in
+        absurd (other same)
+    by (at_byte {rest = own_rest} {more = more} {part = own} {byte = byte} own_begins split accepted matches) =
+        let same_part : own ≡ part = cc in
+        let same_rest : own_rest ≡ rest = cc in
+        record {
+          byte = byte;
+          more = more;
+          split = split;
+          accepted = subst (λ p. IsTrue (accepts p byte)) same_part accepted;
+          matches = subst (λ r. Matches r more) same_rest matches;
+        }
+    by (at_end empty split) = cc
 
 pub end-complete : {mask text : List ℕ} → front mask ≡ Empty → Matches mask text → text ≡ []
-end-complete empty (run skipped begins split matches) = cc
-end-complete empty (one begins split accepted matches) = cc
-end-complete empty (end own_empty split) = split
+end-complete {mask} {text} empty all = by (step all)
+  where
+    by : Step mask text → text ≡ []
+    by (at_run skipped begins split matches) = cc
+    by (at_byte begins split accepted matches) = cc
+    by (at_end own_empty split) = split
 
 -- no text is left for a part that takes one byte
 pub differs_at_end : {part : Part} {mask rest text : List ℕ} → front mask ≡ Begins part rest → part ≢ Run → text ≡ [] → ¬ (Matches mask text)
@@ -109,31 +120,6 @@ differs_at_byte {part} {byte} begins other split refused matches =
     let same : next.byte ≡ byte = cc in
     let accepted : accepts part byte ≡ true = subst (λ b. accepts part b ≡ true) same next.accepted in
     cc
-
--- the mask after the first part is shorter
-pub begins-shorter : (mask : List ℕ) {part : Part} {rest : List ℕ} → front mask ≡ Begins part rest → length rest < length mask
-begins-shorter [] begins = cc
-begins-shorter (byte ∷ bytes) {part} {rest} begins = by (nat_eq byte 0x2A) (nat_eq byte 0x3F) (nat_eq byte 0x5C) begins
-  where
-    whole : rest ≡ bytes → length rest < length (byte ∷ bytes)
-    whole same = let long : length rest ≡ length bytes = ap length same in omega arith
-
-    after : (bytes : List ℕ) → front_after_backslash bytes ≡ Begins part rest → length rest < length (byte ∷ bytes)
-    after [] begins = let same : rest ≡ [] = cc in let long : length rest ≡ 0 = ap length same in omega arith
-    after (next ∷ others) begins = next_by (is_wild next) begins
-      where
-        next_by : (wild : Bool) → cond wild (Begins (Escaped next) others) (Begins (Plain 0x5C) (next ∷ others)) ≡ Begins part rest
-            → length rest < length (byte ∷ next ∷ others)
-        next_by true begins = let same : rest ≡ others = cc in let long : length rest ≡ length others = ap length same in omega arith
-        next_by false begins = let same : rest ≡ next ∷ others = cc in let long : length rest ≡ length (next ∷ others) = ap length same in omega arith
-
-    by : (star question backslash : Bool)
-        → cond star (Begins Run bytes) (cond question (Begins AnyByte bytes) (cond backslash (front_after_backslash bytes) (Begins (Plain byte) bytes))) ≡ Begins part rest
-        → length rest < length (byte ∷ bytes)
-    by true question backslash begins = whole cc
-    by false true backslash begins = whole cc
-    by false false true begins = after bytes begins
-    by false false false begins = whole cc
 
 -- ---- whether a mask matches
 
@@ -164,13 +150,13 @@ one_decided {part} {mask} {rest} begins other each (byte ∷ more) = by (accepts
     by : (test : Bool) → accepts part byte ≡ test → Decided mask (byte ∷ more)
     by false refused = inr (differs_at_byte begins other refl refused)
     by true accepted = elim (each more) [
-      | inl held ↦ inl (one begins refl accepted held)
+      | inl held ↦ inl (matches_byte begins refl accepted held)
       | inr failed ↦ inr (λ all. failed (left (one-complete begins other all)))
     ]
 
 decided_by_front : (mask : List ℕ) → ((rest : List ℕ) → length rest < length mask → (text : List ℕ) → Decided rest text)
     → (text : List ℕ) (found : Front) → front mask ≡ found → Decided mask text
-decided_by_front mask shorter [] Empty empty = inl (end empty refl)
+decided_by_front mask shorter [] Empty empty = inl (matches_end empty refl)
 decided_by_front mask shorter (byte ∷ more) Empty empty = inr (λ all. let none : byte ∷ more ≡ [] = end-complete empty all in cc)
 decided_by_front mask shorter text (Begins Run rest) begins = elim (somewhere_decided rest (shorter rest (begins-shorter mask begins)) text) [
   | inl here ↦ inl (run-sound begins here)

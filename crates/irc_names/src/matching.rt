@@ -1,8 +1,9 @@
 //! Masks against texts (RFC 2812, section 2.5).
 ghost use Rattle.std.specs.Prelude.{◌≡◌, ◌<◌, ◌≤◌, ◌↔◌, length, IsTrue, MatchOption, IfSome};
-ghost use Rattle.irc_names.specs.Masks.{Empty, Begins, front, front_after_backslash, accepts, Matches};
+ghost use Rattle.irc_names.specs.Masks.{Matches};
+ghost use Rattle.irc_names.specs.Loops.Fronts.{Empty, Begins, front, front_after_backslash, accepts};
 ghost use Rattle.irc_names.specs.MaskLaws.{Somewhere, matches};
-ghost use Rattle.irc_names.specs.Walks.{Tells, IsShorter, IsFirst};
+ghost use Rattle.irc_names.specs.Loops.Walks.{Tells, IsShorter, IsFirst};
 
 use crate::fold;
 

@@ -1,5 +1,5 @@
 use Rattle.irc_names.specs.Masks.{Matches}
-use Rattle.irc_names.specs.Walks.{Tells}
+use Rattle.irc_names.specs.Loops.Walks.{Tells}
 use Rattle.irc_names.proofs.MaskSteps.{length_left}
 use Rattle.irc_names.proofs.matching.mask_matches.Given as goal
 
