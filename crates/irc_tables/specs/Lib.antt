@@ -1,2 +1,3 @@
 pub mod FoldedRows
 pub mod RowViews
+pub mod Loops
