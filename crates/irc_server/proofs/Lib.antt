@@ -1,8 +1,11 @@
+pub mod Numbers
+pub mod Matching
+pub mod MatchedEvents
+pub mod Index
 pub mod Growing
-pub mod HomeRoom
 pub mod Showings
+pub mod HomeRoom
 pub mod Steps
-pub mod ClientLoops
 pub mod WhatEventsDo
 pub mod NewServer
 pub mod Receiving

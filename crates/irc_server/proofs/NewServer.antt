@@ -1,23 +1,29 @@
--- A new server has an empty room of its own.
+-- A new server has an empty room of its own, and no clients.
 use Rattle.std.proofs.Common.{◌≡◌, ℕ, false, List, refl, sym, ◌∙◌, ap, subst}
-use Rattle.std.specs.FinMap.{get-empty}
-use Rattle.irc_names.specs.Tables.{fold_cmp}
-use Rattle.irc_users.specs.declared.user.User.{User}
+use Rattle.std.specs.Ordering.{nat_cmp}
+use Rattle.std.specs.FinMap.{empty, get, get-empty}
 use Rattle.irc_room.specs.Applying.{Kept}
 use Rattle.irc_room.specs.Laws.{no_room}
 use Rattle.irc_room.proofs.WellFormedLaw.{no_room_is_well_formed}
+use Rattle.irc_server.specs.declared.clients.Client.{Client}
 use Rattle.irc_server.specs.declared.stage.Stage.{Stage}
-use Rattle.irc_server.specs.Stage.{IsReady, IsSound}
+use Rattle.irc_server.specs.View.{View}
+use Rattle.irc_server.specs.Matched.{IsMatched}
+use Rattle.irc_server.specs.Stage.{IsIndexed, IsReady, IsSound}
 
 nobody : (own : List ℕ) → IsSound (record { own = own; failed = false; room = no_room })
-nobody own = record {
-  serves = refl;
-  well_formed = no_room_is_well_formed;
-  at_home = λ fold user is. let none = get-empty {X = User} fold_cmp fold in cc;
-}
+nobody own = record { serves = refl; well_formed = no_room_is_well_formed }
 
-pub is_ready : (stage : Stage) (own : List ℕ) → own ≡ stage.routes.name → stage.room ≡ record { own = own; failed = false; room = no_room } → IsReady stage
-is_ready stage own own_is room_is = record {
+pub is_ready : (stage : Stage) (own : List ℕ) → own ≡ stage.routes.name → stage.room ≡ record { own = own; failed = false; room = no_room } → IsIndexed stage.clients
+    → IsReady stage
+is_ready stage own own_is room_is indexed = record {
   own_is = ap (λ (k : Kept). k.own) room_is ∙ own_is;
   sound = subst IsSound (sym room_is) (nobody own);
+  indexed = indexed;
+}
+
+pub is_matched : (view : View) → view.clients ≡ empty → IsMatched view
+is_matched view none = record {
+  registered_is_user = λ conn nick is. let nobody = get-empty {X = Client} nat_cmp conn in let same = ap (λ cs. get cs conn) none in cc;
+  user_has_one = λ conn other nick name is is_other same_names. let nobody = get-empty {X = Client} nat_cmp conn in let same = ap (λ cs. get cs conn) none in cc;
 }

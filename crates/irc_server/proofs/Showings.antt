@@ -1,53 +1,127 @@
--- Lines to viewers, one client after another.
-use Rattle.std.proofs.Common.{◌≡◌, ℕ, ◌+◌, ◌<◌, ◌≤◌, true, false, Option, Some, None, List, [], ◌∷◌, ◌++◌, length, drop, get_or, sym, ◌∙◌, ap, append-nil, append_assoc, if◌then◌else◌}
+-- Lines to viewers: to the one client that is the viewer, where there is one.
+use Rattle.std.proofs.Common.{◌≡◌, ℕ, ◌+◌, ◌<◌, ◌≤◌, Bool, true, false, cond, T, Option, Some, None, List, [], ◌∷◌, ◌++◌, length, drop, get_or, refl, sym, ◌∙◌, ap, subst, append-nil, append_assoc, filter_map, if◌then◌else◌}
 use Rattle.std.specs.List.{cons_option}
+use Rattle.std.specs.Ordering.{nat_cmp}
+use Rattle.std.specs.Cmp.{nat_cmp_total}
+use Rattle.std.specs.FinMap.{get, entries, entries_sorted, find, is_sorted, get-entries}
+use Rattle.std.specs.FinMap.Entries.{below_all}
 use Rattle.std.proofs.lemmas.List.{drop_more, drop_all}
 use Rattle.arrayvec.specs.ArrayVec.{ArrayVec}
+use Rattle.irc_names.specs.Fold.{key, same}
+use Rattle.irc_names.specs.Tables.{Table, row}
+use Rattle.irc_tables.proofs.OrderedEntries.{above-is, find-above}
 use Rattle.irc_room.specs.Seen.{Showing}
+use Rattle.irc_room.proofs.Rows.{same_some}
+use Rattle.irc_room.proofs.ViewerLaws.{both_true}
 use Rattle.irc_acts.specs.Acts.{kept}
-use Rattle.irc_server.specs.declared.clients.Connected.{Connected}
+use Rattle.irc_server.specs.declared.clients.Client.{Client}
+use Rattle.irc_server.specs.declared.clients.Client.TheVariants.{Registering, Registered}
 use Rattle.irc_server.specs.declared.event.Out.{Out}
 use Rattle.irc_server.specs.declared.event.Out.TheVariants.{ToClient}
+use Rattle.irc_server.specs.View.{Clients}
 use Rattle.irc_server.specs.Handle.{is_client, to_viewer}
-use Rattle.irc_server.specs.Stage.{all_shown, shown_of}
+use Rattle.irc_server.specs.Stage.{all_shown, shown_of, IsIndex, IsNamed}
+use Rattle.irc_server.proofs.Numbers.{same_number, one_number, same_number-refl}
+use Rattle.irc_server.proofs.Matching.{nick_in, same_by_key, key_by_same}
+use Rattle.irc_server.proofs.Index.{differs, named_is}
 
-to_one : Showing → Connected → Option Out
-to_one showing c = if is_client showing.viewer c.client then Some (ToClient c.conn (kept showing.line)) else None
+abbrev Entry : Type 0
+Entry = ℕ × Client
 
-front : (clients : List Connected) (showing : Showing) (i : ℕ) (d : Connected) → i < length clients
-    → to_viewer (drop i clients) showing ≡ cons_option (to_one showing (get_or clients i d)) (to_viewer (drop (i + 1) clients) showing)
-unfolding to_one
-front clients showing i d within = ap (λ cs. to_viewer cs showing) (drop_more clients i d within)
+told : (b : Bool) → T b → b ≡ true
+told true h = refl
+told false h = absurd h
 
-pub client_shown : (clients : List Connected) (showing : Showing) (i : ℕ) (d : Connected) (out more total : List Out) → i < length clients
-    → is_client showing.viewer (get_or clients i d).client ≡ true → more ≡ out ++ ToClient (get_or clients i d).conn (kept showing.line) ∷ []
-    → out ++ to_viewer (drop i clients) showing ≡ total → more ++ to_viewer (drop (i + 1) clients) showing ≡ total
-unfolding to_one
-client_shown clients showing i d out more total within is more_is so_far =
-    let line = ToClient (get_or clients i d).conn (kept showing.line) in
-    let later = to_viewer (drop (i + 1) clients) showing in
-    ap (λ l. l ++ later) more_is
-    ∙ append_assoc out (line ∷ []) later
-    ∙ ap (λ l. out ++ l) (sym (front clients showing i d within ∙ ap (λ b. cons_option (if b then Some line else None) later) is))
-    ∙ so_far
+-- no entry behind one in order has its number
+none_behind : (e : Entry) (es : List Entry) → T (below_all nat_cmp e.0 es) → find nat_cmp e.0 es ≡ None
+none_behind e es below = find-above nat_cmp_total e.0 es (sym (above-is nat_cmp_total e.0 es) ∙ told _ below)
 
-pub client_passed : (clients : List Connected) (showing : Showing) (i : ℕ) (d : Connected) (out total : List Out) → i < length clients
-    → is_client showing.viewer (get_or clients i d).client ≡ false
-    → out ++ to_viewer (drop i clients) showing ≡ total → out ++ to_viewer (drop (i + 1) clients) showing ≡ total
-unfolding to_one
-client_passed clients showing i d out total within is so_far =
-    let line = ToClient (get_or clients i d).conn (kept showing.line) in
-    let later = to_viewer (drop (i + 1) clients) showing in
-    ap (λ l. out ++ l) (sym (front clients showing i d within ∙ ap (λ b. cons_option (if b then Some line else None) later) is)) ∙ so_far
+-- what is found behind an entry is found with it
+later : (e : Entry) (es : List Entry) (q : ℕ) (c : Client) → T (below_all nat_cmp e.0 es) → find nat_cmp q es ≡ Some c → find nat_cmp q (e ∷ es) ≡ Some c
+later e es q c below is = by (same_number q e.0) refl
+  where
+    by : (b : Bool) → same_number q e.0 ≡ b → cond b (Some e.1) (find nat_cmp q es) ≡ Some c
+    by true one = let none = none_behind e es below in let moved = ap (λ n. find nat_cmp n es) (one_number q e.0 one) in cc
+    by false two = is
 
-pub clients_done : (clients : List Connected) (showing : Showing) (i : ℕ) (out total : List Out) → length clients ≤ i
-    → out ++ to_viewer (drop i clients) showing ≡ total → out ≡ total
-clients_done clients showing i out total all so_far =
-    sym (append-nil out) ∙ ap (λ l. out ++ l) (sym (ap (λ cs. to_viewer cs showing) (drop_all i clients all))) ∙ so_far
+here : (e : Entry) (es : List Entry) → find nat_cmp e.0 (e ∷ es) ≡ Some e.1
+here e es = ap (λ b. cond b (Some e.1) (find nat_cmp e.0 es)) (same_number-refl e.0)
+
+module _ (test : Client → Bool) (line : ℕ → Out) where
+  abbrev chosen : Entry → Option Out
+  chosen e = if test e.1 then Some (line e.0) else None
+
+  none_chosen : (es : List Entry) → T (is_sorted nat_cmp es) → ((q : ℕ) (c : Client) → find nat_cmp q es ≡ Some c → test c ≡ false) → filter_map chosen es ≡ []
+  none_chosen [] rise fails = refl
+  none_chosen (e ∷ es) rise fails =
+      let parts = both_true _ _ rise in
+      ap (λ b. cons_option (if b then Some (line e.0) else None) (filter_map chosen es)) (fails e.0 e.1 (here e es))
+      ∙ none_chosen es parts.1 (λ q c is. fails q c (later e es q c parts.0 is))
+
+  one_chosen : (es : List Entry) → T (is_sorted nat_cmp es) → (conn : ℕ) (mine : Client) → find nat_cmp conn es ≡ Some mine → test mine ≡ true
+      → ((q : ℕ) (c : Client) → find nat_cmp q es ≡ Some c → test c ≡ true → q ≡ conn) → filter_map chosen es ≡ line conn ∷ []
+  one_chosen [] rise conn mine found passes only = cc found
+  one_chosen (e ∷ es) rise conn mine found passes only =
+      by (test e.1) refl (λ behind. one_chosen es (both_true _ _ rise).1 conn mine behind passes (λ q c is. only q c (later e es q c (both_true _ _ rise).0 is)))
+    where
+      low : T (below_all nat_cmp e.0 es)
+      low = (both_true _ _ rise).0
+
+      others_fail : e.0 ≡ conn → (q : ℕ) (c : Client) → find nat_cmp q es ≡ Some c → (b : Bool) → test c ≡ b → test c ≡ false
+      others_fail at q c is true one =
+          let number : q ≡ e.0 = only q c (later e es q c low is) one ∙ sym at in
+          let none = none_behind e es low in
+          let moved = ap (λ n. find nat_cmp n es) number in cc
+      others_fail at q c is false two = two
+
+      behind_it : (b : Bool) → same_number conn e.0 ≡ b → test e.1 ≡ false → find nat_cmp conn es ≡ Some mine
+      behind_it true one fails =
+          let first : e.1 ≡ mine = same_some e.1 mine (sym (ap (λ b. cond b (Some e.1) (find nat_cmp conn es)) one) ∙ found) in cc
+      behind_it false two fails = sym (ap (λ b. cond b (Some e.1) (find nat_cmp conn es)) two) ∙ found
+
+      by : (b : Bool) → test e.1 ≡ b → (find nat_cmp conn es ≡ Some mine → filter_map chosen es ≡ line conn ∷ []) → filter_map chosen (e ∷ es) ≡ line conn ∷ []
+      by true one rest =
+          let at : e.0 ≡ conn = only e.0 e.1 (here e es) one in
+          ap (λ t. cons_option (if t then Some (line e.0) else None) (filter_map chosen es)) one
+          ∙ ap (λ l. line e.0 ∷ l) (none_chosen es (both_true _ _ rise).1 (λ q c is. others_fail at q c is (test c) refl))
+          ∙ ap (λ n. line n ∷ []) at
+      by false two rest =
+          ap (λ t. cons_option (if t then Some (line e.0) else None) (filter_map chosen es)) two
+          ∙ rest (behind_it (same_number conn e.0) refl two)
+
+abbrev line_out : Showing → ℕ → Out
+line_out showing conn = ToClient conn (kept showing.line)
+
+-- no client is the viewer
+pub shown_to_none : (clients : Clients) (showing : Showing)
+    → ((conn : ℕ) (name : List ℕ) → get clients conn ≡ Some (Registered name) → same name showing.viewer ≡ false) → to_viewer clients showing ≡ []
+shown_to_none clients showing nobody =
+    none_chosen (is_client showing.viewer) (line_out showing) (entries clients) (entries_sorted clients) (λ q c is. by q c (get-entries clients q ∙ is))
+  where
+    by : (q : ℕ) (c : Client) → get clients q ≡ Some c → is_client showing.viewer c ≡ false
+    by q (Registering pending) is = refl
+    by q (Registered name) is = nobody q name is
+
+module _ (clients : Clients) (by_nick : Table ℕ) (index : IsIndex clients by_nick) (showing : Showing) where
+  pub not_indexed : row by_nick (key showing.viewer) ≡ None → to_viewer clients showing ≡ []
+  not_indexed none = shown_to_none clients showing (λ conn name is. differs name showing.viewer
+      (λ one. let found = index.found conn name is in let folds = ap (row by_nick) one in cc))
+
+  pub indexed : (conn : ℕ) → row by_nick (key showing.viewer) ≡ Some conn → to_viewer clients showing ≡ ToClient conn (kept showing.line) ∷ []
+  indexed conn is_conn =
+      named_is (key showing.viewer) (get clients conn) (index.there (key showing.viewer) conn is_conn) (λ mine mine_is named.
+      one_chosen (is_client showing.viewer) (line_out showing) (entries clients) (entries_sorted clients) conn (Registered mine)
+      (sym (get-entries clients conn) ∙ mine_is) (same_by_key mine showing.viewer named)
+      (λ q c is passes. by q c (get-entries clients q ∙ is) passes))
+    where
+      by : (q : ℕ) (c : Client) → get clients q ≡ Some c → is_client showing.viewer c ≡ true → q ≡ conn
+      by q (Registering pending) is passes = cc passes
+      by q (Registered name) is passes =
+          same_some q conn (sym (index.found q name is) ∙ ap (row by_nick) (key_by_same name showing.viewer passes) ∙ is_conn)
 
 -- one showing after another
 
-pub showing_done : (clients : List Connected) (pairs : List (List ℕ × ArrayVec ℕ)) (i : ℕ) (d : List ℕ × ArrayVec ℕ) (out more total : List Out)
+pub showing_done : (clients : Clients) (pairs : List (List ℕ × ArrayVec ℕ)) (i : ℕ) (d : List ℕ × ArrayVec ℕ) (out more total : List Out)
     → i < length pairs → more ≡ out ++ to_viewer clients (shown_of (get_or pairs i d))
     → out ++ all_shown clients (drop i pairs) ≡ total → more ++ all_shown clients (drop (i + 1) pairs) ≡ total
 showing_done clients pairs i d out more total within more_is so_far =
@@ -56,7 +130,7 @@ showing_done clients pairs i d out more total within more_is so_far =
     ap (λ l. l ++ later) more_is ∙ append_assoc out now later
     ∙ ap (λ l. out ++ l) (sym (ap (all_shown clients) (drop_more pairs i d within))) ∙ so_far
 
-pub showings_done : (clients : List Connected) (pairs : List (List ℕ × ArrayVec ℕ)) (i : ℕ) (out total : List Out) → length pairs ≤ i
+pub showings_done : (clients : Clients) (pairs : List (List ℕ × ArrayVec ℕ)) (i : ℕ) (out total : List Out) → length pairs ≤ i
     → out ++ all_shown clients (drop i pairs) ≡ total → out ≡ total
 showings_done clients pairs i out total all so_far =
     sym (append-nil out) ∙ ap (λ l. out ++ l) (sym (ap (all_shown clients) (drop_all i pairs all))) ∙ so_far

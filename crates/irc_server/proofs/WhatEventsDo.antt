@@ -1,5 +1,5 @@
 -- What each event does, from what the functions below do.
-use Rattle.std.proofs.Common.{◌≡◌, ℕ, Bool, true, ◌&&◌, Option, Some, None, Result, Ok, Err, List, length, take, is_some, refl, sym, ◌∙◌, ap, subst, append-nil, option_map, OnOk}
+use Rattle.std.proofs.Common.{◌≡◌, ℕ, Bool, true, Option, Some, None, Result, Ok, Err, List, length, take, refl, sym, ◌∙◌, ap, subst, append-nil, option_map}
 use Rattle.std.proofs.Math.Seq.{take-append_seam}
 use Rattle.std.specs.Borrow.{Bor}
 use Rattle.std.specs.Option.{option_copied}
@@ -8,20 +8,12 @@ use Rattle.irc_line.specs.declared.reading.LineFault.{LineFault}
 use Rattle.irc_line.specs.Grammar.{IsReadAs}
 use Rattle.irc_line.specs.Messages.{Parsed}
 use Rattle.irc_line.specs.MessageViews.{optional_now}
-use Rattle.irc_names.specs.Fold.{key}
-use Rattle.irc_names.specs.Tables.{row}
 use Rattle.irc_channels.specs.Texts.{cut_words}
 use Rattle.irc_users.specs.declared.user.User.{User}
-use Rattle.irc_room.specs.declared.effect.Effect.TheVariants.{Quit}
-use Rattle.irc_room.specs.Room.{Room, IsWellFormed}
-use Rattle.irc_room.specs.Effects.{IsPossible}
+use Rattle.irc_room.specs.Room.{IsWellFormed}
 use Rattle.irc_room.proofs.Rows.{same_some}
-use Rattle.irc_routes.specs.Place.{Place}
 use Rattle.irc_acts.specs.declared.act.Act.{Act}
-use Rattle.irc_commands.specs.declared.pending.Pending.{Pending}
-use Rattle.irc_commands.specs.Comings.{DecidedAddsNobody, RegisteredIsAdded, UnregisteredChangesNothing}
 use Rattle.irc_commands.specs.Decide.{decide}
-use Rattle.irc_commands.specs.Register.{register}
 use Rattle.irc_server.specs.declared.clients.Client.{Client}
 use Rattle.irc_server.specs.declared.clients.Client.TheVariants.{Registering, Registered}
 use Rattle.irc_server.specs.declared.event.Event.{Event}
@@ -29,16 +21,13 @@ use Rattle.irc_server.specs.declared.event.Event.TheVariants.{Connect, Line, Gon
 use Rattle.irc_server.specs.declared.event.Out.{Out}
 use Rattle.irc_server.specs.declared.event.ServerFault.{ServerFault}
 use Rattle.irc_server.specs.declared.event.ServerFault.TheVariants.{Memory, Failed, NoSuchConnection, ConnectionThere, NoSuchLink, LinkThere}
-use Rattle.irc_server.specs.View.{View, client_of, with_new_client}
-use Rattle.irc_server.specs.Handle.{Handled, connects, says, goes, handled, fault_of, there, not_there, fresh, gone, read_as, unchanged, closing, all_stepped, decided, user_decided, user_of, lost_text}
+use Rattle.irc_server.specs.View.{View, client_of, with_client}
+use Rattle.irc_server.specs.Handle.{Handled, connects, says, goes, handled, fault_of, there, not_there, fresh, gone, read_as, unchanged, closing, all_stepped, decided, user_decided, lost_text}
 use Rattle.irc_server.specs.Happening.{Is, Does, IsHandled}
+use Rattle.irc_server.specs.Matched.{IsMatched, StaysMatched}
 use Rattle.irc_server.specs.Grown.{Grew}
-use Rattle.irc_server.specs.Stage.{behind, BringHome}
-use Rattle.irc_server.proofs.Steps.{carried_behind, bring_nobody, register_home}
-
-pub on_ok : {E : Type 0} (result : Result (Unit {0}) E) (P Q : Type 0) → (P → Q) → OnOk result P → OnOk result Q
-on_ok (Ok done) P Q then holds = then holds
-on_ok (Err e) P Q then holds = tt
+use Rattle.irc_server.specs.Stage.{behind}
+use Rattle.irc_server.proofs.Steps.{carried_behind}
 
 pub copied_now : (o : Option (Bor (List ℕ))) → optional_now o ≡ option_copied o
 copied_now None = refl
@@ -63,33 +52,6 @@ decided_by_name view conn None name message is = cc is
 decided_by_name view conn (Some user) name message is =
     ap (λ n. decided view conn (Some n) (decide view.room view.place n message)) (sym (same_some (user.nick) name is))
 
-pub obeyed_home : DecidedAddsNobody → (own : List ℕ) (room : Room) (place : Place) (who : List ℕ) (message : Parsed) (acts : List Act)
-    → acts ≡ (decide room place who message).steps → BringHome own acts
-obeyed_home adds_nobody own room place who message acts are =
-    subst (BringHome own) (sym are) (bring_nobody own (decide room place who message).steps (adds_nobody room place who message))
-
-pub registering_home : RegisteredIsAdded → UnregisteredChangesNothing → (own : List ℕ) (room : Room) (place : Place) (pending : Pending) (message : Parsed) (acts : List Act)
-    → own ≡ place.name → acts ≡ (register room place pending message).steps → BringHome own acts
-registering_home added changes_nothing own room place pending message acts own_is are =
-    subst (BringHome own) (sym are)
-    (subst (λ h. BringHome h (register room place pending message).steps) (sym own_is) (register_home added changes_nothing room place pending message))
-
--- the user that a client is can quit
-pub quit_possible : (room : Room) → IsWellFormed room → (client : Option Client) (nick text : List ℕ) → user_of room client ≡ Some nick → IsPossible room (Quit nick text)
-quit_possible room well None nick text is = absurd (cc is)
-quit_possible room well (Some (Registering pending)) nick text is = absurd (cc is)
-quit_possible room well (Some (Registered name)) nick text is = by_row (row room.users (key name)) refl is
-  where
-    by_row : (o : Option User) → row room.users (key name) ≡ o → option_map (λ (user : User). user.nick) o ≡ Some nick → IsPossible room (Quit nick text)
-    by_row None there none = absurd (cc none)
-    by_row (Some user) there some = record {
-      users_there =
-          ap (λ q. is_some (row room.users q) && true) (sym (ap key (same_some (user.nick) nick some)) ∙ well.users_named (key name) user there)
-          ∙ ap (λ o. is_some o && true) there;
-      channel_there = refl;
-      nick_free = refl;
-    }
-
 pub lost_is_whole : cut_words lost_text ≡ lost_text
 unfolding cut_words
 lost_is_whole = refl
@@ -97,7 +59,7 @@ lost_is_whole = refl
 -- what each kind of event does
 
 pub connected_does : (old new : View) (event : Event) (out : List Out) (conn : ℕ) (host : List ℕ) → event ≡ Connect conn host
-    → new ≡ with_new_client old conn (fresh host) → Does old event out new out
+    → new ≡ with_client old conn (fresh host) → Does old event out new out
 unfolding handled
 connected_does old new event out conn host event_is new_is =
     subst (λ (e : Event). Does old e out new out) (sym event_is)
@@ -174,3 +136,15 @@ pub ran_out : (now : Option View) (view : View) (event : Event) (out new : List 
     → n ≡ length out → IsHandled now event out (Err Memory) None (take n new)
 ran_out now view event out new n now_is none grew n_is =
     subst (λ (v : Option View). IsHandled v event out (Err Memory) None (take n new)) (sym now_is) (none, refl, cut_back out new n grew n_is)
+
+-- where no fault is owed a connection that connects is not there
+nobody_there : (client : Option Client) → there client ≡ None → client ≡ None
+nobody_there None is = refl
+nobody_there (Some client) is = cc is
+
+pub absent : (view : View) (event : Event) (conn : ℕ) (host : List ℕ) → event ≡ Connect conn host → fault_of view event ≡ None → client_of view conn ≡ None
+absent view event conn host is owed = nobody_there (client_of view conn) (sym (ap (fault_of view) is) ∙ owed)
+
+pub matched_after : StaysMatched → (old new : View) (event : Event) (out out_after : List Out) → IsMatched old → IsWellFormed old.room → Does old event out new out_after
+    → IsMatched new
+matched_after stays old new event out out_after matched well does = subst IsMatched (sym does.view_is) (stays old matched well does.happening)

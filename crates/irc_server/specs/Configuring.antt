@@ -1,6 +1,7 @@
 -- Which configurations a server is made of.
 use Rattle.std.specs.Prelude.{◌≡◌, ℕ, Bool, false, not, ◌&&◌, ◌||◌, Option, Some, None, Result, Ok, Err, List, [], ◌∷◌, nat_eq, if◌then◌else◌}
 use Rattle.std.specs.List.{list_any, list_all}
+use Rattle.std.specs.FinMap.{empty}
 use Rattle.std.specs.Char.{is_ascii_graphic}
 use Rattle.std.specs.Cmp.Lexicographic.{pointwise}
 use Rattle.irc_names.specs.Limits.{max_info, max_created}
@@ -56,7 +57,7 @@ config_fault config =
 
 -- a server without clients, linked to none, in an empty room
 abbrev pub new_view : Own → View
-new_view own = record { place = alone own.name.items own.info.items own.created.items; clients = []; room = no_room }
+new_view own = record { place = alone own.name.items own.info.items own.created.items; clients = empty; room = no_room }
 
 -- what comes of a configuration
 abbrev pub IsMade : Config → Result (Option View) ConfigFault → Type 0

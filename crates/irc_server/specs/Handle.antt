@@ -1,6 +1,7 @@
 -- What one event does to one server: the view after it, and what is put out, in order.
-use Rattle.std.specs.Prelude.{ℕ, Bool, true, false, Option, Some, None, Result, Ok, Err, List, [], ◌∷◌, ◌++◌, map, codes, if◌then◌else◌}
+use Rattle.std.specs.Prelude.{ℕ, Bool, true, false, Option, Some, None, Result, Ok, Err, List, [], ◌∷◌, ◌++◌, codes, if◌then◌else◌}
 use Rattle.std.specs.List.{flat_map, filter_map}
+use Rattle.std.specs.FinMap.{entries}
 use Rattle.std.specs.Option.{option_map}
 use Rattle.irc_names.specs.Fold.{key, same}
 use Rattle.irc_line.specs.declared.reading.LineFault.{LineFault}
@@ -28,8 +29,7 @@ use Rattle.irc_server.specs.declared.event.ServerFault.{ServerFault}
 use Rattle.irc_server.specs.declared.event.ServerFault.TheVariants.{NoSuchConnection, ConnectionThere}
 use Rattle.irc_server.specs.declared.clients.Client.{Client}
 use Rattle.irc_server.specs.declared.clients.Client.TheVariants.{Registering, Registered}
-use Rattle.irc_server.specs.declared.clients.Connected.{Connected}
-use Rattle.irc_server.specs.View.{connected, View, client_of, with_new_client, with_client, without_client}
+use Rattle.irc_server.specs.View.{Clients, View, client_of, with_client, without_client, each_client}
 
 -- what happens to a server; of a line, what it is read as
 pub data Happening : Type 0 where
@@ -47,22 +47,25 @@ is_client nick (Registering pending) = false
 is_client nick (Registered name) = same name nick
 
 -- a line to the viewer, where it is a client of this server
-abbrev pub to_viewer : List Connected → Showing → List Out
+abbrev pub to_viewer : Clients → Showing → List Out
 to_viewer clients showing =
-    filter_map (λ c. if is_client showing.viewer c.client then Some (ToClient c.conn (kept showing.line)) else None) clients
+    filter_map (λ (c : ℕ × Client). if is_client showing.viewer c.1 then Some (ToClient c.0 (kept showing.line)) else None) (entries clients)
 
 -- a client whose user takes another nickname is that user still
-abbrev pub renamed_in : List ℕ → List ℕ → Connected → Connected
-renamed_in old new c = if is_client old c.client then connected c.conn (Registered new) else c
+abbrev pub renamed_in : List ℕ → List ℕ → Client → Client
+renamed_in old new client = if is_client old client then Registered new else client
 
-abbrev pub clients_after : Effect → List Connected → List Connected
-clients_after (Rename nick new) clients = map (renamed_in nick new) clients
+abbrev pub clients_after : Effect → Clients → Clients
+clients_after (Rename nick new) clients = each_client (renamed_in nick new) clients
 clients_after effect clients = clients
+
+abbrev pub view_after : View → Effect → View
+view_after view effect = record view { room = after view.room effect; clients = clients_after effect view.clients }
 
 -- An effect changes the room, and is shown to the viewers that are clients of this server.
 abbrev pub with_effect : Effect → Handled → Handled
 with_effect effect before = record {
-  view = record (before.view) { room = after before.view.room effect; clients = clients_after effect before.view.clients };
+  view = view_after before.view effect;
   out = before.out ++ flat_map (to_viewer before.view.clients) (seen before.view.room effect);
 }
 
@@ -139,7 +142,7 @@ abbrev pub fresh : List ℕ → Client
 fresh host = Registering (record { nick = None; user = None; real = []; host = host })
 
 unfoldable pub handled : View → Happening → Handled
-handled view (connects conn host) = unchanged (with_new_client view conn (fresh host))
+handled view (connects conn host) = unchanged (with_client view conn (fresh host))
 handled view (says conn read) = read_as view conn read
 handled view (goes conn) = gone view conn (client_of view conn)
 

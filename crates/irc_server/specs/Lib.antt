@@ -2,6 +2,7 @@ pub mod Limits
 pub mod Configuring
 pub mod View
 pub mod Handle
+pub mod Matched
 pub mod Stage
 pub mod Grown
 pub mod Happening

@@ -1,31 +1,67 @@
 -- A server as its code has it while an event is handled.
-use Rattle.std.specs.Prelude.{◌≡◌, ℕ, ⊤, false, Some, List, [], ◌∷◌, ◌++◌, map}
+use Rattle.std.specs.Prelude.{◌≡◌, ℕ, ⊤, false, Option, Some, None, List, [], ◌∷◌, ◌++◌, map}
 use Rattle.std.specs.List.{flat_map}
+use Rattle.std.specs.FinMap.{get, from_entries}
+use Rattle.std.specs.BTreeMap.{BTreeMap}
 use Rattle.arrayvec.specs.ArrayVec.{ArrayVec}
-use Rattle.irc_names.specs.Tables.{Table, row}
+use Rattle.irc_names.specs.Fold.{key}
+use Rattle.irc_names.specs.Tables.{Table, row, alter}
 use Rattle.irc_users.specs.declared.user.User.{User}
 use Rattle.irc_room.specs.declared.effect.Effect.{Effect}
-use Rattle.irc_room.specs.declared.effect.Effect.TheVariants.{AddUser}
+use Rattle.irc_room.specs.declared.effect.Effect.TheVariants.{Rename}
 use Rattle.irc_room.specs.Room.{IsWellFormed}
+use Rattle.irc_room.specs.Effects.{IsPossible}
 use Rattle.irc_room.specs.Applying.{Kept}
+use Rattle.irc_room.specs.InTurn.{IsSoFirst}
 use Rattle.irc_room.specs.Seen.{Showing}
 use Rattle.irc_acts.specs.declared.act.Act.{Act}
 use Rattle.irc_acts.specs.declared.act.Act.TheVariants.{Do}
-use Rattle.irc_server.specs.declared.clients.Connected.{Connected}
+use Rattle.irc_server.specs.declared.clients.Client.{Client}
+use Rattle.irc_server.specs.declared.clients.Client.TheVariants.{Registered}
+use Rattle.irc_server.specs.declared.clients.ClientTable.{ClientTable}
 use Rattle.irc_server.specs.declared.event.Out.{Out}
 use Rattle.irc_server.specs.declared.stage.Stage.{Stage}
-use Rattle.irc_server.specs.View.{View}
-use Rattle.irc_server.specs.Handle.{Handled, to_viewer}
+use Rattle.irc_server.specs.View.{Clients, View, client_of}
+use Rattle.irc_server.specs.Handle.{Handled, to_viewer, view_after}
 
 -- what a room hands out, as it is shown
 abbrev pub shown_of : List ℕ × ArrayVec ℕ → Showing
 shown_of pair = record { viewer = pair.0; line = pair.1.items }
 
-abbrev pub all_shown : List Connected → List (List ℕ × ArrayVec ℕ) → List Out
+abbrev pub all_shown : Clients → List (List ℕ × ArrayVec ℕ) → List Out
 all_shown clients pairs = flat_map (to_viewer clients) (map shown_of pairs)
 
+-- the clients by their numbers
+abbrev pub numbered : BTreeMap ℕ Client → Clients
+numbered m = from_entries m.entries
+
+abbrev pub clients_of : ClientTable → Clients
+clients_of table = numbered table.by_number
+
+-- whether a client is registered by a nickname with this fold
+abbrev pub IsNamed : List ℕ → Option Client → Type 0
+IsNamed fold (Some (Registered nick)) = key nick ≡ fold
+IsNamed fold other = ⊥
+
+-- the index by nickname has each registered client, and nobody else
+pub record IsIndex (clients : Clients) (by_nick : Table ℕ) : Type 0 where
+  pub found : (conn : ℕ) (nick : List ℕ) → get clients conn ≡ Some (Registered nick) → row by_nick (key nick) ≡ Some conn
+  pub there : (fold : List ℕ) (conn : ℕ) → row by_nick fold ≡ Some conn → IsNamed fold (get clients conn)
+
+abbrev pub IsIndexed : ClientTable → Type 0
+IsIndexed table = IsIndex (clients_of table) table.by_nick
+
+-- the index after a client is seated, and after one has left
+abbrev pub entered : ℕ → Client → Table ℕ → Table ℕ
+entered conn (Registered nick) by_nick = alter (key nick) (λ _. Some conn) by_nick
+entered conn client by_nick = by_nick
+
+abbrev pub departed : Option Client → Table ℕ → Table ℕ
+departed (Some (Registered nick)) by_nick = alter (key nick) (λ _. None) by_nick
+departed client by_nick = by_nick
+
 abbrev pub view_of : Stage → View
-view_of stage = record { place = stage.routes; clients = stage.clients.items; room = stage.room.room }
+view_of stage = record { place = stage.routes; clients = clients_of stage.clients; room = stage.room.room }
 
 -- the server now, and what has been put out
 abbrev pub so_far : Stage → List Out → Handled
@@ -35,27 +71,45 @@ so_far stage out = record { view = view_of stage; out = out }
 abbrev pub behind : List Out → Handled → Handled
 behind out h = record { view = h.view; out = out ++ h.out }
 
--- every user is connected to the server with this name: no other is linked to it yet
-abbrev pub AtHome : List ℕ → Table User → Type 0
-AtHome home users = (fold : List ℕ) (user : User) → row users fold ≡ Some user → user.home ≡ home
-
--- a room that serves, and whose users are all connected to its own server
+-- a room that serves
 pub record IsSound (kept : Kept) : Type 0 where
   pub serves : kept.failed ≡ false
   pub well_formed : IsWellFormed kept.room
-  pub at_home : AtHome kept.own kept.room.users
-
--- a user that an effect adds is connected to this server
-abbrev pub BringsHome : List ℕ → Effect → Type 0
-BringsHome home (AddUser user) = user.home ≡ home
-BringsHome home other = ⊤
-
-abbrev pub BringHome : List ℕ → List Act → Type 0
-BringHome home [] = ⊤
-BringHome home (Do effect ∷ acts) = BringsHome home effect × BringHome home acts
-BringHome home (other ∷ acts) = BringHome home acts
 
 -- the room is the server's own, and serves
 pub record IsReady (stage : Stage) : Type 0 where
   pub own_is : stage.room.own ≡ stage.routes.name
   pub sound : IsSound stage.room
+  pub indexed : IsIndexed stage.clients
+
+-- a connection that is no client, or one that has not registered
+abbrev pub IsNoUser : Option Client → Type 0
+IsNoUser (Some (Registered nick)) = ⊥
+IsNoUser other = ⊤
+
+-- where this client is a user, no client is registered by its nickname
+abbrev pub IsFreeOf : Client → Clients → Type 0
+IsFreeOf (Registered nick) clients = (conn : ℕ) (name : List ℕ) → get clients conn ≡ Some (Registered name) → key name ≡ key nick → ⊥
+IsFreeOf client clients = ⊤
+
+-- no client but that of the first nickname is registered by the second
+abbrev pub IsFreeFor : List ℕ → List ℕ → Clients → Type 0
+IsFreeFor nick new clients = (conn : ℕ) (name : List ℕ) → get clients conn ≡ Some (Registered name) → key name ≡ key new → key name ≡ key nick
+
+-- clients stay apart by their nicknames
+abbrev pub LeavesApart : Effect → Clients → Type 0
+LeavesApart (Rename nick new) clients = IsFreeFor nick new clients
+LeavesApart effect clients = ⊤
+
+-- An effect is possible; each client that is a user is at home here, and no two will be one user.
+pub record IsFit (view : View) (effect : Effect) : Type 0 where
+  pub possible : IsPossible view.room effect
+  pub at_home : (conn : ℕ) (nick : List ℕ) (user : User) → client_of view conn ≡ Some (Registered nick) → row view.room.users (key nick) ≡ Some user
+      → user.home ≡ view.place.name
+  pub apart : LeavesApart effect view.clients
+
+-- each effect of these steps is so in its turn
+abbrev pub AreFit : View → List Act → Type 0
+AreFit view [] = ⊤
+AreFit view (Do effect ∷ acts) = IsSoFirst (IsFit view effect) (AreFit (view_after view effect) acts)
+AreFit view (act ∷ acts) = AreFit view acts

@@ -1,19 +1,19 @@
 //! What each event does to a server.
-ghost use Rattle.std.specs.Prelude.{◌≡◌, ℕ, Result, OnOk, IfOk};
+ghost use Rattle.std.specs.Prelude.{◌≡◌, ℕ, Option, None, Result, OnOk, IfOk};
 ghost use Rattle.std.specs.Option.{option_map};
 ghost use Rattle.irc_line.specs.Messages.{Parsed};
 ghost use Rattle.irc_line.specs.MessageViews.{parsed};
 ghost use Rattle.irc_names.specs.Fold.{key};
 ghost use Rattle.irc_names.specs.Tables.{row};
 ghost use Rattle.irc_commands.specs.CodeViews.{registered_of};
-ghost use Rattle.irc_acts.specs.Possible.{ArePossible};
-ghost use Rattle.irc_server.specs.Handle.{client_after, fresh, gone, lost_text, pending_decided, said_by, user_decided, user_of};
+ghost use Rattle.irc_server.specs.Handle.{client_after, fault_of, fresh, gone, lost_text, pending_decided, said_by, user_decided, user_of};
 ghost use Rattle.irc_server.specs.Happening.{Does};
-ghost use Rattle.irc_server.specs.View.{client_of, with_client, with_new_client, without_client};
+ghost use Rattle.irc_server.specs.Matched.{IsMatched};
+ghost use Rattle.irc_server.specs.View.{client_of, with_client, without_client};
 ghost use Rattle.irc_server.specs.Grown.{Grew};
-ghost use Rattle.irc_server.specs.Stage.{behind, so_far, view_of, IsReady, BringHome};
+ghost use Rattle.irc_server.specs.Stage.{behind, so_far, view_of, AreFit, IsFreeOf, IsNoUser, IsReady};
 
-use crate::clients::{Client, Connected, client_of, replace, take_out};
+use crate::clients::{Client, client_of, seat, take_out};
 use crate::event::{Event, Out};
 use crate::stage::{Stage, apply, carry_out};
 use irc_channels::Words;
@@ -28,15 +28,13 @@ const LOST: &[u8] = b"Connection closed";
 
 /// A client connects, and has given nothing.
 fn connect(stage: &mut Stage, conn: u64, host: Host) -> Result<(), AllocError>
-    ensures ok { OnOk result (view_of stage.new ≡ with_new_client (view_of stage.old) conn (fresh host)) }
-    ensures room { stage.new.room ≡ stage.old.room }
-    ensures routes { stage.new.routes ≡ stage.old.routes }
+    requires ready { IsReady stage.old }
+    requires absent { client_of (view_of stage.old) conn ≡ None }
+    ensures ok { OnOk result (view_of stage.new ≡ with_client (view_of stage.old) conn (fresh host)) }
+    ensures ready { OnOk result (IsReady stage.new) }
 {
-    stage.clients.push(Connected {
-        conn,
-        client: Client::Registering(Pending::new(host)),
-    })?;
-    Ok(())
+    let client = Client::Registering(Pending::new(host));
+    seat(&mut stage.clients, conn, client)
 }
 
 /// What a connection is after a line before registration.
@@ -57,13 +55,14 @@ fn settle(
     out: &mut Vec<Out, Global>,
 ) -> Result<(), AllocError>
     requires ready { IsReady stage.old }
-    requires possible { ArePossible stage.old.room.room given.now.steps.items }
-    requires home { BringHome stage.old.room.own given.now.steps.items }
+    requires no_user { IsNoUser (client_of (view_of stage.old) conn) }
+    requires free { IsFreeOf (client_after (registered_of given.now) given.now.pending.nick) (view_of stage.old).clients }
+    requires fit { AreFit (with_client (view_of stage.old) conn (client_after (registered_of given.now) given.now.pending.nick)) given.now.steps.items }
     ensures ok { OnOk result (so_far stage.new out.new.items ≡ behind out.old.items (pending_decided (view_of stage.old) conn (registered_of given.now))) }
     ensures ready { OnOk result (IsReady stage.new) }
     ensures grew { Grew out.old.items out.new.items }
 {
-    replace(&mut stage.clients, conn, &client_after(given));
+    seat(&mut stage.clients, conn, client_after(given))?;
     let name = given.pending.nick.as_ref();
     carry_out(stage, conn, name, &given.steps, given.close, out)
 }
@@ -77,17 +76,18 @@ fn obey(
     out: &mut Vec<Out, Global>,
 ) -> Result<(), AllocError>
     requires ready { IsReady stage.old }
+    requires matched { IsMatched (view_of stage.old) }
     ensures ok { OnOk result (so_far stage.new out.new.items ≡ behind out.old.items (user_decided (view_of stage.old) conn (row stage.old.room.room.users (key nick.now)) (parsed message.now))) }
     ensures ready { OnOk result (IsReady stage.new) }
     ensures grew { Grew out.old.items out.new.items }
 {
     laws::decided_is_possible();
-    laws::decided_adds_nobody();
+    laws::who_stays_is_user();
+    laws::who_is_closed_quits();
     let Some(name) = stored_nick(stage, nick) else {
         return Ok(());
     };
-    let alloc = *stage.clients.allocator();
-    let decision = decide(alloc, &stage.room, &stage.routes, &name, message)?;
+    let decision = decide(stage.alloc, &stage.room, &stage.routes, &name, message)?;
     carry_out(
         stage,
         conn,
@@ -116,6 +116,7 @@ fn hear(
     out: &mut Vec<Out, Global>,
 ) -> Result<(), AllocError>
     requires ready { IsReady stage.old }
+    requires matched { IsMatched (view_of stage.old) }
     ensures ok { OnOk result (so_far stage.new out.new.items ≡ behind out.old.items (said_by (view_of stage.old) conn (client_of (view_of stage.old) conn) (parsed message.now))) }
     ensures ready { OnOk result (IsReady stage.new) }
     ensures grew { Grew out.old.items out.new.items }
@@ -123,11 +124,11 @@ fn hear(
     laws::registering_is_possible();
     laws::registered_is_added();
     laws::unregistered_changes_nothing();
-    let alloc = *stage.clients.allocator();
+    laws::registered_stays();
     match client_of(&stage.clients, conn) {
         None => Ok(()),
         Some(Client::Registering(pending)) => {
-            let given = register(alloc, &stage.room, &stage.routes, pending, message)?;
+            let given = register(stage.alloc, &stage.room, &stage.routes, pending, message)?;
             settle(stage, conn, &given, out)
         }
         Some(Client::Registered(nick)) => {
@@ -150,6 +151,7 @@ fn user_of(stage: &Stage, conn: u64) -> Option<Nick>
 /// A client is gone: its user quits, and it is told nothing.
 fn go(stage: &mut Stage, conn: u64, out: &mut Vec<Out, Global>) -> Result<(), AllocError>
     requires ready { IsReady stage.old }
+    requires matched { IsMatched (view_of stage.old) }
     ensures ok { OnOk result (so_far stage.new out.new.items ≡ behind out.old.items (gone (view_of stage.old) conn (client_of (view_of stage.old) conn))) }
     ensures ready { OnOk result (IsReady stage.new) }
     ensures grew { Grew out.old.items out.new.items }
@@ -170,6 +172,8 @@ pub(crate) fn act(
     out: &mut Vec<Out, Global>,
 ) -> Result<(), AllocError>
     requires ready { IsReady stage.old }
+    requires matched { IsMatched (view_of stage.old) }
+    requires owed { fault_of (view_of stage.old) event ≡ None }
     ensures ok { OnOk result (Does (view_of stage.old) event out.old.items (view_of stage.new) out.new.items) }
     ensures ready { OnOk result (IsReady stage.new) }
     ensures grew { Grew out.old.items out.new.items }

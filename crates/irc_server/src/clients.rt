@@ -1,17 +1,21 @@
 //! The clients of a server, each under the number of its connection.
-ghost use Rattle.std.specs.Prelude.{◌≡◌, ℕ, List, not, map, filter, nat_eq, ◌++◌, OnOk};
+ghost use Rattle.std.specs.Prelude.{◌≡◌, ℕ, List, ◌++◌, Option, Some, Result, OnOk};
+ghost use Rattle.std.specs.FinMap.{empty, get, insert, remove};
 ghost use Rattle.std.specs.Option.{option_copied};
-ghost use Rattle.arrayvec.specs.ArrayVec.{ArrayVec};
-ghost use Rattle.irc_server.specs.View.{client_in, replaced};
-ghost use Rattle.irc_server.specs.Handle.{is_client, renamed_in, to_viewer};
-ghost use Rattle.irc_server.specs.Stage.{all_shown};
+ghost use Rattle.irc_names.specs.Fold.{key};
+ghost use Rattle.irc_names.specs.Tables.{row};
+ghost use Rattle.irc_server.specs.View.{each_client};
+ghost use Rattle.irc_server.specs.Handle.{renamed_in, to_viewer};
+ghost use Rattle.irc_server.specs.Stage.{all_shown, clients_of, departed, entered, numbered, IsFreeFor, IsFreeOf, IsIndexed, IsNoUser};
 ghost use Rattle.irc_server.specs.Grown.{Grew};
 
 use crate::event::Out;
 use irc_commands::Pending;
 use irc_line::Text;
 use irc_names::{Nick, copied};
+use irc_tables::NameTable;
 use std::alloc::{AllocError, Global};
+use std::collections::BTreeMap;
 
 /// A connection: it has not registered, or it is a user.
 #[derive(Drop)]
@@ -22,113 +26,141 @@ pub enum Client {
     Registered(Nick),
 }
 
-/// A client, under the number of its connection.
+/// The clients of a server.
 #[derive(Drop)]
-pub struct Connected {
-    /// The number.
-    pub conn: u64,
-    /// The client.
-    pub client: Client,
+pub(crate) struct ClientTable {
+    /// Each by the number of its connection.
+    pub by_number: BTreeMap<u64, Client, Global>,
+    /// The connection of each that is a user, by its nickname.
+    pub by_nick: NameTable<u64>,
 }
 
-impl Client {
-    /// The same once more.
-    pub(crate) fn copy(&self) -> Self
-        ensures { result ≡ self.now }
-    {
-        match self {
-            Client::Registering(pending) => Client::Registering(pending.copy()),
-            Client::Registered(nick) => Client::Registered(nick.copy()),
-        }
+/// No clients.
+pub(crate) fn no_clients(alloc: Global) -> ClientTable
+    ensures none { clients_of result ≡ empty }
+    ensures indexed { IsIndexed result }
+{
+    ClientTable {
+        by_number: BTreeMap::new(alloc),
+        by_nick: NameTable::new(alloc),
     }
 }
 
 /// The client of a connection, if there is one.
-pub(crate) fn client_of(clients: &[Connected], conn: u64) -> Option<&Client>
-    ensures { option_copied result ≡ client_in clients.now conn }
+pub(crate) fn client_of(clients: &ClientTable, conn: u64) -> Option<&Client>
+    ensures { option_copied result ≡ get (clients_of clients.now) conn }
 {
-    clients
-        .iter()
-        .find(|connected| connected.conn == conn)
-        .map(|connected| &connected.client)
+    clients.by_number.get(&conn)
 }
 
-/// Takes out the client of a connection.
-pub(crate) fn take_out(clients: &mut Vec<Connected, Global>, conn: u64)
-    ensures { clients.new.items ≡ filter (λ c. not (nat_eq c.conn conn)) clients.old.items }
+/// A connection is this client from now on.
+fn put(
+    clients: &mut BTreeMap<u64, Client, Global>,
+    conn: u64,
+    client: Client,
+) -> Result<(), AllocError>
+    ensures { OnOk result (numbered clients.new ≡ insert (numbered clients.old) conn client) }
 {
-    clients.retain(|connected| connected.conn != conn);
-}
-
-/// A connection is another client now.
-pub(crate) fn replace(clients: &mut Vec<Connected, Global>, conn: u64, client: &Client)
-    ensures { clients.new.items ≡ map (replaced conn client.now) clients.old.items }
-{
-    for connected in clients.iter_mut() {
-        replace_one(connected, conn, client);
+    match clients.insert(conn, client) {
+        Ok(_) => Ok(()),
+        Err(_) => Err(AllocError),
     }
 }
 
-fn replace_one(connected: &mut Connected, conn: u64, client: &Client)
-    ensures { connected.new ≡ replaced conn client.now connected.old }
+/// A connection that is no user is this client from now on.
+pub(crate) fn seat(
+    clients: &mut ClientTable,
+    conn: u64,
+    client: Client,
+) -> Result<(), AllocError>
+    requires indexed { IsIndexed clients.old }
+    requires no_user { IsNoUser (get (clients_of clients.old) conn) }
+    requires free { IsFreeOf client (clients_of clients.old) }
+    ensures ok { OnOk result (clients_of clients.new ≡ insert (clients_of clients.old) conn client) }
+    ensures indexed { OnOk result (IsIndexed clients.new) }
 {
-    if connected.conn == conn {
-        connected.client = client.copy();
+    enter(&mut clients.by_nick, conn, &client)?;
+    put(&mut clients.by_number, conn, client)
+}
+
+/// Takes out the client of a connection.
+pub(crate) fn take_out(clients: &mut ClientTable, conn: u64)
+    requires indexed { IsIndexed clients.old }
+    ensures out { clients_of clients.new ≡ remove (clients_of clients.old) conn }
+    ensures indexed { IsIndexed clients.new }
+{
+    let removed = clients.by_number.remove(&conn);
+    depart(&mut clients.by_nick, &removed);
+}
+
+/// A client that is a user stands in the index.
+fn enter(by_nick: &mut NameTable<u64>, conn: u64, client: &Client) -> Result<(), AllocError>
+    ensures { OnOk result (by_nick.new ≡ entered conn client.now by_nick.old) }
+{
+    match client {
+        Client::Registered(nick) => by_nick.insert(nick.as_bytes(), conn),
+        Client::Registering(_) => Ok(()),
+    }
+}
+
+/// A client that was a user stands in the index no more.
+fn depart(by_nick: &mut NameTable<u64>, client: &Option<Client>)
+    ensures { by_nick.new ≡ departed client.now by_nick.old }
+{
+    if let Some(Client::Registered(nick)) = client {
+        by_nick.remove(nick.as_bytes());
     }
 }
 
 /// The user with a nickname takes another.
-pub(crate) fn rename(clients: &mut Vec<Connected, Global>, old: &Nick, new: &Nick)
-    ensures { clients.new.items ≡ map (renamed_in old.now new.now) clients.old.items }
+pub(crate) fn rename(clients: &mut ClientTable, old: &Nick, new: &Nick) -> Result<(), AllocError>
+    requires indexed { IsIndexed clients.old }
+    requires free { IsFreeFor old.now new.now (clients_of clients.old) }
+    ensures ok { OnOk result (clients_of clients.new ≡ each_client (renamed_in old.now new.now) (clients_of clients.old)) }
+    ensures indexed { OnOk result (IsIndexed clients.new) }
 {
-    for connected in clients.iter_mut() {
-        rename_one(connected, old, new);
-    }
+    let Some(conn) = number_of(clients, old) else {
+        return Ok(());
+    };
+    clients.by_nick.rename(old.as_bytes(), new.as_bytes());
+    put(&mut clients.by_number, conn, Client::Registered(new.copy()))
 }
 
-fn rename_one(connected: &mut Connected, old: &Nick, new: &Nick)
-    ensures { connected.new ≡ renamed_in old.now new.now connected.old }
+/// The connection of the user with a nickname, where it is a client.
+fn number_of(clients: &ClientTable, nick: &Nick) -> Option<u64>
+    ensures { result ≡ row clients.now.by_nick (key nick.now) }
 {
-    if is_client(old, &connected.client) {
-        connected.client = Client::Registered(new.copy());
-    }
-}
-
-/// Whether a client is the user with a nickname.
-fn is_client(nick: &Nick, client: &Client) -> bool
-    ensures { result ≡ is_client nick.now client.now }
-{
-    match client {
-        Client::Registering(_) => false,
-        Client::Registered(name) => name == nick,
+    match clients.by_nick.get(nick.as_bytes()) {
+        Some(conn) => Some(*conn),
+        None => None,
     }
 }
 
 /// A line to the user with a nickname, where it is a client.
 fn show(
-    clients: &[Connected],
+    clients: &ClientTable,
     nick: &Nick,
     line: &Text,
     out: &mut Vec<Out, Global>,
 ) -> Result<(), AllocError>
-    ensures ok { OnOk result (out.new.items ≡ out.old.items ++ to_viewer clients.now (record { viewer = nick.now; line = line.now.items })) }
+    requires indexed { IsIndexed clients.now }
+    ensures ok { OnOk result (out.new.items ≡ out.old.items ++ to_viewer (clients_of clients.now) (record { viewer = nick.now; line = line.now.items })) }
     ensures grew { Grew out.old.items out.new.items }
 {
-    for connected in clients {
-        if is_client(nick, &connected.client) {
-            out.push(Out::ToClient(connected.conn, copied(line)))?;
-        }
+    if let Some(conn) = number_of(clients, nick) {
+        out.push(Out::ToClient(conn, copied(line)))?;
     }
     Ok(())
 }
 
 /// Lines to users by their nicknames, where they are clients.
 pub(crate) fn show_all(
-    clients: &[Connected],
+    clients: &ClientTable,
     shown: &[(Nick, Text)],
     out: &mut Vec<Out, Global>,
 ) -> Result<(), AllocError>
-    ensures ok { OnOk result (out.new.items ≡ out.old.items ++ all_shown clients.now shown.now) }
+    requires indexed { IsIndexed clients.now }
+    ensures ok { OnOk result (out.new.items ≡ out.old.items ++ all_shown (clients_of clients.now) shown.now) }
     ensures grew { Grew out.old.items out.new.items }
 {
     for (nick, line) in shown {

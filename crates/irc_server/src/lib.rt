@@ -5,10 +5,11 @@ mod acting;
 mod clients;
 mod config;
 mod event;
+pub mod laws;
 mod server;
 mod stage;
 
-pub use clients::{Client, Connected};
+pub use clients::Client;
 pub use config::{Config, ConfigFault, MAX_PASSWORD, Peer};
 pub use event::{Event, Out, ServerFault};
 pub use server::Server;

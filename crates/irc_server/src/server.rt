@@ -8,9 +8,10 @@ ghost use Rattle.irc_server.specs.Stage.{view_of};
 ghost use Rattle.irc_server.specs.View.{View};
 
 use crate::acting::act;
-use crate::clients::client_of;
+use crate::clients::{client_of, no_clients};
 use crate::config::{Config, ConfigFault, Peer, config_fault};
 use crate::event::{Event, Out, ServerFault};
+use crate::laws;
 use crate::stage::Stage;
 use irc_room::Room;
 use irc_routes::Routes;
@@ -37,14 +38,15 @@ impl Model for Server {
     ghost use Rattle.irc_users.specs.contracts.users.Users.{the_row as users_row};
     ghost use Rattle.irc_channels.specs.contracts.channel.Channel.{the_row as channel_row};
     ghost use Rattle.irc_routes.specs.contracts.routes.Routes.{the_row as routes_row};
-    ghost use Rattle.irc_server.specs.contracts.clients.Connected.{the_row as connected_row};
+    ghost use Rattle.irc_server.specs.contracts.clients.Client.{the_row as client_row};
     ghost use Rattle.irc_server.specs.Stage.{view_of, IsReady};
+    ghost use Rattle.irc_server.specs.Matched.{IsMatched};
 
-    ghost coded = { coded_option (view_code routes_row.coded connected_row.coded users_row.coded channel_row.coded) };
+    ghost coded = { coded_option (view_code routes_row.coded client_row.coded users_row.coded channel_row.coded) };
 
     ghost view = { λ s. if s.failed then None else Some (view_of s.stage) };
 
-    ghost invariant = { λ s. s.failed ≡ false → IsReady s.stage };
+    ghost invariant = { λ s. s.failed ≡ false → IsReady s.stage × IsMatched (view_of s.stage) };
 }
 
 impl Server {
@@ -61,12 +63,14 @@ impl Server {
         }
         let routes = Routes::new(config.own);
         let room = Room::new(alloc, routes.name().copy());
+        let clients = no_clients(alloc);
         Ok(Server {
             failed: false,
             stage: Stage {
                 routes,
-                clients: Vec::new(alloc),
+                clients,
                 room,
+                alloc,
             },
             peers: config.peers,
         })
@@ -81,6 +85,7 @@ impl Server {
     pub fn handle(&mut self, event: Event, out: &mut Vec<Out, Global>) -> Result<(), ServerFault>
         ensures { IsHandled self.old event out.old.items result self.new out.new.items }
     {
+        laws::stays_matched();
         if self.failed {
             return Err(ServerFault::Failed);
         }

@@ -1,15 +1,14 @@
 //! One server while an event is handled: what each step of a decision does to it, and what it puts out.
-ghost use Rattle.std.specs.Prelude.{◌≡◌, [], ◌∷◌, OnOk, IfOk, map};
+ghost use Rattle.std.specs.Prelude.{◌≡◌, [], ◌∷◌, OnOk, IfOk};
 ghost use Rattle.irc_line.specs.MessageViews.{optional_now};
 ghost use Rattle.irc_room.specs.After.{after};
+ghost use Rattle.irc_room.specs.Applying.{shown_here};
 ghost use Rattle.irc_room.specs.Effects.{IsPossible};
-ghost use Rattle.irc_room.specs.Seen.{seen};
-ghost use Rattle.irc_acts.specs.Possible.{ArePossible};
 ghost use Rattle.irc_server.specs.Handle.{all_stepped, clients_after, closing, stepped, with_effect};
 ghost use Rattle.irc_server.specs.Grown.{Grew};
-ghost use Rattle.irc_server.specs.Stage.{so_far, shown_of, IsReady, IsSound, BringsHome, BringHome};
+ghost use Rattle.irc_server.specs.Stage.{clients_of, so_far, view_of, AreFit, IsFit, IsIndexed, IsReady, IsSound, LeavesApart};
 
-use crate::clients::{Connected, rename, show_all, take_out};
+use crate::clients::{ClientTable, rename, show_all, take_out};
 use crate::event::Out;
 use irc_acts::Act;
 use irc_line::Text;
@@ -24,10 +23,12 @@ use std::alloc::{AllocError, Global};
 pub(crate) struct Stage {
     /// Its own row, and the servers that it knows.
     pub routes: Routes,
-    /// Its clients, in the order in which they connected.
-    pub clients: Vec<Connected, Global>,
+    /// Its clients.
+    pub clients: ClientTable,
     /// Its room.
     pub room: Room,
+    /// Where it takes memory from.
+    pub alloc: Global,
 }
 
 /// Applies an effect to a room in which it is possible, and gives what it shows.
@@ -38,9 +39,8 @@ fn happen(
 ) -> Result<Vec<(Nick, Text), Global>, AllocError>
     requires sound { IsSound room.old }
     requires possible { IsPossible room.old.room effect.now }
-    requires home { BringsHome room.old.own effect.now }
     ensures after { OnOk result (room.new ≡ record room.old { room = after room.old.room effect.now }) }
-    ensures shown { IfOk result (λ shown. map shown_of shown.items ≡ seen room.old.room effect.now) }
+    ensures shown { IfOk result (λ shown. shown.items ≡ shown_here room.old effect.now) }
     ensures sound { OnOk result (IsSound room.new) }
 {
     laws::after_is_well_formed();
@@ -53,12 +53,15 @@ fn happen(
 }
 
 /// Clients whose user takes another nickname by an effect are that user still.
-fn follow(clients: &mut Vec<Connected, Global>, effect: &Effect)
-    ensures { clients.new.items ≡ clients_after effect.now clients.old.items }
+fn follow(clients: &mut ClientTable, effect: &Effect) -> Result<(), AllocError>
+    requires indexed { IsIndexed clients.old }
+    requires apart { LeavesApart effect.now (clients_of clients.old) }
+    ensures ok { OnOk result (clients_of clients.new ≡ clients_after effect.now (clients_of clients.old)) }
+    ensures indexed { OnOk result (IsIndexed clients.new) }
 {
     match effect {
         Effect::Rename { nick, new } => rename(clients, nick, new),
-        _ => {}
+        _ => Ok(()),
     }
 }
 
@@ -69,18 +72,14 @@ pub(crate) fn apply(
     out: &mut Vec<Out, Global>,
 ) -> Result<(), AllocError>
     requires ready { IsReady stage.old }
-    requires possible { IsPossible stage.old.room.room effect.now }
-    requires home { BringsHome stage.old.room.own effect.now }
+    requires fit { IsFit (view_of stage.old) effect.now }
     ensures ok { OnOk result (so_far stage.new out.new.items ≡ with_effect effect.now (so_far stage.old out.old.items)) }
     ensures ready { OnOk result (IsReady stage.new) }
-    ensures own { OnOk result (stage.new.room.own ≡ stage.old.room.own) }
     ensures grew { Grew out.old.items out.new.items }
 {
-    let alloc = *stage.clients.allocator();
-    let shown = happen(alloc, &mut stage.room, effect)?;
+    let shown = happen(stage.alloc, &mut stage.room, effect)?;
     show_all(&stage.clients, &shown, out)?;
-    follow(&mut stage.clients, effect);
-    Ok(())
+    follow(&mut stage.clients, effect)
 }
 
 /// One step of a decision. Replies are sent to this name.
@@ -92,11 +91,9 @@ fn step(
     out: &mut Vec<Out, Global>,
 ) -> Result<(), AllocError>
     requires ready { IsReady stage.old }
-    requires possible { ArePossible stage.old.room.room (act.now ∷ []) }
-    requires home { BringHome stage.old.room.own (act.now ∷ []) }
+    requires fit { AreFit (view_of stage.old) (act.now ∷ []) }
     ensures ok { OnOk result (so_far stage.new out.new.items ≡ stepped conn (optional_now name.entry) act.now (so_far stage.old out.old.items)) }
     ensures ready { OnOk result (IsReady stage.new) }
-    ensures own { OnOk result (stage.new.room.own ≡ stage.old.room.own) }
     ensures grew { Grew out.old.items out.new.items }
 {
     match act {
@@ -122,11 +119,9 @@ fn take_steps(
     out: &mut Vec<Out, Global>,
 ) -> Result<(), AllocError>
     requires ready { IsReady stage.old }
-    requires possible { ArePossible stage.old.room.room steps.now }
-    requires home { BringHome stage.old.room.own steps.now }
+    requires fit { AreFit (view_of stage.old) steps.now }
     ensures ok { OnOk result (so_far stage.new out.new.items ≡ all_stepped conn (optional_now name.entry) steps.now (so_far stage.old out.old.items)) }
     ensures ready { OnOk result (IsReady stage.new) }
-    ensures own { OnOk result (stage.new.room.own ≡ stage.old.room.own) }
     ensures grew { Grew out.old.items out.new.items }
 {
     for act in steps {
@@ -145,11 +140,9 @@ pub(crate) fn carry_out(
     out: &mut Vec<Out, Global>,
 ) -> Result<(), AllocError>
     requires ready { IsReady stage.old }
-    requires possible { ArePossible stage.old.room.room steps.now }
-    requires home { BringHome stage.old.room.own steps.now }
+    requires fit { AreFit (view_of stage.old) steps.now }
     ensures ok { OnOk result (so_far stage.new out.new.items ≡ closing close conn (all_stepped conn (optional_now name.entry) steps.now (so_far stage.old out.old.items))) }
     ensures ready { OnOk result (IsReady stage.new) }
-    ensures own { OnOk result (stage.new.room.own ≡ stage.old.room.own) }
     ensures grew { Grew out.old.items out.new.items }
 {
     take_steps(stage, conn, name, steps, out)?;

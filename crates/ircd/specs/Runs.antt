@@ -2,6 +2,7 @@
 use Rattle.std.specs.Prelude.{◌≡◌, ℕ, ◌+◌, ◌-◌, ◌^◌, Option, Some, None, Result, Ok, Err, List, [], ◌∷◌, ◌++◌, codes, nat_lt, ⊤, IfSome, if◌then◌else◌}
 use Rattle.std.specs.Io.KnownBytes.{Appends}
 use Rattle.std.specs.List.{flat_map}
+use Rattle.std.specs.FinMap.{empty}
 use Rattle.irc_server.specs.declared.event.Event.{Event}
 use Rattle.irc_server.specs.declared.event.Event.TheVariants.{Connect, Line, Gone}
 use Rattle.irc_server.specs.declared.event.Out.{Out}
@@ -98,7 +99,7 @@ first_client = 1
 
 -- the server of a script: nobody is connected to it, and its room is empty
 abbrev pub first_view : List ℕ → View
-first_view name = record { place = alone name (codes "Test server") (codes "2024-01-01"); clients = []; room = no_room }
+first_view name = record { place = alone name (codes "Test server") (codes "2024-01-01"); clients = empty; room = no_room }
 
 -- where a script begins, with a server of this name or with none
 abbrev pub first_standing : Option (List ℕ) → Standing

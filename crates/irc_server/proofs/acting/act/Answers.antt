@@ -3,7 +3,8 @@ use Rattle.irc_line.specs.MessageViews.{parsed_result}
 use Rattle.irc_server.specs.Handle.{read_as}
 use Rattle.irc_server.specs.Stage.{behind, view_of}
 use Rattle.irc_server.proofs.Steps.{nothing_behind}
-use Rattle.irc_server.proofs.WhatEventsDo.{on_ok, connected_does, gone_does, said_does}
+use Rattle.irc_server.proofs.Growing.{on_ok}
+use Rattle.irc_server.proofs.WhatEventsDo.{absent, connected_does, gone_does, said_does}
 use Rattle.irc_server.proofs.acting.act.Goals as goal
 
 pub returns-in-Connect-clause-ok : goal.returns-in-Connect-clause-ok
@@ -32,3 +33,6 @@ returns-in-Gone-clause-ok c =
     on_ok c.go.result _ _
     (gone_does (view_of c.args.stage.now) (view_of c.go.new.stage) c.args.event c.args.out.now.items c.go.new.out.items c.in-Gone.conn c.in-Gone.is)
     c.go.ensures.ok
+
+pub connect-requires-clause-absent : goal.connect-requires-clause-absent
+connect-requires-clause-absent c = absent (view_of c.args.stage.now) c.args.event c.in-Connect.conn c.in-Connect.host c.in-Connect.is c.requires.owed

@@ -1,24 +1,27 @@
-use Rattle.std.proofs.Common.{ap, ◌∙◌, sym}
+use Rattle.std.proofs.Common.{ap, ◌∙◌, sym, subst}
 use Rattle.irc_room.specs.declared.effect.Effect.TheVariants.{Quit}
-use Rattle.irc_server.specs.View.{client_of, without_client}
+use Rattle.irc_server.specs.View.{without_client}
 use Rattle.irc_server.specs.Handle.{quits, unchanged, with_effect}
-use Rattle.irc_server.specs.Stage.{behind, view_of}
+use Rattle.irc_server.specs.Stage.{behind, view_of, IsFit}
 use Rattle.irc_server.proofs.Steps.{nothing_behind}
-use Rattle.irc_server.proofs.WhatEventsDo.{on_ok, quit_possible, lost_is_whole}
+use Rattle.irc_server.proofs.MatchedEvents.{gone_fit}
+use Rattle.irc_server.proofs.Growing.{on_ok}
+use Rattle.irc_server.proofs.WhatEventsDo.{lost_is_whole}
 use Rattle.irc_server.proofs.acting.go.Goals as goal
 
 pub returns-in_default-clause-ok : goal.returns-in_default-clause-ok
 returns-in_default-clause-ok c =
     let view = view_of c.args.stage.now in
     let out = c.args.out.now.items in
-    ap (λ cs. record { view = record { place = c.args.stage.now.routes; clients = cs; room = c.args.stage.now.room.room }; out = out }) c.take_out.ensures
+    ap (λ cs. record { view = record (view_of c.args.stage.now) { clients = cs }; out = out }) c.take_out.ensures.out
     ∙ nothing_behind (without_client view c.args.conn) out
     ∙ ap (λ u. behind out (quits u (unchanged (without_client view c.args.conn)))) (sym c.in_default.is ∙ c.user_of-user.ensures)
 
-pub apply-requires-clause-possible : goal.apply-requires-clause-possible
-apply-requires-clause-possible c =
-    quit_possible c.args.stage.now.room.room c.requires.ready.sound.well_formed (client_of (view_of c.args.stage.now) c.args.conn) c.in-Some.nick _
-    (sym c.user_of-user.ensures ∙ c.in-Some.is)
+pub apply-requires-clause-fit : goal.apply-requires-clause-fit
+apply-requires-clause-fit c =
+    subst (λ cs. IsFit (record (view_of c.args.stage.now) { clients = cs }) (Quit c.in-Some.nick c.cut-text.result)) (sym c.take_out.ensures.out)
+    (gone_fit (view_of c.args.stage.now) c.args.conn c.in-Some.nick c.cut-text.result c.requires.matched c.requires.ready.sound.well_formed
+    (sym c.user_of-user.ensures ∙ c.in-Some.is))
 
 pub returns-clause-ok : goal.returns-clause-ok
 returns-clause-ok c =
@@ -26,7 +29,7 @@ returns-clause-ok c =
     let out = c.args.out.now.items in
     on_ok c.apply.result _ _
     (λ is. is
-    ∙ ap (λ cs. with_effect (Quit c.in-Some.nick c.cut-text.result) (record { view = record { place = c.args.stage.now.routes; clients = cs; room = c.args.stage.now.room.room }; out = out })) c.take_out.ensures
+    ∙ ap (λ cs. with_effect (Quit c.in-Some.nick c.cut-text.result) (record { view = record (view_of c.args.stage.now) { clients = cs }; out = out })) c.take_out.ensures.out
     ∙ ap (λ text. behind out (with_effect (Quit c.in-Some.nick text) (unchanged (without_client view c.args.conn)))) (c.cut-text.ensures ∙ lost_is_whole)
     ∙ ap (λ u. behind out (quits u (unchanged (without_client view c.args.conn)))) (sym c.in-Some.is ∙ c.user_of-user.ensures))
     c.apply.ensures.ok

@@ -4,13 +4,15 @@ use Rattle.irc_names.specs.Fold.{key}
 use Rattle.irc_names.specs.Tables.{row}
 use Rattle.irc_commands.specs.Decisions.{Decided}
 use Rattle.irc_server.specs.Stage.{behind, view_of}
-use Rattle.irc_server.proofs.WhatEventsDo.{on_ok, carried, decided_by_name, obeyed_home}
+use Rattle.irc_server.proofs.MatchedEvents.{decided_fit}
+use Rattle.irc_server.proofs.Growing.{on_ok}
+use Rattle.irc_server.proofs.WhatEventsDo.{carried, decided_by_name}
 use Rattle.irc_server.proofs.acting.obey.Goals as goal
 
-pub carry_out-requires-clause-home : goal.carry_out-requires-clause-home
-carry_out-requires-clause-home c =
-    obeyed_home c.decided_adds_nobody.ensures c.args.stage.now.room.own c.args.stage.now.room.room c.args.stage.now.routes c.in-Some.name (parsed c.args.message.now) _
-    (c.deref.ensures.value ∙ ap (λ (d : Decided). d.steps) c.in_ok-decision.ensures)
+pub carry_out-requires-clause-fit : goal.carry_out-requires-clause-fit
+carry_out-requires-clause-fit c =
+    decided_fit c.decided_is_possible.ensures c.who_stays_is_user.ensures c.who_is_closed_quits.ensures (view_of c.args.stage.now) c.requires.matched
+    c.requires.ready.sound.well_formed c.in-Some.name (parsed c.args.message.now) _ (c.deref.ensures.value ∙ ap (λ (d : Decided). d.steps) c.in_ok-decision.ensures)
 
 pub returns-clause-ok : goal.returns-clause-ok
 returns-clause-ok c =

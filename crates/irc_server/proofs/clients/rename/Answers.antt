@@ -1,17 +1,28 @@
-use Rattle.std.proofs.Common.{◌<◌, length, sym, subst}
-use Rattle.irc_server.specs.Handle.{renamed_in}
-use Rattle.irc_server.proofs.ClientLoops.{client_changed, client_behind}
+use Rattle.std.proofs.Common.{sym, ◌∙◌, ap}
+use Rattle.std.specs.FinMap.{insert}
+use Rattle.irc_server.specs.declared.clients.Client.TheVariants.{Registered}
+use Rattle.irc_server.specs.Stage.{clients_of, numbered}
+use Rattle.irc_server.proofs.Index.{nobody_renamed, one_renamed, rename_indexed}
+use Rattle.irc_server.proofs.Growing.{on_ok}
 use Rattle.irc_server.proofs.clients.rename.Goals as goal
 
-pub loop-connected-preserved : goal.loop-connected-preserved
-loop-connected-preserved c =
-    let old = c.deref_mut-connected-items.result.now in
-    let now = c.loop-connected.connected-items in
-    let i = c.loop-connected.connected-index in
-    let d = c.connected-item.result in
-    let within_old : i < length old = c.loop-connected-test.true in
-    let within : i < length now = subst (λ n. i < n) (sym c.loop-connected.auto.connected-items) within_old in
-    record {
-      changed = client_changed (renamed_in c.args.old.now c.args.new.now) old now i d _ within within_old c.rename_one.ensures c.loop-connected.invariant.changed c.loop-connected.invariant.same;
-      same = client_behind old now i d _ within within_old c.loop-connected.invariant.same;
-    }
+pub returns-in_default-clause-ok : goal.returns-in_default-clause-ok
+returns-in_default-clause-ok c =
+    nobody_renamed (clients_of c.args.clients.now) c.args.clients.now.by_nick c.requires.indexed c.args.old.now c.args.new.now (sym c.number_of.ensures ∙ c.in_default.is)
+
+pub returns-clause-ok : goal.returns-clause-ok
+returns-clause-ok c =
+    on_ok c.put.result _ _
+    (λ is. is
+    ∙ ap (λ n. insert (clients_of c.args.clients.now) c.in-Some.conn (Registered n)) c.copy.ensures
+    ∙ one_renamed (clients_of c.args.clients.now) c.args.clients.now.by_nick c.requires.indexed c.args.old.now c.args.new.now c.in-Some.conn
+    (sym c.number_of.ensures ∙ c.in-Some.is))
+    c.put.ensures
+
+pub returns-clause-indexed : goal.returns-clause-indexed
+returns-clause-indexed c =
+    on_ok c.put.result _ _
+    (λ is. rename_indexed (clients_of c.args.clients.now) c.args.clients.now.by_nick c.requires.indexed c.args.old.now c.args.new.now c.in-Some.conn
+    (sym c.number_of.ensures ∙ c.in-Some.is) c.requires.free c.copy.result c.as_bytes.result.now c.as_bytes-2.result.now (numbered c.put.new.clients) c.rename.new.self
+    c.copy.ensures c.as_bytes.ensures.value c.as_bytes-2.ensures.value is c.rename.ensures)
+    c.put.ensures

@@ -2,7 +2,7 @@ use Rattle.std.proofs.Common.{Some, None, Err, ap, subst, ◌∙◌, sym, if◌t
 use Rattle.irc_server.specs.declared.event.ServerFault.TheVariants.{Memory}
 use Rattle.irc_server.specs.Happening.{IsHandled}
 use Rattle.irc_server.specs.Stage.{view_of}
-use Rattle.irc_server.proofs.WhatEventsDo.{failed_stays, refused, ran_out}
+use Rattle.irc_server.proofs.WhatEventsDo.{failed_stays, matched_after, refused, ran_out}
 use Rattle.irc_server.proofs.server.Server.handle.Goals as goal
 
 pub returns-then-self : goal.returns-then-self
@@ -21,3 +21,13 @@ returns-in-Err c =
     (sym c.self.view_is ∙ ap (λ b. if b then None else Some (view_of c.self.inside.stage)) c.if-self.false) (sym c.fault_of.ensures ∙ c.in_default.is)
     c.act.ensures.grew (c.len-before.ensures ∙ c.args.out.now.ok.0) in
     subst (λ l. IsHandled c.args.self.now c.args.event c.args.out.now.items (Err Memory) None l) (sym c.truncate.ensures.items) kept
+
+pub act-requires-clause-owed : goal.act-requires-clause-owed
+act-requires-clause-owed c = sym c.fault_of.ensures ∙ c.in_default.is
+
+pub invariant_of-self : goal.invariant_of-self
+invariant_of-self c = λ serves. (
+  c.in-Ok.ensures.ready,
+  matched_after c.stays_matched.ensures (view_of c.self.inside.stage) (view_of c.act.new.stage) c.args.event c.args.out.now.items c.act.new.out.items
+  (c.self.invariant c.if-self.false).1 (c.self.invariant c.if-self.false).0.sound.well_formed c.in-Ok.ensures.ok,
+)

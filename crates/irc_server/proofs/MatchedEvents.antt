@@ -1,0 +1,231 @@
+-- Whatever happens, the effects that come of it are fit in their turn, and clients and users are matched afterwards.
+use Rattle.std.proofs.Common.{◌≡◌, ℕ, Bool, true, false, ◌&&◌, Option, Some, None, Ok, Err, List, [], ◌∷◌, refl, sym, ◌∙◌, ap, subst, option_map, is_some, if◌then◌else◌}
+use Rattle.std.specs.List.{list_any}
+use Rattle.irc_line.specs.Messages.{Parsed}
+use Rattle.irc_names.specs.Fold.{key}
+use Rattle.irc_names.specs.Tables.{row}
+use Rattle.irc_users.specs.declared.user.User.{User}
+use Rattle.irc_room.specs.declared.effect.Effect.TheVariants.{AddUser, Quit}
+use Rattle.irc_room.specs.Room.{Room, IsWellFormed}
+use Rattle.irc_room.specs.Effects.{IsPossible}
+use Rattle.irc_room.proofs.Rows.{same_some}
+use Rattle.irc_routes.specs.Place.{Place}
+use Rattle.irc_acts.specs.declared.act.Act.{Act}
+use Rattle.irc_acts.specs.declared.act.Act.TheVariants.{Do}
+use Rattle.irc_acts.specs.Possible.{ArePossible}
+use Rattle.irc_commands.specs.declared.pending.Pending.{Pending}
+use Rattle.irc_commands.specs.Comings.{is_effect, AddsFirst, QuitFirst, RegisteredIsAdded, RegisteredStays, UnregisteredChangesNothing, WhoIsClosedQuits, WhoStaysIsUser}
+use Rattle.irc_commands.specs.Decide.{decide}
+use Rattle.irc_commands.specs.Decisions.{Decided}
+use Rattle.irc_commands.specs.Decisions.{Registered as Given}
+use Rattle.irc_commands.specs.Possible.{DecidedIsPossible, RegisteringIsPossible}
+use Rattle.irc_commands.specs.Register.{register}
+use Rattle.irc_server.specs.declared.clients.Client.{Client}
+use Rattle.irc_server.specs.declared.clients.Client.TheVariants.{Registering, Registered}
+use Rattle.irc_server.specs.View.{View, client_of, with_client, without_client}
+use Rattle.irc_server.specs.Handle.{Handled, Happening, connects, says, goes, handled, client_after, closing, all_stepped, unchanged, pending_decided, user_decided, said_by, quits, gone, user_of, lost_text, fresh, view_after, with_effect}
+use Rattle.irc_server.specs.Matched.{IsMatched, StaysMatched}
+use Rattle.irc_server.specs.Stage.{AreFit, IsFit, IsFreeOf}
+use Rattle.irc_server.proofs.Matching.{fit_by, quiet_fit, quiet_steps, still_fit, still_steps, pending_matched, left_matched, free_of, added_fit, added_matched, quit_matched, quit_fit}
+
+-- a line of a user
+
+pub decided_fit : DecidedIsPossible → WhoStaysIsUser → WhoIsClosedQuits → (view : View) → IsMatched view → IsWellFormed view.room
+    → (who : List ℕ) (message : Parsed) (acts : List Act) → acts ≡ (decide view.room view.place who message).steps → AreFit view acts
+decided_fit possible stays closes view matched well who message acts are =
+    subst (AreFit view) (sym are) (by (decide view.room view.place who message).close refl)
+  where
+    steps_possible : ArePossible view.room (decide view.room view.place who message).steps
+    steps_possible = possible view.room view.place who message well
+
+    first_quits : QuitFirst view.room who (decide view.room view.place who message).steps → AreFit view (decide view.room view.place who message).steps
+    first_quits quits =
+        let all = subst (ArePossible view.room) quits.steps_are steps_possible in
+        subst (AreFit view) (sym quits.steps_are) (record {
+          now = fit_by view (Quit quits.me.nick quits.reason) matched all.now;
+          later = still_fit (view_after view (Quit quits.me.nick quits.reason)) quits.behind quits.no_more;
+        })
+
+    by : (b : Bool) → (decide view.room view.place who message).close ≡ b → AreFit view (decide view.room view.place who message).steps
+    by true is = first_quits (closes view.room view.place who message is)
+    by false is = quiet_fit view (decide view.room view.place who message).steps matched steps_possible (stays view.room view.place who message is)
+
+-- the first step is a Quit of the client's own user, and the client is closed
+quit_first : (view : View) (conn : ℕ) (name : Option (List ℕ)) (nick who : List ℕ) (steps : List Act) → IsMatched view → IsWellFormed view.room
+    → client_of view conn ≡ Some (Registered nick) → key who ≡ key nick → QuitFirst view.room who steps
+    → IsMatched (without_client (all_stepped conn name steps (unchanged view)).view conn)
+quit_first view conn name nick who steps matched well mine who_is quits =
+    subst (λ (v : View). IsMatched (without_client v conn))
+    (sym (ap (λ acts. (all_stepped conn name acts (unchanged view)).view) quits.steps_are
+    ∙ still_steps conn name quits.behind (with_effect (Quit quits.me.nick quits.reason) (unchanged view)) quits.no_more))
+    (quit_matched view conn nick quits.me.nick quits.reason matched mine (well.users_named (key who) quits.me quits.is_user ∙ who_is))
+
+pub user_matched : DecidedIsPossible → WhoStaysIsUser → WhoIsClosedQuits → (view : View) → IsMatched view → IsWellFormed view.room
+    → (conn : ℕ) (nick : List ℕ) → client_of view conn ≡ Some (Registered nick) → (message : Parsed)
+    → (o : Option User) → row view.room.users (key nick) ≡ o → IsMatched (user_decided view conn o message).view
+user_matched possible stays closes view matched well conn nick mine message None there = matched
+user_matched possible stays closes view matched well conn nick mine message (Some user) there = by (decide view.room view.place user.nick message).close refl
+  where
+    by : (b : Bool) → (decide view.room view.place user.nick message).close ≡ b
+        → IsMatched (closing b conn (all_stepped conn (Some user.nick) (decide view.room view.place user.nick message).steps (unchanged view))).view
+    by true is =
+        quit_first view conn (Some user.nick) nick user.nick (decide view.room view.place user.nick message).steps matched well mine (well.users_named (key nick) user there)
+        (closes view.room view.place user.nick message is)
+    by false is =
+        quiet_steps conn (Some user.nick) (decide view.room view.place user.nick message).steps (unchanged view) matched (possible view.room view.place user.nick message well)
+        (stays view.room view.place user.nick message is)
+
+-- a line before registration
+
+unregistered : (given : Given) (nick : Option (List ℕ)) → given.registered ≡ false → client_after given nick ≡ Registering given.pending
+unregistered given None is = refl
+unregistered given (Some nick) is = ap (λ b. if b then Registered nick else Registering given.pending) is
+
+registered : (given : Given) (nick : List ℕ) → given.registered ≡ true → given.pending.nick ≡ Some nick → client_after given given.pending.nick ≡ Registered nick
+registered given nick is nick_is =
+    ap (client_after given) nick_is ∙ ap (λ b. if b then Registered nick else Registering given.pending) is
+
+module _ (view : View) (conn : ℕ) (given : Given) (matched : IsMatched view) (possible : ArePossible view.room given.steps)
+    (adds : given.registered ≡ true → AddsFirst view.place given.pending.nick given.steps) (still : given.registered ≡ false → list_any is_effect given.steps ≡ false)
+    (stays : given.registered ≡ true → given.close ≡ false) where
+  abbrev given_view : View
+  given_view = with_client view conn (client_after given given.pending.nick)
+
+  module _ (is : given.registered ≡ true) where
+    abbrev first : AddsFirst view.place given.pending.nick given.steps
+    first = adds is
+
+    client_is : client_after given given.pending.nick ≡ Registered (first.user.nick)
+    client_is = registered given first.user.nick is first.is_nick
+
+    add_possible : IsPossible view.room (AddUser first.user)
+    add_possible = (subst (ArePossible view.room) first.steps_are possible).now
+
+    new_fit : AreFit given_view given.steps
+    new_fit =
+        subst (AreFit given_view) (sym first.steps_are)
+        (subst (λ client. AreFit (with_client view conn client) (Do (AddUser first.user) ∷ first.behind)) (sym client_is)
+        (record {
+          now = added_fit view conn first.user matched add_possible first.is_home;
+          later = still_fit (view_after (with_client view conn (Registered (first.user.nick))) (AddUser first.user)) first.behind first.no_more;
+        }))
+
+    new_free : IsFreeOf (client_after given given.pending.nick) view.clients
+    new_free = subst (λ client. IsFreeOf client view.clients) (sym client_is) (free_of view conn first.user matched add_possible first.is_home)
+
+    new_matched : IsMatched (pending_decided view conn given).view
+    new_matched =
+        subst (λ b. IsMatched (closing b conn (all_stepped conn given.pending.nick given.steps (unchanged given_view))).view) (sym (stays is))
+        (subst (λ acts. IsMatched (all_stepped conn given.pending.nick acts (unchanged given_view)).view) (sym first.steps_are)
+        (subst IsMatched (sym (still_steps conn given.pending.nick first.behind (with_effect (AddUser first.user) (unchanged given_view)) first.no_more))
+        (subst (λ client. IsMatched (view_after (with_client view conn client) (AddUser first.user))) (sym client_is)
+        (added_matched view conn first.user matched add_possible first.is_home))))
+
+  module _ (is : given.registered ≡ false) where
+    waits : client_after given given.pending.nick ≡ Registering given.pending
+    waits = unregistered given given.pending.nick is
+
+    still_free : IsFreeOf (client_after given given.pending.nick) view.clients
+    still_free = subst (λ client. IsFreeOf client view.clients) (sym waits) tt
+
+    waiting_matched : IsMatched (with_client view conn (client_after given given.pending.nick))
+    waiting_matched = subst (λ client. IsMatched (with_client view conn client)) (sym waits) (pending_matched view conn (Registering given.pending) tt matched)
+
+    closed : (b : Bool) → IsMatched (closing b conn (all_stepped conn given.pending.nick given.steps (unchanged given_view))).view
+    closed true =
+        subst (λ (v : View). IsMatched (without_client v conn)) (sym (still_steps conn given.pending.nick given.steps (unchanged given_view) (still is)))
+        (left_matched given_view conn waiting_matched)
+    closed false = subst IsMatched (sym (still_steps conn given.pending.nick given.steps (unchanged given_view) (still is))) waiting_matched
+
+  pub given_fit : AreFit given_view given.steps
+  given_fit = by given.registered refl
+    where
+      by : (b : Bool) → given.registered ≡ b → AreFit given_view given.steps
+      by true is = new_fit is
+      by false is = still_fit given_view given.steps (still is)
+
+  pub given_free : IsFreeOf (client_after given given.pending.nick) view.clients
+  given_free = by given.registered refl
+    where
+      by : (b : Bool) → given.registered ≡ b → IsFreeOf (client_after given given.pending.nick) view.clients
+      by true is = new_free is
+      by false is = still_free is
+
+  pub given_matched : IsMatched (pending_decided view conn given).view
+  given_matched = by given.registered refl
+    where
+      by : (b : Bool) → given.registered ≡ b → IsMatched (pending_decided view conn given).view
+      by true is = new_matched is
+      by false is = closed is given.close
+
+-- a client is gone
+
+-- its user is one, and can quit
+pub quit_possible : (room : Room) → IsWellFormed room → (client : Option Client) (nick text : List ℕ) → user_of room client ≡ Some nick → IsPossible room (Quit nick text)
+quit_possible room well None nick text is = absurd (cc is)
+quit_possible room well (Some (Registering pending)) nick text is = absurd (cc is)
+quit_possible room well (Some (Registered name)) nick text is = by_row (row room.users (key name)) refl is
+  where
+    by_row : (o : Option User) → row room.users (key name) ≡ o → option_map (λ (user : User). user.nick) o ≡ Some nick → IsPossible room (Quit nick text)
+    by_row None there none = absurd (cc none)
+    by_row (Some user) there some = record {
+      users_there =
+          ap (λ q. is_some (row room.users q) && true) (sym (ap key (same_some (user.nick) nick some)) ∙ well.users_named (key name) user there)
+          ∙ ap (λ o. is_some o && true) there;
+      channel_there = refl;
+      nick_free = refl;
+    }
+
+pub gone_fit : (view : View) (conn : ℕ) (nick text : List ℕ) → IsMatched view → IsWellFormed view.room → user_of view.room (client_of view conn) ≡ Some nick
+    → IsFit (without_client view conn) (Quit nick text)
+gone_fit view conn nick text matched well is =
+    quit_fit view conn nick text matched (quit_possible view.room well (client_of view conn) nick text is)
+
+gone_matched : (view : View) (conn : ℕ) → IsMatched view → IsWellFormed view.room → (client : Option Client) → client_of view conn ≡ client
+    → IsMatched (gone view conn client).view
+gone_matched view conn matched well None is = left_matched view conn matched
+gone_matched view conn matched well (Some (Registering pending)) is = left_matched view conn matched
+gone_matched view conn matched well (Some (Registered name)) is = by_row (row view.room.users (key name)) refl
+  where
+    by_row : (o : Option User) → row view.room.users (key name) ≡ o
+        → IsMatched (quits (option_map (λ (user : User). user.nick) o) (unchanged (without_client view conn))).view
+    by_row None there = left_matched view conn matched
+    by_row (Some user) there = quit_matched view conn name user.nick lost_text matched is (well.users_named (key name) user there)
+
+-- whatever happens
+
+pub stays_matched : DecidedIsPossible → WhoStaysIsUser → WhoIsClosedQuits → RegisteringIsPossible → RegisteredIsAdded → UnregisteredChangesNothing → RegisteredStays
+    → StaysMatched
+unfolding handled
+stays_matched possible stays closes register_possible added unchanging kept view matched well (connects conn host) =
+    pending_matched view conn (fresh host) tt matched
+stays_matched possible stays closes register_possible added unchanging kept view matched well (says conn (Err fault)) = matched
+stays_matched possible stays closes register_possible added unchanging kept view matched well (goes conn) =
+    gone_matched view conn matched well (client_of view conn) refl
+stays_matched possible stays closes register_possible added unchanging kept view matched well (says conn (Ok message)) = by (client_of view conn) refl
+  where
+    by : (o : Option Client) → client_of view conn ≡ o → IsMatched (said_by view conn o message).view
+    by None is = matched
+    by (Some (Registering pending)) is =
+        given_matched view conn (register view.room view.place pending message) matched (register_possible view.room view.place pending message well)
+        (added view.room view.place pending message) (unchanging view.room view.place pending message) (kept view.room view.place pending message)
+    by (Some (Registered nick)) is =
+        user_matched possible stays closes view matched well conn nick is message (row view.room.users (key nick)) refl
+
+-- the same of what the code has decided
+
+pub registering_fit : RegisteringIsPossible → RegisteredIsAdded → UnregisteredChangesNothing → RegisteredStays → (view : View) (conn : ℕ) (pending : Pending) (message : Parsed) (given : Given)
+    → given ≡ register view.room view.place pending message → IsMatched view → IsWellFormed view.room
+    → AreFit (with_client view conn (client_after given given.pending.nick)) given.steps
+registering_fit possible added unchanging kept view conn pending message given is matched well =
+    subst (λ (g : Given). AreFit (with_client view conn (client_after g g.pending.nick)) g.steps) (sym is)
+    (given_fit view conn (register view.room view.place pending message) matched (possible view.room view.place pending message well)
+    (added view.room view.place pending message) (unchanging view.room view.place pending message) (kept view.room view.place pending message))
+
+pub registering_free : RegisteringIsPossible → RegisteredIsAdded → UnregisteredChangesNothing → RegisteredStays → (view : View) (conn : ℕ) (pending : Pending) (message : Parsed) (given : Given)
+    → given ≡ register view.room view.place pending message → IsMatched view → IsWellFormed view.room
+    → IsFreeOf (client_after given given.pending.nick) view.clients
+registering_free possible added unchanging kept view conn pending message given is matched well =
+    subst (λ (g : Given). IsFreeOf (client_after g g.pending.nick) view.clients) (sym is)
+    (given_free view conn (register view.room view.place pending message) matched (possible view.room view.place pending message well)
+    (added view.room view.place pending message) (unchanging view.room view.place pending message) (kept view.room view.place pending message))

@@ -1,0 +1,378 @@
+-- Clients and users stay matched, whatever happens.
+use Rattle.std.proofs.Common.{◌≡◌, ℕ, Bool, true, false, cond, not, ◌&&◌, ◌||◌, T, Option, Some, None, List, [], ◌∷◌, refl, sym, ◌∙◌, ap, subst, map, option_map, is_some, if◌then◌else◌}
+use Rattle.std.specs.List.{list_any}
+use Rattle.std.specs.Option.{option_map_or}
+use Rattle.std.specs.Cmp.Lexicographic.{pointwise, bytes_decides}
+use Rattle.std.specs.FinMap.{get, insert, remove}
+use Rattle.irc_names.specs.Fold.{key, same}
+use Rattle.irc_names.specs.Tables.{Table, row, alter, moved}
+use Rattle.irc_names.specs.TableLaws.{same_fold, same_fold-refl, one_fold, row-alter, row-moved, row-moved_none}
+use Rattle.irc_users.specs.declared.user.User.{User}
+use Rattle.irc_users.specs.UserTable.{is_home, with_nick, with_invisible}
+use Rattle.irc_room.specs.declared.effect.Effect.{Effect}
+use Rattle.irc_room.specs.declared.effect.Effect.TheVariants.{AddUser, Rename, Quit, Join, Part, Kick, ChangeModes, SetTopic, Say, Invite, UserMode}
+use Rattle.irc_room.specs.Room.{Room, IsWellFormed}
+use Rattle.irc_room.specs.Effects.{IsPossible, has_user}
+use Rattle.irc_room.specs.After.{after}
+use Rattle.irc_room.proofs.Rows.{same_some}
+use Rattle.irc_acts.specs.declared.act.Act.{Act}
+use Rattle.irc_acts.specs.declared.act.Act.TheVariants.{Answer, Raw, Do}
+use Rattle.irc_acts.specs.Possible.{ArePossible}
+use Rattle.irc_commands.specs.Comings.{adds_or_ends, is_effect}
+use Rattle.irc_server.specs.declared.clients.Client.{Client}
+use Rattle.irc_server.specs.declared.clients.Client.TheVariants.{Registering, Registered}
+use Rattle.irc_server.specs.View.{Clients, View, client_of, with_client, without_client}
+use Rattle.irc_server.specs.Handle.{Handled, is_client, renamed_in, view_after, clients_after, stepped, all_stepped}
+use Rattle.irc_server.specs.Matched.{is_user_here, IsMatched}
+use Rattle.irc_server.specs.Stage.{IsFit, AreFit, LeavesApart, IsFreeFor, IsFreeOf, IsNoUser}
+use Rattle.irc_server.proofs.Numbers.{same_number, one_number, same_number-refl, same_number-is, get-with, get-without, get-each}
+
+-- a nickname in a client
+pub nick_in : (nick name : List ℕ) → Some (Registered nick) ≡ Some (Registered name) → nick ≡ name
+nick_in nick name is = cc
+
+pub never_registered : {A : Type 0} (client : Option Client) (name : List ℕ) → IsNoUser client → client ≡ Some (Registered name) → A
+never_registered None name none is = cc is
+never_registered (Some (Registering pending)) name none is = cc is
+never_registered (Some (Registered nick)) name none is = absurd none
+
+-- whether two names are the same, by their folds
+pub same_by_key : (a b : List ℕ) → key a ≡ key b → same a b ≡ true
+same_by_key a b is = (bytes_decides (key a) (key b)).1 is
+
+pub key_by_same : (a b : List ℕ) → same a b ≡ true → key a ≡ key b
+key_by_same a b is = (bytes_decides (key a) (key b)).0 is
+
+-- a client after another has come, and after one has gone
+
+pub left_client : (clients : Clients) (conn q : ℕ) (client : Client) → get (remove clients conn) q ≡ Some client
+    → (same_number q conn ≡ false) × (get clients q ≡ Some client)
+left_client clients conn q client is = by (same_number q conn) refl (sym (get-without clients conn q) ∙ is)
+  where
+    by : (b : Bool) → same_number q conn ≡ b → cond b None (get clients q) ≡ Some client → (same_number q conn ≡ false) × (get clients q ≡ Some client)
+    by true one left = cc left
+    by false two left = (two, left)
+
+pub new_client : {A : Type 0} (clients : Clients) (conn q : ℕ) (client other : Client) → get (insert clients conn client) q ≡ Some other
+    → (q ≡ conn → client ≡ other → A) → (same_number q conn ≡ false → get clients q ≡ Some other → A) → A
+new_client {A = A} clients conn q client other is here there = by (same_number q conn) refl (sym (get-with clients conn client q) ∙ is)
+  where
+    by : (b : Bool) → same_number q conn ≡ b → cond b (Some client) (get clients q) ≡ Some other → A
+    by true one left = here (one_number q conn one) (same_some client other left)
+    by false two left = there two left
+
+-- a user that is here
+
+here_row : (view : View) (nick : List ℕ) → is_user_here view nick ≡ true → is_some (row view.room.users (key nick)) ≡ true
+here_row view nick here = by (row view.room.users (key nick)) here
+  where
+    by : (o : Option User) → option_map_or (is_home view.place.name) o false ≡ true → is_some o ≡ true
+    by None here = cc here
+    by (Some user) here = refl
+
+pub live : (view : View) → IsMatched view → (conn : ℕ) (nick : List ℕ) (user : User) → client_of view conn ≡ Some (Registered nick)
+    → row view.room.users (key nick) ≡ Some user → user.home ≡ view.place.name
+live view matched conn nick user is there =
+    (bytes_decides user.home view.place.name).0
+    (ap (λ o. option_map_or (is_home view.place.name) o false) (sym there) ∙ matched.registered_is_user conn nick is)
+
+-- Any possible effect is fit where clients and users are matched.
+
+or_false : (a b : Bool) → (not a || b) ≡ true → a ≡ true → b ≡ true
+or_false true b either is = either
+or_false false b either is = cc is
+
+free_new : (view : View) (nick new : List ℕ) → IsMatched view → IsPossible view.room (Rename nick new) → IsFreeFor nick new view.clients
+free_new view nick new matched possible conn name is same_new =
+    same_new ∙ sym (key_by_same nick new
+    (or_false (has_user view.room new) (same nick new) possible.nick_free
+    (ap (λ q. is_some (row view.room.users q)) (sym same_new) ∙ here_row view name (matched.registered_is_user conn name is))))
+
+apart_by : (view : View) (effect : Effect) → IsMatched view → IsPossible view.room effect → LeavesApart effect view.clients
+apart_by view (AddUser user) matched possible = tt
+apart_by view (Rename nick new) matched possible = free_new view nick new matched possible
+apart_by view (Quit nick text) matched possible = tt
+apart_by view (Join nick channel op) matched possible = tt
+apart_by view (Part nick channel text) matched possible = tt
+apart_by view (Kick by channel nick text) matched possible = tt
+apart_by view (ChangeModes by channel changes) matched possible = tt
+apart_by view (SetTopic by channel text) matched possible = tt
+apart_by view (Say by notice target text) matched possible = tt
+apart_by view (Invite by nick channel) matched possible = tt
+apart_by view (UserMode nick invisible) matched possible = tt
+
+pub fit_by : (view : View) (effect : Effect) → IsMatched view → IsPossible view.room effect → IsFit view effect
+fit_by view effect matched possible = record {
+  possible = possible;
+  at_home = live view matched;
+  apart = apart_by view effect matched possible;
+}
+
+-- A user that takes another nickname.
+
+-- a client is registered after a rename: its user took the new nickname, or it is another
+pub renamed_client : {A : Type 0} (clients : Clients) (nick new : List ℕ) (conn : ℕ) (name : List ℕ)
+    → get (clients_after (Rename nick new) clients) conn ≡ Some (Registered name)
+    → ((old : List ℕ) → get clients conn ≡ Some (Registered old) → key old ≡ key nick → new ≡ name → A)
+    → (get clients conn ≡ Some (Registered name) → same name nick ≡ false → A) → A
+renamed_client {A} clients nick new conn name is took stayed = by_client (get clients conn) refl (sym (get-each (renamed_in nick new) clients conn) ∙ is)
+  where
+    by_same : (old : List ℕ) (b : Bool) → same old nick ≡ b → get clients conn ≡ Some (Registered old)
+        → Some (if b then Registered new else Registered old) ≡ Some (Registered name) → A
+    by_same old true one was now = took old was (key_by_same old nick one) (nick_in new name now)
+    by_same old false two was now = let name_is = nick_in old name now in
+        stayed (was ∙ ap (λ n. Some (Registered n)) name_is) (ap (λ n. same n nick) (sym name_is) ∙ two)
+
+    by_client : (o : Option Client) → get clients conn ≡ o → option_map (renamed_in nick new) o ≡ Some (Registered name) → A
+    by_client None was now = cc now
+    by_client (Some (Registering pending)) was now = cc now
+    by_client (Some (Registered old)) was now = by_same old (same old nick) refl was now
+
+module _ (view : View) (nick new : List ℕ) (matched : IsMatched view) (possible : IsPossible view.room (Rename nick new)) where
+  abbrev renamed_view : View
+  renamed_view = view_after view (Rename nick new)
+
+  apart_from : {A : Type 0} (conn : ℕ) (name : List ℕ) → get view.clients conn ≡ Some (Registered name) → same name nick ≡ false → key name ≡ key new → A
+  apart_from conn name is two one = let both = same_by_key name nick (free_new view nick new matched possible conn name is one) in cc
+
+  here_after : (x : User) → row view.room.users (key nick) ≡ Some x → (conn : ℕ) (name : List ℕ)
+      → get (clients_after (Rename nick new) view.clients) conn ≡ Some (Registered name) → is_user_here renamed_view name ≡ true
+  unfolding after
+  here_after x there conn name is = renamed_client view.clients nick new conn name is took stayed
+    where
+      answers : (q : List ℕ) → row (after view.room (Rename nick new)).users q
+          ≡ cond (same_fold q (key new)) (Some (with_nick new x)) (cond (same_fold q (key nick)) None (row view.room.users q))
+      answers q = row-moved (key nick) (key new) (with_nick new) view.room.users x there q
+
+      took : (old : List ℕ) → get view.clients conn ≡ Some (Registered old) → key old ≡ key nick → new ≡ name → is_user_here renamed_view name ≡ true
+      took old was same_old new_is =
+          ap (λ n. option_map_or (is_home view.place.name) (row (after view.room (Rename nick new)).users (key n)) false) (sym new_is)
+          ∙ ap (λ o. option_map_or (is_home view.place.name) o false)
+          (answers (key new) ∙ ap (λ b. cond b (Some (with_nick new x)) (cond (same_fold (key new) (key nick)) None (row view.room.users (key new)))) (same_fold-refl (key new)))
+          ∙ ap (λ o. option_map_or (is_home view.place.name) o false) (sym there ∙ ap (row view.room.users) (sym same_old))
+          ∙ matched.registered_is_user conn old was
+
+      other : get view.clients conn ≡ Some (Registered name) → same name nick ≡ false → (b c : Bool) → same_fold (key name) (key new) ≡ b → same_fold (key name) (key nick) ≡ c
+          → cond b (Some (with_nick new x)) (cond c None (row view.room.users (key name))) ≡ row view.room.users (key name)
+      other was two true c is_new is_old = apart_from conn name was two (one_fold (key name) (key new) is_new)
+      other was two false true is_new is_old = let one = same_by_key name nick (one_fold (key name) (key nick) is_old) in cc
+      other was two false false is_new is_old = refl
+
+      stayed : get view.clients conn ≡ Some (Registered name) → same name nick ≡ false → is_user_here renamed_view name ≡ true
+      stayed was two =
+          ap (λ o. option_map_or (is_home view.place.name) o false)
+          (answers (key name) ∙ other was two (same_fold (key name) (key new)) (same_fold (key name) (key nick)) refl refl)
+          ∙ matched.registered_is_user conn name was
+
+  one_after : (conn other : ℕ) (name second : List ℕ) → get (clients_after (Rename nick new) view.clients) conn ≡ Some (Registered name)
+      → get (clients_after (Rename nick new) view.clients) other ≡ Some (Registered second) → key second ≡ key name → other ≡ conn
+  one_after conn other name second is is_other same_names =
+      renamed_client view.clients nick new conn name is
+      (λ old was same_old new_is. renamed_client view.clients nick new other second is_other
+      (λ older was_other same_older also_new. matched.user_has_one conn other old older was was_other (same_older ∙ sym same_old))
+      (λ was_other two. apart_from other second was_other two (same_names ∙ ap key (sym new_is))))
+      (λ was two. renamed_client view.clients nick new other second is_other
+      (λ older was_other same_older new_is. apart_from conn name was two (sym same_names ∙ ap key (sym new_is)))
+      (λ was_other two_other. matched.user_has_one conn other name second was was_other same_names))
+
+  there_is : (o : Option User) → row view.room.users (key nick) ≡ o → is_some o ≡ true → IsMatched renamed_view
+  there_is None none some = absurd (cc some)
+  there_is (Some x) there some = record { registered_is_user = here_after x there; user_has_one = one_after }
+
+  pub renamed_matched : IsMatched renamed_view
+  renamed_matched = there_is (row view.room.users (key nick)) refl (front (is_some (row view.room.users (key nick))) possible.users_there)
+    where
+      front : (b : Bool) → (b && true) ≡ true → b ≡ true
+      front true all = refl
+      front false all = cc all
+
+-- A user whose mode changes.
+
+mode_here : (home : List ℕ) (invisible : Bool) (o : Option User)
+    → option_map_or (is_home home) (option_map (with_invisible invisible) o) false ≡ option_map_or (is_home home) o false
+mode_here home invisible None = refl
+mode_here home invisible (Some user) = refl
+
+mode_matched : (view : View) (nick : List ℕ) (invisible : Bool) → IsMatched view → IsMatched (view_after view (UserMode nick invisible))
+unfolding after
+mode_matched view nick invisible matched = record {
+  registered_is_user = λ conn name is. by conn name is (same_fold (key name) (key nick)) refl;
+  user_has_one = matched.user_has_one;
+}
+  where
+    by : (conn : ℕ) (name : List ℕ) → get view.clients conn ≡ Some (Registered name) → (b : Bool) → same_fold (key name) (key nick) ≡ b
+        → option_map_or (is_home view.place.name) (row (alter (key nick) (option_map (with_invisible invisible)) view.room.users) (key name)) false ≡ true
+    by conn name is true one =
+        ap (λ o. option_map_or (is_home view.place.name) o false)
+        (row-alter (key nick) (option_map (with_invisible invisible)) view.room.users (key name)
+        ∙ ap (λ b. cond b (option_map (with_invisible invisible) (row view.room.users (key nick))) (row view.room.users (key name))) one)
+        ∙ mode_here view.place.name invisible (row view.room.users (key nick))
+        ∙ ap (λ q. option_map_or (is_home view.place.name) (row view.room.users q) false) (sym (one_fold (key name) (key nick) one))
+        ∙ matched.registered_is_user conn name is
+    by conn name is false two =
+        ap (λ o. option_map_or (is_home view.place.name) o false)
+        (row-alter (key nick) (option_map (with_invisible invisible)) view.room.users (key name)
+        ∙ ap (λ b. cond b (option_map (with_invisible invisible) (row view.room.users (key nick))) (row view.room.users (key name))) two)
+        ∙ matched.registered_is_user conn name is
+
+-- who neither comes nor goes
+quiet_matched : (view : View) (effect : Effect) → IsMatched view → IsPossible view.room effect → adds_or_ends (Do effect) ≡ false → IsMatched (view_after view effect)
+unfolding after
+quiet_matched view (AddUser user) matched possible quiet = absurd (cc quiet)
+quiet_matched view (Rename nick new) matched possible quiet = renamed_matched view nick new matched possible
+quiet_matched view (Quit nick text) matched possible quiet = absurd (cc quiet)
+quiet_matched view (Join nick channel op) matched possible quiet = record { registered_is_user = matched.registered_is_user; user_has_one = matched.user_has_one }
+quiet_matched view (Part nick channel text) matched possible quiet = record { registered_is_user = matched.registered_is_user; user_has_one = matched.user_has_one }
+quiet_matched view (Kick by channel nick text) matched possible quiet = record { registered_is_user = matched.registered_is_user; user_has_one = matched.user_has_one }
+quiet_matched view (ChangeModes by channel changes) matched possible quiet = record { registered_is_user = matched.registered_is_user; user_has_one = matched.user_has_one }
+quiet_matched view (SetTopic by channel text) matched possible quiet = record { registered_is_user = matched.registered_is_user; user_has_one = matched.user_has_one }
+quiet_matched view (Say by notice target text) matched possible quiet = record { registered_is_user = matched.registered_is_user; user_has_one = matched.user_has_one }
+quiet_matched view (Invite by nick channel) matched possible quiet = record { registered_is_user = matched.registered_is_user; user_has_one = matched.user_has_one }
+quiet_matched view (UserMode nick invisible) matched possible quiet = mode_matched view nick invisible matched
+
+-- steps by which nobody comes and nobody goes
+
+neither : (a b : Bool) → (a || b) ≡ false → (a ≡ false) × (b ≡ false)
+neither true b is = cc is
+neither false b is = (refl, is)
+
+pub quiet_fit : (view : View) (acts : List Act) → IsMatched view → ArePossible view.room acts → list_any adds_or_ends acts ≡ false → AreFit view acts
+quiet_fit view [] matched possible quiet = tt
+quiet_fit view (Answer reply ∷ acts) matched possible quiet = quiet_fit view acts matched possible quiet
+quiet_fit view (Raw line ∷ acts) matched possible quiet = quiet_fit view acts matched possible quiet
+quiet_fit view (Do effect ∷ acts) matched possible quiet =
+    let parts = neither (adds_or_ends (Do effect)) (list_any adds_or_ends acts) quiet in
+    record {
+      now = fit_by view effect matched possible.now;
+      later = quiet_fit (view_after view effect) acts (quiet_matched view effect matched possible.now parts.0) possible.later parts.1;
+    }
+
+pub quiet_steps : (conn : ℕ) (name : Option (List ℕ)) (acts : List Act) (h : Handled) → IsMatched h.view → ArePossible h.view.room acts
+    → list_any adds_or_ends acts ≡ false → IsMatched (all_stepped conn name acts h).view
+quiet_steps conn name [] h matched possible quiet = matched
+quiet_steps conn name (Answer reply ∷ acts) h matched possible quiet = quiet_steps conn name acts (stepped conn name (Answer reply) h) matched possible quiet
+quiet_steps conn name (Raw line ∷ acts) h matched possible quiet = quiet_steps conn name acts (stepped conn name (Raw line) h) matched possible quiet
+quiet_steps conn name (Do effect ∷ acts) h matched possible quiet =
+    let parts = neither (adds_or_ends (Do effect)) (list_any adds_or_ends acts) quiet in
+    quiet_steps conn name acts (stepped conn name (Do effect) h) (quiet_matched h.view effect matched possible.now parts.0) possible.later parts.1
+
+-- steps that change nothing
+pub still_fit : (view : View) (acts : List Act) → list_any is_effect acts ≡ false → AreFit view acts
+still_fit view [] still = tt
+still_fit view (Answer reply ∷ acts) still = still_fit view acts still
+still_fit view (Raw line ∷ acts) still = still_fit view acts still
+still_fit view (Do effect ∷ acts) still = absurd (cc still)
+
+pub still_steps : (conn : ℕ) (name : Option (List ℕ)) (acts : List Act) (h : Handled) → list_any is_effect acts ≡ false
+    → (all_stepped conn name acts h).view ≡ h.view
+still_steps conn name [] h still = refl
+still_steps conn name (Answer reply ∷ acts) h still = still_steps conn name acts (stepped conn name (Answer reply) h) still
+still_steps conn name (Raw line ∷ acts) h still = still_steps conn name acts (stepped conn name (Raw line) h) still
+still_steps conn name (Do effect ∷ acts) h still = absurd (cc still)
+
+-- Who comes and who goes.
+
+-- one that is no user is seated, or is there no more
+pub pending_matched : (view : View) (conn : ℕ) (client : Client) → IsNoUser (Some client) → IsMatched view → IsMatched (with_client view conn client)
+pending_matched view conn client none matched = record {
+  registered_is_user = λ q name is. new_client view.clients conn q client (Registered name) is (λ at now. absurd (never now)) (λ two was. matched.registered_is_user q name was);
+  user_has_one = λ q other nick name is is_other same_names.
+      new_client view.clients conn q client (Registered nick) is (λ at now. absurd (never now))
+      (λ two was. new_client view.clients conn other client (Registered name) is_other (λ at now. absurd (never now))
+      (λ two_other was_other. matched.user_has_one q other nick name was was_other same_names));
+}
+  where
+    never : {name : List ℕ} → client ≡ Registered name → ⊥
+    never {name} now = never_registered (Some client) name none (ap Some now)
+
+pub left_matched : (view : View) (conn : ℕ) → IsMatched view → IsMatched (without_client view conn)
+left_matched view conn matched = record {
+  registered_is_user = λ q name is. matched.registered_is_user q name (left_client view.clients conn q (Registered name) is).1;
+  user_has_one = λ q other nick name is is_other same_names.
+      matched.user_has_one q other nick name (left_client view.clients conn q (Registered nick) is).1 (left_client view.clients conn other (Registered name) is_other).1 same_names;
+}
+
+-- a user is added, and its connection is registered
+module _ (view : View) (conn : ℕ) (user : User) (matched : IsMatched view) (possible : IsPossible view.room (AddUser user)) (home : user.home ≡ view.place.name) where
+  abbrev seated : View
+  seated = with_client view conn (Registered (user.nick))
+
+  nobody : {A : Type 0} (name : List ℕ) → is_some (row view.room.users (key name)) ≡ true → key name ≡ key user.nick → A
+  nobody {A} name there one = by (has_user view.room user.nick) refl possible.nick_free
+    where
+      by : (b : Bool) → has_user view.room user.nick ≡ b → not b ≡ true → A
+      by true known free = cc free
+      by false known free = let there_too = ap (λ q. is_some (row view.room.users q)) one in cc
+
+  taken_by : {A : Type 0} (q : ℕ) (name : List ℕ) → get view.clients q ≡ Some (Registered name) → key name ≡ key user.nick → A
+  taken_by q name was one = nobody name (here_row view name (matched.registered_is_user q name was)) one
+
+  pub free_of : IsFreeOf (Registered (user.nick)) view.clients
+  free_of q name was one = taken_by q name was one
+
+  pub added_fit : IsFit seated (AddUser user)
+  added_fit = record {
+    possible = possible;
+    at_home = λ q name other is there.
+        new_client view.clients conn q (Registered (user.nick)) (Registered name) is
+        (λ at now. nobody name (ap is_some there) (ap key (sym (nick_in user.nick name (ap Some now)))))
+        (λ two was. live view matched q name other was there);
+    apart = tt;
+  }
+
+  pub added_matched : IsMatched (view_after seated (AddUser user))
+  unfolding after
+  added_matched = record {
+    registered_is_user = λ q name is.
+        new_client view.clients conn q (Registered (user.nick)) (Registered name) is
+        (λ at now. new_here name (nick_in user.nick name (ap Some now)))
+        (λ two was. old_here q name was (same_fold (key name) (key user.nick)) refl);
+    user_has_one = λ q other nick name is is_other same_names.
+        new_client view.clients conn q (Registered (user.nick)) (Registered nick) is
+        (λ at now. new_client view.clients conn other (Registered (user.nick)) (Registered name) is_other
+        (λ at_other now_other. at_other ∙ sym at)
+        (λ two_other was_other. taken_by other name was_other (same_names ∙ ap key (sym (nick_in user.nick nick (ap Some now))))))
+        (λ two was. new_client view.clients conn other (Registered (user.nick)) (Registered name) is_other
+        (λ at_other now_other. taken_by q nick was (sym same_names ∙ ap key (sym (nick_in user.nick name (ap Some now_other)))))
+        (λ two_other was_other. matched.user_has_one q other nick name was was_other same_names));
+  }
+    where
+      new_here : (name : List ℕ) → user.nick ≡ name → option_map_or (is_home view.place.name) (row (alter (key user.nick) (λ _. Some user) view.room.users) (key name)) false ≡ true
+      new_here name is =
+          ap (λ o. option_map_or (is_home view.place.name) o false)
+          (row-alter (key user.nick) (λ _. Some user) view.room.users (key name)
+          ∙ ap (λ b. cond b (Some user) (row view.room.users (key name))) (ap (λ n. same_fold (key n) (key user.nick)) (sym is) ∙ same_fold-refl (key user.nick)))
+          ∙ (bytes_decides user.home view.place.name).1 home
+
+      old_here : (q : ℕ) (name : List ℕ) → get view.clients q ≡ Some (Registered name) → (b : Bool) → same_fold (key name) (key user.nick) ≡ b
+          → option_map_or (is_home view.place.name) (row (alter (key user.nick) (λ _. Some user) view.room.users) (key name)) false ≡ true
+      old_here q name was true one = taken_by q name was (one_fold (key name) (key user.nick) one)
+      old_here q name was false two =
+          ap (λ o. option_map_or (is_home view.place.name) o false)
+          (row-alter (key user.nick) (λ _. Some user) view.room.users (key name)
+          ∙ ap (λ b. cond b (Some user) (row view.room.users (key name))) two)
+          ∙ matched.registered_is_user q name was
+
+-- a client goes, and its user quits
+pub quit_matched : (view : View) (conn : ℕ) (nick who text : List ℕ) → IsMatched view → get view.clients conn ≡ Some (Registered nick) → key who ≡ key nick
+    → IsMatched (view_after (without_client view conn) (Quit who text))
+unfolding after
+quit_matched view conn nick who text matched mine who_is = record {
+  registered_is_user = λ q name is.
+      let left = left_client view.clients conn q (Registered name) is in
+      still_here q name left.0 left.1 (same_fold (key name) (key who)) refl;
+  user_has_one = (left_matched view conn matched).user_has_one;
+}
+  where
+    still_here : (q : ℕ) (name : List ℕ) → same_number q conn ≡ false → get view.clients q ≡ Some (Registered name) → (b : Bool) → same_fold (key name) (key who) ≡ b
+        → option_map_or (is_home view.place.name) (row (alter (key who) (λ _. None) view.room.users) (key name)) false ≡ true
+    still_here q name two was true one =
+        let same_conn = same_number-is q conn (matched.user_has_one conn q nick name mine was (one_fold (key name) (key who) one ∙ who_is)) in cc
+    still_here q name two was false other =
+        ap (λ o. option_map_or (is_home view.place.name) o false)
+        (row-alter (key who) (λ _. None) view.room.users (key name)
+        ∙ ap (λ b. cond b None (row view.room.users (key name))) other)
+        ∙ matched.registered_is_user q name was
+
+pub quit_fit : (view : View) (conn : ℕ) (who text : List ℕ) → IsMatched view → IsPossible view.room (Quit who text) → IsFit (without_client view conn) (Quit who text)
+quit_fit view conn who text matched possible = fit_by (without_client view conn) (Quit who text) (left_matched view conn matched) possible

@@ -1,0 +1,7 @@
+use Rattle.irc_server.proofs.MatchedEvents.{stays_matched}
+use Rattle.irc_server.proofs.laws.stays_matched.Goals as goal
+
+pub returns : goal.returns
+returns c =
+    stays_matched c.decided_is_possible.ensures c.who_stays_is_user.ensures c.who_is_closed_quits.ensures c.registering_is_possible.ensures
+    c.registered_is_added.ensures c.unregistered_changes_nothing.ensures c.registered_stays.ensures
