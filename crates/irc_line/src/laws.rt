@@ -1,10 +1,21 @@
 //! What holds of reading and writing together. Each law is a function that does nothing, and its contract is the law: the
 //! check proves it, and a crate above may cite it.
+ghost use Rattle.std.specs.Prelude.{◌≡◌};
 ghost use Rattle.irc_line.specs.Laws.{WrittenIsRead};
+ghost use Rattle.irc_line.specs.Limits.{max_line, max_text, max_parameters};
+
+use crate::limits::{MAX_LINE, MAX_PARAMETERS, MAX_TEXT};
 
 /// What is written from plain parts, and was not cut, is read as these parts: at most
 /// [`MAX_PARAMETERS`](crate::limits::MAX_PARAMETERS) parameters, no word but the last with a space, empty or beginning with a
 /// colon, and no NUL anywhere.
 pub fn written_is_read()
     ensures { WrittenIsRead }
+{}
+
+/// The constants of [`limits`](crate::limits) are the numbers that the definitions name.
+pub fn limits_are_so()
+    ensures line { MAX_LINE ≡ max_line }
+    ensures text { MAX_TEXT ≡ max_text }
+    ensures parameters { MAX_PARAMETERS ≡ max_parameters }
 {}
