@@ -3,7 +3,7 @@ use Rattle.std.proofs.Common.{◌≡◌, ◌≢◌, ℕ, ◌-◌, Bool, true, fa
 use Rattle.std.specs.List.{list_all}
 use Rattle.irc_line.specs.declared.reading.LineFault.{LineFault}
 use Rattle.irc_line.specs.declared.reading.LineFault.TheVariants.{Empty, NoCommand, HasNul}
-use Rattle.irc_line.specs.declared.limits.TheConstants.{MAX_PARAMETERS}
+use Rattle.irc_line.specs.Limits.{max_parameters}
 use Rattle.irc_line.specs.Bytes.{is_space, is_colon, has_nul, begins, colon}
 use Rattle.irc_line.specs.Messages.{Parsed}
 use Rattle.irc_line.specs.Grammar.{is_word_byte, IsGap, HasNoSpace, EndsWord, ReadsParams, no_more, behind_colon, the_rest, one_word, CommandAt, Reads, plain, prefixed, IsPrefixAlone, IsReadAs}
@@ -140,8 +140,8 @@ command_is_one text command other ps qs a b =
     let cut = one_cut is_word_byte command other (a.more) (b.more) (a.no_space) (b.no_space) (a.whole) (b.whole) (sym (a.text_is) ∙ b.text_is) in
     record {
       command_is = cut.front;
-      params_are = params_are_one MAX_PARAMETERS (a.more) ps qs (a.params_are)
-          (subst (λ (m : List ℕ). ReadsParams MAX_PARAMETERS m qs) (sym (cut.rest)) (b.params_are));
+      params_are = params_are_one max_parameters (a.more) ps qs (a.params_are)
+          (subst (λ (m : List ℕ). ReadsParams max_parameters m qs) (sym (cut.rest)) (b.params_are));
     }
 
 command_begins : (text command : List ℕ) (ps : List (List ℕ)) → CommandAt text command ps → begins is_space text ≡ false

@@ -5,9 +5,10 @@ use Rattle.std.specs.List.{list_all}
 use Rattle.std.proofs.lemmas.Bool.Decides.{eqb_tells}
 use Rattle.std.proofs.lemmas.List.{map-append}
 use Rattle.std.proofs.lemmas.List.Folds.{list_all-append}
-use Rattle.irc_line.specs.declared.limits.TheConstants.{MAX_PARAMETERS}
+use Rattle.irc_line.specs.Limits.{max_parameters}
 use Rattle.irc_line.specs.Bytes.{is_space, is_colon, has_nul, begins, colon}
-use Rattle.irc_line.specs.Grammar.{is_word_byte, IsGap, EndsWord, ReadsParams, no_more, behind_colon, the_rest, one_word, CommandAt, Reads, plain, prefixed, AfterGap, WordAt}
+use Rattle.irc_line.specs.Grammar.{is_word_byte, IsGap, EndsWord, ReadsParams, no_more, behind_colon, the_rest, one_word, CommandAt, Reads, plain, prefixed}
+use Rattle.irc_line.specs.Loops.Reading.{AfterGap, WordAt}
 use Rattle.irc_line.proofs.ReadingLaws.{message}
 
 two_gaps : (a b : List ℕ) → IsGap a → IsGap b → IsGap (a ++ b)
@@ -36,20 +37,20 @@ abbrev pub now : List (Bor (List ℕ)) → List (List ℕ)
 now items = map (λ p. p.now) items
 
 abbrev pub Completes : List ℕ → List (Bor (List ℕ)) → List ℕ → Type 0
-Completes text items rest = (more : List (List ℕ)) → ReadsParams (MAX_PARAMETERS - length items) rest more → ReadsParams MAX_PARAMETERS text (now items ++ more)
+Completes text items rest = (more : List (List ℕ)) → ReadsParams (max_parameters - length items) rest more → ReadsParams max_parameters text (now items ++ more)
 
 pub loop_starts : (text rest : List ℕ) (items : List (Bor (List ℕ))) → items ≡ [] → AfterGap text rest → Completes text items rest
 loop_starts text rest items none at =
-    subst (λ (xs : List (Bor (List ℕ))). Completes text xs rest) (sym none) (λ more reads. params_behind_gap MAX_PARAMETERS text rest more at reads)
+    subst (λ (xs : List (Bor (List ℕ))). Completes text xs rest) (sym none) (λ more reads. params_behind_gap max_parameters text rest more at reads)
 
 pushed : (items new : List (Bor (List ℕ))) (x : Bor (List ℕ)) → new ≡ items ++ x ∷ [] → now new ≡ now items ++ x.now ∷ []
 pushed items new x is = ap now is ∙ map-append (λ p. p.now) items (x ∷ [])
 
 pub colon_ends : (text rest behind : List ℕ) (items new : List (Bor (List ℕ))) (first : ℕ) (x : Bor (List ℕ)) → Completes text items rest → rest ≡ first ∷ x.now → first ≡ colon
-    → new ≡ items ++ x ∷ [] → ReadsParams MAX_PARAMETERS text (now new)
+    → new ≡ items ++ x ∷ [] → ReadsParams max_parameters text (now new)
 colon_ends text rest behind items new first x completes rest_is is_colon new_is =
-    subst (λ (ps : List (List ℕ)). ReadsParams MAX_PARAMETERS text ps) (sym (pushed items new x new_is))
-    (completes (x.now ∷ []) (behind_colon (MAX_PARAMETERS - length items) rest [] (x.now) refl (rest_is ∙ ap (λ c. c ∷ x.now) is_colon)))
+    subst (λ (ps : List (List ℕ)). ReadsParams max_parameters text ps) (sym (pushed items new x new_is))
+    (completes (x.now ∷ []) (behind_colon (max_parameters - length items) rest [] (x.now) refl (rest_is ∙ ap (λ c. c ∷ x.now) is_colon)))
 
 not_equal : (a b : ℕ) → (a ≡ b → ⊥) → eqb a b ≡ false
 not_equal a b differ = elim (eqb_tells a b) [ inl same ↦ absurd (differ (same.1)) | inr other ↦ other.0 ]
@@ -59,14 +60,14 @@ neither : (b : ℕ) (more : List ℕ) → begins is_space (b ∷ more) ≡ false
 neither b more no_space no_colon = ap (λ v. v || is_colon b) no_space ∙ not_equal b colon no_colon
 
 pub rest_ends : (text rest more : List ℕ) (items new : List (Bor (List ℕ))) (first : ℕ) (x : Bor (List ℕ)) → Completes text items rest → begins is_space rest ≡ false
-    → rest ≡ first ∷ more → (first ≡ colon → ⊥) → length items + 1 ≡ MAX_PARAMETERS → x.now ≡ rest → new ≡ items ++ x ∷ [] → ReadsParams MAX_PARAMETERS text (now new)
+    → rest ≡ first ∷ more → (first ≡ colon → ⊥) → length items + 1 ≡ max_parameters → x.now ≡ rest → new ≡ items ++ x ∷ [] → ReadsParams max_parameters text (now new)
 rest_ends text rest more items new first x completes no_space rest_is no_colon last x_is new_is =
     let begins_none = subst (λ (r : List ℕ). begins (λ c. is_space c || is_colon c) r ≡ false) (sym rest_is)
     (neither first more (ap (begins is_space) (sym rest_is) ∙ no_space) no_colon) in
     let some : rest ≢ [] = λ none. let never : first ∷ more ≡ [] = sym rest_is ∙ none in cc never in
-    let one : MAX_PARAMETERS - length items ≡ 1 = omega (arith, last) in
-    subst (λ (ps : List (List ℕ)). ReadsParams MAX_PARAMETERS text ps) (sym (pushed items new x new_is ∙ ap (λ r. now items ++ r ∷ []) x_is))
-    (completes (rest ∷ []) (the_rest (MAX_PARAMETERS - length items) rest [] rest one refl some begins_none refl))
+    let one : max_parameters - length items ≡ 1 = omega (arith, last) in
+    subst (λ (ps : List (List ℕ)). ReadsParams max_parameters text ps) (sym (pushed items new x new_is ∙ ap (λ r. now items ++ r ∷ []) x_is))
+    (completes (rest ∷ []) (the_rest (max_parameters - length items) rest [] rest one refl some begins_none refl))
 
 not_false : (a : Bool) → a ≡ false → not a ≡ true
 not_false true h = cc h
@@ -87,24 +88,24 @@ word_no_colon first behind (b ∷ word) more some is no_colon =
 
 -- one parameter more
 pub word_goes_on : (text rest behind more next : List ℕ) (items new : List (Bor (List ℕ))) (first : ℕ) (x : Bor (List ℕ)) → Completes text items rest → begins is_space rest ≡ false
-    → rest ≡ first ∷ behind → (first ≡ colon → ⊥) → length items + 1 < MAX_PARAMETERS → WordAt rest (x.now) more → AfterGap more next → new ≡ items ++ x ∷ [] → Completes text new next
+    → rest ≡ first ∷ behind → (first ≡ colon → ⊥) → length items + 1 < max_parameters → WordAt rest (x.now) more → AfterGap more next → new ≡ items ++ x ∷ [] → Completes text new next
 word_goes_on text rest behind more next items new first x completes no_space rest_is no_colon room at gap new_is = λ later reads.
     let front : begins is_space (first ∷ behind) ≡ false = ap (begins is_space) (sym rest_is) ∙ no_space in
     let is : first ∷ behind ≡ x.now ++ more = sym rest_is ∙ at.text_is in
     let some = some_word first behind (x.now) more front (at.whole) is in
-    let left : MAX_PARAMETERS - length new ≡ (MAX_PARAMETERS - length items) - 1 =
-    ap (λ (xs : List (Bor (List ℕ))). MAX_PARAMETERS - length xs) new_is ∙ omega (arith, length-append {A = Bor (List ℕ)} items (x ∷ [])) in
-    let behind_word = params_behind_gap ((MAX_PARAMETERS - length items) - 1) more next later gap (subst (λ (n : ℕ). ReadsParams n next later) left reads) in
-    let all = completes (x.now ∷ later) (one_word (MAX_PARAMETERS - length items) rest [] (x.now) more later (omega arith) refl some (at.no_space)
+    let left : max_parameters - length new ≡ (max_parameters - length items) - 1 =
+    ap (λ (xs : List (Bor (List ℕ))). max_parameters - length xs) new_is ∙ omega (arith, length-append {A = Bor (List ℕ)} items (x ∷ [])) in
+    let behind_word = params_behind_gap ((max_parameters - length items) - 1) more next later gap (subst (λ (n : ℕ). ReadsParams n next later) left reads) in
+    let all = completes (x.now ∷ later) (one_word (max_parameters - length items) rest [] (x.now) more later (omega arith) refl some (at.no_space)
     (word_no_colon first behind (x.now) more some is no_colon) (at.whole) (at.text_is) behind_word) in
-    subst (λ (ps : List (List ℕ)). ReadsParams MAX_PARAMETERS text ps)
+    subst (λ (ps : List (List ℕ)). ReadsParams max_parameters text ps)
     (sym (ap (λ ps. ps ++ later) (pushed items new x new_is) ∙ append_assoc (now items) (x.now ∷ []) later)) all
 
 -- nothing is left
-pub no_more_comes : (text rest : List ℕ) (items : List (Bor (List ℕ))) → Completes text items rest → rest ≡ [] → ReadsParams MAX_PARAMETERS text (now items)
+pub no_more_comes : (text rest : List ℕ) (items : List (Bor (List ℕ))) → Completes text items rest → rest ≡ [] → ReadsParams max_parameters text (now items)
 no_more_comes text rest items completes none =
-    subst (λ (ps : List (List ℕ)). ReadsParams MAX_PARAMETERS text ps) (append-nil (now items))
-    (completes [] (no_more (MAX_PARAMETERS - length items) rest (ap (list_all is_space) none)))
+    subst (λ (ps : List (List ℕ)). ReadsParams max_parameters text ps) (append-nil (now items))
+    (completes [] (no_more (max_parameters - length items) rest (ap (list_all is_space) none)))
 
 -- The two kinds of line.
 

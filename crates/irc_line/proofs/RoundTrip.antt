@@ -3,7 +3,7 @@ use Rattle.std.proofs.Common.{◌≡◌, ◌≢◌, ℕ, ◌-◌, ◌≤◌, Boo
 use Rattle.std.specs.List.{list_any, list_all, AllByRecursion}
 use Rattle.std.proofs.lemmas.Bool.{cases_lt}
 use Rattle.std.proofs.lemmas.List.Folds.{list_any-append}
-use Rattle.irc_line.specs.declared.limits.TheConstants.{MAX_PARAMETERS}
+use Rattle.irc_line.specs.Limits.{max_parameters}
 use Rattle.irc_line.specs.Bytes.{is_space, is_colon, is_nul, has_nul, begins, colon, space}
 use Rattle.irc_line.specs.Messages.{Parsed, Written, prefix_of, prefix_text, middle_text, last_text, joined_text, line_text, message_of, IsPlainWord, IsPlain}
 use Rattle.irc_line.specs.Grammar.{is_word_byte, HasNoSpace, EndsWord, ReadsParams, no_more, behind_colon, the_rest, one_word, CommandAt, Reads, plain, prefixed}
@@ -92,7 +92,7 @@ command_again parts is = record {
   no_space = (is.command).no_space;
   whole = words_end_word parts.middle (last_text parts.last) (last_ends_word parts.last);
   text_is = refl;
-  params_are = params_again MAX_PARAMETERS parts.middle parts.last (is.middle) (is.count);
+  params_are = params_again max_parameters parts.middle parts.last (is.middle) (is.count);
 }
 
 command_no_colon : (command more : List ℕ) → command ≢ [] → begins is_colon command ≡ false → begins is_colon (command ++ more) ≡ false

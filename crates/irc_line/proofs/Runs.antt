@@ -1,13 +1,14 @@
 -- The framer's steps over one piece, by how many of its bytes were taken.
-use Rattle.std.proofs.Common.{◌≡◌, ℕ, ◌+◌, ◌-◌, ◌≤◌, ◌<◌, Bool, true, false, List, [], ◌∷◌, ◌++◌, length, take, drop, get_or, refl, sym, inl, inr, ◌∙◌, ap, subst, append_assoc, append-nil, arith, take-append-drop}
+use Rattle.std.proofs.Common.{◌≡◌, ℕ, ◌+◌, ◌-◌, ◌≤◌, ◌<◌, Bool, true, false, List, [], ◌∷◌, ◌++◌, length, take, drop, get_or, refl, sym, inl, inr, ◌∙◌, ap, subst, append_assoc, arith}
 use Rattle.std.specs.Prelude.{option_to_list}
 use Rattle.std.specs.List.{list_any}
 use Rattle.std.proofs.lemmas.List.{take-take, take_more}
 use Rattle.std.proofs.Math.Seq.{take-add}
 use Rattle.std.proofs.lemmas.Bool.{cases_lt}
 use Rattle.irc_line.specs.Bytes.{is_line_end}
-use Rattle.irc_line.specs.Lines.{lines, Begun, HasEnded, IsReady, Takes, TakesRun, TakesInto, EndsNoLine, line_begun, go_on, nothing_begun}
-use Rattle.irc_line.proofs.Streams.{takes_nothing, new_has_taken, takes_run, takes_end, takes_append, ends_no_line, fewer_end_no_line, list_any-take}
+use Rattle.irc_line.specs.Lines.{lines, Begun, Takes, EndsNoLine, nothing_begun}
+use Rattle.irc_line.specs.Loops.Framing.{HasEnded, IsReady, TakesRun, TakesInto, line_begun, go_on}
+use Rattle.irc_line.proofs.Streams.{new_has_taken, takes_run, takes_end, takes_append, ends_no_line, fewer_end_no_line, list_any-take}
 
 pub run_takes : (old new : Begun) (bytes : List ℕ) (n : ℕ) → list_any is_line_end (take n bytes) ≡ false → new ≡ go_on old (take n bytes) → Takes old (take n bytes) [] new
 run_takes old new bytes n none is = subst (λ (f : Begun). Takes old (take n bytes) [] f) (sym is) (takes_run old (take n bytes) none)
@@ -93,24 +94,6 @@ below_both old mid piece rest used more rest_is first second k below =
     ]
 
 -- Lines that are put into a list.
-
-pub into_nothing : (framer : Begun) (before : List (List ℕ)) → TakesInto framer [] before framer before
-into_nothing framer before = record { found = []; after_is = sym (append-nil before); takes = takes_nothing framer }
-
-pub into_append : (a b c : Begun) (xs ys : List ℕ) (before mid after : List (List ℕ)) → TakesInto a xs before b mid → TakesInto b ys mid c after
-    → TakesInto a (xs ++ ys) before c after
-into_append a b c xs ys before mid after first second = record {
-  found = first.found ++ second.found;
-  after_is = second.after_is ∙ ap (λ ls. ls ++ second.found) (first.after_is) ∙ append_assoc before (first.found) (second.found);
-  takes = takes_append a b c xs ys (first.found) (second.found) (first.takes) (second.takes);
-}
-
-pub into_step : (a b c : Begun) (bytes rest : List ℕ) (used : ℕ) (before mid after found : List (List ℕ)) → rest ≡ drop used bytes → mid ≡ before ++ found
-    → Takes a (take used bytes) found b → TakesInto b rest mid c after → TakesInto a bytes before c after
-into_step a b c bytes rest used before mid after found rest_is mid_is first second =
-    subst (λ (bs : List ℕ). TakesInto a bs before c after) (take-append-drop used bytes)
-    (into_append a b c (take used bytes) (drop used bytes) before mid after (record { found = found; after_is = mid_is; takes = first })
-    (subst (λ (bs : List ℕ). TakesInto b bs mid c after) rest_is second))
 
 no_lines : lines [] ≡ []
 unfolding lines

@@ -4,9 +4,10 @@ use Rattle.std.specs.Prelude.{option_to_list}
 use Rattle.std.specs.List.{list_any}
 use Rattle.std.proofs.lemmas.List.{take-append-le, nil_from_length}
 use Rattle.std.proofs.lemmas.List.Folds.{list_any-append}
-use Rattle.irc_line.specs.declared.limits.TheConstants.{MAX_LINE}
+use Rattle.irc_line.specs.Limits.{max_line}
 use Rattle.irc_line.specs.Bytes.{is_line_end, is_nul, has_nul, cut}
-use Rattle.irc_line.specs.Lines.{is_empty, line_of, line_begun, go_on, nothing_begun, tail, lines, Begun, begun_of, HasTaken, stream_for, IsReady, Takes, EndsNoLine, IsLine}
+use Rattle.irc_line.specs.Lines.{is_empty, line_of, nothing_begun, tail, lines, Begun, begun_of, HasTaken, stream_for, Takes, EndsNoLine, IsLine}
+use Rattle.irc_line.specs.Loops.Framing.{line_begun, go_on, IsReady}
 use Rattle.irc_line.proofs.CutLaws.{cut-cut_append}
 use Rattle.irc_line.proofs.Pieces.{tail-run, lines-run, tail-end, lines-end, tail_has_no_end, tail_alone, Grows, lines_grow}
 
@@ -28,7 +29,7 @@ list_any-take p (suc n) (x ∷ xs) none =
 
 list_any-cut : (p : ℕ → Bool) (xs : List ℕ) → list_any p xs ≡ false → list_any p (cut xs) ≡ false
 unfolding cut
-list_any-cut p xs none = list_any-take p MAX_LINE xs none
+list_any-cut p xs none = list_any-take p max_line xs none
 
 -- an element that was cut off stands behind the place of the cut
 passes_behind : (p : ℕ → Bool) (n : ℕ) (xs : List ℕ) → list_any p xs ≡ true → list_any p (take n xs) ≡ false → n ≤ length xs
@@ -41,7 +42,7 @@ passes_behind p (suc n) (x ∷ xs) some none =
 
 cut_full : (xs ys : List ℕ) → has_nul xs ≡ true → has_nul (cut xs) ≡ false → cut (xs ++ ys) ≡ cut xs
 unfolding cut
-cut_full xs ys some none = take-append-le MAX_LINE xs ys (passes_behind is_nul MAX_LINE xs some none)
+cut_full xs ys some none = take-append-le max_line xs ys (passes_behind is_nul max_line xs some none)
 
 -- The value of a framer that has taken a stream.
 
@@ -57,12 +58,6 @@ begun_of-append xs ys = same_begun _ _ _ _ (sym (cut-cut_append xs ys)) (list_an
 
 line_of-begun : (piece : List ℕ) → line_begun (begun_of piece) ≡ line_of piece
 line_of-begun piece = ap (λ b. cond (b || has_nul piece) None (Some (cut piece))) (is_empty-cut piece)
-
-pub takes_nothing : (framer : Begun) → Takes framer [] [] framer
-takes_nothing framer = record {
-  framer = λ stream taken. taken ∙ ap (λ s. begun_of (tail s)) (sym (append-nil stream));
-  lines_found = λ stream taken. ap lines (append-nil stream) ∙ sym (append-nil (lines stream));
-}
 
 pub takes_append : (a b c : Begun) (xs ys : List ℕ) (found later : List (List ℕ)) → Takes a xs found b → Takes b ys later c → Takes a (xs ++ ys) (found ++ later) c
 takes_append a b c xs ys found later first second = record {
@@ -134,9 +129,9 @@ still_has_taken old new bytes found taken takes = has_taken_some new (stream_for
 length-take_bound : (n : ℕ) (xs : List ℕ) → length (take n xs) ≤ n
 length-take_bound n xs = omega (arith, length-take {A = ℕ} n xs)
 
-pub length-cut : (xs : List ℕ) → length (cut xs) ≤ MAX_LINE
+pub length-cut : (xs : List ℕ) → length (cut xs) ≤ max_line
 unfolding cut
-length-cut xs = length-take_bound MAX_LINE xs
+length-cut xs = length-take_bound max_line xs
 
 record IsGiven (kept : List ℕ) (nul_seen : Bool) (line : List ℕ) : Type 0 where
   some_kept : is_empty kept ≡ false
@@ -191,10 +186,10 @@ fewer_end_no_line framer xs ys none = λ stream taken.
     (let more = lines_grow (stream ++ xs) ys in record { more = more.more; is = ap lines (sym (append_assoc stream xs ys)) ∙ more.is })
     (none stream taken)
 
-pub kept_fits : (framer : Begun) (stream : List ℕ) → HasTaken framer stream → length framer.kept ≤ MAX_LINE
+pub kept_fits : (framer : Begun) (stream : List ℕ) → HasTaken framer stream → length framer.kept ≤ max_line
 kept_fits framer stream taken =
     let fits = length-cut (tail stream) in
-    subst (λ (f : Begun). length f.kept ≤ MAX_LINE) (sym taken) fits
+    subst (λ (f : Begun). length f.kept ≤ max_line) (sym taken) fits
 
 -- Each of the code's steps, by the fields that it leaves.
 

@@ -5,7 +5,7 @@ use Rattle.std.specs.Prelude.{MatchOption, true, false}
 use Rattle.std.specs.Cmp.Lexicographic.{same_text, pointwise}
 use Rattle.std.proofs.lemmas.List.{take_more, map-append}
 use Rattle.std.proofs.lemmas.Grind.{flat_map-append}
-use Rattle.irc_line.specs.declared.limits.TheConstants.{MAX_LINE}
+use Rattle.irc_line.specs.Limits.{max_line}
 use Rattle.irc_line.specs.Bytes.{cut, space, crlf}
 use Rattle.irc_line.specs.Messages.{Written, prefix_of, prefix_text, middle_text, last_text, line_text, text}
 use Rattle.irc_line.specs.PartViews.{words_now}
@@ -41,7 +41,7 @@ all_written a b c d line parts first second third fourth ended =
     (cut_two [] b c (p ++ parts.command) m (cut_two [] a b p parts.command first second) third) fourth in
     ended ∙ ap (λ l. l ++ crlf) whole
 
-pub no_words_yet : (old : List ℕ) → length old ≤ MAX_LINE → old ≡ cut (old ++ [])
+pub no_words_yet : (old : List ℕ) → length old ≤ max_line → old ≡ cut (old ++ [])
 no_words_yet old fits = sym (ap cut (append-nil old) ∙ cut_all old fits)
 
 -- A text and its CR LF.

@@ -73,16 +73,3 @@ IsReadAs line (Ok message) = Reads line message
 IsReadAs line (Err HasNul) = has_nul line ≡ true
 IsReadAs line (Err Empty) = (has_nul line ≡ false) × IsGap line
 IsReadAs line (Err NoCommand) = (has_nul line ≡ false) × IsPrefixAlone line
-
--- what follows the spaces at the front of a text
-pub record AfterGap (text rest : List ℕ) : Type 0 where
-  pub gap : List ℕ
-  pub gap_is : IsGap gap
-  pub text_is : text ≡ gap ++ rest
-  pub no_space : begins is_space rest ≡ false
-
--- the word at the front of a text, perhaps an empty one, and what follows it
-pub record WordAt (text word more : List ℕ) : Type 0 where
-  pub no_space : HasNoSpace word
-  pub whole : EndsWord more
-  pub text_is : text ≡ word ++ more

@@ -6,4 +6,5 @@ pub mod Messages
 pub mod Grammar
 pub mod MessageViews
 pub mod PartViews
+pub mod Loops
 pub mod Laws

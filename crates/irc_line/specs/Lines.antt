@@ -47,14 +47,6 @@ begun_of piece = record { kept = cut piece; nul_seen = has_nul piece }
 abbrev pub HasTaken : Begun → List ℕ → Type 0
 HasTaken framer stream = framer ≡ begun_of (tail stream)
 
--- the line that a piece with this beginning is, if it ends now
-abbrev pub line_begun : Begun → Option (List ℕ)
-line_begun framer = if is_empty framer.kept || framer.nul_seen then None else Some framer.kept
-
--- a framer with this value has more bytes, none of which ends a line
-abbrev pub go_on : Begun → List ℕ → Begun
-go_on framer bytes = record { kept = cut (framer.kept ++ bytes); nul_seen = framer.nul_seen || has_nul bytes }
-
 -- a framer that has no bytes of a line
 abbrev pub nothing_begun : Begun
 nothing_begun = record { kept = []; nul_seen = false }
@@ -62,15 +54,6 @@ nothing_begun = record { kept = []; nul_seen = false }
 -- A stream that the framer may have taken: what it kept, and a NUL behind that where it saw one that it did not keep.
 abbrev pub stream_for : Begun → List ℕ
 stream_for framer = framer.kept ++ (if framer.nul_seen && not (has_nul framer.kept) then 0 ∷ [] else [])
-
--- what a framer with this value keeps is a line, if it ends now
-abbrev pub IsReady : Begun → Type 0
-IsReady framer = line_begun framer ≡ Some framer.kept
-
--- The line that has begun ends: either it is one and still is kept, to be given, or it is none and nothing is kept.
-abbrev pub HasEnded : Begun → Bool → Begun → Type 0
-HasEnded old true new = (new ≡ old) × IsReady old
-HasEnded old false new = (new ≡ nothing_begun) × (line_begun old ≡ None)
 
 -- what each line is: 1 to 510 bytes, none of them NUL, CR or LF
 pub record IsLine (line : List ℕ) : Type 0 where
@@ -84,17 +67,6 @@ pub record Takes (old : Begun) (bytes : List ℕ) (found : List (List ℕ)) (new
   pub framer : (stream : List ℕ) → HasTaken old stream → HasTaken new (stream ++ bytes)
   pub lines_found : (stream : List ℕ) → HasTaken old stream → lines (stream ++ bytes) ≡ lines stream ++ found
 
--- These bytes are taken: either they end a line, which still is kept, to be given, or they end none.
-abbrev pub TakesRun : Begun → List ℕ → Bool → Begun → Type 0
-TakesRun old bytes true new = Takes old bytes (new.kept ∷ []) nothing_begun × IsReady new
-TakesRun old bytes false new = Takes old bytes [] new
-
 -- Whatever stream led to the framer old, these bytes more end no line.
 abbrev pub EndsNoLine : Begun → List ℕ → Type 0
 EndsNoLine old bytes = (stream : List ℕ) → HasTaken old stream → lines (stream ++ bytes) ≡ lines stream
-
--- The bytes take the framer from old to new, and the lines from before to after.
-pub record TakesInto (old : Begun) (bytes : List ℕ) (before : List (List ℕ)) (new : Begun) (after : List (List ℕ)) : Type 0 where
-  pub found : List (List ℕ)
-  pub after_is : after ≡ before ++ found
-  pub takes : Takes old bytes found new

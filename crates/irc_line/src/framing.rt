@@ -2,7 +2,8 @@
 ghost use Rattle.std.specs.Prelude.{◌≡◌, ℕ, ◌<◌, ◌≤◌, Bool, true, false, [], ◌++◌, length, take, slice_index, map, IsNone, IfSome, IfOk, OnOk};
 ghost use Rattle.std.specs.List.{list_any, flat_map};
 ghost use Rattle.irc_line.specs.Bytes.{is_line_end, has_nul};
-ghost use Rattle.irc_line.specs.Lines.{lines, nothing_begun, go_on, stream_for, HasTaken, HasEnded, IsReady, Takes, TakesRun, TakesInto, EndsNoLine, IsLine};
+ghost use Rattle.irc_line.specs.Lines.{lines, nothing_begun, stream_for, HasTaken, Takes, EndsNoLine, IsLine};
+ghost use Rattle.irc_line.specs.Loops.Framing.{go_on, HasEnded, IsReady, TakesRun, TakesInto};
 ghost use Rattle.irc_line.specs.Framed.{found_in, bytes_of};
 
 use crate::cutting::push_cut;
@@ -37,7 +38,8 @@ impl Model for Framer {
 
     ghost view = { λ f. record { kept = f.kept.items; nul_seen = f.nul_seen } };
 
-    ghost invariant = { λ f. HasTaken (record { kept = f.kept.items; nul_seen = f.nul_seen }) (stream_for (record { kept = f.kept.items; nul_seen = f.nul_seen })) };
+    ghost invariant = { λ f. HasTaken (record { kept = f.kept.items; nul_seen = f.nul_seen })
+        (stream_for (record { kept = f.kept.items; nul_seen = f.nul_seen })) };
 }
 
 impl Framer {

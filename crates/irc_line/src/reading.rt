@@ -3,7 +3,9 @@ ghost use Rattle.std.specs.Prelude.{◌≡◌, ◌≢◌, ◌≤◌, false, [], 
 ghost use Rattle.irc_line.specs.Bytes.{is_space, begins, has_nul};
 ghost use Rattle.irc_line.specs.Messages.{Parsed};
 ghost use Rattle.irc_line.specs.MessageViews.{parsed_result, params_now, optional_now};
-ghost use Rattle.irc_line.specs.Grammar.{IsReadAs, CommandAt, ReadsParams, AfterGap, WordAt};
+ghost use Rattle.irc_line.specs.Limits.{max_parameters};
+ghost use Rattle.irc_line.specs.Grammar.{IsReadAs, CommandAt, ReadsParams};
+ghost use Rattle.irc_line.specs.Loops.Reading.{AfterGap, WordAt};
 ghost use Rattle.irc_line.specs.declared.reading.LineFault.{LineFault};
 
 use crate::limits::MAX_PARAMETERS;
@@ -93,7 +95,7 @@ fn read_command<'a>(prefix: Option<&'a [u8]>, text: &'a [u8]) -> Message<'a>
 /// Reads the parameters behind a command, in their place: they are a quarter of a kilobyte, and so are not moved.
 fn read_params<'a>(text: &'a [u8], params: &mut ArrayVec<&'a [u8], MAX_PARAMETERS>)
     requires { params.old.items ≡ [] }
-    ensures { ReadsParams MAX_PARAMETERS text.now (params_now params.new) }
+    ensures { ReadsParams max_parameters text.now (params_now params.new) }
 {
     let mut rest = skip_spaces(text);
     while let Some((first, behind_colon)) = rest.split_first() {

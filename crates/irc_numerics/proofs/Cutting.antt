@@ -3,7 +3,7 @@ use Rattle.std.proofs.Common.{◌≡◌, ℕ, zero, suc, ◌+◌, ◌≤◌, ◌
 use Rattle.std.specs.Borrow.{Bor}
 use Rattle.std.proofs.lemmas.List.{take-take, take_more, map-append}
 use Rattle.std.proofs.lemmas.Grind.{flat_map-append}
-use Rattle.irc_line.specs.declared.limits.TheConstants.{MAX_LINE}
+use Rattle.irc_line.specs.Limits.{max_line}
 use Rattle.irc_line.specs.Bytes.{cut, space, colon}
 use Rattle.irc_line.specs.Messages.{line_text, prefix_text, middle_text, prefix_of, named}
 use Rattle.irc_line.specs.PartViews.{words_now}
@@ -18,7 +18,7 @@ take-append_take (suc n) m (x ∷ xs) ys below = ap (λ zs. x ∷ zs) (take-appe
 -- what was cut off the end of a line makes no difference to the line
 cut-append_cut : (xs ys : List ℕ) → cut (xs ++ cut ys) ≡ cut (xs ++ ys)
 unfolding cut
-cut-append_cut xs ys = take-append_take MAX_LINE MAX_LINE xs ys (omega arith)
+cut-append_cut xs ys = take-append_take max_line max_line xs ys (omega arith)
 
 -- a text that was cut makes the same line as the whole one
 pub numbered-cut : (server name number : List ℕ) (words : List (List ℕ)) (whole : List ℕ)

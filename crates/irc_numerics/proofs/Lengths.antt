@@ -3,11 +3,11 @@ use Rattle.std.proofs.Common.{◌≡◌, ℕ, ◌+◌, ◌*◌, ◌^◌, ◌<◌
 use Rattle.std.specs.Prelude.{decimal, IfSome}
 use Rattle.std.specs.List.{AllByRecursion}
 use Rattle.std.proofs.lemmas.Fmt.{length-decimal-le}
-use Rattle.irc_line.specs.declared.limits.TheConstants.{MAX_LINE}
+use Rattle.irc_line.specs.Limits.{max_line}
 use Rattle.irc_line.specs.Bytes.{space, colon, crlf}
 use Rattle.irc_line.specs.Messages.{joined_text, line_text, middle_text, last_text, prefix_text, prefix_of, named}
 use Rattle.irc_line.proofs.CutLaws.{cut_all}
-use Rattle.irc_names.specs.declared.TheConstants.{MAX_NICK, MAX_CHANNEL, MAX_SERVER}
+use Rattle.irc_names.specs.Limits.{max_nick, max_channel, max_server}
 use Rattle.irc_numerics.specs.declared.replies.Mark.{Mark}
 use Rattle.irc_numerics.specs.declared.replies.Mark.TheVariants.{Plain, Voiced, Operator}
 use Rattle.irc_numerics.specs.declared.replies.Visibility.TheVariants.{Public, Private, Secret}
@@ -73,20 +73,20 @@ spaced-fits entry most (x ∷ y ∷ rest) fit =
     let parts = length-append (entry x) (space ∷ spaced (map entry (y ∷ rest))) in
     omega arith
 
-members_fit : (names : List Listed) → AllByRecursion (λ member. length member.nick ≤ MAX_NICK) names → AllByRecursion
+members_fit : (names : List Listed) → AllByRecursion (λ member. length member.nick ≤ max_nick) names → AllByRecursion
     (λ member. length (listed member) ≤ 10) names
 members_fit [] fit = fit
 members_fit (x ∷ xs) fit =
-    let nick : length x.nick ≤ MAX_NICK = fit.0 in
+    let nick : length x.nick ≤ max_nick = fit.0 in
     let mark : length (mark_text x.mark) ≤ 1 = length-mark_text x.mark in
     let parts = length-append (mark_text x.mark) (x.nick) in
     (omega arith, members_fit xs fit.1)
 
-places_fit : (places : List OnChannel) → AllByRecursion (λ place. length place.channel ≤ MAX_CHANNEL) places
+places_fit : (places : List OnChannel) → AllByRecursion (λ place. length place.channel ≤ max_channel) places
     → AllByRecursion (λ place. length (on_channel place) ≤ 51) places
 places_fit [] fit = fit
 places_fit (x ∷ xs) fit =
-    let channel : length x.channel ≤ MAX_CHANNEL = fit.0 in
+    let channel : length x.channel ≤ max_channel = fit.0 in
     let mark : length (mark_text x.mark) ≤ 1 = length-mark_text x.mark in
     let parts = length-append (mark_text x.mark) (x.channel) in
     (omega arith, places_fit xs fit.1)
@@ -204,12 +204,12 @@ length-joined server name digits said =
     let f = length-last_text said.last in
     omega arith
 
-reply_name_fits : (nick : Option (List ℕ)) → IfSome nick (λ n. length n ≤ MAX_NICK) → length (reply_name nick) ≤ MAX_NICK
+reply_name_fits : (nick : Option (List ℕ)) → IfSome nick (λ n. length n ≤ max_nick) → length (reply_name nick) ≤ max_nick
 reply_name_fits None fits = lit≤ tt
 reply_name_fits (Some nick) fits = fits
 
-pub within_limits_is_whole : (server : List ℕ) (nick : Option (List ℕ)) (reply : Reply) → length server ≤ MAX_SERVER
-    → IfSome nick (λ n. length n ≤ MAX_NICK)
+pub within_limits_is_whole : (server : List ℕ) (nick : Option (List ℕ)) (reply : Reply) → length server ≤ max_server
+    → IfSome nick (λ n. length n ≤ max_nick)
     → IsWithinLimits reply → IsWhole server nick reply
 unfolding numbered line_text
 within_limits_is_whole server nick reply server_fits nick_fits limits =
@@ -217,5 +217,5 @@ within_limits_is_whole server nick reply server_fits nick_fits limits =
     let all = length-joined server name (number reply) (words reply) in
     let name_fits = reply_name_fits nick nick_fits in
     let said_fits = short reply limits in
-    let line_fits : length (joined_text (reply_parts server name (number reply) (words reply))) ≤ MAX_LINE = omega arith in
+    let line_fits : length (joined_text (reply_parts server name (number reply) (words reply))) ≤ max_line = omega arith in
     record { fits = line_fits; uncut = ap (λ line. line ++ crlf) (cut_all _ line_fits) }

@@ -1,6 +1,5 @@
 pub mod Limits
-pub mod Heads
 pub mod Laws
-pub mod Places
+pub mod Loops
 pub mod Blanks
 pub mod Replies

@@ -1,8 +1,8 @@
 //! Refusals from 441 on, most of them on channels.
 ghost use Rattle.std.specs.Prelude.{◌≡◌};
-ghost use Rattle.irc_numerics.specs.Heads.{line_of};
+ghost use Rattle.irc_numerics.specs.Loops.Heads.{line_of};
 ghost use Rattle.irc_numerics.specs.Replies.{number, words};
-ghost use Rattle.irc_numerics.specs.Places.{IsBehindNicks, IsBehindKeys};
+ghost use Rattle.irc_numerics.specs.Loops.Places.{IsBehindNicks, IsBehindKeys};
 
 use crate::replies::Reply;
 use crate::writing::Head;

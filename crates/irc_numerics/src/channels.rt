@@ -2,9 +2,9 @@
 ghost use Rattle.std.specs.Prelude.{◌≡◌, [], ◌∷◌, codes, decimal};
 ghost use Rattle.std.specs.Option.{option_map};
 ghost use Rattle.irc_line.specs.MessageViews.{optional_now};
-ghost use Rattle.irc_numerics.specs.Heads.{line_of};
+ghost use Rattle.irc_numerics.specs.Loops.Heads.{line_of};
 ghost use Rattle.irc_numerics.specs.Replies.{number, words, plain, saying, mode_words};
-ghost use Rattle.irc_numerics.specs.Places.{IsBehindUsers};
+ghost use Rattle.irc_numerics.specs.Loops.Places.{IsBehindUsers};
 
 use crate::lists::list_line;
 use crate::replies::{Key, Reply};

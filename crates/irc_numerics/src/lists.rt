@@ -2,9 +2,9 @@
 ghost use Rattle.std.specs.Prelude.{◌≡◌, ◌<◌, [], ◌∷◌, ◌++◌, length, map, codes, decimal, unwrap_or};
 ghost use Rattle.irc_line.specs.Bytes.{cut};
 ghost use Rattle.irc_line.specs.PartViews.{words_now};
-ghost use Rattle.irc_numerics.specs.Heads.{line_of};
+ghost use Rattle.irc_numerics.specs.Loops.Heads.{line_of};
 ghost use Rattle.irc_numerics.specs.Replies.{number, words, spaced, listed, mark_text, visibility_text, saying, plain, in_a_row};
-ghost use Rattle.irc_numerics.specs.Places.{IsBehindChannels};
+ghost use Rattle.irc_numerics.specs.Loops.Places.{IsBehindChannels};
 
 use crate::refusals::refusal_line;
 use crate::replies::{Listed, Mark, Reply, Visibility};

@@ -1,8 +1,8 @@
 //! Refusals: 401 to 443.
 ghost use Rattle.std.specs.Prelude.{◌≡◌};
-ghost use Rattle.irc_numerics.specs.Heads.{line_of};
+ghost use Rattle.irc_numerics.specs.Loops.Heads.{line_of};
 ghost use Rattle.irc_numerics.specs.Replies.{number, words};
-ghost use Rattle.irc_numerics.specs.Places.{IsBehindLists};
+ghost use Rattle.irc_numerics.specs.Loops.Places.{IsBehindLists};
 
 use crate::channel_refusals::late_refusal_line;
 use crate::replies::Reply;

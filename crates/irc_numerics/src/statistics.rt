@@ -1,6 +1,6 @@
 //! Replies on a connection and on the network: 001 to 303.
 ghost use Rattle.std.specs.Prelude.{◌≡◌, [], ◌∷◌, codes, decimal, if◌then◌else◌};
-ghost use Rattle.irc_numerics.specs.Heads.{line_of};
+ghost use Rattle.irc_numerics.specs.Loops.Heads.{line_of};
 ghost use Rattle.irc_numerics.specs.Replies.{number, words, said, in_a_row};
 
 use crate::replies::Reply;

@@ -1,9 +1,9 @@
 //! Replies on users: 311 to 319.
 ghost use Rattle.std.specs.Prelude.{◌≡◌, map};
 ghost use Rattle.irc_line.specs.Bytes.{cut};
-ghost use Rattle.irc_numerics.specs.Heads.{line_of};
+ghost use Rattle.irc_numerics.specs.Loops.Heads.{line_of};
 ghost use Rattle.irc_numerics.specs.Replies.{number, words, spaced, on_channel};
-ghost use Rattle.irc_numerics.specs.Places.{IsBehindStatistics};
+ghost use Rattle.irc_numerics.specs.Loops.Places.{IsBehindStatistics};
 
 use crate::channels::channel_line;
 use crate::replies::{OnChannel, Reply};

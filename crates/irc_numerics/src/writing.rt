@@ -3,7 +3,7 @@ ghost use Rattle.std.specs.Prelude.{◌≡◌, ℕ, ◌<◌, ◌≤◌, List, []
 ghost use Rattle.irc_line.specs.Bytes.{cut, space};
 ghost use Rattle.irc_line.specs.PartViews.{words_now};
 ghost use Rattle.irc_line.specs.MessageViews.{optional_now, params_now};
-ghost use Rattle.irc_numerics.specs.Heads.{line_of};
+ghost use Rattle.irc_numerics.specs.Loops.Heads.{line_of};
 ghost use Rattle.irc_numerics.specs.Replies.{reply_text, plain, said, saying, in_a_row, mark_text};
 
 use crate::replies::{Mark, Reply};

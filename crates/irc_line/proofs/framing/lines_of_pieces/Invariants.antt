@@ -1,6 +1,7 @@
 use Rattle.std.proofs.Common.{[], take}
 use Rattle.std.specs.List.{flat_map}
-use Rattle.irc_line.specs.Lines.{nothing_begun, TakesInto}
+use Rattle.irc_line.specs.Lines.{nothing_begun}
+use Rattle.irc_line.specs.Loops.Framing.{TakesInto}
 use Rattle.irc_line.specs.Framed.{bytes_of}
 use Rattle.irc_line.proofs.framing.lines_of_pieces.Given as goal
 

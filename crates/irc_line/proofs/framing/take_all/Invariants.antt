@@ -1,5 +1,6 @@
 use Rattle.std.proofs.Common.{ℕ, List, length}
-use Rattle.irc_line.specs.Lines.{Begun, TakesInto}
+use Rattle.irc_line.specs.Lines.{Begun}
+use Rattle.irc_line.specs.Loops.Framing.{TakesInto}
 use Rattle.irc_line.specs.Framed.{bytes_of}
 use Rattle.irc_line.proofs.framing.take_all.Given as goal
 
