@@ -2,10 +2,22 @@
 use Rattle.std.proofs.Common.{◌≡◌, ◌≢◌, ℕ, zero, suc, List, [], ◌++◌, ◌⊎◌, inl, inr, refl, sym, ap, subst, ◌∙◌, arith}
 use Rattle.std.proofs.lemmas.List.{append-nil}
 use Rattle.irc_relay.specs.Links.{Name, Link}
-use Rattle.irc_relay.specs.Relay.{Machine, Net, Streams, after, passed_on, shown_upon, under_way, coming_within, coming, final, told, AreHarmless, Adds, AreLast, SameUnderWay, SameOutcome, IsFollowed}
+use Rattle.irc_relay.specs.Relay.{Machine, Net, Streams, after, passed_on, shown_upon, under_way, coming_within, coming, final, told, TakesFrom, AreHarmless}
 use Rattle.irc_relay.proofs.TellingNames.{alike, unlike, tell}
 use Rattle.irc_relay.proofs.Flowing.{IsFlow}
 use Rattle.irc_relay.proofs.Delivering.{after-append, passed_on-append, shown_upon-append, after_harmless, passed_on_harmless, shown_upon_harmless, coming_from_still}
+
+-- some lines are put behind those under way from x to y. Nothing else changes
+pub record Adds {State Line Shown : Type 0} (x y : Name) (lines : List Line) (old new : Net State Line Shown) : Type 0 where
+  pub put : under_way new x y ≡ under_way old x y ++ lines
+  pub others : (a b : Name) → (a ≡ x → b ≡ y → ⊥) → under_way new a b ≡ under_way old a b
+  pub states : (u : Name) → new.state u ≡ old.state u
+  pub shown : (u : Name) → new.shown u ≡ old.shown u
+
+-- lines under way from x are the last that come to y: x will pass nothing on to it
+pub record AreLast {State Line Shown : Type 0} (m : Machine State Line Shown) (streams : Streams) (net : Net State Line Shown) (x y : Name) : Type 0 where
+  pub takes_from : TakesFrom streams y x
+  pub nothing_behind : (n : ℕ) → streams.depth y ≡ suc n → passed_on m x (streams.parent x) (net.state x) (coming_within m streams net n x) y ≡ []
 
 -- at depth n: the receiver has more to come, and the others have what they had
 pub record IsMoreAt {State Line Shown : Type 0} (m : Machine State Line Shown) (streams : Streams) (y : Name) (lines : List Line) (old new : Net State Line Shown) (n : ℕ) : Type 0 where
@@ -129,47 +141,3 @@ module _ (State Line Shown : Type 0) (m : Machine State Line Shown) (links : Lis
       elsewhere o =
           ap (λ s. shown_upon m u (streams.parent u) s (coming m streams new u)) (adds.states u)
           ∙ ap (λ v. shown_upon m u (streams.parent u) (old.state u) v) (coming_steady u o)
-
--- lines put behind what is coming, and what comes of it
-pub adding_outcome : {State Line Shown : Type 0} (m : Machine State Line Shown) (links : List Link) (streams : Streams) (x y : Name) (lines : List Line) (old new : Net State Line Shown) → IsFlow links streams → Adds x y lines old new → AreLast m streams old x y → AreHarmless m y x (final m streams old y) lines → SameOutcome m streams old new × IsFollowed m streams y lines old new
-adding_outcome {State} {Line} {Shown} m links streams x y lines old new flow adds last harmless = (
-  record {
-    same_final = final_kept State Line Shown m links streams x y lines old new flow adds last harmless;
-    same_told = told_kept State Line Shown m links streams x y lines old new flow adds last harmless;
-  },
-  record {
-    followed = coming_added State Line Shown m links streams x y lines old new flow adds last harmless;
-    others = coming_steady State Line Shown m links streams x y lines old new flow adds last harmless;
-  },
-)
-
--- what is under way from a server's source is the last to come
-pub last_from_source : {State Line Shown : Type 0} (m : Machine State Line Shown) (streams : Streams) (net : Net State Line Shown) (x y : Name) → streams.parent y ≡ x → streams.depth y ≡ 1 → AreLast m streams net x y
-unfolding coming_within
-last_from_source {State} {Line} {Shown} m streams net x y e d = record { takes_from = record { parent = e; below = omega arith }; nothing_behind = λ n f. nothing n (omega arith) }
-  where
-    nothing : (n : ℕ) → n ≡ 0 → passed_on m x (streams.parent x) (net.state x) (coming_within m streams net n x) y ≡ []
-    nothing zero z = refl
-    nothing (suc n) z = let q : ⊥ = omega arith in absurd q
-
--- it makes no difference whether lines are on their way or owed
-pub same_coming : {State Line Shown : Type 0} (m : Machine State Line Shown) (streams : Streams) (old new : Net State Line Shown) → SameUnderWay old new → (n : ℕ) (u : Name) → coming_within m streams new n u ≡ coming_within m streams old n u
-unfolding coming_within
-same_coming m streams old new s zero u = refl
-same_coming m streams old new s (suc n) u =
-    ap (λ v. v ++ passed_on m (streams.parent u) (streams.parent (streams.parent u)) (new.state (streams.parent u)) (coming_within m streams new n (streams.parent u)) u) (s.ways (streams.parent u) u)
-    ∙ ap (λ v. under_way old (streams.parent u) u ++ v) (coming_from_still m streams old new n u (s.states (streams.parent u)) (same_coming m streams old new s n (streams.parent u)))
-
-pub same_under_way : {State Line Shown : Type 0} (m : Machine State Line Shown) (streams : Streams) (old new : Net State Line Shown) → SameUnderWay old new → SameOutcome m streams old new × ((u : Name) → coming m streams new u ≡ coming m streams old u)
-same_under_way m streams old new s = (
-  record {
-    same_final = λ u.
-        ap (λ v. after m u (streams.parent u) v (coming m streams new u)) (s.states u)
-        ∙ ap (λ v. after m u (streams.parent u) (old.state u) v) (same_coming m streams old new s (streams.depth u) u);
-    same_told = λ u.
-        ap (λ v. v ++ shown_upon m u (streams.parent u) (new.state u) (coming m streams new u)) (s.shown u)
-        ∙ ap (λ v. old.shown u ++ shown_upon m u (streams.parent u) v (coming m streams new u)) (s.states u)
-        ∙ ap (λ v. old.shown u ++ shown_upon m u (streams.parent u) (old.state u) v) (same_coming m streams old new s (streams.depth u) u);
-  },
-  λ u. same_coming m streams old new s (streams.depth u) u,
-)

@@ -6,7 +6,8 @@ use Rattle.std.proofs.lemmas.List.Elements.{filter-append}
 use Rattle.irc_relay.specs.Links.{Name, same, Link, IsForest, AreLinked}
 use Rattle.irc_relay.specs.Relay.{Net, Streams, streams_from, from_one, IsAtRest, GoesAway, Delivers, Relays}
 use Rattle.irc_relay.specs.Queue.{queue_of}
-use Rattle.irc_relay.specs.NewsNet.{name, number, links_of, reading, items_at, latest_of, sent_on, relaying, net_with, net_of, TakesOldest, DeliversNews, KeepsNews}
+use Rattle.irc_relay.specs.NewsNet.{name, number, links_of, reading, items_at, latest_of, sent_on, relaying, net_with, net_of, DeliversNews, KeepsNews}
+use Rattle.irc_relay.specs.Loops.Taking.{TakesOldest}
 use Rattle.irc_relay.specs.declared.news.Sent.{Sent}
 use Rattle.irc_relay.specs.declared.news.Edge.{Edge}
 use Rattle.irc_relay.specs.declared.news.Shown.{Shown}

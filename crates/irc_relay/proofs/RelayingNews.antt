@@ -4,7 +4,8 @@ use Rattle.std.specs.List.{slice_index_or}
 use Rattle.std.proofs.lemmas.Bool.Decides.{eqb_tells}
 use Rattle.irc_relay.specs.Links.{Name, same, HasEnds, AreLinked}
 use Rattle.irc_relay.specs.Queue.{goes, queue_of}
-use Rattle.irc_relay.specs.NewsNet.{name, number, link_of, links_of, reading, is_between, sent_over, sent_on, TakesOldest}
+use Rattle.irc_relay.specs.NewsNet.{name, number, link_of, links_of, reading, sent_over, sent_on}
+use Rattle.irc_relay.specs.Loops.Taking.{is_between, TakesOldest}
 use Rattle.irc_relay.specs.declared.news.Sent.{Sent}
 use Rattle.irc_relay.specs.declared.news.Edge.{Edge}
 use Rattle.irc_relay.proofs.TellingNames.{alike, unlike, tell, same_when, same_unless}

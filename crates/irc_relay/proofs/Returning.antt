@@ -2,12 +2,13 @@
 use Rattle.std.proofs.Common.{◌≡◌, ◌≢◌, ℕ, zero, suc, true, false, ◌&&◌, List, [], ◌∷◌, ◌++◌, if◌then◌else◌, refl, sym, ap, subst, ◌∙◌, arith}
 use Rattle.std.proofs.lemmas.List.{append-nil}
 use Rattle.irc_relay.specs.Links.{Name, same, Link}
-use Rattle.irc_relay.specs.Relay.{Machine, Net, Streams, passed_on, under_way, coming_within, coming, final, TakesFrom, GoesAway, AreHarmless, Delivers, Relays, Adds, AreLast, SameOutcome, ComesOn, Pays}
+use Rattle.irc_relay.specs.Relay.{Machine, Net, Streams, passed_on, under_way, coming_within, coming, final, TakesFrom, GoesAway, AreHarmless, Delivers, Relays, SameOutcome, ComesOn, Pays}
 use Rattle.irc_relay.proofs.TellingNames.{Telling, alike, unlike, tell, same_when}
 use Rattle.irc_relay.proofs.Flowing.{IsFlow}
 use Rattle.irc_relay.proofs.Delivering.{Takes}
 use Rattle.irc_relay.proofs.Delivering
 use Rattle.irc_relay.proofs.Adding
+use Rattle.irc_relay.proofs.Adding.{Adds, AreLast}
 
 -- the oldest line on its way comes from the taker's parent
 pub taker_from : {State Line Shown : Type 0} (m : Machine State Line Shown) (streams : Streams) (p t : Name) (line : Line) (back : List Line) (old new : Net State Line Shown) → GoesAway streams old → Delivers m p t line back old new → TakesFrom streams t p

@@ -2,7 +2,7 @@
 use Rattle.std.proofs.Common.{◌≡◌, ◌≢◌, ℕ, zero, suc, List, [], ◌∷◌, ◌++◌, inl, inr, refl, sym, ap, subst, ◌∙◌, arith}
 use Rattle.std.proofs.lemmas.List.{append-nil}
 use Rattle.irc_relay.specs.Links.{Name, Link, AreLinked}
-use Rattle.irc_relay.specs.Relay.{Machine, Net, Streams, after, shown_upon, under_way, coming, final, told, IsAtRest, TakesFrom, GoesAway, Delivers, Relays, SameOutcome, Reaches, stays, goes_on, IsFront, IsOnTheWay, Adds}
+use Rattle.irc_relay.specs.Relay.{Machine, Net, Streams, after, shown_upon, under_way, coming, final, told, IsAtRest, TakesFrom, GoesAway, Delivers, Relays, SameOutcome, Reaches, stays, goes_on, IsFront, IsOnTheWay}
 use Rattle.irc_relay.proofs.TellingNames.{Telling, alike, unlike, tell}
 use Rattle.irc_relay.proofs.Flowing.{IsFlow}
 use Rattle.irc_relay.proofs.Delivering.{coming_at_rest}
@@ -90,15 +90,3 @@ run_on_the_way m links streams start n now flow away run =
       state_at_rest = λ u rest. sym (rest_final m streams now u rest) ∙ kept.0.same_final u;
       shown_at_rest = λ u rest. sym (rest_told m streams now u rest) ∙ kept.0.same_told u;
     }
-
--- what is added comes to a server from its parent too
-pub adding_away : {State Line Shown : Type 0} (streams : Streams) (x y : Name) (lines : List Line) (old new : Net State Line Shown) → GoesAway streams old → Adds x y lines old new → TakesFrom streams y x → GoesAway streams new
-adding_away streams x y lines old new away adds takes a b l ls e = go (tell a x) (tell b y)
-  where
-    other : (a ≡ x → b ≡ y → ⊥) → TakesFrom streams b a
-    other o = away a b l ls (sym (adds.others a b o) ∙ e)
-
-    go : Telling a x → Telling b y → TakesFrom streams b a
-    go (alike _ f) (alike _ g) = subst (λ v. TakesFrom streams v a) (sym g) (subst (λ v. TakesFrom streams y v) (sym f) takes)
-    go (alike _ f) (unlike _ n) = other (λ _ g. n g)
-    go (unlike _ n) _ = other (λ f _. n f)

@@ -6,7 +6,8 @@ use Rattle.std.specs.Bool.{MatchBool}
 use Rattle.irc_relay.specs.Links.{Name, same, Link, IsForest, AreLinked, distance}
 use Rattle.irc_relay.specs.Relay.{Streams, streams_from, from_one, IsAtRest, TakesFrom, GoesAway, SameOutcome, lines_coming}
 use Rattle.irc_relay.specs.Queue.{goes, queue_of}
-use Rattle.irc_relay.specs.NewsNet.{name, links_of, reading, relaying, net_of, streams_of, ends_of, items_coming, DeliversNews, KeepsNews, HasSettled, IsSettling}
+use Rattle.irc_relay.specs.NewsNet.{name, links_of, reading, relaying, net_of, streams_of, DeliversNews, KeepsNews, HasSettled}
+use Rattle.irc_relay.specs.Loops.Settling.{ends_of, items_coming, IsSettling}
 use Rattle.irc_relay.specs.declared.news.Sent.{Sent}
 use Rattle.irc_relay.specs.declared.news.Edge.{Edge}
 use Rattle.irc_relay.specs.declared.news.News.{News}

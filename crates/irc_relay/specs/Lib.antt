@@ -3,3 +3,4 @@ pub mod Relay
 pub mod Queue
 pub mod Laws
 pub mod NewsNet
+pub mod Loops

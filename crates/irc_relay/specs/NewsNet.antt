@@ -1,8 +1,8 @@
 -- The example: servers with one-byte names, in a tree, that relay news. A server shows a news item and passes it on to its
 -- other neighbours, unless it is the one that it showed last.
-use Rattle.std.specs.Prelude.{◌≡◌, ℕ, Bool, ◌&&◌, not, ◌==◌, if◌then◌else◌, List, [], ◌∷◌, map, filter, flat_map, slice_index}
+use Rattle.std.specs.Prelude.{◌≡◌, ℕ, ◌&&◌, not, ◌==◌, if◌then◌else◌, List, [], ◌∷◌, map, filter, flat_map, slice_index}
 use Rattle.irc_relay.specs.Links.{Name, same, Link, IsForest}
-use Rattle.irc_relay.specs.Relay.{Machine, Net, Streams, streams_from, from_one, IsAtRest, GoesAway, SameOutcome, Delivers, final, told, lines_coming}
+use Rattle.irc_relay.specs.Relay.{Machine, Net, Streams, streams_from, from_one, IsAtRest, GoesAway, SameOutcome, Delivers, final, told}
 use Rattle.irc_relay.specs.Queue.{Reading, queue_of}
 use Rattle.irc_relay.specs.declared.news.Edge.{Edge}
 use Rattle.irc_relay.specs.declared.news.Sent.{Sent}
@@ -25,10 +25,6 @@ links_of edges = map link_of edges
 
 abbrev pub reading : Reading Sent ℕ
 reading = record { from = λ s. name s.from; to = λ s. name s.to; line = λ s. s.item }
-
--- the test whether an item goes from one numbered server to another
-abbrev pub is_between : ℕ → ℕ → Sent → Bool
-is_between from to s = (s.from == from) && (s.to == to)
 
 -- what a server showed
 abbrev pub items_at : List Shown → Name → List ℕ
@@ -71,11 +67,6 @@ net_with latest shown flying = record {
 abbrev pub net_of : News → Net ℕ ℕ ℕ
 net_of news = net_with news.latest news.shown.items news.flying.items
 
--- the oldest item on its way between two servers is taken out of what is under way
-pub record TakesOldest (from to item : ℕ) (old new : List Sent) : Type 0 where
-  pub oldest : queue_of reading old (name from) (name to) ≡ item ∷ queue_of reading new (name from) (name to)
-  pub others : (x y : Name) → (x ≡ name from → y ≡ name to → ⊥) → queue_of reading new x y ≡ queue_of reading old x y
-
 -- one delivery: the second server takes the oldest item on its way from the first
 abbrev pub DeliversNews : ℕ → ℕ → News → News → Type 0
 DeliversNews from to old new = (item : ℕ) × Delivers (relaying old.edges.items) (name from) (name to) item [] (net_of old) (net_of new)
@@ -87,7 +78,9 @@ KeepsNews old new =
     (source : Name)
     → IsForest (links_of old.edges.items)
     → GoesAway (streams_from (links_of old.edges.items) (from_one (links_of old.edges.items) source)) (net_of old)
-    → SameOutcome (relaying old.edges.items) (streams_from (links_of old.edges.items) (from_one (links_of old.edges.items) source)) (net_of old) (net_of new) × GoesAway (streams_from (links_of old.edges.items) (from_one (links_of old.edges.items) source)) (net_of new)
+    → SameOutcome (relaying old.edges.items) (streams_from (links_of old.edges.items) (from_one (links_of old.edges.items) source))
+        (net_of old) (net_of new)
+    × GoesAway (streams_from (links_of old.edges.items) (from_one (links_of old.edges.items) source)) (net_of new)
 
 -- news that a server publishes at rest, in a forest, come to every server on the way from that one
 abbrev pub PublishedGoesAway : ℕ → News → News → Type 0
@@ -100,22 +93,8 @@ PublishedGoesAway at old new =
 abbrev pub streams_of : News → ℕ → Streams
 streams_of news source = streams_from (links_of news.edges.items) (from_one (links_of news.edges.items) (name source))
 
--- the ends of the edges
-abbrev pub ends_of : List Edge → List Name
-ends_of edges = flat_map (λ e. name e.near ∷ name e.far ∷ []) edges
-
--- how many items are coming to the ends of the edges
-abbrev pub items_coming : News → ℕ → ℕ
-items_coming news source = lines_coming (relaying news.edges.items) (streams_of news source) (net_of news) (ends_of news.edges.items)
-
 -- all has come: nothing is under way, every server has its final state, and has shown all that it was to be told
 pub record HasSettled (source : ℕ) (old new : News) : Type 0 where
   pub rest : IsAtRest (net_of new)
   pub state : (u : Name) → (net_of new).state u ≡ final (relaying old.edges.items) (streams_of old source) (net_of old) u
   pub shown : (u : Name) → (net_of new).shown u ≡ told (relaying old.edges.items) (streams_of old source) (net_of old) u
-
--- on the way there: the same outcome for every server, and all that is under way comes from the source
-pub record IsSettling (source : ℕ) (start now : News) : Type 0 where
-  pub edges : now.edges.items ≡ start.edges.items
-  pub outcome : SameOutcome (relaying start.edges.items) (streams_of start source) (net_of start) (net_of now)
-  pub goes_away : GoesAway (streams_of start source) (net_of now)

@@ -60,7 +60,8 @@ pub record MeetOver (l : Link) (links : List Link) (streams : Streams) : Type 0 
   pub near_depth : streams.depth l.near ≡ 1
   pub far_parent : streams.parent l.far ≡ l.near
   pub far_depth : streams.depth l.far ≡ 1
-  pub near_side : (t : Name) → AreJoined links t l.near → t ≢ l.near → (streams.parent t ≡ toward links t l.near) × (streams.depth t ≡ suc (distance links t l.near))
+  pub near_side : (t : Name) → AreJoined links t l.near → t ≢ l.near → (streams.parent t ≡ toward links t l.near)
+      × (streams.depth t ≡ suc (distance links t l.near))
   pub far_side : (t : Name) → AreJoined links t l.far → t ≢ l.far → (streams.parent t ≡ toward links t l.far) × (streams.depth t ≡ suc (distance links t l.far))
 
 -- the server t, with its neighbour p, after these lines from p
@@ -99,7 +100,10 @@ coming m streams net t = coming_within m streams net (streams.depth t) t
 pub data ComesInTurn {State Line Shown : Type 0} (m : Machine State Line Shown) (streams : Streams) (net : Net State Line Shown) (t : Name) : Type 0 where
   at_source : streams.depth t ≡ 0 → coming m streams net t ≡ [] → ComesInTurn m streams net t
   from_source : streams.depth t ≡ 1 → coming m streams net t ≡ under_way net (streams.parent t) t → ComesInTurn m streams net t
-  from_parent : 0 < streams.depth (streams.parent t) → streams.depth t ≡ suc (streams.depth (streams.parent t)) → coming m streams net t ≡ under_way net (streams.parent t) t ++ passed_on m (streams.parent t) (streams.parent (streams.parent t)) (net.state (streams.parent t)) (coming m streams net (streams.parent t)) t → ComesInTurn m streams net t
+  from_parent : 0 < streams.depth (streams.parent t) → streams.depth t ≡ suc (streams.depth (streams.parent t))
+      → coming m streams net t ≡ under_way net (streams.parent t) t
+          ++ passed_on m (streams.parent t) (streams.parent (streams.parent t)) (net.state (streams.parent t)) (coming m streams net (streams.parent t)) t
+      → ComesInTurn m streams net t
 
 -- t's state after all that is coming to it
 abbrev pub final : {State Line Shown : Type 0} → Machine State Line Shown → Streams → Net State Line Shown → Name → State
@@ -134,7 +138,8 @@ AreHarmless m y x s (line ∷ lines) = IsHarmless m y x s line × AreHarmless m 
 
 -- t takes the oldest line on its way from p: it steps and shows, what it sends on is put behind what was under way, with
 -- what it owed, and perhaps some lines back to p. Nothing else changes
-pub record Delivers {State Line Shown : Type 0} (m : Machine State Line Shown) (p t : Name) (line : Line) (back : List Line) (old new : Net State Line Shown) : Type 0 where
+pub record Delivers {State Line Shown : Type 0} (m : Machine State Line Shown) (p t : Name) (line : Line) (back : List Line)
+    (old new : Net State Line Shown) : Type 0 where
   pub took : old.queue p t ≡ line ∷ new.queue p t
   pub moved : new.state t ≡ m.step t p (old.state t) line
   pub showed : new.shown t ≡ old.shown t ++ m.shows t p (old.state t) line
@@ -147,14 +152,16 @@ pub record Delivers {State Line Shown : Type 0} (m : Machine State Line Shown) (
 
 -- t passes this line from p on to neighbours alone, and never to p itself; what it returns to p does nothing there, once p
 -- has taken all that is coming to it, and is returned only where p takes lines from t, as its source
-pub record Relays {State Line Shown : Type 0} (m : Machine State Line Shown) (links : List Link) (streams : Streams) (p t : Name) (line : Line) (back : List Line) (net : Net State Line Shown) : Type 0 where
+pub record Relays {State Line Shown : Type 0} (m : Machine State Line Shown) (links : List Link) (streams : Streams) (p t : Name) (line : Line)
+    (back : List Line) (net : Net State Line Shown) : Type 0 where
   pub no_echo : m.sends t p (net.state t) line p ≡ []
   pub to_linked : (u : Name) (next : Line) (lines : List Line) → m.sends t p (net.state t) line u ≡ next ∷ lines → AreLinked links t u
   pub back_to_end : (next : Line) (lines : List Line) → back ≡ next ∷ lines → (streams.parent p ≡ t) × (streams.depth p ≡ 1)
   pub back_harmless : AreHarmless m p t (final m streams net p) back
 
 -- the same, where t pays all that it owed: what it owed goes on its way behind what was there, and then what it sends on
-pub record Pays {State Line Shown : Type 0} (m : Machine State Line Shown) (p t : Name) (line : Line) (back : List Line) (old new : Net State Line Shown) : Type 0 where
+pub record Pays {State Line Shown : Type 0} (m : Machine State Line Shown) (p t : Name) (line : Line) (back : List Line)
+    (old new : Net State Line Shown) : Type 0 where
   pub took : old.queue p t ≡ line ∷ new.queue p t
   pub moved : new.state t ≡ m.step t p (old.state t) line
   pub showed : new.shown t ≡ old.shown t ++ m.shows t p (old.state t) line
@@ -166,44 +173,24 @@ pub record Pays {State Line Shown : Type 0} (m : Machine State Line Shown) (p t 
   pub other_states : (u : Name) → u ≢ t → new.state u ≡ old.state u
   pub other_shown : (u : Name) → u ≢ t → new.shown u ≡ old.shown u
 
--- the same states and shown, and the same under way, whether on its way or owed
-pub record SameUnderWay {State Line Shown : Type 0} (old new : Net State Line Shown) : Type 0 where
-  pub ways : (x y : Name) → under_way new x y ≡ under_way old x y
-  pub states : (u : Name) → new.state u ≡ old.state u
-  pub shown : (u : Name) → new.shown u ≡ old.shown u
-
--- some lines are put behind those under way from x to y. Nothing else changes
-pub record Adds {State Line Shown : Type 0} (x y : Name) (lines : List Line) (old new : Net State Line Shown) : Type 0 where
-  pub put : under_way new x y ≡ under_way old x y ++ lines
-  pub others : (a b : Name) → (a ≡ x → b ≡ y → ⊥) → under_way new a b ≡ under_way old a b
-  pub states : (u : Name) → new.state u ≡ old.state u
-  pub shown : (u : Name) → new.shown u ≡ old.shown u
-
--- lines under way from x are the last that come to y: x will pass nothing on to it
-pub record AreLast {State Line Shown : Type 0} (m : Machine State Line Shown) (streams : Streams) (net : Net State Line Shown) (x y : Name) : Type 0 where
-  pub takes_from : TakesFrom streams y x
-  pub nothing_behind : (n : ℕ) → streams.depth y ≡ suc n → passed_on m x (streams.parent x) (net.state x) (coming_within m streams net n x) y ≡ []
-
 -- each server's state and what it will have shown come out the same
 pub record SameOutcome {State Line Shown : Type 0} (m : Machine State Line Shown) (streams : Streams) (old new : Net State Line Shown) : Type 0 where
   pub same_final : (u : Name) → final m streams new u ≡ final m streams old u
   pub same_told : (u : Name) → told m streams new u ≡ told m streams old u
 
--- what is coming to y is followed by these lines, and nothing else that is coming changes
-pub record IsFollowed {State Line Shown : Type 0} (m : Machine State Line Shown) (streams : Streams) (y : Name) (lines : List Line) (old new : Net State Line Shown) : Type 0 where
-  pub followed : coming m streams new y ≡ coming m streams old y ++ lines
-  pub others : (u : Name) → u ≢ y → coming m streams new u ≡ coming m streams old u
-
 -- what is coming changes by this alone: t, which took the line from p, has it no longer to come, and what it returned comes to p last
-pub record ComesOn {State Line Shown : Type 0} (m : Machine State Line Shown) (streams : Streams) (p t : Name) (line : Line) (back : List Line) (old new : Net State Line Shown) : Type 0 where
+pub record ComesOn {State Line Shown : Type 0} (m : Machine State Line Shown) (streams : Streams) (p t : Name) (line : Line) (back : List Line)
+    (old new : Net State Line Shown) : Type 0 where
   pub taken : coming m streams old t ≡ line ∷ coming m streams new t
   pub returned : coming m streams new p ≡ coming m streams old p ++ back
   pub steady : (u : Name) → u ≢ t → u ≢ p → coming m streams new u ≡ coming m streams old u
 
 -- this many deliveries, in any order, lead from one net to another
-pub data Reaches {State Line Shown : Type 0} (m : Machine State Line Shown) (links : List Link) (streams : Streams) (start : Net State Line Shown) : ℕ → Net State Line Shown → Type 0 where
+pub data Reaches {State Line Shown : Type 0} (m : Machine State Line Shown) (links : List Link) (streams : Streams) (start : Net State Line Shown) : ℕ
+    → Net State Line Shown → Type 0 where
   stays : Reaches m links streams start zero start
-  goes_on : {n : ℕ} {mid new : Net State Line Shown} (p t : Name) (line : Line) (back : List Line) → Reaches m links streams start n mid → Delivers m p t line back mid new → Relays m links streams p t line back mid → Reaches m links streams start (suc n) new
+  goes_on : {n : ℕ} {mid new : Net State Line Shown} (p t : Name) (line : Line) (back : List Line) → Reaches m links streams start n mid
+      → Delivers m p t line back mid new → Relays m links streams p t line back mid → Reaches m links streams start (suc n) new
 
 -- how many lines are coming to these servers, together
 abbrev pub lines_coming : {State Line Shown : Type 0} → Machine State Line Shown → Streams → Net State Line Shown → List Name → ℕ

@@ -1,4 +1,5 @@
-//! The laws of one list of lines under way, of which each queue is what goes from one server to another.
+//! The laws of one list of lines under way, of which each queue is what goes from one server to another:
+//! for a network that keeps what is under way in the order of sending, as `News` does.
 
 ghost use Rattle.irc_relay.specs.Laws.{FirstIsOldest, NoneIsEmpty, SentIsBehind};
 

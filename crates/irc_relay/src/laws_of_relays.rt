@@ -1,7 +1,12 @@
 //! The laws of passing lines on along a forest, for any machine: what every server will be and will have shown, whatever the
 //! order of deliveries.
+//!
+//! They are for the theorem of every order of delivery, which is not built yet: `from_source_goes_away` and `delivery_goes_away` for what
+//! is under way when something is given and after each delivery, `delivery_keeps` and `delivery_comes_on` for what a delivery changes,
+//! `coming_in_turn` for going along the tree, `rest_is_final` and `shown_is_front` for what is shown, `delivery_counts` and `pending_falls`
+//! for how many lines are taken, `paying_delivers` for the line with which a new link is paid. `every_order` is that theorem for any machine.
 
-ghost use Rattle.irc_relay.specs.Laws.{AddedGoesAway, FromSourceGoesAway, ComingInTurn, RestIsFinal, ShownIsFront, DeliveryKeeps, DeliveryGoesAway, DeliveryComesOn, EveryOrder, PayingDelivers, OwedIsUnderWay, HarmlessMayFollow, LastFromSource, DeliveryCounts, PendingFalls};
+ghost use Rattle.irc_relay.specs.Laws.{FromSourceGoesAway, ComingInTurn, RestIsFinal, ShownIsFront, DeliveryKeeps, DeliveryGoesAway, DeliveryComesOn, EveryOrder, PayingDelivers, DeliveryCounts, PendingFalls};
 
 /// Where all that is under way comes to linked servers from their source itself, it comes to each from its parent.
 pub fn from_source_goes_away<State, Line, Shown>()
@@ -46,26 +51,6 @@ pub fn every_order<State, Line, Shown>()
 /// A server that pays what it owes, with a line that it takes, delivers: paying keeps what a delivery keeps.
 pub fn paying_delivers<State, Line, Shown>()
     ensures { PayingDelivers State Line Shown }
-{}
-
-/// It makes no difference whether lines are on their way or owed.
-pub fn owed_is_under_way<State, Line, Shown>()
-    ensures { OwedIsUnderWay State Line Shown }
-{}
-
-/// Lines that do nothing at a server's final state may be put behind all that is coming to it.
-pub fn harmless_may_follow<State, Line, Shown>()
-    ensures { HarmlessMayFollow State Line Shown }
-{}
-
-/// Lines that are put behind what a server takes come to it from its parent too.
-pub fn added_goes_away<State, Line, Shown>()
-    ensures { AddedGoesAway State Line Shown }
-{}
-
-/// What is under way to a server from its source itself is the last that comes to it.
-pub fn last_from_source<State, Line, Shown>()
-    ensures { LastFromSource State Line Shown }
 {}
 
 /// Each delivery takes exactly one from the number of lines that are coming, and puts to it those that are returned.

@@ -4,7 +4,8 @@ ghost use Rattle.std.specs.Prelude.{◌≡◌, ◌≢◌, ◌++◌, [], ◌∷�
 ghost use Rattle.irc_relay.specs.Queue.{queue_of};
 ghost use Rattle.irc_relay.specs.Links.{IsForest};
 ghost use Rattle.irc_relay.specs.Relay.{IsAtRest, GoesAway};
-ghost use Rattle.irc_relay.specs.NewsNet.{net_of, links_of, streams_of, HasSettled, PublishedGoesAway, name, reading, is_between, sent_on, TakesOldest, DeliversNews, KeepsNews};
+ghost use Rattle.irc_relay.specs.NewsNet.{net_of, links_of, streams_of, HasSettled, PublishedGoesAway, name, reading, sent_on, DeliversNews, KeepsNews};
+ghost use Rattle.irc_relay.specs.Loops.Taking.{is_between, TakesOldest};
 
 use std::alloc::{AllocError, Global};
 
@@ -113,7 +114,8 @@ impl News {
     /// Delivers the oldest item on its way from one server to another, and says whether there was one.
     pub fn deliver(&mut self, from: u8, to: u8) -> Result<bool, AllocError>
         requires { from ≢ to }
-        ensures taken { IfOk result (λ taken. MatchBool taken (DeliversNews from to self.old self.new) (queue_of reading self.old.flying.items (name from) (name to) ≡ [])) }
+        ensures taken { IfOk result (λ taken. MatchBool taken (DeliversNews from to self.old self.new)
+            (queue_of reading self.old.flying.items (name from) (name to) ≡ [])) }
         ensures kept { IfOk result (λ _. KeepsNews self.old self.new) }
         ensures edges { OnOk result (self.new.edges.items ≡ self.old.edges.items) }
     {

@@ -1,5 +1,5 @@
 use Rattle.std.proofs.Common.{◌≡◌, position, Some, None, refl, sym, subst, List}
-use Rattle.irc_relay.specs.NewsNet.{is_between}
+use Rattle.irc_relay.specs.Loops.Taking.{is_between}
 use Rattle.irc_relay.specs.declared.news.Sent.{Sent}
 use Rattle.irc_relay.proofs.RelayingNews.{oldest_taken, none_between}
 use Rattle.irc_relay.proofs.news.take_oldest.Goals as goal

@@ -1,5 +1,5 @@
 use Rattle.std.proofs.Common.{◌≡◌, ◌≢◌, ◌<◌, length, get_or, slice_set, rules}
-use Rattle.irc_relay.specs.NewsNet.{TakesOldest}
+use Rattle.irc_relay.specs.Loops.Taking.{TakesOldest}
 use Rattle.irc_relay.proofs.DeliveringNews.{new_item_at, known_item_at, kept_by_delivery}
 use Rattle.irc_relay.proofs.news.News.deliver.Goals as goal
 

@@ -1,4 +1,4 @@
-use Rattle.irc_relay.specs.NewsNet.{IsSettling, items_coming}
+use Rattle.irc_relay.specs.Loops.Settling.{IsSettling, items_coming}
 use Rattle.irc_relay.proofs.news.News.settle.Given as goal
 
 abbrev pub invariant-loop-self : goal.invariant-loop-self
