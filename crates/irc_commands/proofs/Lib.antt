@@ -8,4 +8,3 @@ pub mod NeverOwn
 pub mod TableCases
 pub mod PossibleLaws
 pub mod ComingLaws
-pub mod SmallRooms

@@ -11,4 +11,3 @@ pub mod Register
 pub mod CodeViews
 pub mod Possible
 pub mod Comings
-pub mod Examples

@@ -4,7 +4,6 @@
 mod closing;
 mod deciding;
 mod decision;
-pub mod examples;
 pub mod laws;
 mod nick;
 mod pending;
@@ -21,6 +20,7 @@ pub use irc_acts::Act;
 pub use irc_membership::MAX_JOINED;
 pub use pending::{Pending, Registration};
 pub use registering::register;
+pub use say::Verb;
 pub use table::Command;
 
 /// The most targets of one PRIVMSG or NOTICE that are served (our own choice).

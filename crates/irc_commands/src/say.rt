@@ -1,11 +1,24 @@
 //! PRIVMSG and NOTICE.
-ghost use Rattle.std.specs.Prelude.{◌≡◌, ℕ, ◌+◌, ◌≤◌, Bool, List, [], ◌∷◌, ◌++◌, length, IfOk, OnOk};
+ghost use Rattle.std.specs.Prelude.{◌≡◌, ◌+◌, ◌≤◌, [], ◌∷◌, ◌++◌, length, IfOk, OnOk};
 ghost use Rattle.std.specs.Option.{option_copied};
 ghost use Rattle.irc_line.specs.PartViews.{words_now};
 ghost use Rattle.irc_numerics.specs.declared.replies.Reply.TheVariants.{NoSuchNick};
 ghost use Rattle.irc_acts.specs.Acts.{client_words};
 ghost use Rattle.irc_acts.specs.declared.act.Act.TheVariants.{Answer};
-ghost use Rattle.irc_commands.specs.Say.{is_channel_target, is_notice, is_raised, may_speak, said_text, to_one, to_channel, to_user, say_to, say_steps, unless_notice, say_command};
+ghost use Rattle.irc_commands.specs.Say.{
+  is_channel_target,
+  is_notice,
+  is_raised,
+  may_speak,
+  said_text,
+  say_command,
+  say_steps,
+  say_to,
+  to_channel,
+  to_one,
+  to_user,
+  unless_notice,
+};
 
 use crate::MAX_TARGETS;
 use irc_acts::comma_lists::next_entry;
@@ -21,9 +34,9 @@ use irc_room::{Effect, Target};
 use irc_users::User;
 use std::alloc::{AllocError, Global};
 
-/// Which of the two commands it is.
+/// Which of the two commands it is; the definition of what they do takes one.
 #[derive(Clone, Copy)]
-pub(crate) enum Verb {
+pub enum Verb {
     /// PRIVMSG
     Privmsg,
     /// NOTICE, which is never answered.

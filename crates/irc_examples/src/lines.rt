@@ -1,5 +1,17 @@
-//! Lines of a client by example. Each is a function that does nothing, and its contract is the example, which the check proves.
-ghost use Rattle.irc_commands.specs.Examples.{MemberIsHeard, OutsiderIsKeptOut, UnknownTarget, FifthTarget, SilentNotice, QuitWithText, UnknownWord, ForeignPrefix, EarlyJoin, TakenByFold, TakenMeanwhile};
+//! Lines of a client by example.
+ghost use Rattle.irc_examples.specs.Lines.{
+  EarlyJoin,
+  FifthTarget,
+  ForeignPrefix,
+  MemberIsHeard,
+  OutsiderIsKeptOut,
+  QuitWithText,
+  SilentNotice,
+  TakenByFold,
+  TakenMeanwhile,
+  UnknownTarget,
+  UnknownWord,
+};
 
 /// A target that is not there is named as it was given.
 pub fn unknown_target_is_answered()

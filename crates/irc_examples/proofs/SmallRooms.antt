@@ -26,7 +26,7 @@ use Rattle.irc_acts.specs.CommaLists.{entries}
 use Rattle.irc_acts.specs.Standing.{is_banned}
 use Rattle.irc_commands.specs.declared.say.Verb.TheVariants as verb
 use Rattle.irc_commands.specs.Say.{say_steps, is_raised, says, to_channel, to_user, unless_notice}
-use Rattle.irc_commands.specs.Examples.{al, al_alone, a_net, line, newcomer, UnknownTarget, FifthTarget, SilentNotice, QuitWithText, UnknownWord, ForeignPrefix, EarlyJoin, TakenByFold, TakenMeanwhile, bo, als_channel, with_channel, to_channel_line, MemberIsHeard, OutsiderIsKeptOut}
+use Rattle.irc_examples.specs.Lines.{al, al_alone, a_net, line, newcomer, UnknownTarget, FifthTarget, SilentNotice, QuitWithText, UnknownWord, ForeignPrefix, EarlyJoin, TakenByFold, TakenMeanwhile, bo, als_channel, with_channel, to_channel_line, MemberIsHeard, OutsiderIsKeptOut}
 
 al_there : row al_alone.users (key (codes "al")) ≡ Some al
 al_there = row-alter_same (key (codes "al")) (λ _. Some al) empty

@@ -71,7 +71,8 @@ OutsiderIsKeptOut = decide with_channel a_net (codes "bo") to_channel_line ≡ d
 
 -- whoever is not there is named as it was given
 abbrev pub UnknownTarget : Type 0
-UnknownTarget = decide al_alone a_net (codes "al") (line (codes "PRIVMSG") (codes "bo" ∷ codes "hi" ∷ [])) ≡ does (Answer (NoSuchNick (client_words (codes "bo"))) ∷ [])
+UnknownTarget = decide al_alone a_net (codes "al") (line (codes "PRIVMSG") (codes "bo" ∷ codes "hi" ∷ []))
+    ≡ does (Answer (NoSuchNick (client_words (codes "bo"))) ∷ [])
 
 -- four targets are served, and a fifth is too many
 abbrev pub FifthTarget : Type 0
@@ -105,7 +106,8 @@ EarlyJoin = register al_alone a_net (newcomer None) (line (codes "JOIN") (codes 
 
 -- a nickname is taken in any case of letters
 abbrev pub TakenByFold : Type 0
-TakenByFold = register al_alone a_net (newcomer None) (line (codes "NICK") (codes "AL" ∷ [])) ≡ replies (newcomer None) (Answer (NicknameInUse (codes "AL")) ∷ [])
+TakenByFold = register al_alone a_net (newcomer None) (line (codes "NICK") (codes "AL" ∷ []))
+    ≡ replies (newcomer None) (Answer (NicknameInUse (codes "AL")) ∷ [])
 
 -- Who chose a nickname before somebody registered with it has none when it completes its own registration.
 abbrev pub TakenMeanwhile : Type 0
