@@ -34,14 +34,16 @@ same_is_fold channel name = by_fold (same_fold (key name) (key channel)) (same c
 
 -- the row of a channel once the row of a channel is changed, by their names
 pub row_changed : (room : Room) (channel name : List ℕ) (change : Option Channel → Option Channel)
-    → row (alter_channel channel change room).channels (key name) ≡ cond (same channel name) (change (row room.channels (key name))) (row room.channels (key name))
+    → row (alter_channel channel change room).channels (key name)
+    ≡ cond (same channel name) (change (row room.channels (key name))) (row room.channels (key name))
 row_changed room channel name change =
     row-alter (key channel) change room.channels (key name)
     ∙ ap (λ b. cond b (change (row room.channels (key channel))) (row room.channels (key name))) (same_is_fold channel name)
     ∙ by_name (same channel name) refl
   where
     by_name : (b : Bool) → same channel name ≡ b
-        → cond b (change (row room.channels (key channel))) (row room.channels (key name)) ≡ cond b (change (row room.channels (key name))) (row room.channels (key name))
+        → cond b (change (row room.channels (key channel))) (row room.channels (key name))
+        ≡ cond b (change (row room.channels (key name))) (row room.channels (key name))
     by_name true alike = ap (λ fold. change (row room.channels fold)) ((same-tells channel name).0 alike)
     by_name false other = refl
 
@@ -148,7 +150,8 @@ join_as_it_was nick name room (Say by notice to text) joins outside = absurd joi
 join_as_it_was nick name room (Invite by who channel) joins outside = absurd joins
 join_as_it_was nick name room (UserMode who invisible) joins outside = absurd joins
 
-all_as_it_was : (nick name : List ℕ) (room : Room) (effects : List Effect) → EachInTurn (IsOwnJoin nick) room effects → is_member (after_all room effects) nick name ≡ false
+all_as_it_was : (nick name : List ℕ) (room : Room) (effects : List Effect) → EachInTurn (IsOwnJoin nick) room effects
+    → is_member (after_all room effects) nick name ≡ false
     → row (after_all room effects).channels (key name) ≡ row room.channels (key name)
 all_as_it_was nick name room [] joins outside = refl
 all_as_it_was nick name room (effect ∷ effects) joins outside =
@@ -180,7 +183,8 @@ left_keeps_name nick before after = by_member (has_member nick before)
 abbrev IsNamed : List ℕ → Room → Type 0
 IsNamed name room = (channel : Channel) → row room.channels (key name) ≡ Some channel → key channel.name ≡ key name
 
-leave_keeps_name : (name : List ℕ) (room : Room) (who channel : List ℕ) → IsNamed name room → IsNamed name (alter_channel channel (option_and_then (left (key who))) room)
+leave_keeps_name : (name : List ℕ) (room : Room) (who channel : List ℕ) → IsNamed name room
+    → IsNamed name (alter_channel channel (option_and_then (left (key who))) room)
 leave_keeps_name name room who channel named now is =
     by_name (same channel name) (row room.channels (key name)) refl
     (sym (row_changed room channel name (option_and_then (left (key who)))) ∙ is)

@@ -94,5 +94,6 @@ own_are_so me room (effect ∷ effects) well there own =
           (ap (λ users. is_some (row users (key me.nick))) (own_stays me room effect own.now) ∙ there) own.later;
     }
 
-pub own_are_possible : (me : User) (room : Room) (acts : List Act) → IsWellFormed room → has_user room me.nick ≡ true → AreOwn me room acts → ArePossible room acts
+pub own_are_possible : (me : User) (room : Room) (acts : List Act) → IsWellFormed room → has_user room me.nick ≡ true → AreOwn me room acts
+    → ArePossible room acts
 own_are_possible me room acts = own_are_so me room (effects_among acts)

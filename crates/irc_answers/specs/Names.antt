@@ -10,7 +10,7 @@ use Rattle.irc_names.specs.Tables.{Table, row}
 use Rattle.irc_users.specs.declared.user.User.{User}
 use Rattle.irc_channels.specs.declared.flags.Flags.{Flags}
 use Rattle.irc_channels.specs.declared.channel.Channel.{Channel}
-use Rattle.irc_channels.specs.Channels.{has_member}
+use Rattle.irc_channels.specs.Channels.{has_member, joined}
 use Rattle.irc_numerics.specs.Limits.{max_names}
 use Rattle.irc_numerics.specs.declared.replies.Listed.{Listed}
 use Rattle.irc_numerics.specs.declared.replies.Reply.TheVariants.{NamReply, EndOfNames}
@@ -52,6 +52,14 @@ name_lines channel names = map (name_line channel) (in_lines max_names names)
 abbrev pub names_of : Table User → User → Channel → List Act
 names_of users me channel = name_lines channel (named_members users me channel)
 
+-- what a joiner is sent: the names of the channel as it is once the joiner is a member
+abbrev pub joiner_names : Room → User → Bool → Channel → List Act
+joiner_names room me op channel = names_of room.users me (joined (key me.nick) op channel)
+
+-- of each of these channels that is listed
+abbrev pub listed_names : Room → User → List Channel → List Act
+listed_names room me channels = flat_map (names_of room.users me) (filter (is_listed me) channels)
+
 -- of a channel that is there and known
 abbrev pub known_names : Table User → User → Option Channel → List Act
 known_names users me None = []
@@ -66,6 +74,5 @@ one_names room me name = known_names room.users me (row room.channels (key name)
 -- What a NAMES does (RFC 2812 section 3.2.5). Without a parameter, all channels that are listed; users on no such channel are not named (our
 -- own choice).
 unfoldable pub names_steps : Room → User → List (List ℕ) → List Act
-names_steps room me [] =
-    flat_map (names_of room.users me) (filter (is_listed me) (values room.channels)) ++ end_of_names (asterisk ∷ []) ∷ []
+names_steps room me [] = listed_names room me (values room.channels) ++ end_of_names (asterisk ∷ []) ∷ []
 names_steps room me (list ∷ more) = flat_map (one_names room me) (entries list)

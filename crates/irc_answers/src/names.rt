@@ -1,13 +1,11 @@
 //! NAMES, and the names that a joiner is sent.
-ghost use Rattle.std.specs.Prelude.{◌≡◌, false, [], ◌∷◌, ◌++◌, filter, IfOk, OnOk};
+ghost use Rattle.std.specs.Prelude.{◌≡◌, false, [], ◌∷◌, ◌++◌, IfOk, OnOk};
 ghost use Rattle.std.specs.List.{flat_map};
-ghost use Rattle.std.specs.FinMap.{values};
 ghost use Rattle.irc_names.specs.Fold.{key};
 ghost use Rattle.irc_line.specs.PartViews.{words_now};
-ghost use Rattle.irc_channels.specs.Channels.{has_member, joined};
+ghost use Rattle.irc_channels.specs.Channels.{has_member};
 ghost use Rattle.irc_acts.specs.CommaLists.{entries};
-ghost use Rattle.irc_acts.specs.Standing.{is_listed};
-ghost use Rattle.irc_answers.specs.Names.{names_of, end_of_names, one_names, names_steps};
+ghost use Rattle.irc_answers.specs.Names.{end_of_names, joiner_names, listed_names, names_of, names_steps, one_names};
 ghost use Rattle.irc_answers.specs.Laws.NamesLaw.{NamesOnlyAnswers};
 
 use crate::name_lines::{add_member, add_members, finish, parted_at};
@@ -71,7 +69,7 @@ pub fn put_joiner_names(
     channel: &Channel,
 ) -> Result<(), AllocError>
     requires { has_member (key context.now.me.now.nick) channel.now ≡ false }
-    ensures { OnOk result (steps.new.items ≡ steps.old.items ++ names_of context.now.room.now.room.users context.now.me.now (joined (key context.now.me.now.nick) op channel.now)) }
+    ensures { OnOk result (steps.new.items ≡ steps.old.items ++ joiner_names context.now.room.now.room context.now.me.now op channel.now) }
 {
     let mut held = ArrayVec::new();
     let room = context.room;
@@ -102,7 +100,7 @@ fn put_if_listed(
     context: &Context<'_>,
     channel: &Channel,
 ) -> Result<(), AllocError>
-    ensures { OnOk result (steps.new.items ≡ steps.old.items ++ flat_map (names_of context.now.room.now.room.users context.now.me.now) (filter (is_listed context.now.me.now) (channel.now ∷ []))) }
+    ensures { OnOk result (steps.new.items ≡ steps.old.items ++ listed_names context.now.room.now.room context.now.me.now (channel.now ∷ [])) }
 {
     if is_listed(context.me, channel) {
         put_names(steps, context, channel)

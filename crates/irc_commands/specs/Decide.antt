@@ -7,7 +7,7 @@ use Rattle.irc_users.specs.declared.user.User.{User}
 use Rattle.irc_room.specs.Room.{Room}
 use Rattle.irc_routes.specs.Place.{Place}
 use Rattle.irc_commands.specs.Decisions.{Decided, nothing}
-use Rattle.irc_commands.specs.Table.{command_of, row_of}
+use Rattle.irc_commands.specs.Table.{row_for}
 
 -- A prefix must be the client's own nickname (our own choice: a line with another is ignored).
 abbrev pub is_from : Option (List ℕ) → Option (List ℕ) → Bool
@@ -19,7 +19,7 @@ is_from (Some prefix) (Some name) = same prefix name
 abbrev pub decide_for : Room → Place → Parsed → Option User → Decided
 decide_for room place message None = nothing
 decide_for room place message (Some me) =
-    if is_from message.prefix (Some me.nick) then row_of room place me message (command_of message.command) else nothing
+    if is_from message.prefix (Some me.nick) then row_for room place me message else nothing
 
 unfoldable pub decide : Room → Place → List ℕ → Parsed → Decided
 decide room place who message = decide_for room place message (row room.users (key who))

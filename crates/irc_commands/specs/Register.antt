@@ -90,7 +90,9 @@ pending_row_of room place pending params (Some command.Ping) = replies pending (
 pending_row_of room place pending params (Some command.Quit) = quit_row pending params
 pending_row_of room place pending params other = replies pending (Answer NotRegistered ∷ [])
 
+-- the row that a line fits
+abbrev pub pending_row : Room → Place → Pending → Parsed → Registered
+pending_row room place pending message = pending_row_of room place pending message.params (command_of message.command)
+
 unfoldable pub register : Room → Place → Pending → Parsed → Registered
-register room place pending message =
-    if is_from message.prefix pending.nick then pending_row_of room place pending message.params (command_of message.command)
-    else replies pending []
+register room place pending message = if is_from message.prefix pending.nick then pending_row room place pending message else replies pending []

@@ -36,9 +36,11 @@ named name command = record { name = name; command = command }
 -- each command by its name
 abbrev pub names : List Named
 names =
-    named (codes "PASS") command.Pass ∷ named (codes "NICK") command.Nick ∷ named (codes "USER") command.User ∷ named (codes "QUIT") command.Quit ∷ named (codes "PING") command.Ping
-    ∷ named (codes "PONG") command.Pong ∷ named (codes "MOTD") command.Motd ∷ named (codes "PRIVMSG") command.Privmsg ∷ named (codes "NOTICE") command.Notice
-    ∷ named (codes "JOIN") command.Join ∷ named (codes "PART") command.Part ∷ named (codes "TOPIC") command.Topic ∷ named (codes "NAMES") command.Names ∷ []
+    named (codes "PASS") command.Pass ∷ named (codes "NICK") command.Nick ∷ named (codes "USER") command.User
+    ∷ named (codes "QUIT") command.Quit ∷ named (codes "PING") command.Ping ∷ named (codes "PONG") command.Pong
+    ∷ named (codes "MOTD") command.Motd ∷ named (codes "PRIVMSG") command.Privmsg ∷ named (codes "NOTICE") command.Notice
+    ∷ named (codes "JOIN") command.Join ∷ named (codes "PART") command.Part ∷ named (codes "TOPIC") command.Topic
+    ∷ named (codes "NAMES") command.Names ∷ []
 
 -- the first of these rows with this name
 abbrev pub found : List ℕ → List Named → Option Command
@@ -67,3 +69,7 @@ row_of room place me message (Some command.Part) = does (part_steps room me mess
 row_of room place me message (Some command.Topic) = does (topic_steps room me message.params)
 row_of room place me message (Some command.Names) = does (names_steps room me message.params)
 row_of room place me message None = unknown message.command
+
+-- the row that a line fits
+abbrev pub row_for : Room → Place → User → Parsed → Decided
+row_for room place me message = row_of room place me message (command_of message.command)

@@ -1,5 +1,5 @@
 //! The line that a client is sent before it is closed.
-ghost use Rattle.std.specs.Prelude.{◌≡◌, ◌≤◌, length};
+ghost use Rattle.std.specs.Prelude.{◌≡◌};
 ghost use Rattle.irc_commands.specs.Quit.{closing_line, error_line};
 
 use arrayvec::ArrayVec;

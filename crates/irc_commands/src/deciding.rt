@@ -1,5 +1,5 @@
 //! What a line of a registered user does.
-ghost use Rattle.std.specs.Prelude.{◌≡◌, Bool, IfOk};
+ghost use Rattle.std.specs.Prelude.{◌≡◌, IfOk};
 ghost use Rattle.irc_line.specs.MessageViews.{optional_now, parsed};
 ghost use Rattle.irc_commands.specs.CodeViews.{decided_of};
 ghost use Rattle.irc_commands.specs.Decide.{decide, is_from};

@@ -1,14 +1,21 @@
 //! What a line of a connection does that is not registered.
-ghost use Rattle.std.specs.Prelude.{◌≡◌, ℕ, ◌≤◌, Bool, List, [], ◌∷◌, ◌++◌, Some, map, length, IfOk, OnOk};
-ghost use Rattle.irc_names.specs.Fold.{same};
-ghost use Rattle.irc_line.specs.MessageViews.{optional_now, params_now, parsed};
+ghost use Rattle.std.specs.Prelude.{◌≡◌, List, [], ◌∷◌, ◌++◌, IfOk, OnOk};
+ghost use Rattle.irc_line.specs.MessageViews.{parsed};
 ghost use Rattle.irc_line.specs.PartViews.{words_now};
 ghost use Rattle.irc_acts.specs.declared.act.Act.{Act};
-ghost use Rattle.irc_acts.specs.declared.act.Act.TheVariants.{Answer};
 ghost use Rattle.irc_commands.specs.CodeViews.{registered_of};
-ghost use Rattle.irc_commands.specs.Decide.{is_from};
-ghost use Rattle.irc_commands.specs.Table.{command_of};
-ghost use Rattle.irc_commands.specs.Register.{register, replies, complete, nick_chosen, nick_row, user_row, quit_row, welcomed, reply_name, server_told, pending_row_of};
+ghost use Rattle.irc_commands.specs.Register.{
+  complete,
+  nick_chosen,
+  nick_row,
+  pending_row,
+  quit_row,
+  register,
+  replies,
+  server_told,
+  user_row,
+  welcomed,
+};
 
 use crate::closing::error;
 use crate::deciding::is_own;
@@ -249,7 +256,7 @@ fn register_for(
     now: Pending,
     message: &Message<'_>,
 ) -> Result<Registration, AllocError>
-    ensures { IfOk result (λ r. registered_of r ≡ pending_row_of room.now.room routes.now now (params_now message.now.params) (command_of message.now.command.now)) }
+    ensures { IfOk result (λ r. registered_of r ≡ pending_row room.now.room routes.now now (parsed message.now)) }
 {
     let params = message.params.as_slice();
     match Command::read(message.command) {

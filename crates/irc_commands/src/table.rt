@@ -1,11 +1,11 @@
 //! The command table.
-ghost use Rattle.std.specs.Prelude.{◌≡◌, Bool, List, [], ◌∷◌, IfOk};
+ghost use Rattle.std.specs.Prelude.{◌≡◌, List, [], ◌∷◌, IfOk};
 ghost use Rattle.irc_line.specs.MessageViews.{parsed};
 ghost use Rattle.irc_acts.specs.declared.act.Act.{Act};
 ghost use Rattle.irc_acts.specs.declared.act.Act.TheVariants.{Answer};
 ghost use Rattle.irc_commands.specs.CodeViews.{decided_of};
 ghost use Rattle.irc_commands.specs.Decisions.{does, nothing};
-ghost use Rattle.irc_commands.specs.Table.{command_of, row_of, same_letters, unknown};
+ghost use Rattle.irc_commands.specs.Table.{command_of, row_for, same_letters, unknown};
 
 use crate::decision::Decision;
 use crate::say::Verb;
@@ -93,7 +93,7 @@ pub(crate) fn decide_for(
     context: &Context<'_>,
     message: &Message<'_>,
 ) -> Result<Decision, AllocError>
-    ensures { IfOk result (λ d. decided_of d ≡ row_of context.now.room.now.room context.now.routes.now context.now.me.now (parsed message.now) (command_of message.now.command.now)) }
+    ensures { IfOk result (λ d. decided_of d ≡ row_for context.now.room.now.room context.now.routes.now context.now.me.now (parsed message.now)) }
 {
     let params = message.params.as_slice();
     match Command::read(message.command) {

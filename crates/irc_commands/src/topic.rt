@@ -2,7 +2,7 @@
 ghost use Rattle.std.specs.Prelude.{◌≡◌, [], ◌∷◌, IfOk};
 ghost use Rattle.std.specs.Option.{option_copied};
 ghost use Rattle.irc_line.specs.PartViews.{words_now};
-ghost use Rattle.irc_commands.specs.Topic.{topic_known, topic_of, topic_set, topic_steps, topic_told};
+ghost use Rattle.irc_commands.specs.Topic.{topic_of, topic_set, topic_steps, topic_told};
 
 use irc_acts::refusals::{need_more_params, no_such_channel, not_on_channel};
 use irc_acts::standing::is_known;

@@ -9,7 +9,7 @@ use Rattle.irc_acts.specs.declared.act.Act.{Act}
 use Rattle.irc_acts.specs.Ahead.{ahead, in_turn}
 use Rattle.irc_acts.specs.CommaLists.{pieces_left}
 use Rattle.irc_acts.specs.Moves.{AreOwnJoins, own_channels}
-use Rattle.irc_membership.specs.Join.{Asked, with_keys, asked_for, is_zero, join_one, join_steps, keys_given, leaves}
+use Rattle.irc_membership.specs.Join.{Asked, asks, with_keys, asked_for, is_zero, join_one, join_steps, keys_given, leaves}
 use Rattle.irc_membership.specs.Loops.JoinList.{IsNextKey}
 use Rattle.irc_acts.specs.AheadLaws.{one_served}
 
@@ -20,9 +20,6 @@ asked_left names keys = filter (λ asked. not (is_nil asked.channel)) (with_keys
 all_asked : (names keys : List ℕ) → asked_for names keys ≡ asked_left (Some names) (Some keys)
 unfolding asked_for
 all_asked names keys = refl
-
-abbrev asks : List ℕ → List ℕ → Asked
-asks name given = record { channel = name; key = given }
 
 keys_more : (name : List ℕ) (names : List (List ℕ)) (keys more : Option (List ℕ)) (given : List ℕ) → IsNextKey keys given more
     → with_keys (name ∷ names) (pieces_left keys) ≡ asks name given ∷ with_keys names (pieces_left more)

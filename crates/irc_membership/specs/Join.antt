@@ -28,11 +28,14 @@ pub record Asked : Type 0 where
   pub channel : List ℕ
   pub key : List ℕ
 
+abbrev pub asks : List ℕ → List ℕ → Asked
+asks channel given = record { channel = channel; key = given }
+
 -- Each channel has the key at its own position in the list of keys, in which an empty place counts (our own choice).
 abbrev pub with_keys : List (List ℕ) → List (List ℕ) → List Asked
 with_keys [] keys = []
-with_keys (channel ∷ channels) [] = record { channel = channel; key = [] } ∷ with_keys channels []
-with_keys (channel ∷ channels) (given ∷ keys) = record { channel = channel; key = given } ∷ with_keys channels keys
+with_keys (channel ∷ channels) [] = asks channel [] ∷ with_keys channels []
+with_keys (channel ∷ channels) (given ∷ keys) = asks channel given ∷ with_keys channels keys
 
 -- an entry that is skipped among the channels takes its key with it
 unfoldable pub asked_for : List ℕ → List ℕ → List Asked
@@ -81,12 +84,15 @@ abbrev pub joins_found : Room → User → Asked → Option Channel → List Act
 joins_found room me asked None = joins room me asked.channel true (new_channel asked.channel)
 joins_found room me asked (Some channel) = admitted room me asked.channel channel (kept_out me asked.key channel)
 
+abbrev pub joins_asked : Room → User → Asked → List Act
+joins_asked room me asked = joins_found room me asked (row room.channels (key asked.channel))
+
 abbrev pub join_one : User → Room → Asked → List Act
 join_one me room asked =
     if not (is_channel asked.channel) then Answer (NoSuchChannel (client_words asked.channel)) ∷ []
     else (if is_member room me.nick asked.channel then []
     else (if nat_le max_joined (length (own_channels room me)) then Answer (TooManyChannels asked.channel) ∷ []
-    else joins_found room me asked (row room.channels (key asked.channel))))
+    else joins_asked room me asked))
 
 -- the user leaves a channel, with its nickname as the text
 abbrev pub leaves : User → Channel → Act

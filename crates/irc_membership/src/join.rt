@@ -1,15 +1,25 @@
 //! JOIN.
-ghost use Rattle.std.specs.Prelude.{◌≡◌, ◌∷◌, ◌++◌, true, false, [], filter, length, map, IfOk, OnOk};
+ghost use Rattle.std.specs.Prelude.{◌≡◌, ◌++◌, false, Some, filter, length, map, IfOk, OnOk};
 ghost use Rattle.irc_names.specs.Fold.{key};
-ghost use Rattle.irc_names.specs.Names.{is_channel};
-ghost use Rattle.irc_names.specs.Tables.{row};
 ghost use Rattle.irc_line.specs.MessageViews.{optional_now};
 ghost use Rattle.irc_line.specs.PartViews.{words_now};
 ghost use Rattle.irc_channels.specs.Channels.{has_member};
 ghost use Rattle.irc_room.specs.Effects.{is_member};
 ghost use Rattle.irc_acts.specs.Ahead.{ahead, in_turn};
 ghost use Rattle.irc_acts.specs.Moves.{AreOwnJoins, own_channels};
-ghost use Rattle.irc_membership.specs.Join.{admitted, asked_for, is_zero, join_one, join_steps, joins, joins_found, keys_given, kept_out, leaves, topic_for_joiner};
+ghost use Rattle.irc_membership.specs.Join.{
+  asked_for,
+  asks,
+  is_zero,
+  join_one,
+  join_steps,
+  joins,
+  joins_asked,
+  joins_found,
+  keys_given,
+  leaves,
+  topic_for_joiner,
+};
 ghost use Rattle.irc_membership.specs.Laws.JoinLaw.{JoinIsOwnOrLeaves, LeavingAllIsOwn};
 ghost use Rattle.irc_membership.specs.Loops.JoinList.{IsNextKey};
 
@@ -142,7 +152,7 @@ fn join_one(
 ) -> Result<(), AllocError>
     requires joins { AreOwnJoins context.now.me.now.nick context.now.room.now.room steps.old.items }
     requires counted { already ≡ length (own_channels context.now.room.now.room context.now.me.now) }
-    ensures { OnOk result (steps.new.items ≡ steps.old.items ++ join_one context.now.me.now (ahead context.now.room.now.room steps.old.items) (record { channel = name.now; key = given.now })) }
+    ensures { OnOk result (steps.new.items ≡ steps.old.items ++ join_one context.now.me.now (ahead context.now.room.now.room steps.old.items) (asks name.now given.now)) }
 {
     let Some(asked) = ChannelName::read(name) else {
         return put(steps, no_such_channel(name));
@@ -176,7 +186,7 @@ fn join_found(
     given: &[u8],
 ) -> Result<(), AllocError>
     requires { is_member context.now.room.now.room context.now.me.now.nick asked.now ≡ false }
-    ensures { OnOk result (steps.new.items ≡ steps.old.items ++ joins_found context.now.room.now.room context.now.me.now (record { channel = asked.now; key = given.now }) (row context.now.room.now.room.channels (key asked.now))) }
+    ensures { OnOk result (steps.new.items ≡ steps.old.items ++ joins_asked context.now.room.now.room context.now.me.now (asks asked.now given.now)) }
 {
     match context.room.channel(asked.as_bytes()) {
         Some(channel) => join_there(steps, context, channel, asked, given),
@@ -196,7 +206,7 @@ fn join_there(
     given: &[u8],
 ) -> Result<(), AllocError>
     requires { has_member (key context.now.me.now.nick) channel.now ≡ false }
-    ensures { OnOk result (steps.new.items ≡ steps.old.items ++ admitted context.now.room.now.room context.now.me.now asked.now channel.now (kept_out context.now.me.now given.now channel.now)) }
+    ensures { OnOk result (steps.new.items ≡ steps.old.items ++ joins_found context.now.room.now.room context.now.me.now (asks asked.now given.now) (Some channel.now)) }
 {
     match kept_out(context.me, given, channel) {
         Some(refusal) => put(steps, refusal),

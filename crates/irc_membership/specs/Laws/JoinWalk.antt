@@ -46,10 +46,12 @@ told_answers users me name now =
 -- the user is outside, and the channel is made, or was found under the name
 pub record IsSoOfJoins (Q : Room → Effect → Type 0) (me : User) (room : Room) (name : List ℕ) : Type 0 where
   pub makes : is_member room me.nick name ≡ false → Q room (Join me.nick name true)
-  pub enters : is_member room me.nick name ≡ false → (channel : Channel) → row room.channels (key name) ≡ Some channel → Q room (Join me.nick channel.name false)
+  pub enters : is_member room me.nick name ≡ false → (channel : Channel) → row room.channels (key name) ≡ Some channel
+      → Q room (Join me.nick channel.name false)
 
 module _ (Q : Room → Effect → Type 0) (me : User) (room : Room) where
-  joins_so : (name : List ℕ) (op : Bool) (channel : Channel) → Q room (Join me.nick channel.name op) → EachInTurn Q room (effects_among (joins room me name op channel))
+  joins_so : (name : List ℕ) (op : Bool) (channel : Channel) → Q room (Join me.nick channel.name op)
+      → EachInTurn Q room (effects_among (joins room me name op channel))
   joins_so name op channel first =
       let later = after room (Join me.nick channel.name op) in
       record { now = first; later = subst (EachInTurn Q later) (sym (told_answers room.users me name (joined (key me.nick) op channel))) tt }

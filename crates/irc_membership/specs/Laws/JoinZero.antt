@@ -50,7 +50,8 @@ record StandsIn (room : Room) (e : List ℕ × Channel) : Type 0 where
   there : row room.channels e.0 ≡ Some e.1
 
 -- when a channel is left, those behind it stand as they did
-still_stand : (room : Room) (me : User) (first : List ℕ × Channel) (es : List (List ℕ × Channel)) → key first.1.name ≡ first.0 → T (below_all fold_cmp first.0 es)
+still_stand : (room : Room) (me : User) (first : List ℕ × Channel) (es : List (List ℕ × Channel)) → key first.1.name ≡ first.0
+    → T (below_all fold_cmp first.0 es)
     → AllByRecursion (StandsIn room) es → AllByRecursion (StandsIn (after room (Part me.nick first.1.name (cut_words me.nick)))) es
 unfolding after
 still_stand room me first [] named below all = tt
@@ -83,8 +84,10 @@ all_stand : (room : Room) (es : List (List ℕ × Channel)) → T (is_sorted fol
     → ((q : List ℕ) (channel : Channel) → find fold_cmp q es ≡ Some channel → StandsIn room (q, channel)) → AllByRecursion (StandsIn room) es
 all_stand room [] rise found = tt
 all_stand room (e ∷ es) rise found =
-    let parts = both_true _ _ rise in
-    (found e.0 e.1 (ap (λ b. cond b (Some e.1) (find fold_cmp e.0 es)) (same_fold-refl e.0)), all_stand room es parts.1 (λ q channel is. found q channel (later q channel parts.0 is (same_fold q e.0) refl)))
+    let parts = both_true _ _ rise in (
+      found e.0 e.1 (ap (λ b. cond b (Some e.1) (find fold_cmp e.0 es)) (same_fold-refl e.0)),
+      all_stand room es parts.1 (λ q channel is. found q channel (later q channel parts.0 is (same_fold q e.0) refl)),
+    )
   where
     later : (q : List ℕ) (channel : Channel) → T (below_all fold_cmp e.0 es) → find fold_cmp q es ≡ Some channel → (b : Bool) → same_fold q e.0 ≡ b
         → cond (same_fold q e.0) (Some e.1) (find fold_cmp q es) ≡ Some channel

@@ -28,7 +28,8 @@ PartIsOwn = (me : User) (room : Room) (params : List (List ℕ)) → AreOwn me r
 
 -- the user is a member of a channel that was found under the name
 pub record IsSoOfParts (Q : Room → Effect → Type 0) (me : User) (text : List ℕ) (room : Room) (name : List ℕ) : Type 0 where
-  pub leaves_it : (channel : Channel) → row room.channels (key name) ≡ Some channel → has_member (key me.nick) channel ≡ true → Q room (Part me.nick channel.name text)
+  pub leaves_it : (channel : Channel) → row room.channels (key name) ≡ Some channel → has_member (key me.nick) channel ≡ true
+      → Q room (Part me.nick channel.name text)
 
 pub found_so : (Q : Room → Effect → Type 0) (me : User) (text : List ℕ) (room : Room) (name : List ℕ) → IsSoOfParts Q me text room name
     → (found : Option Channel) → row room.channels (key name) ≡ found → EachInTurn Q room (effects_among (left_by me text name found))
