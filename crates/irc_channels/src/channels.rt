@@ -62,6 +62,13 @@ impl Channels {
         self.rows.get(name)
     }
 
+    /// The row of a channel's name, if there is such a channel.
+    pub fn find_row(&self, name: &[u8]) -> Option<&Row<Channel>>
+        ensures { option_map row_entry (option_copied result) ≡ option_map (λ channel. (key name.now, channel)) (row self.now (key name.now)) }
+    {
+        self.rows.get_row(name)
+    }
+
     /// Whether there is a channel of a name.
     pub fn has(&self, name: &ChannelName) -> bool
         ensures { result ≡ is_some (row self.now (key name.now)) }
@@ -187,6 +194,22 @@ impl Channels {
         ensures { self.new ≡ each (λ c. Some (renamed (key nick.now) (key new.now) c)) self.old }
     {
         self.rows.change_each(&Renaming { nick, new });
+    }
+
+    /// A user has another nickname in one channel, and its membership and invitation with it; where there is no such channel nothing
+    /// changes. It takes no memory.
+    pub fn rename_member_in(&mut self, channel: &[u8], nick: &Nick, new: &Nick)
+        ensures { self.new ≡ alter (key channel.now) (option_and_then (λ c. Some (renamed (key nick.now) (key new.now) c))) self.old }
+    {
+        self.rows.change_at(channel, &Renaming { nick, new });
+    }
+
+    /// A user is gone from one channel, and its invitation too; the channel ends where no member is left. Where there is no such
+    /// channel nothing changes. It takes no memory.
+    pub fn remove_user_from(&mut self, channel: &[u8], nick: &Nick)
+        ensures { self.new ≡ alter (key channel.now) (option_and_then (without_user (key nick.now))) self.old }
+    {
+        self.rows.change_at(channel, &Forgetting { nick });
     }
 
     /// A user is gone from all channels, and its invitations with it; each channel that it was the last member of ends. It takes no

@@ -1,15 +1,23 @@
 -- Of which channels a test holds after each change of the table of channels, and what an index beside it tells then.
-use Rattle.std.proofs.Common.{◌≡◌, ℕ, Bool, true, false, cond, not, ◌&&◌, ◌||◌, if◌then◌else◌, Option, Some, None, List, [], ◌∷◌, refl, sym, ◌∙◌, ap, is_some, option_map, unwrap_or}
+use Rattle.std.specs.Prelude.{OnOk, OnErr}
+use Rattle.std.proofs.Common.{Result, Ok, Err, subst, ◌≡◌, ℕ, Bool, true, false, cond, not, ◌&&◌, ◌||◌, if◌then◌else◌, Option, Some, None, List, [], ◌∷◌, refl, sym, ◌∙◌, ap, is_some, option_map, unwrap_or}
 use Rattle.std.specs.Option.{option_and_then, option_map_or}
 use Rattle.std.specs.FinMap.{keys, empty, get-empty}
+use Rattle.irc_names.specs.Fold.{key, same}
+use Rattle.irc_names.specs.FoldLaws.{same-tells}
 use Rattle.irc_names.specs.Tables.{Table, fold_cmp, row, alter, each, moved}
 use Rattle.irc_names.specs.TableLaws.{same_fold, one_fold, row-alter, row-each, row-moved, row-moved_none}
 use Rattle.irc_channels.specs.declared.channel.Channel.{Channel}
 use Rattle.irc_channels.specs.declared.flags.Flags.{Flags}
 use Rattle.irc_channels.specs.declared.modes.ModeChange.{ModeChange}
 use Rattle.irc_channels.specs.Channels.{has_member, is_nil, new_channel, joined, left, without_user, while_members, renamed, invited_too, with_topic, changed, all_changed}
-use Rattle.irc_room.specs.Indexes.{Index, stands, holds, Tells, IsAlike, Adds, Drops, IsFreeOf}
-use Rattle.irc_room.proofs.Rows.{some_key, not_true, if_true}
+use Rattle.irc_users.specs.declared.user.User.{User}
+use Rattle.irc_room.specs.declared.effect.Effect.{Effect}
+use Rattle.irc_room.specs.declared.effect.Effect.TheVariants.{Rename}
+use Rattle.irc_room.specs.Effects.{brings_free}
+use Rattle.irc_room.specs.Room.{IsWellFormed}
+use Rattle.irc_room.specs.Indexes.{Names, Index, is_among, stands, holds, Tells, IsAlike, Adds, Drops, IsFreeOf}
+use Rattle.irc_room.proofs.Rows.{some_key, if_true, alter_same}
 use Rattle.irc_room.proofs.IndexChanges.{forgotten, stands-moved}
 use Rattle.irc_room.proofs.ModesKept.{letter_folk}
 
@@ -35,6 +43,16 @@ holds-each : (test : Test) (change : Channel → Option Channel) (channels : Tab
 holds-each test change channels n c = ap (said test n) (row-each change channels c)
 
 -- ---- what an index tells when one channel is changed
+
+-- of channels that are equal
+pub tells_at : (test : Test) (index : Index) (channels other : Table Channel) → channels ≡ other → Tells index (holds test other) → Tells index (holds test channels)
+tells_at test index channels other is tells = subst (λ t. Tells index (holds test t)) (sym is) tells
+
+-- whichever way a call went
+pub tells_either : {U E : Type 0} (test : Test) (index : Index) (result : Result U E) (channels done left : Table Channel) → OnOk result (channels ≡ done)
+    → OnErr result (channels ≡ left) → Tells index (holds test done) → Tells index (holds test left) → Tells index (holds test channels)
+tells_either test index (Ok u) channels done left ok refused after before = tells_at test index channels done ok after
+tells_either test index (Err e) channels done left ok refused after before = tells_at test index channels left refused before
 
 pub tells_alike : (test : List ℕ → List ℕ → Bool) (before after : Index) → Tells before test → IsAlike before after → Tells after test
 tells_alike test before after tells alike = record { at = λ n c. alike.at n c ∙ tells.at n c }
@@ -253,3 +271,38 @@ tells_renamed before after nick new channels tells free is = record {
         ≡ said has_member n (option_and_then (λ channel. Some (renamed nick new channel)) o)
     by_row n None free = nothing (same_fold n new) (same_fold n nick)
     by_row n (Some channel) free = sym (moved_row nick new channel.members n free)
+
+-- ---- where nobody is in any channel
+
+pub tells_empty : (index : Index) (channels : Table Channel) → index ≡ empty → channels ≡ empty → Tells index (holds has_member channels)
+tells_empty index channels none nothing = record {
+  at = λ n c.
+      ap (λ i. stands i n c) none
+      ∙ ap (is_among c) (get-empty {X = Names} fold_cmp n)
+      ∙ sym (ap (said has_member n) (get-empty {X = Channel} fold_cmp c))
+      ∙ ap (λ cs. holds has_member cs n c) (sym nothing);
+}
+
+-- who joins a channel that it is in changes nothing
+pub joined_already : (nick name : List ℕ) (op : Bool) (channels : Table Channel) → holds has_member channels nick (key name) ≡ true
+    → alter (key name) (λ c. Some (joined nick op (unwrap_or c (new_channel name)))) channels ≡ channels
+joined_already nick name op channels there = alter_same (key name) _ channels (by_row (row channels (key name)) there)
+  where
+    by_row : (o : Option Channel) → said has_member nick o ≡ true → Some (joined nick op (unwrap_or o (new_channel name))) ≡ o
+    by_row None there = cc
+    by_row (Some channel) there = ap Some (if_true (has_member nick channel) channel _ there)
+
+-- in a well-formed room the nickname that a Rename brings is no other member's
+pub free_in_room : (users : Table User) (channels : Table Channel) (effect : Effect) (nick new : List ℕ) → IsWellFormed (record { users = users; channels = channels })
+    → effect ≡ Rename nick new → brings_free (record { users = users; channels = channels }) effect ≡ true → IsFreeOf channels (key nick) (key new)
+free_in_room users channels effect nick new well is free = record { at = λ name there. by_row name (row channels name) refl there }
+  where
+    by_test : (b : Bool) → same nick new ≡ b → is_some (row users (key new)) ≡ true → (not (is_some (row users (key new))) || b) ≡ true → key new ≡ key nick
+    by_test true one there free = sym ((same-tells nick new).0 one)
+    by_test false two there free = cc (there, free)
+
+    by_row : (name : List ℕ) (o : Option Channel) → row channels name ≡ o → said has_member (key new) o ≡ true → key new ≡ key nick
+    by_row name None at there = cc
+    by_row name (Some channel) at there =
+        by_test (same nick new) refl ((well.channels_sound name channel at).members_known (key new) there)
+        (ap (brings_free (record { users = users; channels = channels })) (sym is) ∙ free)

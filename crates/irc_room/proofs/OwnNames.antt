@@ -2,7 +2,7 @@
 use Rattle.std.specs.Prelude.{T}
 use Rattle.std.proofs.Common.{◌≡◌, ℕ, Bool, true, false, cond, ◌&&◌, ◌||◌, Option, Some, None, List, [], ◌∷◌, ◌++◌, refl, sym, ◌∙◌, ap, map, filter, is_some, option_map, option_to_list, length, subst}
 use Rattle.std.proofs.lemmas.List.{append_assoc}
-use Rattle.std.specs.List.{AllByRecursion, flat_map, list_any}
+use Rattle.std.specs.List.{AllByRecursion, list_any}
 use Rattle.std.specs.Option.{option_map_or}
 use Rattle.std.specs.Ordering.{eq_by_cmp, is_lt}
 use Rattle.std.specs.Cmp.{IsTotalOrder}
@@ -13,7 +13,7 @@ use Rattle.irc_names.specs.Tables.{Table, fold_cmp, row}
 use Rattle.irc_tables.proofs.OrderedEntries.{find-there, sorted-below}
 use Rattle.irc_channels.specs.declared.channel.Channel.{Channel}
 use Rattle.irc_channels.specs.Channels.{has_member}
-use Rattle.irc_room.specs.Indexes.{Names, Index, is_among, stands, names_in, holds, own_names, Tells}
+use Rattle.irc_room.specs.Indexes.{Names, Index, is_among, stands, names_in, holds, own_names, entries_under, Tells}
 use Rattle.irc_room.specs.Near.{joins_both}
 
 order : IsTotalOrder fold_cmp
@@ -113,25 +113,21 @@ module _ (nick : List ℕ) (channels : Table Channel) where
           names_are (entries names) (entries_sorted names)
           (λ c. ap is_some (sym (get-entries names c)) ∙ sym (ap (is_among c) here) ∙ tells.at nick c)
 
-  -- the channel under a name, as an entry
-  abbrev pub entry_at : List ℕ → List (List ℕ × Channel)
-  entry_at name = option_to_list (option_map (λ (channel : Channel). (name, channel)) (row channels name))
-
   -- each name leads back to its channel
   each_found : (es : List (List ℕ × Channel)) → AllByRecursion (λ e. row channels e.0 ≡ Some e.1) es
-      → flat_map (λ (n : List ℕ × Unit {0}). entry_at n.0) (map name_of (filter is_own es)) ≡ filter is_own es
+      → entries_under channels (map name_of (filter is_own es)) ≡ filter is_own es
   each_found [] at = refl
   each_found (e ∷ es) at = by_test (each_found es at.1) (has_member nick e.1)
     where
-      by_test : flat_map (λ (n : List ℕ × Unit {0}). entry_at n.0) (map name_of (filter is_own es)) ≡ filter is_own es
-          → (b : Bool) → flat_map (λ (n : List ℕ × Unit {0}). entry_at n.0) (map name_of (cond b (e ∷ filter is_own es) (filter is_own es)))
+      by_test : entries_under channels (map name_of (filter is_own es)) ≡ filter is_own es
+          → (b : Bool) → entries_under channels (map name_of (cond b (e ∷ filter is_own es) (filter is_own es)))
           ≡ cond b (e ∷ filter is_own es) (filter is_own es)
       by_test rest true =
-          ap (λ o. option_to_list (option_map (λ (channel : Channel). (e.0, channel)) o) ++ flat_map (λ (n : List ℕ × Unit {0}). entry_at n.0) (map name_of (filter is_own es))) at.0
+          ap (λ o. option_to_list (option_map (λ (channel : Channel). (e.0, channel)) o) ++ entries_under channels (map name_of (filter is_own es))) at.0
           ∙ ap (λ xs. e ∷ xs) rest
       by_test rest false = rest
 
-  pub own_found : flat_map (λ (n : List ℕ × Unit {0}). entry_at n.0) (own_names nick channels) ≡ filter is_own (entries channels)
+  pub own_found : entries_under channels (own_names nick channels) ≡ filter is_own (entries channels)
   own_found = each_found (entries channels) all_at
 
   -- whether some own channel has another member, by the names

@@ -1,6 +1,7 @@
 -- Names of channels by nickname: what the code keeps beside the table of channels, so that it need not look through all of them.
-use Rattle.std.specs.Prelude.{◌≡◌, ℕ, Bool, true, false, not, ◌&&◌, ◌||◌, is_some, Option, Some, None, List, [], map, filter}
-use Rattle.std.specs.Option.{option_map_or}
+use Rattle.std.specs.Prelude.{◌≡◌, ℕ, Bool, true, false, not, ◌&&◌, ◌||◌, is_some, Option, Some, None, List, [], map, filter, option_to_list}
+use Rattle.std.specs.List.{flat_map}
+use Rattle.std.specs.Option.{option_map, option_map_or}
 use Rattle.std.specs.FinMap.{entries}
 use Rattle.irc_names.specs.Tables.{Table, row}
 use Rattle.irc_names.specs.TableLaws.{same_fold}
@@ -35,6 +36,10 @@ holds test channels nick name = option_map_or (test nick) (row channels name) fa
 -- the names of the channels that a user is a member of, in folded order
 abbrev pub own_names : List ℕ → Table Channel → List (List ℕ × Unit {0})
 own_names nick channels = map (λ e. (e.0, tt)) (filter (λ e. has_member nick e.1) (entries channels))
+
+-- the channels under the names of some entries, as far as there are any
+abbrev pub entries_under : {V : Type 0} → Table Channel → List (List ℕ × V) → List (List ℕ × Channel)
+entries_under channels es = flat_map (λ e. option_to_list (option_map (λ (channel : Channel). (e.0, channel)) (row channels e.0))) es
 
 -- names stand by nicknames just where a test says so
 pub record Tells (index : Index) (test : List ℕ → List ℕ → Bool) : Type 0 where

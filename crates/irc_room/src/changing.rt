@@ -1,21 +1,20 @@
 //! The room after an effect.
-ghost use Rattle.std.specs.Prelude.{◌≡◌, Some, None, true, ◌++◌, is_some, length, take, unwrap_or, OnOk, OnErr};
+ghost use Rattle.std.specs.Prelude.{◌≡◌, Some, None, true, ◌++◌, is_some, length, take, OnOk, OnErr};
 ghost use Rattle.std.specs.List.{list_all};
-ghost use Rattle.std.specs.Option.{option_map, option_and_then};
 ghost use Rattle.irc_names.specs.Fold.{key};
 ghost use Rattle.irc_names.specs.Tables.{row, alter, moved};
 ghost use Rattle.irc_users.specs.UserTable.{rename_fault, with_nick};
-ghost use Rattle.irc_channels.specs.Channels.{new_channel, joined, left, invited_too, with_topic, all_changed};
 ghost use Rattle.irc_room.specs.After.{after};
 ghost use Rattle.irc_room.specs.Effects.{brings_free, needs_users};
+ghost use Rattle.irc_room.specs.Room.{IsWellFormed};
 ghost use Rattle.irc_room.specs.Telling.{shown_at, AreNamed};
 
-use crate::effect::{Effect, ModeChanges};
+use crate::effect::Effect;
+use crate::indexed_channels::IndexedChannels;
 use crate::room_parts::RoomParts;
 use crate::showing::show;
-use irc_channels::{Channels, ChannelsFault, Words};
 use irc_line::Text;
-use irc_names::{ChannelName, Nick};
+use irc_names::Nick;
 use irc_users::{User, Users, UsersFault};
 use std::alloc::{AllocError, Global};
 
@@ -28,11 +27,12 @@ pub(crate) fn perform(
     alloc: Global,
     own: &[u8],
     users: &mut Users,
-    channels: &mut Channels,
+    channels: &mut IndexedChannels,
     effect: &Effect,
     out: &mut Vec<(Nick, Text), Global>,
 ) -> Result<(), AllocError>
     requires named { AreNamed users.old }
+    requires well { IsWellFormed (record { users = users.old; channels = channels.old }) }
     requires free { brings_free (record { users = users.old; channels = channels.old }) effect.now ≡ true }
     requires there { list_all (λ nick. is_some (row users.old (key nick))) (needs_users effect.now) ≡ true }
     ensures changed { OnOk result (record { users = users.new; channels = channels.new } ≡ after (record { users = users.old; channels = channels.old }) effect.now) }
@@ -53,7 +53,8 @@ pub(crate) fn perform(
 /// # Errors
 /// Where memory runs out; nothing has changed then.
 #[tactic(auto, unfolding(crate::specs::After::after))]
-fn change(users: &mut Users, channels: &mut Channels, effect: &Effect) -> Result<(), AllocError>
+fn change(users: &mut Users, channels: &mut IndexedChannels, effect: &Effect) -> Result<(), AllocError>
+    requires well { IsWellFormed (record { users = users.old; channels = channels.old }) }
     requires free { brings_free (record { users = users.old; channels = channels.old }) effect.now ≡ true }
     requires there { list_all (λ nick. is_some (row users.old (key nick))) (needs_users effect.now) ≡ true }
     ensures ok { OnOk result (record { users = users.new; channels = channels.new } ≡ after (record { users = users.old; channels = channels.old }) effect.now) }
@@ -71,22 +72,22 @@ fn change(users: &mut Users, channels: &mut Channels, effect: &Effect) -> Result
             channels.remove_user(nick);
             Ok(())
         }
-        Effect::Join { nick, channel, op } => join(channels, nick, channel, *op),
+        Effect::Join { nick, channel, op } => channels.join(nick, channel, *op),
         Effect::Part { nick, channel, .. } | Effect::Kick { nick, channel, .. } => {
-            leave(channels, nick, channel);
+            channels.leave(nick, channel);
             Ok(())
         }
         Effect::ChangeModes {
             channel,
             changes,
             ..
-        } => change_modes(channels, channel, changes),
+        } => channels.change_modes(channel, changes),
         Effect::SetTopic { channel, text, .. } => {
-            set_topic(channels, channel, text);
+            channels.set_topic(channel, text);
             Ok(())
         }
         Effect::Say { .. } => Ok(()),
-        Effect::Invite { nick, channel, .. } => invite(channels, nick, channel),
+        Effect::Invite { nick, channel, .. } => channels.invite(nick, channel),
         Effect::UserMode { nick, invisible } => {
             users.set_invisible(nick, *invisible);
             Ok(())
@@ -114,65 +115,5 @@ fn rename(users: &mut Users, nick: &Nick, new: &Nick)
 {
     if users.rename(nick, new).is_err() {
         unreachable!();
-    }
-}
-
-/// A user joins a channel.
-fn join(
-    channels: &mut Channels,
-    nick: &Nick,
-    channel: &ChannelName,
-    op: bool,
-) -> Result<(), AllocError>
-    ensures ok { OnOk result (channels.new ≡ alter (key channel.now) (λ c. Some (joined (key nick.now) op (unwrap_or c (new_channel channel.now)))) channels.old) }
-    ensures refused { OnErr result (channels.new ≡ channels.old) }
-{
-    match channels.join(nick, channel, op) {
-        Ok(()) => Ok(()),
-        Err(_) => Err(AllocError),
-    }
-}
-
-/// A member leaves a channel. Where the user is no member, or the channel is not there, nothing changes.
-fn leave(channels: &mut Channels, nick: &Nick, channel: &ChannelName)
-    ensures { channels.new ≡ alter (key channel.now) (option_and_then (left (key nick.now))) channels.old }
-{
-    let _ = channels.part(nick, channel);
-}
-
-/// A channel's modes change. Where the channel is not there nothing changes.
-fn change_modes(
-    channels: &mut Channels,
-    channel: &ChannelName,
-    changes: &ModeChanges,
-) -> Result<(), AllocError>
-    ensures ok { OnOk result (channels.new ≡ alter (key channel.now) (option_map (all_changed changes.now)) channels.old) }
-    ensures refused { OnErr result (channels.new ≡ channels.old) }
-{
-    match channels.change(channel, changes.as_slice()) {
-        Ok(()) => Ok(()),
-        Err(ChannelsFault::NoSuchChannel) => Ok(()),
-        Err(ChannelsFault::NotMember) => Ok(()),
-        Err(ChannelsFault::Memory) => Err(AllocError),
-    }
-}
-
-/// A channel's topic changes. Where the channel is not there nothing changes.
-fn set_topic(channels: &mut Channels, channel: &ChannelName, topic: &Words)
-    ensures { channels.new ≡ alter (key channel.now) (option_map (with_topic topic.now)) channels.old }
-{
-    let _ = channels.set_topic(channel, topic);
-}
-
-/// A user is invited. Where the channel is not there nothing changes.
-fn invite(channels: &mut Channels, nick: &Nick, channel: &ChannelName) -> Result<(), AllocError>
-    ensures ok { OnOk result (channels.new ≡ alter (key channel.now) (option_map (invited_too (key nick.now))) channels.old) }
-    ensures refused { OnErr result (channels.new ≡ channels.old) }
-{
-    match channels.invite(nick, channel) {
-        Ok(()) => Ok(()),
-        Err(ChannelsFault::NoSuchChannel) => Ok(()),
-        Err(ChannelsFault::NotMember) => Ok(()),
-        Err(ChannelsFault::Memory) => Err(AllocError),
     }
 }

@@ -9,7 +9,7 @@ ghost use Rattle.irc_room.specs.Effects.{has_user, has_channel, needs_users, nee
 
 use crate::effect::{By, Effect, Target};
 use crate::fault::RoomFault;
-use irc_channels::Channels;
+use crate::indexed_channels::IndexedChannels;
 use irc_names::{ChannelName, Nick};
 use irc_users::Users;
 
@@ -17,7 +17,7 @@ use irc_users::Users;
 pub(crate) fn refusal(
     failed: bool,
     users: &Users,
-    channels: &Channels,
+    channels: &IndexedChannels,
     effect: &Effect,
 ) -> Option<RoomFault>
     ensures { (own : List ℕ) → result ≡ room_fault (record { own = own; failed = failed; room = record { users = users.now; channels = channels.now } }) effect.now }
@@ -80,14 +80,14 @@ fn users_there(users: &Users, effect: &Effect) -> bool
 }
 
 /// Whether a channel has a name.
-fn is_channel(channels: &Channels, name: &ChannelName) -> bool
+fn is_channel(channels: &IndexedChannels, name: &ChannelName) -> bool
     ensures { result ≡ is_some (row channels.now (key name.now)) }
 {
     channels.has(name)
 }
 
 /// Whether the channel is there that an effect needs, if it needs one.
-fn channel_there(channels: &Channels, effect: &Effect) -> bool
+fn channel_there(channels: &IndexedChannels, effect: &Effect) -> bool
     ensures { result ≡ option_map_or (λ name. is_some (row channels.now (key name))) (needs_channel effect.now) true }
 {
     match effect {

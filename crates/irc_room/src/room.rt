@@ -1,6 +1,6 @@
 //! One room.
-ghost use Rattle.std.specs.Prelude.{◌≡◌, false, true, filter, map, IfOk};
-ghost use Rattle.std.specs.Option.{option_copied};
+ghost use Rattle.std.specs.Prelude.{◌≡◌, ◌++◌, false, true, filter, length, map, option_to_list, IfOk, OnOk};
+ghost use Rattle.std.specs.Option.{option_copied, option_map};
 ghost use Rattle.std.specs.FinMap.{empty, entries, values};
 ghost use Rattle.irc_names.specs.Fold.{key};
 ghost use Rattle.irc_names.specs.Tables.{row};
@@ -9,6 +9,7 @@ ghost use Rattle.irc_channels.specs.Channels.{has_member};
 ghost use Rattle.irc_channels.specs.ChannelTable.{members_in};
 ghost use Rattle.irc_room.specs.Applying.{Kept, Applied};
 ghost use Rattle.irc_room.specs.Effects.{brings_free};
+ghost use Rattle.irc_room.specs.Indexes.{entries_under};
 ghost use Rattle.irc_room.specs.Laws.{no_room};
 ghost use Rattle.irc_room.specs.Readers.{user_at, channel_at, flags_at, is_invited_at};
 ghost use Rattle.irc_room.specs.Room.{IsWellFormed};
@@ -18,9 +19,10 @@ use crate::audience::audience;
 use crate::changing::perform;
 use crate::effect::Effect;
 use crate::fault::RoomFault;
+use crate::indexed_channels::IndexedChannels;
 use crate::refusing::refusal;
 use crate::room_parts::RoomParts;
-use irc_channels::{Channel, Channels, Flags};
+use irc_channels::{Channel, Flags};
 use irc_line::Text;
 use irc_names::{Nick, ServerName};
 use irc_tables::Row;
@@ -34,7 +36,7 @@ pub struct Room {
     own: ServerName,
     failed: bool,
     users: Users,
-    channels: Channels,
+    channels: IndexedChannels,
     alloc: Global,
 }
 
@@ -64,7 +66,7 @@ impl Room {
             own,
             failed: false,
             users: Users::new(alloc),
-            channels: Channels::new(alloc),
+            channels: IndexedChannels::new(alloc),
             alloc,
         }
     }
@@ -139,7 +141,14 @@ impl Room {
     ) -> Result<Vec<&Row<Channel>, Global>, AllocError>
         ensures { IfOk result (λ found. map (λ row. row_entry row.now) found.items ≡ filter (λ e. has_member (key nick.now) e.1) (entries self.now.room.channels)) }
     {
-        with_member(self.channels.as_slice(), alloc, nick)
+        with_names(&self.channels, alloc, self.channels.names_of(nick))
+    }
+
+    /// How many channels the user of a nickname is a member of. No channel is looked at.
+    pub fn channel_count(&self, nick: &[u8]) -> usize
+        ensures { result ≡ length (filter (λ e. has_member (key nick.now) e.1) (entries self.now.room.channels)) }
+    {
+        self.channels.names_of(nick).len()
     }
 
     /// The members of the channel of a name with their flags, in folded order of their nicknames; none where there is no such
@@ -207,24 +216,33 @@ impl Room {
     }
 }
 
-/// Those of some rows whose channel the user of a nickname is a member of.
-fn with_member<'a>(
-    rows: &'a [Row<Channel>],
+/// The channels under some names, in their order.
+fn with_names<'a>(
+    channels: &'a IndexedChannels,
     alloc: Global,
-    nick: &[u8],
+    names: &[Row<()>],
 ) -> Result<Vec<&'a Row<Channel>, Global>, AllocError>
-    ensures { IfOk result (λ found. map (λ row. row.now) found.items ≡ filter (λ row. has_member (key nick.now) row.value) rows.now) }
+    ensures { IfOk result (λ found. map (λ row. row_entry row.now) found.items ≡ entries_under channels.now (map row_entry names.now)) }
 {
-    rows.iter()
-        .filter(|row| is_in(&row.value, nick))
-        .collect(alloc)
+    let mut found = Vec::new(alloc);
+    for row in names {
+        add_named(channels, row.name.as_slice(), &mut found)?;
+    }
+    Ok(found)
 }
 
-/// Whether the user of a nickname is a member of a channel.
-fn is_in(channel: &Channel, nick: &[u8]) -> bool
-    ensures { result ≡ has_member (key nick.now) channel.now }
+/// Appends the channel of a name, if it is there.
+fn add_named<'a>(
+    channels: &'a IndexedChannels,
+    name: &[u8],
+    found: &mut Vec<&'a Row<Channel>, Global>,
+) -> Result<(), AllocError>
+    ensures { OnOk result (map (λ row. row_entry row.now) found.new.items ≡ map (λ row. row_entry row.now) found.old.items ++ option_to_list (option_map (λ channel. (key name.now, channel)) (row channels.now (key name.now)))) }
 {
-    channel.members.get(nick).is_some()
+    if let Some(row) = channels.find_row(name) {
+        found.push(row)?;
+    }
+    Ok(())
 }
 
 /// The flags of the user of a nickname in a channel.

@@ -10,8 +10,9 @@ ghost use Rattle.irc_room.specs.Seen.{from_by, from_nick, stored_channel, stored
 ghost use Rattle.irc_room.specs.RoomParts.{room_of};
 
 use crate::effect::{By, Target};
+use crate::indexed_channels::IndexedChannels;
 use crate::lines::full_prefix;
-use irc_channels::{Channel, Channels};
+use irc_channels::Channel;
 use irc_line::Prefix;
 use irc_names::{ChannelName, Nick};
 use irc_users::Users;
@@ -22,7 +23,7 @@ pub(crate) struct RoomParts<'a> {
     /// The users, by nickname.
     pub users: &'a Users,
     /// The channels, by name.
-    pub channels: &'a Channels,
+    pub channels: &'a IndexedChannels,
 }
 
 /// The prefix of a line that comes from the user with a nickname, where it is there.

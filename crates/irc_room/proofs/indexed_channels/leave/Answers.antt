@@ -2,7 +2,7 @@ use Rattle.std.proofs.Common.{◌∙◌, sym}
 use Rattle.irc_names.specs.Fold.{key}
 use Rattle.irc_room.proofs.Keeping.{either_way, left_stays}
 use Rattle.irc_room.proofs.Rows.{alter_same}
-use Rattle.irc_room.proofs.changing.leave.Goals as goal
+use Rattle.irc_room.proofs.indexed_channels.leave.Goals as goal
 
 pub returns : goal.returns
 returns c =
