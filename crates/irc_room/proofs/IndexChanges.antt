@@ -2,10 +2,9 @@
 use Rattle.std.proofs.Common.{◌≡◌, ℕ, Bool, true, false, cond, not, ◌&&◌, ◌||◌, Option, Some, None, List, refl, sym, ◌∙◌, ap, is_some, option_map}
 use Rattle.std.specs.Option.{option_and_then}
 use Rattle.std.specs.FinMap.{empty, get-empty}
-use Rattle.irc_names.specs.Tables.{Table, fold_cmp, row, alter, moved}
+use Rattle.irc_names.specs.Tables.{fold_cmp, row, alter, moved}
 use Rattle.irc_names.specs.TableLaws.{same_fold, same_fold-refl, one_fold, row-alter, row-moved, row-moved_none}
-use Rattle.irc_room.specs.Indexes.{Names, Index, is_among, stands, IsAlike, IsOpened, Adds, Drops}
-use Rattle.irc_room.proofs.Rows.{not_none, not_true}
+use Rattle.irc_room.specs.Indexes.{Names, Index, is_among, stands, IsOpened, Adds, Drops}
 
 -- one row of the index is changed
 stands-alter : (nick : List ℕ) (change : Option Names → Option Names) (index : Index) (n c : List ℕ)

@@ -16,7 +16,6 @@ pub mod WrittenChanges
 pub mod RowValues
 pub mod Keeping
 pub mod ToldLaw
-pub mod KeptRows
 pub mod AudienceLaw
 pub mod FoundInTurn
 pub mod WhoSees

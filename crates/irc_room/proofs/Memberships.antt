@@ -10,7 +10,7 @@ use Rattle.irc_names.specs.TableLaws.{same_fold, one_fold, row-alter, row-each, 
 use Rattle.irc_channels.specs.declared.channel.Channel.{Channel}
 use Rattle.irc_channels.specs.declared.flags.Flags.{Flags}
 use Rattle.irc_channels.specs.declared.modes.ModeChange.{ModeChange}
-use Rattle.irc_channels.specs.Channels.{has_member, is_nil, new_channel, joined, left, without_user, while_members, renamed, invited_too, with_topic, changed, all_changed}
+use Rattle.irc_channels.specs.Channels.{has_member, is_nil, new_channel, joined, left, without_user, while_members, renamed, changed, all_changed}
 use Rattle.irc_users.specs.declared.user.User.{User}
 use Rattle.irc_room.specs.declared.effect.Effect.{Effect}
 use Rattle.irc_room.specs.declared.effect.Effect.TheVariants.{Rename}

@@ -1,6 +1,6 @@
 -- The names that stand by a nickname are those of the user's own channels, in their order.
 use Rattle.std.specs.Prelude.{T}
-use Rattle.std.proofs.Common.{◌≡◌, ℕ, Bool, true, false, cond, ◌&&◌, ◌||◌, Option, Some, None, List, [], ◌∷◌, ◌++◌, refl, sym, ◌∙◌, ap, map, filter, is_some, option_map, option_to_list, length, subst}
+use Rattle.std.proofs.Common.{◌≡◌, ℕ, Bool, true, false, cond, ◌&&◌, ◌||◌, Option, Some, None, List, [], ◌∷◌, ◌++◌, refl, sym, ◌∙◌, ap, map, filter, is_some, option_map, option_to_list, subst}
 use Rattle.std.proofs.lemmas.List.{append_assoc}
 use Rattle.std.specs.List.{AllByRecursion, list_any}
 use Rattle.std.specs.Option.{option_map_or}
@@ -14,7 +14,7 @@ use Rattle.irc_tables.proofs.OrderedEntries.{find-there, sorted-below}
 use Rattle.irc_channels.specs.declared.channel.Channel.{Channel}
 use Rattle.irc_channels.specs.Channels.{has_member}
 use Rattle.irc_room.specs.Indexes.{Names, Index, is_among, stands, names_in, holds, own_names, entries_under, Tells}
-use Rattle.irc_room.specs.Near.{joins_both}
+use Rattle.irc_room.specs.Loops.Viewing.{joins_both}
 
 order : IsTotalOrder fold_cmp
 order = nat_list_cmp_total

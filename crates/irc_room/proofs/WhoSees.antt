@@ -20,7 +20,6 @@ use Rattle.irc_channels.specs.ChannelTable.{members_in}
 use Rattle.irc_room.specs.Telling.{AreNamed}
 use Rattle.irc_room.specs.Loops.Viewing.{joins_both, users_who, users_under, Gains}
 use Rattle.irc_room.proofs.FoundInTurn.{entries_choose, table_chooses}
-use Rattle.irc_room.proofs.RowValues.{list_any-row_entry}
 
 -- ---- names put into a table
 
@@ -48,11 +47,7 @@ folds_of (row ∷ rows) q = ap (λ b. same_fold q (key row.name.items) || b) (fo
 pub table_rows : (members : Table Flags) (rows : List (Row Flags)) → map row_entry rows ≡ entries members → (q : List ℕ) → stands_in rows q ≡ is_some (row members q)
 table_rows members rows is q = folds_of rows q ∙ ap (λ es. list_any (same_fold q) (map (λ e. e.0) es)) is ∙ row-keys members q
 
-pub shared_rows : (one : List ℕ) (channel : Channel) (rows : List (Row Flags)) → map row_entry rows ≡ entries channel.members → has_member one channel ≡ true
-    → (q : List ℕ) → stands_in rows q ≡ joins_both one q channel
-shared_rows one channel rows is there q = table_rows channel.members rows is q ∙ ap (λ b. b && has_member q channel) (sym there)
-
-channel_rows : (o : Option Channel) (rows : List (Row Flags)) → map row_entry rows ≡ members_in o → (q : List ℕ) → stands_in rows q ≡ option_map_or (has_member q) o false
+pub channel_rows : (o : Option Channel) (rows : List (Row Flags)) → map row_entry rows ≡ members_in o → (q : List ℕ) → stands_in rows q ≡ option_map_or (has_member q) o false
 channel_rows None rows is q = folds_of rows q ∙ ap (λ es. list_any (same_fold q) (map (λ e. e.0) es)) is
 channel_rows (Some channel) rows is q = table_rows channel.members rows is q
 
@@ -123,14 +118,11 @@ joiner_among start middle names none nick o rows same name is first second q =
     ∙ or_turned (option_map_or (has_member q) o false) (pointwise nat_eq (key nick) q)
 
 -- of those who share a channel with a user
-pub sharers_among : (start names : Table Flags) → start ≡ empty → (nick : List ℕ) (channels : Table Channel) (rows : List (Row Channel)) → map row_entry rows ≡ entries channels
-    → Gains start names (λ q. list_any (λ (row : Row Channel). joins_both (key nick) q row.value) rows)
+pub sharers_among : (start names : Table Flags) → start ≡ empty → (nick : List ℕ) (channels : Table Channel)
+    → Gains start names (λ q. list_any (joins_both (key nick) q) (values channels))
     → (q : List ℕ) → is_some (row names q) ≡ list_any (joins_both (key nick) q) (values channels)
-sharers_among start names none nick channels rows same gained q =
-    gained q
-    ∙ ap (λ b. b || list_any (λ (row : Row Channel). joins_both (key nick) q row.value) rows) (none_at_first start none q)
-    ∙ list_any-row_entry (joins_both (key nick) q) rows
-    ∙ ap (λ es. list_any (joins_both (key nick) q) (map (λ e. e.1) es)) same
+sharers_among start names none nick channels gained q =
+    gained q ∙ ap (λ b. b || list_any (joins_both (key nick) q) (values channels)) (none_at_first start none q)
 
 -- the user is one more of them, or none of them
 pub also_one : (middle names : Table Flags) (nick name : List ℕ) → name ≡ nick → (may : List ℕ → Bool) → ((q : List ℕ) → is_some (row middle q) ≡ may q)

@@ -1,5 +1,5 @@
 //! Names of channels by nickname.
-ghost use Rattle.std.specs.Prelude.{◌≡◌, ◌≤◌, Some, None, OnOk, OnErr, is_some, length, map};
+ghost use Rattle.std.specs.Prelude.{◌≡◌, Some, None, OnOk, OnErr, is_some, map};
 ghost use Rattle.std.specs.FinMap.{empty};
 ghost use Rattle.irc_names.specs.Fold.{key};
 ghost use Rattle.irc_names.specs.Tables.{row, alter, moved};

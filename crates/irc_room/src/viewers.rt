@@ -7,16 +7,19 @@ ghost use Rattle.irc_names.specs.Fold.{key, same};
 ghost use Rattle.irc_names.specs.Tables.{row};
 ghost use Rattle.irc_names.specs.TableLaws.{same_fold};
 ghost use Rattle.irc_tables.specs.RowViews.{row_entry};
+ghost use Rattle.irc_channels.specs.Channels.{has_member};
 ghost use Rattle.irc_room.specs.declared.effect.Effect.TheVariants.{Say};
 ghost use Rattle.irc_room.specs.Effects.{is_member};
+ghost use Rattle.irc_room.specs.Indexes.{holds, own_names};
 ghost use Rattle.irc_room.specs.Loops.Viewing.{joins_both, users_under, users_who, Gains};
 ghost use Rattle.irc_room.specs.RoomParts.{room_of};
 ghost use Rattle.irc_room.specs.Seen.{sees, share_channel};
 ghost use Rattle.irc_room.specs.Telling.{AreNamed};
 
 use crate::effect::{Effect, Target};
-use crate::room_parts::{RoomParts, has_member};
-use irc_channels::{Channel, Flags};
+use crate::indexed_channels::IndexedChannels;
+use crate::room_parts::RoomParts;
+use irc_channels::Flags;
 use irc_names::{ChannelName, MAX_CHANNEL, Nick};
 use irc_tables::{NameTable, Row};
 use irc_users::{User, Users};
@@ -166,7 +169,7 @@ fn names_sharing(
     ensures { IfOk result (λ names. (fold : List ℕ) → is_some (row names fold) ≡ list_any (joins_both (key nick.now) fold) (values parts.entry.channels.now)) }
 {
     let mut names = NameTable::new(alloc);
-    put_shared(&mut names, parts.channels.as_slice(), nick)?;
+    put_shared(&mut names, parts.channels, nick)?;
     Ok(names)
 }
 
@@ -202,29 +205,44 @@ fn add_named<'a>(
 /// Adds the members of those channels that a user is in.
 fn put_shared(
     names: &mut NameTable<Flags>,
-    channels: &[Row<Channel>],
+    channels: &IndexedChannels,
     nick: &Nick,
 ) -> Result<(), AllocError>
-    ensures { OnOk result (Gains names.old names.new (λ fold. list_any (λ row. joins_both (key nick.now) fold row.value) channels.now)) }
+    ensures { OnOk result (Gains names.old names.new (λ fold. list_any (joins_both (key nick.now) fold) (values channels.now))) }
 {
-    for row in channels {
-        put_members(names, &row.value, nick)?;
+    put_all(names, channels, channels_of_user(channels, nick))
+}
+
+/// The names of the channels that a user is in, in folded order.
+fn channels_of_user<'a>(channels: &'a IndexedChannels, nick: &Nick) -> &'a [Row<()>]
+    ensures { map row_entry result.now ≡ own_names (key nick.now) channels.now }
+{
+    channels.names_of(nick.as_bytes())
+}
+
+/// Adds the members of the channels of some names.
+fn put_all(
+    names: &mut NameTable<Flags>,
+    channels: &IndexedChannels,
+    rows: &[Row<()>],
+) -> Result<(), AllocError>
+    ensures { OnOk result (Gains names.old names.new (λ fold. list_any (λ row. holds has_member channels.now fold (key row.name.items)) rows.now)) }
+{
+    for row in rows {
+        put_members(names, channels, row.name.as_slice())?;
     }
     Ok(())
 }
 
-/// Adds the members of a channel, if a user is one of them.
+/// Adds the members of the channel of a name, if it is there.
 fn put_members(
     names: &mut NameTable<Flags>,
-    channel: &Channel,
-    nick: &Nick,
+    channels: &IndexedChannels,
+    name: &[u8],
 ) -> Result<(), AllocError>
-    ensures { OnOk result (Gains names.old names.new (λ fold. joins_both (key nick.now) fold channel.now)) }
+    ensures { OnOk result (Gains names.old names.new (λ fold. holds has_member channels.now fold (key name.now))) }
 {
-    if has_member(channel, nick) {
-        return put_rows(names, channel.members.as_slice());
-    }
-    Ok(())
+    put_rows(names, channels.members(name))
 }
 
 /// Adds the names of some rows.

@@ -4,7 +4,7 @@ use Rattle.irc_names.specs.Fold.{key}
 use Rattle.irc_channels.specs.Channels.{has_member}
 use Rattle.irc_room.specs.Applying.{Kept}
 use Rattle.irc_room.specs.Indexes.{entries_under}
-use Rattle.irc_room.proofs.NearLaws.{found_also}
+use Rattle.irc_room.proofs.WhoSees.{found_also}
 use Rattle.irc_room.proofs.OwnNames.{own_found}
 use Rattle.irc_room.proofs.room.Room.channels_of.Goals as goal
 
