@@ -196,22 +196,6 @@ impl Channels {
         self.rows.change_each(&Renaming { nick, new });
     }
 
-    /// A user has another nickname in one channel, and its membership and invitation with it; where there is no such channel nothing
-    /// changes. It takes no memory.
-    pub fn rename_member_in(&mut self, channel: &[u8], nick: &Nick, new: &Nick)
-        ensures { self.new ≡ alter (key channel.now) (option_and_then (λ c. Some (renamed (key nick.now) (key new.now) c))) self.old }
-    {
-        self.rows.change_at(channel, &Renaming { nick, new });
-    }
-
-    /// A user is gone from one channel, and its invitation too; the channel ends where no member is left. Where there is no such
-    /// channel nothing changes. It takes no memory.
-    pub fn remove_user_from(&mut self, channel: &[u8], nick: &Nick)
-        ensures { self.new ≡ alter (key channel.now) (option_and_then (without_user (key nick.now))) self.old }
-    {
-        self.rows.change_at(channel, &Forgetting { nick });
-    }
-
     /// A user is gone from all channels, and its invitations with it; each channel that it was the last member of ends. It takes no
     /// memory.
     pub fn remove_user(&mut self, nick: &Nick)

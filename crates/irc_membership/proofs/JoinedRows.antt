@@ -1,5 +1,5 @@
 -- The channels that a user is in, by the rows of the code's table.
-use Rattle.std.proofs.Common.{◌≡◌, Bool, cond, true, false, List, [], ◌∷◌, filter, length, map, refl, sym, ◌∙◌, ap}
+use Rattle.std.proofs.Common.{◌≡◌, ℕ, Bool, cond, true, false, List, [], ◌∷◌, filter, length, map, refl, sym, ◌∙◌, ap}
 use Rattle.std.proofs.lemmas.List.{length-map}
 use Rattle.std.specs.FinMap.{entries}
 use Rattle.irc_names.specs.Fold.{key}
@@ -31,10 +31,19 @@ own_rows : (room : Room) (me : User) (rows : List (Row Channel)) → map row_ent
 own_rows room me rows are =
     ap (λ es. filter (has_member (key me.nick)) (map (λ e. e.1) es)) (sym are) ∙ kept_rows (has_member (key me.nick)) rows
 
-pub count_of_rows : (room : Room) (me : User) (rows : List (Row Channel)) → map row_entry rows ≡ entries room.channels
-    → length (filter (λ (row : Row Channel). has_member (key me.nick) row.value) rows) ≡ length (own_channels room me)
-count_of_rows room me rows are =
-    sym (length-map (filter (λ (row : Row Channel). has_member (key me.nick) row.value) rows) value_of) ∙ ap length (sym (own_rows room me rows are))
+kept_entries : (p : Channel → Bool) (es : List (List ℕ × Channel)) → filter p (map (λ e. e.1) es) ≡ map (λ e. e.1) (filter (λ e. p e.1) es)
+kept_entries p [] = refl
+kept_entries p (e ∷ es) = by_test (p e.1) (kept_entries p es)
+  where
+    by_test : (b : Bool) → filter p (map (λ e. e.1) es) ≡ map (λ e. e.1) (filter (λ e. p e.1) es)
+        → cond b (e.1 ∷ filter p (map (λ e. e.1) es)) (filter p (map (λ e. e.1) es)) ≡ map (λ e. e.1) (cond b (e ∷ filter (λ e. p e.1) es) (filter (λ e. p e.1) es))
+    by_test true later = ap (λ cs. e.1 ∷ cs) later
+    by_test false later = later
+
+pub count_of_entries : (room : Room) (me : User) → length (filter (λ e. has_member (key me.nick) e.1) (entries room.channels)) ≡ length (own_channels room me)
+count_of_entries room me =
+    sym (length-map (filter (λ e. has_member (key me.nick) e.1) (entries room.channels)) (λ e. e.1))
+    ∙ ap length (sym (kept_entries (has_member (key me.nick)) (entries room.channels)))
 
 mapped_twice : (f : Channel → Act) (rows : List (Row Channel)) → map (λ (row : Row Channel). f row.value) rows ≡ map f (map value_of rows)
 mapped_twice f [] = refl

@@ -98,15 +98,6 @@ fn leave(me: &User, channel: &Channel) -> Act
     })
 }
 
-/// How many of these channels the user is in.
-fn count_own(rows: &[Row<Channel>], me: &User) -> usize
-    ensures { result ≡ length (filter (λ row. has_member (key me.now.nick) row.value) rows.now) }
-{
-    rows.iter()
-        .filter(|row| row.value.has_member(&me.nick))
-        .count()
-}
-
 /// The channels of a list in turn, each with the key at its position.
 fn join_list(
     context: &Context<'_>,
@@ -116,7 +107,7 @@ fn join_list(
     ensures { IfOk result (λ steps. steps.items ≡ in_turn (join_one context.now.me.now) context.now.room.now.room (asked_for list.now keys.now)) }
 {
     know_well_formed(context.room);
-    let already = count_own(context.room.channels(), context.me);
+    let already = context.room.channel_count(context.me.nick.as_bytes());
     let mut steps = Vec::new(context.alloc);
     let mut names = Some(list);
     let mut keys = Some(keys);

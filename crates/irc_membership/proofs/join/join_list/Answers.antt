@@ -1,9 +1,12 @@
-use Rattle.std.proofs.Common.{◌∙◌, ap}
+use Rattle.std.proofs.Common.{◌∙◌, ap, filter, length}
+use Rattle.std.specs.FinMap.{entries}
+use Rattle.irc_names.specs.Fold.{key}
+use Rattle.irc_channels.specs.Channels.{has_member}
 use Rattle.irc_line.specs.MessageViews.{optional_now}
 use Rattle.irc_acts.specs.CommaLists.{pieces_left}
 use Rattle.irc_membership.proofs.JoinAsked.{all_to_serve, none_so_far, served, some_name}
 use Rattle.irc_membership.proofs.JoinOne.{joins_more}
-use Rattle.irc_membership.proofs.JoinedRows.{count_of_rows}
+use Rattle.irc_membership.proofs.JoinedRows.{count_of_entries}
 use Rattle.irc_membership.proofs.join.join_list.Goals as goal
 
 pub loop-names-init : goal.loop-names-init
@@ -14,7 +17,9 @@ loop-names-init c = record {
 
 pub join_one-requires-clause-counted : goal.join_one-requires-clause-counted
 join_one-requires-clause-counted c =
-    c.count_own-already.ensures ∙ count_of_rows c.args.context.now.room.now.room c.args.context.now.me.now c.channels.result.now c.channels.ensures
+    c.channel_count-already.ensures
+    ∙ ap (λ nick. length (filter (λ e. has_member (key nick) e.1) (entries c.args.context.now.room.now.room.channels))) c.as_bytes.ensures.value
+    ∙ count_of_entries c.args.context.now.room.now.room c.args.context.now.me.now
 
 pub loop-names-preserved-in-Continue-1 : goal.loop-names-preserved-in-Continue-1
 loop-names-preserved-in-Continue-1 c = record {
