@@ -11,7 +11,7 @@ ghost use Rattle.irc_channels.specs.Channels.{has_member};
 ghost use Rattle.irc_room.specs.declared.effect.Effect.TheVariants.{Say};
 ghost use Rattle.irc_room.specs.Effects.{is_member};
 ghost use Rattle.irc_room.specs.Indexes.{holds, own_names};
-ghost use Rattle.irc_room.specs.Loops.Viewing.{joins_both, users_under, users_who, Gains};
+ghost use Rattle.irc_room.specs.Loops.Viewing.{joins_both, users_under, Finds, Gains};
 ghost use Rattle.irc_room.specs.RoomParts.{room_of};
 ghost use Rattle.irc_room.specs.Seen.{sees, share_channel};
 ghost use Rattle.irc_room.specs.Telling.{AreNamed};
@@ -25,14 +25,14 @@ use irc_tables::{NameTable, Row};
 use irc_users::{User, Users};
 use std::alloc::{AllocError, Global};
 
-/// The users that see an effect: none besides them is looked at, but for the doer and who shares more than one channel with it.
+/// The users that see an effect, found by the names that stand in the channels it is about: besides them only its doer is looked at.
 pub(crate) fn viewers<'a>(
     alloc: Global,
     parts: RoomParts<'a>,
     effect: &Effect,
 ) -> Result<Vec<&'a User, Global>, AllocError>
     requires { AreNamed parts.users.now }
-    ensures { IfOk result (λ found. map (λ user. user.now) found.items ≡ users_who parts.entry.users.now (sees (room_of parts.entry) effect.now)) }
+    ensures { IfOk result (λ found. Finds (room_of parts.entry) (λ room. sees room effect.now) found.items) }
 {
     match effect {
         Effect::AddUser(_) => Ok(Vec::new(alloc)),
@@ -56,7 +56,7 @@ fn hearers<'a>(
     target: &Target,
 ) -> Result<Vec<&'a User, Global>, AllocError>
     requires { AreNamed parts.users.now }
-    ensures { (notice : Bool) (text : ArrayVec ℕ) → IfOk result (λ found. map (λ user. user.now) found.items ≡ users_who parts.entry.users.now (sees (room_of parts.entry) (Say by.now notice target.now text))) }
+    ensures { (notice : Bool) (text : ArrayVec ℕ) → IfOk result (λ found. Finds (room_of parts.entry) (λ room. sees room (Say by.now notice target.now text)) found.items) }
 {
     match target {
         Target::User(nick) => only(alloc, parts, nick),
@@ -71,10 +71,10 @@ fn only<'a>(
     nick: &Nick,
 ) -> Result<Vec<&'a User, Global>, AllocError>
     requires { AreNamed parts.users.now }
-    ensures { IfOk result (λ found. map (λ user. user.now) found.items ≡ users_who parts.entry.users.now (same nick.now)) }
+    ensures { IfOk result (λ found. Finds (room_of parts.entry) (λ room. same nick.now) found.items) }
 {
     let mut found = Vec::new(alloc);
-    add_named(parts.users, nick.as_bytes(), &mut found)?;
+    add_named(parts.users, &mut 0, nick.as_bytes(), &mut found)?;
     Ok(found)
 }
 
@@ -85,7 +85,7 @@ fn members<'a>(
     channel: &ChannelName,
 ) -> Result<Vec<&'a User, Global>, AllocError>
     requires { AreNamed parts.users.now }
-    ensures { IfOk result (λ found. map (λ user. user.now) found.items ≡ users_who parts.entry.users.now (λ viewer. is_member (room_of parts.entry) viewer channel.now)) }
+    ensures { IfOk result (λ found. Finds (room_of parts.entry) (λ room viewer. is_member room viewer channel.now) found.items) }
 {
     users_of(
         alloc,
@@ -102,7 +102,7 @@ fn others<'a>(
     channel: &ChannelName,
 ) -> Result<Vec<&'a User, Global>, AllocError>
     requires { AreNamed parts.users.now }
-    ensures { IfOk result (λ found. map (λ user. user.now) found.items ≡ users_who parts.entry.users.now (λ viewer. not (same by.now viewer) && is_member (room_of parts.entry) viewer channel.now)) }
+    ensures { IfOk result (λ found. Finds (room_of parts.entry) (λ room viewer. not (same by.now viewer) && is_member room viewer channel.now) found.items) }
 {
     let mut found = members(alloc, parts, channel)?;
     leave_out(&mut found, by);
@@ -124,7 +124,7 @@ fn with_joiner<'a>(
     channel: &ChannelName,
 ) -> Result<Vec<&'a User, Global>, AllocError>
     requires { AreNamed parts.users.now }
-    ensures { IfOk result (λ found. map (λ user. user.now) found.items ≡ users_who parts.entry.users.now (λ viewer. same nick.now viewer || is_member (room_of parts.entry) viewer channel.now)) }
+    ensures { IfOk result (λ found. Finds (room_of parts.entry) (λ room viewer. same nick.now viewer || is_member room viewer channel.now) found.items) }
 {
     let mut names = NameTable::new(alloc);
     put_rows(&mut names, parts.channels.members(channel.as_bytes()))?;
@@ -139,7 +139,7 @@ fn with_sharers<'a>(
     nick: &Nick,
 ) -> Result<Vec<&'a User, Global>, AllocError>
     requires { AreNamed parts.users.now }
-    ensures { IfOk result (λ found. map (λ user. user.now) found.items ≡ users_who parts.entry.users.now (λ viewer. same nick.now viewer || share_channel (room_of parts.entry) nick.now viewer)) }
+    ensures { IfOk result (λ found. Finds (room_of parts.entry) (λ room viewer. same nick.now viewer || share_channel room nick.now viewer) found.items) }
 {
     let mut names = names_sharing(alloc, parts, nick)?;
     put_name(&mut names, nick.as_bytes())?;
@@ -153,7 +153,7 @@ fn sharers<'a>(
     nick: &Nick,
 ) -> Result<Vec<&'a User, Global>, AllocError>
     requires { AreNamed parts.users.now }
-    ensures { IfOk result (λ found. map (λ user. user.now) found.items ≡ users_who parts.entry.users.now (λ viewer. not (same nick.now viewer) && share_channel (room_of parts.entry) nick.now viewer)) }
+    ensures { IfOk result (λ found. Finds (room_of parts.entry) (λ room viewer. not (same nick.now viewer) && share_channel room nick.now viewer) found.items) }
 {
     let mut names = names_sharing(alloc, parts, nick)?;
     names.remove(nick.as_bytes());
@@ -173,7 +173,7 @@ fn names_sharing(
     Ok(names)
 }
 
-/// The users that stand under the names of some rows.
+/// The users that stand under the names of some rows. Rows are in folded order, so a user is mostly the one behind the user before.
 fn users_of<'a>(
     alloc: Global,
     users: &'a Users,
@@ -182,21 +182,23 @@ fn users_of<'a>(
     ensures { IfOk result (λ found. map (λ user. user.now) found.items ≡ users_under users.now (map row_entry rows.now)) }
 {
     let mut found = Vec::new(alloc);
+    let mut place = 0;
     for row in rows {
-        add_named(users, row.name.as_slice(), &mut found)?;
+        add_named(users, &mut place, row.name.as_slice(), &mut found)?;
     }
     Ok(found)
 }
 
-/// Appends the user of a nickname, if it is there.
+/// Appends the user of a nickname, if it is there, which is looked for near a place first.
 fn add_named<'a>(
     users: &'a Users,
+    place: &mut usize,
     name: &[u8],
     found: &mut Vec<&'a User, Global>,
 ) -> Result<(), AllocError>
     ensures { OnOk result (map (λ user. user.now) found.new.items ≡ map (λ user. user.now) found.old.items ++ option_to_list (row users.now (key name.now))) }
 {
-    if let Some(user) = users.find_named(name) {
+    if let Some(user) = users.find_near(place, name) {
         found.push(user)?;
     }
     Ok(())

@@ -1,5 +1,6 @@
 -- The users that see an effect, and how they are found by names.
-use Rattle.std.specs.Prelude.{◌≡◌, ℕ, Bool, ◌&&◌, ◌||◌, is_some, List, [], ◌∷◌, nat_eq, filter, option_to_list, if◌then◌else◌}
+use Rattle.std.specs.Prelude.{◌≡◌, ℕ, Bool, ◌&&◌, ◌||◌, is_some, List, [], ◌∷◌, nat_eq, map, filter, option_to_list, if◌then◌else◌}
+use Rattle.std.specs.Borrow.{Bor}
 use Rattle.std.specs.List.{flat_map}
 use Rattle.std.specs.Cmp.Lexicographic.{pointwise}
 use Rattle.std.specs.FinMap.{values}
@@ -20,6 +21,10 @@ users_who users test = filter (λ (user : User). test user.nick) (values users)
 -- those that see an effect
 abbrev pub viewers : Room → Effect → List User
 viewers room effect = users_who room.users (sees room effect)
+
+-- what was found is all users whose nicknames pass a test of the room, in folded order
+abbrev pub Finds : Room → (Room → List ℕ → Bool) → List (Bor User) → Type 0
+Finds room test found = map (λ (user : Bor User). user.now) found ≡ users_who room.users (test room)
 
 -- the line, for a user of the server of this name
 abbrev pub told : List ℕ → List ℕ → User → List (List ℕ × ArrayVec ℕ)
