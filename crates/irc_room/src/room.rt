@@ -117,10 +117,10 @@ impl Room {
     ///
     /// # Errors
     /// Where memory runs out.
-    pub fn users(&self, alloc: Global) -> Result<Vec<&User, Global>, AllocError>
+    pub fn users(&self) -> Result<Vec<&User, Global>, AllocError>
         ensures { IfOk result (λ found. map (λ user. user.now) found.items ≡ values self.now.room.users) }
     {
-        self.users.as_slice().iter().collect(alloc)
+        self.users.as_slice().iter().collect(self.alloc)
     }
 
     /// All channels, in folded order of their names.
@@ -134,14 +134,10 @@ impl Room {
     ///
     /// # Errors
     /// Where memory runs out.
-    pub fn channels_of(
-        &self,
-        alloc: Global,
-        nick: &[u8],
-    ) -> Result<Vec<&Row<Channel>, Global>, AllocError>
+    pub fn channels_of(&self, nick: &[u8]) -> Result<Vec<&Row<Channel>, Global>, AllocError>
         ensures { IfOk result (λ found. map (λ row. row_entry row.now) found.items ≡ filter (λ e. has_member (key nick.now) e.1) (entries self.now.room.channels)) }
     {
-        with_names(&self.channels, alloc, self.channels.names_of(nick))
+        with_names(&self.channels, self.alloc, self.channels.names_of(nick))
     }
 
     /// How many channels the user of a nickname is a member of. No channel is looked at.
@@ -163,14 +159,14 @@ impl Room {
     ///
     /// # Errors
     /// Where memory runs out.
-    pub fn audience(&self, alloc: Global, effect: &Effect) -> Result<Vec<Nick, Global>, AllocError>
+    pub fn audience(&self, effect: &Effect) -> Result<Vec<Nick, Global>, AllocError>
         ensures { IfOk result (λ viewers. viewers.items ≡ map (λ s. s.viewer) (seen self.now.room effect.now)) }
     {
         let parts = RoomParts {
             users: &self.users,
             channels: &self.channels,
         };
-        audience(alloc, parts, effect)
+        audience(self.alloc, parts, effect)
     }
 
     /// Applies an effect: the room is the one after it, and what it shows to the server's own users is appended to `out`, in

@@ -210,7 +210,7 @@ fn show_viewers(viewers: &[Nick], out: &[(Nick, Text)], shown: &mut Shown) {
 
 /// Applies an effect, and shows what came of it.
 fn apply(alloc: Global, room: &mut Room, effect: &Effect, shown: &mut Shown) {
-    let viewers = room.audience(alloc, effect).unwrap_or(Vec::new(alloc));
+    let viewers = room.audience(effect).unwrap_or(Vec::new(alloc));
     let mut out = Vec::new(alloc);
     if !brings_free(room, effect) {
         append(shown, b" taken");
@@ -274,7 +274,7 @@ pub fn show_users(users: &[&User], shown: &mut Shown) {
 /// Shows the channels of a user.
 fn show_channels_of(alloc: Global, room: &Room, nick: &str, shown: &mut Shown) {
     for row in room
-        .channels_of(alloc, nick.as_bytes())
+        .channels_of(nick.as_bytes())
         .unwrap_or(Vec::new(alloc))
     {
         append_word(shown, b"", row.value.name.as_bytes());
@@ -294,7 +294,7 @@ impl Stage for Room {
                 Some(channel) => show_channel(channel, shown),
                 None => append(shown, b" none"),
             },
-            "users" => show_users(&self.users(alloc).unwrap_or(Vec::new(alloc)), shown),
+            "users" => show_users(&self.users().unwrap_or(Vec::new(alloc)), shown),
             "channels" => show_channels_of(alloc, self, row.first, shown),
             _ => apply(alloc, self, &effect_of(rt, alloc, row), shown),
         }
