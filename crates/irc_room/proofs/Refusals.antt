@@ -1,5 +1,6 @@
 -- What a refusal of an effect leaves.
-use Rattle.std.proofs.Common.{◌≡◌, ℕ, Bool, true, false, cond, not, Some, None, Err, List, refl, sym, ◌∙◌, ap}
+use Rattle.std.proofs.Common.{◌≡◌, ℕ, Bool, true, false, cond, not, Some, None, Result, Ok, Err, List, ◌++◌, refl, sym, ◌∙◌, ap}
+use Rattle.std.proofs.lemmas.List.{append-nil}
 use Rattle.std.specs.List.{list_all}
 use Rattle.std.specs.Option.{option_map_or}
 use Rattle.arrayvec.specs.ArrayVec.{ArrayVec}
@@ -11,8 +12,10 @@ use Rattle.irc_room.specs.declared.fault.RoomFault.{RoomFault}
 use Rattle.irc_room.specs.declared.fault.RoomFault.TheVariants.{NoSuchUser, NoSuchChannel, Memory, Failed}
 use Rattle.irc_room.specs.Room.{Room}
 use Rattle.irc_room.specs.After.{after}
-use Rattle.irc_room.specs.Effects.{has_user, has_channel, needs_users, needs_channel}
+use Rattle.irc_room.specs.Effects.{has_user, has_channel, is_idle, needs_users, needs_channel}
 use Rattle.irc_room.specs.Applying.{Kept, room_fault, Applied}
+use Rattle.irc_room.proofs.IdleLaw.{idle_changes_nothing}
+use Rattle.irc_room.proofs.ToldLaw.{idle_tells_nothing}
 
 -- want of memory is no cause that is looked for
 by_causes : (failed no_user no_channel : Bool)
@@ -71,3 +74,14 @@ kept_refused inside now users channels is same_users same_channels =
     ap (λ (u : Table User). record { own = inside.own; failed = true; room = record { users = u; channels = channels } }) same_users
     ∙ ap (λ (t : Table Channel). record { own = inside.own; failed = true; room = record { users = inside.room.users; channels = t } }) same_channels
     ∙ ap (λ (k : Kept). record k { failed = true }) is
+
+-- an effect that does nothing leaves all as it was
+pub idle_stays : (old : Kept) (effect : Effect) (out : List (List ℕ × ArrayVec ℕ)) (new : Kept) (out_after : List (List ℕ × ArrayVec ℕ)) → is_idle old.room effect ≡ true
+    → Applied old effect out (Ok tt) new out_after → (new ≡ old) × (out_after ≡ out)
+idle_stays old effect out new out_after idle applied = (
+  applied.1 ∙ ap (λ (r : Room). record old { room = r }) (idle_changes_nothing old.room effect idle),
+  applied.2 ∙ ap (λ lines. out ++ lines) (idle_tells_nothing old.own old.room effect idle) ∙ append-nil out,
+)
+
+pub not_done : {U E A : Type 0} (e : E) (u : U) → ◌≡◌ {A = Result U E} (Err e) (Ok u) → A
+not_done e u is = cc

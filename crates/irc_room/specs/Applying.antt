@@ -10,7 +10,7 @@ use Rattle.irc_room.specs.declared.effect.Effect.{Effect}
 use Rattle.irc_room.specs.declared.fault.RoomFault.{RoomFault}
 use Rattle.irc_room.specs.declared.fault.RoomFault.TheVariants.{NoSuchUser, NoSuchChannel, Memory, Failed}
 use Rattle.irc_room.specs.Room.{Room}
-use Rattle.irc_room.specs.Effects.{has_user, has_channel, needs_users, needs_channel}
+use Rattle.irc_room.specs.Effects.{has_user, has_channel, is_idle, needs_users, needs_channel}
 use Rattle.irc_room.specs.After.{after}
 use Rattle.irc_room.specs.Seen.{Showing, seen}
 
@@ -47,3 +47,9 @@ Applied old effect out (Ok done) new out_after =
     (room_fault old effect ≡ None) × (new ≡ record old { room = after old.room effect }) × (out_after ≡ out ++ shown_here old effect)
 Applied old effect out (Err Memory) new out_after = (room_fault old effect ≡ None) × (new ≡ record old { failed = true }) × (out_after ≡ out)
 Applied old effect out (Err fault) new out_after = (room_fault old effect ≡ Some fault) × (new ≡ old) × (out_after ≡ out)
+
+-- An effect that does nothing is refused for the same causes. Where there is none it is done: it takes no memory, changes nothing and
+-- shows nothing.
+abbrev pub IdleStays : Kept → Effect → List (List ℕ × ArrayVec ℕ) → Result (Unit {0}) RoomFault → Kept → List (List ℕ × ArrayVec ℕ) → Type 0
+IdleStays old effect out result new out_after =
+    is_idle old.room effect ≡ true → room_fault old effect ≡ None → (result ≡ Ok tt) × (new ≡ old) × (out_after ≡ out)

@@ -7,7 +7,7 @@ ghost use Rattle.irc_names.specs.Tables.{row};
 ghost use Rattle.irc_tables.specs.RowViews.{row_entry};
 ghost use Rattle.irc_channels.specs.Channels.{has_member};
 ghost use Rattle.irc_channels.specs.ChannelTable.{members_in};
-ghost use Rattle.irc_room.specs.Applying.{Kept, Applied};
+ghost use Rattle.irc_room.specs.Applying.{Kept, Applied, IdleStays};
 ghost use Rattle.irc_room.specs.Effects.{brings_free};
 ghost use Rattle.irc_room.specs.Indexes.{entries_under};
 ghost use Rattle.irc_room.specs.Laws.{no_room};
@@ -177,15 +177,16 @@ impl Room {
     /// # Errors
     /// [`RoomFault::Failed`] where memory ran out before; [`RoomFault::NoSuchUser`] where a user that it names is not there;
     /// [`RoomFault::NoSuchChannel`] where the channel that it names is not there, but for a Join, which makes it, and an Invite.
-    /// Nothing has changed then. [`RoomFault::Memory`] where memory runs out: `out` is as it was, and the room answers Failed from
-    /// then on.
+    /// Nothing has changed then. [`RoomFault::Memory`] where memory runs out, which an effect that does nothing takes none of: `out` is
+    /// as it was, and the room answers Failed from then on.
     pub fn apply(
         &mut self,
         effect: &Effect,
         out: &mut Vec<(Nick, Text), Global>,
     ) -> Result<(), RoomFault>
         requires { brings_free self.old.room effect.now ≡ true }
-        ensures { Applied self.old effect.now out.old.items result self.new out.new.items }
+        ensures applied { Applied self.old effect.now out.old.items result self.new out.new.items }
+        ensures idle { IdleStays self.old effect.now out.old.items result self.new out.new.items }
     {
         if let Some(fault) = refusal(self.failed, &self.users, &self.channels, effect) {
             return Err(fault);

@@ -1,13 +1,13 @@
 //! What an effect shows to the users of one server.
-ghost use Rattle.std.specs.Prelude.{◌≡◌, ◌++◌, length, map, take, OnOk, OnErr};
+ghost use Rattle.std.specs.Prelude.{◌≡◌, false, ◌++◌, length, map, take, OnOk, OnErr};
 ghost use Rattle.std.specs.List.{flat_map};
+ghost use Rattle.irc_room.specs.Effects.{is_idle};
 ghost use Rattle.irc_room.specs.Loops.Viewing.{told, viewers};
 ghost use Rattle.irc_room.specs.RoomParts.{room_of};
 ghost use Rattle.irc_room.specs.Telling.{shown_at, AreNamed};
 
 use crate::effect::Effect;
 use crate::effect_lines::effect_line;
-use crate::idle::is_idle;
 use crate::room_parts::RoomParts;
 use crate::viewers::viewers;
 use irc_line::Text;
@@ -15,7 +15,7 @@ use irc_names::{Nick, copied};
 use irc_users::User;
 use std::alloc::{AllocError, Global};
 
-/// Appends what an effect shows to the users of the server of this name, in folded order. Whatever comes of it, what was there stays
+/// Appends what an effect that does something shows to the users of the server of this name, in folded order. Whatever comes of it, what was there stays
 /// at the front.
 pub(crate) fn show(
     alloc: Global,
@@ -24,13 +24,11 @@ pub(crate) fn show(
     effect: &Effect,
     out: &mut Vec<(Nick, Text), Global>,
 ) -> Result<(), AllocError>
-    requires { AreNamed parts.users.now }
+    requires named { AreNamed parts.users.now }
+    requires busy { is_idle (room_of parts) effect.now ≡ false }
     ensures ok { OnOk result (out.new.items ≡ out.old.items ++ shown_at own.now (room_of parts.entry) effect.now) }
     ensures front { take (length out.old.items) out.new.items ≡ out.old.items }
 {
-    if is_idle(parts, effect) {
-        return Ok(());
-    }
     match effect_line(alloc, own, parts, effect)? {
         Some(line) => tell_viewers(alloc, own, parts, effect, &line, out),
         None => Ok(()),

@@ -4,11 +4,11 @@ use Rattle.irc_server.specs.Stage.{IsSound}
 use Rattle.irc_server.proofs.stage.happen.Goals as goal
 
 pub returns-in-Ok-clause-shown : goal.returns-in-Ok-clause-shown
-returns-in-Ok-clause-shown c = c.in-Ok.ensures.2 ∙ ap (λ l. l ++ shown_here c.args.room.now c.args.effect.now) c.new-shown.ensures.items
+returns-in-Ok-clause-shown c = c.in-Ok.ensures.applied.2 ∙ ap (λ l. l ++ shown_here c.args.room.now c.args.effect.now) c.new-shown.ensures.items
 
 pub returns-in-Ok-clause-sound : goal.returns-in-Ok-clause-sound
 returns-in-Ok-clause-sound c =
-    subst IsSound (sym c.in-Ok.ensures.1)
+    subst IsSound (sym c.in-Ok.ensures.applied.1)
     (record {
       serves = c.requires.sound.serves;
       well_formed = c.after_is_well_formed.ensures c.args.room.now.room c.args.effect.now c.requires.sound.well_formed c.requires.possible;

@@ -1,14 +1,15 @@
-use Rattle.std.proofs.Common.{◌∙◌, ap, sym, subst, take, ◌++◌}
+use Rattle.std.proofs.Common.{◌∙◌, ap, sym, subst, take, ◌++◌, refl}
 use Rattle.irc_room.specs.Applying.{Kept, room_fault, shown_here}
-use Rattle.irc_room.specs.Effects.{brings_free}
+use Rattle.irc_room.specs.Effects.{brings_free, is_idle}
 use Rattle.irc_room.specs.Room.{IsWellFormed}
 use Rattle.irc_room.specs.Telling.{shown_at}
-use Rattle.irc_room.proofs.Refusals.{refused, served, kept_changed, kept_refused}
+use Rattle.irc_room.proofs.Refusals.{refused, served, kept_changed, kept_refused, idle_stays, not_done}
+use Rattle.irc_room.proofs.Rows.{not_none}
 use Rattle.irc_room.proofs.WellFormedLaw.{after_is_well_formed}
 use Rattle.irc_room.proofs.room.Room.apply.Goals as goal
 
-pub returns-in-Some : goal.returns-in-Some
-returns-in-Some c =
+pub returns-in-Some-clause-applied : goal.returns-in-Some-clause-applied
+returns-in-Some-clause-applied c =
     refused c.args.self.now c.args.effect.now c.args.out.now.items c.in-Some.fault
     (c.in-Some.ensures c.self.inside.own ∙ ap (λ k. room_fault k c.args.effect.now) c.self.view_is)
 
@@ -28,8 +29,8 @@ invariant_of-self c =
       nick_free = ap (λ (k : Kept). brings_free k.room c.args.effect.now) c.self.view_is ∙ c.requires;
     }))
 
-pub returns-in-Ok : goal.returns-in-Ok
-returns-in-Ok c =
+pub returns-in-Ok-clause-applied : goal.returns-in-Ok-clause-applied
+returns-in-Ok-clause-applied c =
     let kept : Kept = record { own = c.self.inside.own; failed = c.self.inside.failed; room = record { users = c.self.inside.users; channels = c.self.inside.channels } } in
     let none = sym (c.refusal.ensures c.self.inside.own) ∙ c.in_default.is in (
       ap (λ k. room_fault k c.args.effect.now) (sym c.self.view_is) ∙ none,
@@ -39,10 +40,23 @@ returns-in-Ok c =
           ∙ ap (λ k. c.args.out.now.items ++ shown_here k c.args.effect.now) c.self.view_is,
     )
 
-pub returns-in-Err : goal.returns-in-Err
-returns-in-Err c =
+pub returns-in-Err-clause-applied : goal.returns-in-Err-clause-applied
+returns-in-Err-clause-applied c =
     let kept : Kept = record { own = c.self.inside.own; failed = c.self.inside.failed; room = record { users = c.self.inside.users; channels = c.self.inside.channels } } in (
       ap (λ k. room_fault k c.args.effect.now) (sym c.self.view_is) ∙ sym (c.refusal.ensures c.self.inside.own) ∙ c.in_default.is,
       kept_refused kept c.args.self.now _ _ c.self.view_is c.in-Err.ensures.refused.0 c.in-Err.ensures.refused.1,
       c.truncate.ensures.items ∙ ap (λ n. take n c.perform.new.out.items) (c.len-before.ensures ∙ c.args.out.now.ok.0) ∙ c.in-Err.ensures.front,
     )
+
+pub returns-in-Some-clause-idle : goal.returns-in-Some-clause-idle
+returns-in-Some-clause-idle c = λ idle none.
+    not_none c.in-Some.fault (sym none ∙ sym (c.in-Some.ensures c.self.inside.own ∙ ap (λ k. room_fault k c.args.effect.now) c.self.view_is))
+
+pub returns-in-Ok-clause-idle : goal.returns-in-Ok-clause-idle
+returns-in-Ok-clause-idle c = λ idle none.
+    let stays = idle_stays c.args.self.now c.args.effect.now c.args.out.now.items _ _ idle (returns-in-Ok-clause-applied c) in
+    (refl, stays.0, stays.1)
+
+pub returns-in-Err-clause-idle : goal.returns-in-Err-clause-idle
+returns-in-Err-clause-idle c = λ idle none.
+    not_done _ tt (c.in-Err.ensures.idle (ap (λ (k : Kept). is_idle k.room c.args.effect.now) c.self.view_is ∙ idle))
