@@ -11,11 +11,11 @@ use Rattle.irc_room.specs.Loops.Viewing.{viewers}
 use Rattle.irc_room.specs.Seen.{Showing, seen, shown_to, shown_line, sees}
 use Rattle.irc_room.proofs.Rows.{not_true}
 
-abbrev nicks : List Showing → List (List ℕ)
+abbrev pub nicks : List Showing → List (List ℕ)
 nicks = map (λ (s : Showing). s.viewer)
 
 -- whether an effect shows each viewer a line, or none
-abbrev IsLined : Room → Effect → Bool → Type 0
+abbrev pub IsLined : Room → Effect → Bool → Type 0
 IsLined room effect lined = (viewer : User) → is_some (shown_line room effect viewer) ≡ lined
 
 one_nick : (user : User) (line : Option (List ℕ)) → is_some line ≡ true → (rest : List Showing)
@@ -27,7 +27,7 @@ one_nick user (Some l) lined rest = refl
 abbrev shown_if : Room → Effect → User → Bool → Option Showing
 shown_if room effect user b = if b then option_map (λ l. record { viewer = user.nick; line = l }) (shown_line room effect user) else None
 
-all_seen : (room : Room) (effect : Effect) → IsLined room effect true → (users : List User)
+pub all_seen : (room : Room) (effect : Effect) → IsLined room effect true → (users : List User)
     → map (λ (user : User). user.nick) (filter (λ user. sees room effect user.nick) users) ≡ nicks (filter_map (shown_to room effect) users)
 all_seen room effect lined [] = refl
 all_seen room effect lined (user ∷ users) = by_sight (all_seen room effect lined users) (sees room effect user.nick) refl

@@ -1,7 +1,7 @@
--- A channel ends with its last member, and is made by a Join.
-use Rattle.std.proofs.Common.{◌≡◌, ℕ, Bool, true, false, cond, ◌||◌, Option, Some, None, List, [], ◌∷◌, refl, sym, ◌∙◌, ap, subst, is_some, unwrap_or, if◌then◌else◌}
+-- A channel ends with its last member, and is made by a Join, which uses up an invitation.
+use Rattle.std.proofs.Common.{◌≡◌, ℕ, Bool, true, false, cond, not, ◌||◌, Option, Some, None, List, [], ◌∷◌, refl, sym, ◌∙◌, ap, subst, is_some, unwrap_or, if◌then◌else◌}
 use Rattle.std.specs.List.{list_any}
-use Rattle.std.specs.Option.{option_and_then}
+use Rattle.std.specs.Option.{option_and_then, option_map_or}
 use Rattle.std.specs.FinMap.{empty, insert, keys, get-empty, get-insert}
 use Rattle.std.specs.Cmp.Lexicographic.{nat_list_cmp_total}
 use Rattle.irc_names.specs.Fold.{key}
@@ -9,11 +9,11 @@ use Rattle.irc_names.specs.Tables.{Table, fold_cmp, row, alter}
 use Rattle.irc_names.specs.TableLaws.{same_fold, same_fold-refl, row-alter, row-alter_same, row-each, row-keys, same_table}
 use Rattle.irc_channels.specs.declared.flags.Flags.{Flags}
 use Rattle.irc_channels.specs.declared.channel.Channel.{Channel}
-use Rattle.irc_channels.specs.Channels.{has_member, is_nil, new_channel, joined, left, without_user, while_members}
+use Rattle.irc_channels.specs.Channels.{has_member, is_invited, is_nil, new_channel, joined, left, without_user, while_members}
 use Rattle.irc_room.specs.declared.effect.Effect.TheVariants.{AddUser, Rename, Quit, Join, Part, Kick, ChangeModes, SetTopic, Say, Invite, UserMode}
 use Rattle.irc_room.specs.After.{after}
-use Rattle.irc_room.specs.Laws.{LastMemberEndsChannel, JoinMakesChannel}
-use Rattle.irc_room.proofs.Rows.{no_row}
+use Rattle.irc_room.specs.Laws.{LastMemberEndsChannel, JoinMakesChannel, InvitationUsedUp}
+use Rattle.irc_room.proofs.Rows.{no_row, if_not}
 
 absent : {X : Type 0} (o : Option X) → is_some o ≡ false → o ≡ None
 absent None e = refl
@@ -100,3 +100,19 @@ join_makes_channel room nick name op none =
     row-alter_same (key name) (λ c. Some (joined (key nick) op (unwrap_or c (new_channel name)))) room.channels
     ∙ ap (λ c. Some (joined (key nick) op (unwrap_or c (new_channel name)))) none
     ∙ ap Some (joined_new (key nick) op name)
+
+used_up : (nick : List ℕ) (op : Bool) (channel : Channel) → has_member nick channel ≡ false → is_invited nick (joined nick op channel) ≡ false
+used_up nick op channel out =
+    ap (is_invited nick) (if_not (has_member nick channel) _ _ (ap not out)) ∙ ap is_some (row-alter_same nick (λ _. None) channel.invited)
+
+pub invitation_used_up : InvitationUsedUp
+unfolding after
+invitation_used_up room nick name op busy =
+    ap (λ o. option_map_or (is_invited (key nick)) o false)
+    (row-alter_same (key name) (λ c. Some (joined (key nick) op (unwrap_or c (new_channel name)))) room.channels)
+    ∙ by_channel (row room.channels (key name)) busy
+  where
+    by_channel : (o : Option Channel) → option_map_or (has_member (key nick)) o false ≡ false
+        → is_invited (key nick) (joined (key nick) op (unwrap_or o (new_channel name))) ≡ false
+    by_channel None out = used_up (key nick) op (new_channel name) (ap is_some (get-empty fold_cmp (key nick)))
+    by_channel (Some channel) out = used_up (key nick) op channel out

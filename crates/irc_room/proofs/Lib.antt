@@ -22,3 +22,4 @@ pub mod WhoSees
 pub mod IndexChanges
 pub mod Memberships
 pub mod OwnNames
+pub mod SeenAlone

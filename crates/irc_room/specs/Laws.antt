@@ -4,15 +4,18 @@ use Rattle.std.specs.List.Sorted.{IsStrictlySortedBy}
 use Rattle.std.specs.FinMap.{empty, insert, keys}
 use Rattle.irc_names.specs.Fold.{key, same, name_cmp}
 use Rattle.irc_names.specs.Tables.{row}
+use Rattle.arrayvec.specs.ArrayVec.{ArrayVec}
 use Rattle.irc_line.specs.Messages.{text}
 use Rattle.irc_users.specs.declared.user.User.{User}
 use Rattle.irc_channels.specs.declared.channel.Channel.{Channel}
 use Rattle.irc_channels.specs.Channels.{no_modes}
 use Rattle.irc_room.specs.declared.effect.Effect.{Effect}
-use Rattle.irc_room.specs.declared.effect.Effect.TheVariants.{Quit, Join, Part, Kick}
+use Rattle.irc_room.specs.declared.effect.Effect.TheVariants.{Quit, Join, Part, Kick, Say, UserMode}
+use Rattle.irc_room.specs.declared.effect.Target.TheVariants as target
 use Rattle.irc_room.specs.Room.{Room, IsWellFormed}
 use Rattle.irc_room.specs.Effects.{is_idle, IsPossible}
 use Rattle.irc_room.specs.After.{after}
+use Rattle.irc_room.specs.Readers.{is_invited_at}
 use Rattle.irc_room.specs.Seen.{Showing, seen, full_sender, share_channel}
 
 -- the room with nobody in it
@@ -44,6 +47,25 @@ QuitSeenOnce = (room : Room) (nick reason viewer : List ℕ) (user other : User)
     → row room.users (key nick) ≡ Some user → row room.users (key viewer) ≡ Some other
     → same nick viewer ≡ false → share_channel room nick viewer ≡ true
     → filter (λ (s : Showing). same viewer s.viewer) (seen room (Quit nick reason)) ≡ record { viewer = other.nick; line = quit_line user reason } ∷ []
+
+-- one user is shown an effect, and nobody else is
+abbrev pub IsShownAlone : Room → Effect → User → Type 0
+IsShownAlone room effect user = map (λ (s : Showing). s.viewer) (seen room effect) ≡ user.nick ∷ []
+
+-- a user's own mode is shown to that user alone, whomever it shares channels with
+abbrev pub OwnModeSeenAlone : Type 0
+OwnModeSeenAlone = (room : Room) (nick : List ℕ) (invisible : Bool) (user : User) → IsWellFormed room
+    → row room.users (key nick) ≡ Some user → IsShownAlone room (UserMode nick invisible) user
+
+-- a text for a user is shown to that user alone: to its sender just where it is for its sender
+abbrev pub PrivateTextSeenAlone : Type 0
+PrivateTextSeenAlone = (room : Room) (by nick : List ℕ) (notice : Bool) (words : ArrayVec ℕ) (sender user : User) → IsWellFormed room
+    → row room.users (key by) ≡ Some sender → row room.users (key nick) ≡ Some user → IsShownAlone room (Say by notice (target.User nick) words) user
+
+-- who has joined a channel is invited to it no more
+abbrev pub InvitationUsedUp : Type 0
+InvitationUsedUp = (room : Room) (nick name : List ℕ) (op : Bool) → is_idle room (Join nick name op) ≡ false
+    → is_invited_at (after room (Join nick name op)) (key nick) (key name) ≡ false
 
 -- whether there is no such channel after an effect
 abbrev pub EndsChannel : Room → List ℕ → Effect → Type 0

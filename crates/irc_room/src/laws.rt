@@ -4,9 +4,12 @@ ghost use Rattle.irc_room.specs.Laws.{
   AfterIsWellFormed,
   EachViewerOnce,
   IdleChangesNothing,
+  InvitationUsedUp,
   JoinMakesChannel,
   LastMemberEndsChannel,
   NoRoomIsWellFormed,
+  OwnModeSeenAlone,
+  PrivateTextSeenAlone,
   QuitSeenOnce,
 };
 
@@ -34,6 +37,22 @@ pub fn each_viewer_once()
 /// A user who shares channels with one that quits, however many, is shown its Quit, and that once.
 pub fn quit_seen_once()
     ensures { QuitSeenOnce }
+{}
+
+/// A change of a user's own mode is shown to that user alone (RFC 2812 section 3.1.5).
+pub fn own_mode_seen_alone()
+    ensures { OwnModeSeenAlone }
+{}
+
+/// A text for a user is shown to that user alone; its sender is shown it only where it is for the sender (RFC 2812 section 3.3.1).
+pub fn private_text_seen_alone()
+    ensures { PrivateTextSeenAlone }
+{}
+
+/// An invitation is used up by joining: who was no member of the channel is not invited to it after its Join (RFC 2811
+/// section 4.2.2).
+pub fn invitation_used_up()
+    ensures { InvitationUsedUp }
 {}
 
 /// When the only member of a channel leaves it, by a Part, a Kick or a Quit, there is no such channel.

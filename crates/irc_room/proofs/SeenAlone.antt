@@ -1,0 +1,29 @@
+-- What is for one user is shown to that user alone.
+use Rattle.std.proofs.Common.{◌≡◌, ℕ, true, Option, Some, List, sym, ◌∙◌, ap, map, is_some, option_map, option_to_list}
+use Rattle.std.specs.FinMap.{values}
+use Rattle.irc_names.specs.Fold.{key}
+use Rattle.irc_names.specs.Tables.{row}
+use Rattle.irc_line.specs.Messages.{Sender}
+use Rattle.irc_users.specs.declared.user.User.{User}
+use Rattle.irc_room.specs.declared.effect.Effect.TheVariants.{Say, UserMode}
+use Rattle.irc_room.specs.declared.effect.Target.TheVariants as target
+use Rattle.irc_room.specs.Seen.{seen, full_sender}
+use Rattle.irc_room.specs.Laws.{OwnModeSeenAlone, PrivateTextSeenAlone}
+use Rattle.irc_room.proofs.AudienceLaw.{all_seen}
+use Rattle.irc_room.proofs.WhoSees.{one_chosen}
+
+-- there is a line where there is somebody who sends it
+sent : (line : Sender → List ℕ) (doer : Option User) (user : User) → doer ≡ Some user → is_some (option_map line (option_map full_sender doer)) ≡ true
+sent line doer user is = ap (λ o. is_some (option_map line (option_map full_sender o))) is
+
+pub own_mode_seen_alone : OwnModeSeenAlone
+unfolding seen
+own_mode_seen_alone room nick invisible user well at =
+    sym (all_seen room (UserMode nick invisible) (λ viewer. sent _ (row room.users (key nick)) user at) (values room.users))
+    ∙ ap (map (λ (u : User). u.nick)) (sym (one_chosen room.users well.users_named nick) ∙ ap option_to_list at)
+
+pub private_text_seen_alone : PrivateTextSeenAlone
+unfolding seen
+private_text_seen_alone room by nick notice words sender user well there at =
+    sym (all_seen room (Say by notice (target.User nick) words) (λ viewer. sent _ (row room.users (key by)) sender there) (values room.users))
+    ∙ ap (map (λ (u : User). u.nick)) (sym (one_chosen room.users well.users_named nick) ∙ ap option_to_list at)
