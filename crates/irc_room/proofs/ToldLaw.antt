@@ -16,8 +16,8 @@ use Rattle.irc_room.specs.Room.{Room}
 use Rattle.irc_room.specs.Effects.{is_idle}
 use Rattle.irc_room.specs.Seen.{Showing, seen, shown_to, shown_line, sees}
 use Rattle.irc_room.specs.Applying.{Kept, is_own, handed}
-use Rattle.irc_room.specs.RoomParts.{ShowsAt}
-use Rattle.irc_room.specs.Telling.{shown_at, AreNamed}
+use Rattle.irc_room.specs.Loops.RoomParts.{ShowsAt}
+use Rattle.irc_room.specs.Loops.Telling.{shown_at, AreNamed}
 use Rattle.irc_room.specs.Loops.Viewing.{told, viewers}
 
 true_is : (b : Bool) → T b → b ≡ true

@@ -6,7 +6,7 @@ use Rattle.std.proofs.lemmas.List.Elements.{filter_map-append}
 use Rattle.irc_channels.specs.declared.modes.ModeChange.{ModeChange}
 use Rattle.irc_channels.specs.Letters.{letter_byte, sign_byte}
 use Rattle.irc_room.specs.Seen.{letters_behind, letters_text}
-use Rattle.irc_room.specs.Signs.{sign_between}
+use Rattle.irc_room.specs.Loops.Signs.{sign_between}
 
 -- the letters behind a sign, or those that no sign is before
 abbrev pub letters_from : Option Bool → List ModeChange → List ℕ

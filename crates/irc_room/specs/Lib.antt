@@ -7,10 +7,6 @@ pub mod Examples
 pub mod Readers
 pub mod Applying
 pub mod Codes
-pub mod Signs
-pub mod LineViews
-pub mod RoomParts
-pub mod Telling
 pub mod Loops
 pub mod Indexes
 pub mod InTurn

@@ -1,8 +1,8 @@
 //! Who sees an effect, on whichever server.
 ghost use Rattle.std.specs.Prelude.{◌≡◌, IfOk, map};
-ghost use Rattle.irc_room.specs.RoomParts.{room_of};
+ghost use Rattle.irc_room.specs.Loops.RoomParts.{room_of};
 ghost use Rattle.irc_room.specs.Seen.{seen};
-ghost use Rattle.irc_room.specs.Telling.{AreNamed};
+ghost use Rattle.irc_room.specs.Loops.Telling.{AreNamed};
 
 use crate::effect::Effect;
 use crate::effect_lines::has_line;

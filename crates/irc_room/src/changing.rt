@@ -6,8 +6,8 @@ ghost use Rattle.irc_names.specs.Tables.{row, alter, moved};
 ghost use Rattle.irc_users.specs.UserTable.{rename_fault, with_nick};
 ghost use Rattle.irc_room.specs.After.{after};
 ghost use Rattle.irc_room.specs.Effects.{brings_free, is_idle, needs_users};
+ghost use Rattle.irc_room.specs.Loops.Telling.{shown_at, AreNamed};
 ghost use Rattle.irc_room.specs.Room.{IsWellFormed};
-ghost use Rattle.irc_room.specs.Telling.{shown_at, AreNamed};
 
 use crate::effect::Effect;
 use crate::idle::is_idle;

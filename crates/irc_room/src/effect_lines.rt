@@ -1,8 +1,8 @@
 //! The line that an effect shows at a server: one, for all its viewers (RFC 2812 section 3).
 ghost use Rattle.std.specs.Prelude.{◌≡◌, is_some, IfOk};
 ghost use Rattle.irc_users.specs.declared.user.User.{User};
-ghost use Rattle.irc_room.specs.LineViews.{line_bytes};
-ghost use Rattle.irc_room.specs.RoomParts.{room_of, IsByUser, IsOfUsers, ShowsAll, ShowsAt};
+ghost use Rattle.irc_room.specs.Loops.LineViews.{line_bytes};
+ghost use Rattle.irc_room.specs.Loops.RoomParts.{room_of, IsByUser, IsOfUsers, ShowsAll, ShowsAt};
 ghost use Rattle.irc_room.specs.Seen.{from_by, shown_line};
 
 use crate::effect::{By, Effect};

@@ -1,7 +1,7 @@
 //! Which effects do nothing.
 ghost use Rattle.std.specs.Prelude.{◌≡◌};
 ghost use Rattle.irc_room.specs.Effects.{is_idle};
-ghost use Rattle.irc_room.specs.RoomParts.{room_of};
+ghost use Rattle.irc_room.specs.Loops.RoomParts.{room_of};
 
 use crate::effect::Effect;
 use crate::room_parts::{RoomParts, has_channel, is_member};

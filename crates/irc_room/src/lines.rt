@@ -4,8 +4,8 @@ ghost use Rattle.std.specs.Option.{option_map};
 ghost use Rattle.irc_line.specs.MessageViews.{optional_now};
 ghost use Rattle.irc_line.specs.PartViews.{sender, words_now};
 ghost use Rattle.irc_room.specs.Seen.{changes_words, full_sender, line_of};
-ghost use Rattle.irc_room.specs.LineViews.{line_bytes};
-ghost use Rattle.irc_room.specs.RoomParts.{room_of};
+ghost use Rattle.irc_room.specs.Loops.LineViews.{line_bytes};
+ghost use Rattle.irc_room.specs.Loops.RoomParts.{room_of};
 
 use crate::mode_letters::{letters_text, words_behind};
 use crate::room_parts::RoomParts;

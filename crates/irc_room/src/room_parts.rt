@@ -7,7 +7,7 @@ ghost use Rattle.irc_users.specs.declared.user.User.{User};
 ghost use Rattle.irc_channels.specs.Channels.{has_member};
 ghost use Rattle.irc_room.specs.Effects.{has_channel, is_member};
 ghost use Rattle.irc_room.specs.Seen.{from_by, from_nick, stored_channel, stored_nick, target_name};
-ghost use Rattle.irc_room.specs.RoomParts.{room_of};
+ghost use Rattle.irc_room.specs.Loops.RoomParts.{room_of};
 
 use crate::effect::{By, Target};
 use crate::indexed_channels::IndexedChannels;

@@ -3,8 +3,8 @@ ghost use Rattle.std.specs.Prelude.{◌≡◌, false, ◌++◌, length, map, tak
 ghost use Rattle.std.specs.List.{flat_map};
 ghost use Rattle.irc_room.specs.Effects.{is_idle};
 ghost use Rattle.irc_room.specs.Loops.Viewing.{told, viewers};
-ghost use Rattle.irc_room.specs.RoomParts.{room_of};
-ghost use Rattle.irc_room.specs.Telling.{shown_at, AreNamed};
+ghost use Rattle.irc_room.specs.Loops.RoomParts.{room_of};
+ghost use Rattle.irc_room.specs.Loops.Telling.{shown_at, AreNamed};
 
 use crate::effect::Effect;
 use crate::effect_lines::effect_line;

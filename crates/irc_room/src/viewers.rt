@@ -12,9 +12,9 @@ ghost use Rattle.irc_room.specs.declared.effect.Effect.TheVariants.{Say};
 ghost use Rattle.irc_room.specs.Effects.{is_member};
 ghost use Rattle.irc_room.specs.Indexes.{holds, own_names};
 ghost use Rattle.irc_room.specs.Loops.Viewing.{joins_both, users_under, Finds, Gains};
-ghost use Rattle.irc_room.specs.RoomParts.{room_of};
+ghost use Rattle.irc_room.specs.Loops.RoomParts.{room_of};
 ghost use Rattle.irc_room.specs.Seen.{sees, share_channel};
-ghost use Rattle.irc_room.specs.Telling.{AreNamed};
+ghost use Rattle.irc_room.specs.Loops.Telling.{AreNamed};
 
 use crate::effect::{Effect, Target};
 use crate::indexed_channels::IndexedChannels;

@@ -1,6 +1,6 @@
 use Rattle.std.specs.Prelude.{IfOk}
 use Rattle.std.proofs.Common.{◌≡◌, ◌∙◌, ap, map, sym, subst}
-use Rattle.irc_room.specs.RoomParts.{room_of}
+use Rattle.irc_room.specs.Loops.RoomParts.{room_of}
 use Rattle.irc_room.proofs.AudienceLaw.{idle_has_no_viewers, no_line_no_viewers, viewers_are_seen}
 use Rattle.irc_room.proofs.audience.audience.Goals.{then-is_idle-via-then-is_idle, then-is_idle-via-else-is_idle+then-not-has_line}
 use Rattle.irc_room.proofs.audience.audience.Goals as goal

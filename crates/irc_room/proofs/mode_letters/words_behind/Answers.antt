@@ -1,7 +1,7 @@
 use Rattle.std.proofs.Common.{[], ◌∷◌, ◌++◌, ◌∙◌, ap, option_to_list}
 use Rattle.irc_line.specs.PartViews.{words_now}
 use Rattle.irc_channels.specs.declared.modes.ModeChange.{ModeChange}
-use Rattle.irc_room.specs.RoomParts.{room_of}
+use Rattle.irc_room.specs.Loops.RoomParts.{room_of}
 use Rattle.irc_room.specs.Seen.{written_word}
 use Rattle.irc_room.proofs.WrittenChanges.{word_more}
 use Rattle.irc_room.proofs.mode_letters.words_behind.Goals as goal

@@ -1,7 +1,7 @@
 use Rattle.std.proofs.Common.{◌≡◌, ◌∷◌, take}
 use Rattle.std.specs.List.{filter_map}
 use Rattle.irc_line.specs.PartViews.{words_now}
-use Rattle.irc_room.specs.RoomParts.{room_of}
+use Rattle.irc_room.specs.Loops.RoomParts.{room_of}
 use Rattle.irc_room.specs.Seen.{written_word}
 use Rattle.irc_room.proofs.mode_letters.words_behind.Given as goal
 

@@ -1,8 +1,8 @@
 use Rattle.std.specs.Prelude.{OnOk}
 use Rattle.std.proofs.Common.{◌≡◌, ◌∙◌, ap, sym, subst, ◌++◌}
 use Rattle.std.proofs.lemmas.List.{append-nil}
-use Rattle.irc_room.specs.LineViews.{line_bytes}
-use Rattle.irc_room.specs.RoomParts.{room_of, ShowsAt}
+use Rattle.irc_room.specs.Loops.LineViews.{line_bytes}
+use Rattle.irc_room.specs.Loops.RoomParts.{room_of, ShowsAt}
 use Rattle.irc_room.proofs.ToldLaw.{all_is_told, no_line_tells_nothing}
 use Rattle.irc_room.proofs.showing.show.Goals as goal
 

@@ -2,7 +2,7 @@ use Rattle.std.proofs.Common.{◌∙◌, ap, map, not, filter}
 use Rattle.std.specs.FinMap.{values}
 use Rattle.irc_names.specs.Fold.{same}
 use Rattle.irc_room.specs.Effects.{is_member}
-use Rattle.irc_room.specs.RoomParts.{room_of}
+use Rattle.irc_room.specs.Loops.RoomParts.{room_of}
 use Rattle.irc_room.proofs.WhoSees.{chosen_now, chosen_twice}
 use Rattle.irc_room.proofs.viewers.others.Goals as goal
 

@@ -1,7 +1,7 @@
 use Rattle.std.specs.Prelude.{IfOk}
 use Rattle.std.proofs.Common.{◌≡◌, ◌∙◌, sym, ap, map, subst}
 use Rattle.irc_room.specs.Loops.Viewing.{users_who}
-use Rattle.irc_room.specs.RoomParts.{room_of}
+use Rattle.irc_room.specs.Loops.RoomParts.{room_of}
 use Rattle.irc_room.specs.Seen.{sees}
 use Rattle.irc_room.proofs.WhoSees.{nobody_chosen}
 use Rattle.irc_room.proofs.viewers.viewers.Goals as goal

@@ -2,7 +2,7 @@ use Rattle.std.proofs.Common.{◌∙◌, ap, sym, subst, take, ◌++◌, refl}
 use Rattle.irc_room.specs.Applying.{Kept, room_fault, shown_here}
 use Rattle.irc_room.specs.Effects.{brings_free, is_idle}
 use Rattle.irc_room.specs.Room.{IsWellFormed}
-use Rattle.irc_room.specs.Telling.{shown_at}
+use Rattle.irc_room.specs.Loops.Telling.{shown_at}
 use Rattle.irc_room.proofs.Refusals.{refused, served, kept_changed, kept_refused, idle_stays, not_done}
 use Rattle.irc_room.proofs.Rows.{not_none}
 use Rattle.irc_room.proofs.WellFormedLaw.{after_is_well_formed}
