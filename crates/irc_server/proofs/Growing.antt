@@ -1,7 +1,7 @@
 -- What is put out grows, and what comes of a call that goes well.
 use Rattle.std.proofs.Common.{◌≡◌, Result, Ok, Err, OnOk, List, [], ◌++◌, sym, ◌∙◌, ap, append-nil, append_assoc}
 use Rattle.irc_server.specs.declared.event.Out.{Out}
-use Rattle.irc_server.specs.Grown.{Grew}
+use Rattle.irc_server.specs.Loops.Grown.{Grew}
 
 pub grew_none : (old : List Out) → Grew old old
 grew_none old = record { more = []; new_is = sym (append-nil old) }

@@ -1,5 +1,5 @@
 -- What a room hands out goes to those that are clients.
-use Rattle.std.proofs.Common.{◌≡◌, ℕ, Bool, true, false, cond, not, T, Option, Some, None, List, [], ◌∷◌, ◌++◌, refl, sym, ◌∙◌, ap, map, filter, filter_map, if◌then◌else◌, option_map}
+use Rattle.std.proofs.Common.{◌≡◌, ℕ, Bool, true, false, cond, not, T, Option, Some, None, List, [], ◌∷◌, ◌++◌, refl, sym, ◌∙◌, ap, map, filter, filter_map, if◌then◌else◌}
 use Rattle.std.specs.List.{AllByRecursion, cons_option, list_all, flat_map}
 use Rattle.std.specs.Option.{option_map_or}
 use Rattle.std.specs.FinMap.{entries, entries_sorted, values, find, is_sorted, get-entries}
@@ -23,7 +23,7 @@ use Rattle.irc_server.specs.declared.clients.Client.TheVariants.{Registered}
 use Rattle.irc_server.specs.declared.event.Out.{Out}
 use Rattle.irc_server.specs.View.{Clients, View, client_of}
 use Rattle.irc_server.specs.Handle.{to_viewer, clients_after, view_after, with_effect}
-use Rattle.irc_server.specs.Stage.{shown_of, all_shown, IsFit, IsSound}
+use Rattle.irc_server.specs.Loops.Stage.{shown_of, all_shown, IsFit, IsSound}
 use Rattle.irc_server.proofs.Showings.{shown_to_none}
 use Rattle.irc_server.proofs.Index.{differs}
 

@@ -10,7 +10,7 @@ use Rattle.irc_server.specs.declared.clients.Client.{Client}
 use Rattle.irc_server.specs.declared.clients.Client.TheVariants.{Registering, Registered}
 use Rattle.irc_server.specs.View.{Clients, each_client}
 use Rattle.irc_server.specs.Handle.{renamed_in}
-use Rattle.irc_server.specs.Stage.{entered, departed, IsIndex, IsNamed, IsNoUser, IsFreeFor, IsFreeOf}
+use Rattle.irc_server.specs.Loops.Stage.{entered, departed, IsIndex, IsNamed, IsNoUser, IsFreeFor, IsFreeOf}
 use Rattle.irc_server.proofs.Numbers.{same_number, one_number, same_number-refl, same_clients, get-with, get-without, get-each}
 use Rattle.irc_server.proofs.Matching.{nick_in, never_registered, same_by_key, key_by_same, left_client, new_client}
 

@@ -1,5 +1,5 @@
 -- Whatever happens, the effects that come of it are fit in their turn, and clients and users are matched afterwards.
-use Rattle.std.proofs.Common.{◌≡◌, ℕ, Bool, true, false, ◌&&◌, Option, Some, None, Ok, Err, List, [], ◌∷◌, refl, sym, ◌∙◌, ap, subst, option_map, is_some, if◌then◌else◌}
+use Rattle.std.proofs.Common.{◌≡◌, ℕ, Bool, true, false, ◌&&◌, Option, Some, None, Ok, Err, List, ◌∷◌, refl, sym, ◌∙◌, ap, subst, option_map, is_some, if◌then◌else◌}
 use Rattle.std.specs.List.{list_any}
 use Rattle.irc_line.specs.Messages.{Parsed}
 use Rattle.irc_names.specs.Fold.{key}
@@ -9,23 +9,21 @@ use Rattle.irc_room.specs.declared.effect.Effect.TheVariants.{AddUser, Quit}
 use Rattle.irc_room.specs.Room.{Room, IsWellFormed}
 use Rattle.irc_room.specs.Effects.{IsPossible}
 use Rattle.irc_room.proofs.Rows.{same_some}
-use Rattle.irc_routes.specs.Place.{Place}
 use Rattle.irc_acts.specs.declared.act.Act.{Act}
 use Rattle.irc_acts.specs.declared.act.Act.TheVariants.{Do}
 use Rattle.irc_acts.specs.Possible.{ArePossible}
 use Rattle.irc_commands.specs.declared.pending.Pending.{Pending}
 use Rattle.irc_commands.specs.Comings.{is_effect, AddsFirst, QuitFirst, RegisteredIsAdded, RegisteredStays, UnregisteredChangesNothing, WhoIsClosedQuits, WhoStaysIsUser}
 use Rattle.irc_commands.specs.Decide.{decide}
-use Rattle.irc_commands.specs.Decisions.{Decided}
 use Rattle.irc_commands.specs.Decisions.{Registered as Given}
 use Rattle.irc_commands.specs.Possible.{DecidedIsPossible, RegisteringIsPossible}
 use Rattle.irc_commands.specs.Register.{register}
 use Rattle.irc_server.specs.declared.clients.Client.{Client}
 use Rattle.irc_server.specs.declared.clients.Client.TheVariants.{Registering, Registered}
 use Rattle.irc_server.specs.View.{View, client_of, with_client, without_client}
-use Rattle.irc_server.specs.Handle.{Handled, Happening, connects, says, goes, handled, client_after, closing, all_stepped, unchanged, pending_decided, user_decided, said_by, quits, gone, user_of, lost_text, fresh, view_after, with_effect}
+use Rattle.irc_server.specs.Handle.{connects, says, goes, handled, client_after, closing, all_stepped, unchanged, pending_decided, user_decided, said_by, quits, gone, user_of, lost_text, fresh, view_after, with_effect}
 use Rattle.irc_server.specs.Matched.{IsMatched, StaysMatched}
-use Rattle.irc_server.specs.Stage.{AreFit, IsFit, IsFreeOf}
+use Rattle.irc_server.specs.Loops.Stage.{AreFit, IsFit, IsFreeOf}
 use Rattle.irc_server.proofs.Matching.{fit_by, quiet_fit, quiet_steps, still_fit, still_steps, pending_matched, left_matched, free_of, added_fit, added_matched, quit_matched, quit_fit}
 
 -- a line of a user

@@ -1,17 +1,16 @@
 -- Clients and users stay matched, whatever happens.
-use Rattle.std.proofs.Common.{◌≡◌, ℕ, Bool, true, false, cond, not, ◌&&◌, ◌||◌, T, Option, Some, None, List, [], ◌∷◌, refl, sym, ◌∙◌, ap, subst, map, option_map, is_some, if◌then◌else◌}
+use Rattle.std.proofs.Common.{◌≡◌, ℕ, Bool, true, false, cond, not, ◌&&◌, ◌||◌, Option, Some, None, List, [], ◌∷◌, refl, sym, ◌∙◌, ap, option_map, is_some, if◌then◌else◌}
 use Rattle.std.specs.List.{list_any}
 use Rattle.std.specs.Option.{option_map_or}
-use Rattle.std.specs.Cmp.Lexicographic.{pointwise, bytes_decides}
+use Rattle.std.specs.Cmp.Lexicographic.{bytes_decides}
 use Rattle.std.specs.FinMap.{get, insert, remove}
 use Rattle.irc_names.specs.Fold.{key, same}
-use Rattle.irc_names.specs.Tables.{Table, row, alter, moved}
-use Rattle.irc_names.specs.TableLaws.{same_fold, same_fold-refl, one_fold, row-alter, row-moved, row-moved_none}
+use Rattle.irc_names.specs.Tables.{row, alter}
+use Rattle.irc_names.specs.TableLaws.{same_fold, same_fold-refl, one_fold, row-alter, row-moved}
 use Rattle.irc_users.specs.declared.user.User.{User}
 use Rattle.irc_users.specs.UserTable.{is_home, with_nick, with_invisible}
 use Rattle.irc_room.specs.declared.effect.Effect.{Effect}
 use Rattle.irc_room.specs.declared.effect.Effect.TheVariants.{AddUser, Rename, Quit, Join, Part, Kick, ChangeModes, SetTopic, Say, Invite, UserMode}
-use Rattle.irc_room.specs.Room.{Room, IsWellFormed}
 use Rattle.irc_room.specs.Effects.{IsPossible, has_user}
 use Rattle.irc_room.specs.After.{after}
 use Rattle.irc_room.proofs.Rows.{same_some}
@@ -22,10 +21,10 @@ use Rattle.irc_commands.specs.Comings.{adds_or_ends, is_effect}
 use Rattle.irc_server.specs.declared.clients.Client.{Client}
 use Rattle.irc_server.specs.declared.clients.Client.TheVariants.{Registering, Registered}
 use Rattle.irc_server.specs.View.{Clients, View, client_of, with_client, without_client}
-use Rattle.irc_server.specs.Handle.{Handled, is_client, renamed_in, view_after, clients_after, stepped, all_stepped}
+use Rattle.irc_server.specs.Handle.{Handled, renamed_in, view_after, clients_after, stepped, all_stepped}
 use Rattle.irc_server.specs.Matched.{is_user_here, IsMatched}
-use Rattle.irc_server.specs.Stage.{IsFit, AreFit, LeavesApart, IsFreeFor, IsFreeOf, IsNoUser}
-use Rattle.irc_server.proofs.Numbers.{same_number, one_number, same_number-refl, same_number-is, get-with, get-without, get-each}
+use Rattle.irc_server.specs.Loops.Stage.{IsFit, AreFit, LeavesApart, IsFreeFor, IsFreeOf, IsNoUser}
+use Rattle.irc_server.proofs.Numbers.{same_number, one_number, same_number-is, get-with, get-without, get-each}
 
 -- a nickname in a client
 pub nick_in : (nick name : List ℕ) → Some (Registered nick) ≡ Some (Registered name) → nick ≡ name

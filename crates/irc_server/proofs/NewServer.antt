@@ -9,7 +9,7 @@ use Rattle.irc_server.specs.declared.clients.Client.{Client}
 use Rattle.irc_server.specs.declared.stage.Stage.{Stage}
 use Rattle.irc_server.specs.View.{View}
 use Rattle.irc_server.specs.Matched.{IsMatched}
-use Rattle.irc_server.specs.Stage.{IsIndexed, IsReady, IsSound}
+use Rattle.irc_server.specs.Loops.Stage.{IsIndexed, IsReady, IsSound}
 
 nobody : (own : List ℕ) → IsSound (record { own = own; failed = false; room = no_room })
 nobody own = record { serves = refl; well_formed = no_room_is_well_formed }

@@ -1,13 +1,13 @@
 -- Clients by number: what they answer after a change, and what the code's map has.
-use Rattle.std.proofs.Common.{◌≡◌, ℕ, Bool, true, false, cond, T, Option, Some, None, List, [], ◌∷◌, refl, sym, ◌∙◌, ap, map, option_map}
+use Rattle.std.proofs.Common.{◌≡◌, ℕ, Bool, true, false, cond, Some, None, List, [], ◌∷◌, refl, sym, ◌∙◌, ap, map, option_map}
 use Rattle.std.specs.Ordering.{nat_cmp, eq_by_cmp, is_eq}
 use Rattle.std.specs.Cmp.{nat_cmp_total, eq_by_cmp_equiv, Equal-is}
 use Rattle.std.specs.Map.{lookup}
 use Rattle.std.specs.BTreeMap.{BTreeMap, UpdatesBy, is_at, get as number_in}
-use Rattle.std.specs.FinMap.{get, insert, remove, entries, from_entries, find, get-from_entries, get-entries, get-insert, get-remove, same_map, nat_cmp-IsAntisymmetric}
+use Rattle.std.specs.FinMap.{get, insert, remove, entries, find, get-from_entries, get-entries, get-insert, get-remove, same_map, nat_cmp-IsAntisymmetric}
 use Rattle.irc_server.specs.declared.clients.Client.{Client}
 use Rattle.irc_server.specs.View.{Clients, each_client}
-use Rattle.irc_server.specs.Stage.{numbered}
+use Rattle.irc_server.specs.Loops.Stage.{numbered}
 
 -- whether two numbers are one
 abbrev pub same_number : ℕ → ℕ → Bool

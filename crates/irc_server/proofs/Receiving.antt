@@ -1,12 +1,12 @@
 -- Over a list of events each connection receives what it is owed.
-use Rattle.std.proofs.Common.{◌≡◌, Option, Some, None, Result, Ok, Err, List, [], ◌∷◌, ◌++◌, refl, sym, ◌∙◌, ap, append-nil, append_assoc, inl, inr, subst, OnOk}
+use Rattle.std.proofs.Common.{◌≡◌, Option, Some, Result, Ok, Err, List, [], ◌∷◌, ◌++◌, refl, sym, ◌∙◌, ap, append-nil, append_assoc, inl, inr, subst, OnOk}
 use Rattle.std.proofs.lemmas.List.Elements.{filter_map-append}
 use Rattle.irc_server.specs.declared.event.Event.{Event}
 use Rattle.irc_server.specs.declared.event.Out.{Out}
 use Rattle.irc_server.specs.declared.event.ServerFault.{ServerFault}
 use Rattle.irc_server.specs.View.{View}
 use Rattle.irc_server.specs.Handle.{handled}
-use Rattle.irc_server.specs.Happening.{Does, IsHandled, AreHandled}
+use Rattle.irc_server.specs.Happening.{Does, IsHandled, takes_it, AreHandled}
 use Rattle.irc_server.specs.Owed.{line_to, lines_to, after_all, owed, Receives}
 
 receives_more : (view after : View) (event : Event) (events : List Event) (out out_between : List Out) (new : Option View) (out_after : List Out)
@@ -25,20 +25,19 @@ receives_more view after event events out out_between new out_after does later =
 }
 
 -- the first event is handled, and those behind it
-by_between : (view : View) (event : Event) (events : List Event) (out out_between : List Out) (between new : Option View) (out_after : List Out)
+by_between : {view : View} {event : Event} {out out_between : List Out} {between : Option View} (events : List Event) (new : Option View) (out_after : List Out)
     → ((after : View) → AreHandled (Some after) events out_between (Ok tt) new out_after → Receives after events out_between new out_after)
     → IsHandled (Some view) event out (Ok tt) between out_between → AreHandled between events out_between (Ok tt) new out_after
     → Receives view (event ∷ events) out new out_after
-by_between view event events out out_between None new out_after later first left = absurd first
-by_between view event events out out_between (Some after) new out_after later first left =
-    receives_more view after event events out out_between new out_after first.1 (later after left)
+by_between {view = view} {event = event} {out = out} {out_between = out_between} events new out_after later (takes_it {new = after} none does) left =
+    receives_more view after event events out out_between new out_after does (later after left)
 
 by_first : (view : View) (event : Event) (events : List Event) (out : List Out) (new : Option View) (out_after : List Out)
     → ((after : View) (out_between : List Out) → AreHandled (Some after) events out_between (Ok tt) new out_after → Receives after events out_between new out_after)
     → AreHandled (Some view) (event ∷ events) out (Ok tt) new out_after → Receives view (event ∷ events) out new out_after
 by_first view event events out new out_after later (inl stops) = absurd (let is = stops.result_is in cc)
 by_first view event events out new out_after later (inr goes) =
-    by_between view event events out goes.out_between goes.between new out_after (λ after left. later after goes.out_between left) goes.is_handled goes.left_is
+    by_between events new out_after (λ after left. later after goes.out_between left) goes.is_handled goes.left_is
 
 pub receives : (view : View) (events : List Event) (out : List Out) (new : Option View) (out_after : List Out)
     → AreHandled (Some view) events out (Ok tt) new out_after → Receives view events out new out_after

@@ -1,5 +1,5 @@
 -- Lines to viewers: to the one client that is the viewer, where there is one.
-use Rattle.std.proofs.Common.{◌≡◌, ℕ, ◌+◌, ◌<◌, ◌≤◌, Bool, true, false, cond, T, Option, Some, None, List, [], ◌∷◌, ◌++◌, length, drop, get_or, refl, sym, ◌∙◌, ap, subst, append-nil, append_assoc, filter_map, if◌then◌else◌}
+use Rattle.std.proofs.Common.{◌≡◌, ℕ, ◌+◌, ◌<◌, ◌≤◌, Bool, true, false, cond, T, Option, Some, None, List, [], ◌∷◌, ◌++◌, length, drop, get_or, refl, sym, ◌∙◌, ap, append-nil, append_assoc, filter_map, if◌then◌else◌}
 use Rattle.std.specs.List.{cons_option}
 use Rattle.std.specs.Ordering.{nat_cmp}
 use Rattle.std.specs.Cmp.{nat_cmp_total}
@@ -20,9 +20,9 @@ use Rattle.irc_server.specs.declared.event.Out.{Out}
 use Rattle.irc_server.specs.declared.event.Out.TheVariants.{ToClient}
 use Rattle.irc_server.specs.View.{Clients}
 use Rattle.irc_server.specs.Handle.{is_client, to_viewer}
-use Rattle.irc_server.specs.Stage.{all_shown, shown_of, IsIndex, IsNamed}
+use Rattle.irc_server.specs.Loops.Stage.{all_shown, shown_of, IsIndex}
 use Rattle.irc_server.proofs.Numbers.{same_number, one_number, same_number-refl}
-use Rattle.irc_server.proofs.Matching.{nick_in, same_by_key, key_by_same}
+use Rattle.irc_server.proofs.Matching.{same_by_key, key_by_same}
 use Rattle.irc_server.proofs.Index.{differs, named_is}
 
 abbrev Entry : Type 0

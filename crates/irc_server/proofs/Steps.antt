@@ -12,7 +12,7 @@ use Rattle.irc_server.specs.declared.event.Out.{Out}
 use Rattle.irc_server.specs.declared.event.Out.TheVariants.{ToClient, CloseClient}
 use Rattle.irc_server.specs.View.{View}
 use Rattle.irc_server.specs.Handle.{Handled, stepped, all_stepped, closing, unchanged, with_effect, to_viewer}
-use Rattle.irc_server.specs.Stage.{behind, AreFit}
+use Rattle.irc_server.specs.Loops.Stage.{behind, AreFit}
 
 -- the first step, and those behind it
 

@@ -1,5 +1,5 @@
 -- What each event does, from what the functions below do.
-use Rattle.std.proofs.Common.{◌≡◌, ℕ, Bool, true, Option, Some, None, Result, Ok, Err, List, length, take, refl, sym, ◌∙◌, ap, subst, append-nil, option_map}
+use Rattle.std.proofs.Common.{◌≡◌, ℕ, Bool, Option, Some, None, Result, Ok, Err, List, length, take, refl, sym, ◌∙◌, ap, subst, append-nil, option_map}
 use Rattle.std.proofs.Math.Seq.{take-append_seam}
 use Rattle.std.specs.Borrow.{Bor}
 use Rattle.std.specs.Option.{option_copied}
@@ -15,18 +15,17 @@ use Rattle.irc_room.proofs.Rows.{same_some}
 use Rattle.irc_acts.specs.declared.act.Act.{Act}
 use Rattle.irc_commands.specs.Decide.{decide}
 use Rattle.irc_server.specs.declared.clients.Client.{Client}
-use Rattle.irc_server.specs.declared.clients.Client.TheVariants.{Registering, Registered}
 use Rattle.irc_server.specs.declared.event.Event.{Event}
 use Rattle.irc_server.specs.declared.event.Event.TheVariants.{Connect, Line, Gone}
 use Rattle.irc_server.specs.declared.event.Out.{Out}
 use Rattle.irc_server.specs.declared.event.ServerFault.{ServerFault}
-use Rattle.irc_server.specs.declared.event.ServerFault.TheVariants.{Memory, Failed, NoSuchConnection, ConnectionThere, NoSuchLink, LinkThere}
+use Rattle.irc_server.specs.declared.event.ServerFault.TheVariants.{Memory, Failed}
 use Rattle.irc_server.specs.View.{View, client_of, with_client}
-use Rattle.irc_server.specs.Handle.{Handled, connects, says, goes, handled, fault_of, there, not_there, fresh, gone, read_as, unchanged, closing, all_stepped, decided, user_decided, lost_text}
-use Rattle.irc_server.specs.Happening.{Is, Does, IsHandled}
+use Rattle.irc_server.specs.Handle.{Handled, connects, says, goes, handled, fault_of, there, fresh, gone, read_as, unchanged, closing, all_stepped, decided, user_decided, lost_text}
+use Rattle.irc_server.specs.Happening.{Is, Does, IsHandled, takes_it, refuses_it, wants_memory, has_failed}
 use Rattle.irc_server.specs.Matched.{IsMatched, StaysMatched}
-use Rattle.irc_server.specs.Grown.{Grew}
-use Rattle.irc_server.specs.Stage.{behind}
+use Rattle.irc_server.specs.Loops.Grown.{Grew}
+use Rattle.irc_server.specs.Loops.Stage.{behind}
 use Rattle.irc_server.proofs.Steps.{carried_behind}
 
 pub copied_now : (o : Option (Bor (List ℕ))) → optional_now o ≡ option_copied o
@@ -100,34 +99,17 @@ said_does old new event out out_after conn line bytes read event_is bytes_are is
 -- what comes of each way out of `handle`
 
 pub failed_stays : (now : Option View) (event : Event) (out : List Out) → now ≡ None → IsHandled now event out (Err Failed) now out
-failed_stays now event out is = subst (λ (v : Option View). IsHandled v event out (Err Failed) v out) (sym is) (refl, refl)
+failed_stays now event out is = subst (λ (v : Option View). IsHandled v event out (Err Failed) v out) (sym is) has_failed
 
-never_there : (client : Option Client) → there client ≡ Some Memory → ⊥
-never_there None is = cc is
-never_there (Some client) is = cc is
-
-never_not_there : (client : Option Client) → not_there client ≡ Some Memory → ⊥
-never_not_there None is = cc is
-never_not_there (Some client) is = cc is
-
-never_memory : (view : View) (event : Event) → fault_of view event ≡ Some Memory → ⊥
-never_memory view (Connect conn host) is = never_there (client_of view conn) is
-never_memory view (Line conn line) is = never_not_there (client_of view conn) is
-never_memory view (Gone conn) is = never_not_there (client_of view conn) is
-
-refuses : (view : View) (event : Event) (out : List Out) (fault : ServerFault) → fault_of view event ≡ Some fault
-    → IsHandled (Some view) event out (Err fault) (Some view) out
-refuses view event out Memory is = absurd (never_memory view event is)
-refuses view event out Failed is = (is, refl, refl)
-refuses view event out NoSuchConnection is = (is, refl, refl)
-refuses view event out ConnectionThere is = (is, refl, refl)
-refuses view event out NoSuchLink is = (is, refl, refl)
-refuses view event out LinkThere is = (is, refl, refl)
+pub taken : (now : Option View) (old new : View) (event : Event) (out out_after : List Out) → now ≡ Some old → fault_of old event ≡ None
+    → Does old event out new out_after → IsHandled now event out (Ok tt) (Some new) out_after
+taken now old new event out out_after now_is none does =
+    subst (λ (v : Option View). IsHandled v event out (Ok tt) (Some new) out_after) (sym now_is) (takes_it none does)
 
 pub refused : (now : Option View) (view : View) (event : Event) (out : List Out) (fault : ServerFault) → now ≡ Some view → fault_of view event ≡ Some fault
     → IsHandled now event out (Err fault) now out
 refused now view event out fault now_is is =
-    subst (λ (v : Option View). IsHandled v event out (Err fault) v out) (sym now_is) (refuses view event out fault is)
+    subst (λ (v : Option View). IsHandled v event out (Err fault) v out) (sym now_is) (refuses_it is)
 
 cut_back : (out new : List Out) (n : ℕ) → Grew out new → n ≡ length out → take n new ≡ out
 cut_back out new n grew n_is = ap (λ m. take m new) n_is ∙ ap (take (length out)) grew.new_is ∙ take-append_seam out grew.more
@@ -135,7 +117,8 @@ cut_back out new n grew n_is = ap (λ m. take m new) n_is ∙ ap (take (length o
 pub ran_out : (now : Option View) (view : View) (event : Event) (out new : List Out) (n : ℕ) → now ≡ Some view → fault_of view event ≡ None → Grew out new
     → n ≡ length out → IsHandled now event out (Err Memory) None (take n new)
 ran_out now view event out new n now_is none grew n_is =
-    subst (λ (v : Option View). IsHandled v event out (Err Memory) None (take n new)) (sym now_is) (none, refl, cut_back out new n grew n_is)
+    subst (λ (v : Option View). IsHandled v event out (Err Memory) None (take n new)) (sym now_is)
+    (subst (λ o. IsHandled (Some view) event out (Err Memory) None o) (sym (cut_back out new n grew n_is)) (wants_memory none))
 
 -- where no fault is owed a connection that connects is not there
 nobody_there : (client : Option Client) → there client ≡ None → client ≡ None

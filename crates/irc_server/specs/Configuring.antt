@@ -1,5 +1,5 @@
 -- Which configurations a server is made of.
-use Rattle.std.specs.Prelude.{◌≡◌, ℕ, Bool, false, not, ◌&&◌, ◌||◌, Option, Some, None, Result, Ok, Err, List, [], ◌∷◌, nat_eq, if◌then◌else◌}
+use Rattle.std.specs.Prelude.{◌≡◌, ℕ, Bool, false, not, ◌&&◌, ◌||◌, Option, Some, None, Result, Ok, Err, List, [], ◌∷◌, nat_eq, map, if◌then◌else◌}
 use Rattle.std.specs.List.{list_any, list_all}
 use Rattle.std.specs.FinMap.{empty}
 use Rattle.std.specs.Char.{is_ascii_graphic}
@@ -14,7 +14,7 @@ use Rattle.irc_server.specs.declared.config.Peer.{Peer}
 use Rattle.irc_server.specs.declared.config.Config.{Config}
 use Rattle.irc_server.specs.declared.config.ConfigFault.{ConfigFault}
 use Rattle.irc_server.specs.declared.config.ConfigFault.TheVariants.{BadName, DoubleName, Memory}
-use Rattle.irc_server.specs.View.{View}
+use Rattle.irc_server.specs.View.{View, known_peer}
 
 -- NUL, CR and LF are in no text
 abbrev pub is_text_byte : ℕ → Bool
@@ -56,11 +56,16 @@ config_fault config =
     else (if is_among config.own.name.items config.peers.items || has_double config.peers.items then Some DoubleName else None)
 
 -- a server without clients, linked to none, in an empty room
-abbrev pub new_view : Own → View
-new_view own = record { place = alone own.name.items own.info.items own.created.items; clients = empty; room = no_room }
+abbrev pub new_view : Config → View
+new_view config = record {
+  place = alone config.own.name.items config.own.info.items config.own.created.items;
+  peers = map known_peer config.peers.items;
+  clients = empty;
+  room = no_room;
+}
 
 -- what comes of a configuration
 abbrev pub IsMade : Config → Result (Option View) ConfigFault → Type 0
-IsMade config (Ok server) = (config_fault config ≡ None) × (server ≡ Some (new_view config.own))
+IsMade config (Ok server) = (config_fault config ≡ None) × (server ≡ Some (new_view config))
 IsMade config (Err Memory) = config_fault config ≡ None
 IsMade config (Err fault) = config_fault config ≡ Some fault

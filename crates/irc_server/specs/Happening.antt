@@ -35,15 +35,15 @@ pub record Does (old : View) (event : Event) (out : List Out) (new : View) (out_
   pub view_is : new ≡ (handled old happening).view
   pub out_is : out_after ≡ out ++ (handled old happening).out
 
--- What comes of asking a server for an event. A server for which memory ran out is no view: it has failed for good. Where an event is
--- refused nothing changes.
-abbrev pub IsHandled : Option View → Event → List Out → Result (Unit {0}) ServerFault → Option View → List Out → Type 0
-IsHandled (Some view) event out (Ok done) (Some after) out_after = (fault_of view event ≡ None) × Does view event out after out_after
-IsHandled (Some view) event out (Ok done) None out_after = ⊥
-IsHandled (Some view) event out (Err Memory) new out_after = (fault_of view event ≡ None) × (new ≡ None) × (out_after ≡ out)
-IsHandled (Some view) event out (Err fault) new out_after = (fault_of view event ≡ Some fault) × (new ≡ Some view) × (out_after ≡ out)
-IsHandled None event out (Err Failed) new out_after = (new ≡ None) × (out_after ≡ out)
-IsHandled None event out result new out_after = ⊥
+-- What comes of asking a server for an event: it is handled, it is refused and nothing changes, memory runs out, or memory ran out before.
+-- A server for which memory ran out is no view: it has failed for good.
+pub data IsHandled : Option View → Event → List Out → Result (Unit {0}) ServerFault → Option View → List Out → Type 0 where
+  takes_it : {old new : View} {event : Event} {out out_after : List Out} → fault_of old event ≡ None → Does old event out new out_after
+      → IsHandled (Some old) event out (Ok tt) (Some new) out_after
+  refuses_it : {old : View} {event : Event} {out : List Out} {fault : ServerFault} → fault_of old event ≡ Some fault
+      → IsHandled (Some old) event out (Err fault) (Some old) out
+  wants_memory : {old : View} {event : Event} {out : List Out} → fault_of old event ≡ None → IsHandled (Some old) event out (Err Memory) None out
+  has_failed : {event : Event} {out : List Out} → IsHandled None event out (Err Failed) None out
 
 -- an event is refused, and those behind it are not looked at
 pub record StopsAt (old : Option View) (event : Event) (out : List Out) (result : Result (Unit {0}) ServerFault) (new : Option View) (out_after : List Out) : Type 0 where

@@ -3,8 +3,6 @@ pub mod Configuring
 pub mod View
 pub mod Handle
 pub mod Matched
-pub mod Stage
-pub mod Grown
 pub mod Happening
-pub mod Codes
 pub mod Owed
+pub mod Loops

@@ -5,13 +5,23 @@ use Rattle.std.specs.FinMap.{FinMap, get, insert, remove, entries, from_entries}
 use Rattle.irc_routes.specs.Place.{Place}
 use Rattle.irc_room.specs.Room.{Room}
 use Rattle.irc_server.specs.declared.clients.Client.{Client}
+use Rattle.irc_server.specs.declared.config.Peer.{Peer}
 
 -- the clients, each under the number of its connection
 abbrev pub Clients : Type 0
 Clients = FinMap nat_cmp Client
 
+-- a server that may be linked to, and the password that both give each other
+pub record KnownPeer : Type 0 where
+  pub name : List ℕ
+  pub password : List ℕ
+
+abbrev pub known_peer : Peer → KnownPeer
+known_peer peer = record { name = peer.name.items; password = peer.password.items }
+
 pub record View : Type 0 where
   pub place : Place
+  pub peers : List KnownPeer
   pub clients : Clients
   pub room : Room
 

@@ -10,8 +10,8 @@ ghost use Rattle.irc_server.specs.Handle.{client_after, fault_of, fresh, gone, l
 ghost use Rattle.irc_server.specs.Happening.{Does};
 ghost use Rattle.irc_server.specs.Matched.{IsMatched};
 ghost use Rattle.irc_server.specs.View.{client_of, with_client, without_client};
-ghost use Rattle.irc_server.specs.Grown.{Grew};
-ghost use Rattle.irc_server.specs.Stage.{behind, so_far, view_of, AreFit, IsFreeOf, IsNoUser, IsReady};
+ghost use Rattle.irc_server.specs.Loops.Grown.{Grew};
+ghost use Rattle.irc_server.specs.Loops.Stage.{behind, so_far, view_of, AreFit, IsFreeOf, IsNoUser, IsReady};
 
 use crate::clients::{Client, client_of, seat, take_out};
 use crate::event::{Event, Out};

@@ -6,8 +6,8 @@ ghost use Rattle.irc_names.specs.Fold.{key};
 ghost use Rattle.irc_names.specs.Tables.{row};
 ghost use Rattle.irc_server.specs.View.{each_client};
 ghost use Rattle.irc_server.specs.Handle.{renamed_in, to_viewer};
-ghost use Rattle.irc_server.specs.Stage.{all_shown, clients_of, departed, entered, numbered, IsFreeFor, IsFreeOf, IsIndexed, IsNoUser};
-ghost use Rattle.irc_server.specs.Grown.{Grew};
+ghost use Rattle.irc_server.specs.Loops.Stage.{all_shown, clients_of, departed, entered, numbered, IsFreeFor, IsFreeOf, IsIndexed, IsNoUser};
+ghost use Rattle.irc_server.specs.Loops.Grown.{Grew};
 
 use crate::event::Out;
 use irc_commands::Pending;
@@ -68,11 +68,7 @@ fn put(
 }
 
 /// A connection that is no user is this client from now on.
-pub(crate) fn seat(
-    clients: &mut ClientTable,
-    conn: u64,
-    client: Client,
-) -> Result<(), AllocError>
+pub(crate) fn seat(clients: &mut ClientTable, conn: u64, client: Client) -> Result<(), AllocError>
     requires indexed { IsIndexed clients.old }
     requires no_user { IsNoUser (get (clients_of clients.old) conn) }
     requires free { IsFreeOf client (clients_of clients.old) }

@@ -4,12 +4,12 @@ ghost use Rattle.irc_server.specs.Configuring.{IsMade};
 ghost use Rattle.irc_server.specs.Handle.{fault_of};
 ghost use Rattle.irc_server.specs.Happening.{AreHandled, IsHandled};
 ghost use Rattle.irc_server.specs.Owed.{Receives};
-ghost use Rattle.irc_server.specs.Stage.{view_of};
+ghost use Rattle.irc_server.specs.Loops.Stage.{view_of};
 ghost use Rattle.irc_server.specs.View.{View};
 
 use crate::acting::act;
 use crate::clients::{client_of, no_clients};
-use crate::config::{Config, ConfigFault, Peer, config_fault};
+use crate::config::{Config, ConfigFault, config_fault};
 use crate::event::{Event, Out, ServerFault};
 use crate::laws;
 use crate::stage::Stage;
@@ -23,14 +23,13 @@ use std::marker::Model;
 pub struct Server {
     failed: bool,
     stage: Stage,
-    peers: Vec<Peer, Global>,
 }
 
 /// In a clause it is what a server is to those above, or nothing once memory ran out.
 impl Model for Server {
     ghost use Rattle.std.specs.Prelude.{◌≡◌, false, Option, Some, None, if◌then◌else◌};
     ghost use Rattle.irc_server.specs.View.{View};
-    ghost use Rattle.irc_server.specs.Codes.{view_code};
+    ghost use Rattle.irc_server.specs.Loops.Codes.{view_code};
 
     ghost Value = { Option View };
 
@@ -39,7 +38,7 @@ impl Model for Server {
     ghost use Rattle.irc_channels.specs.contracts.channel.Channel.{the_row as channel_row};
     ghost use Rattle.irc_routes.specs.contracts.routes.Routes.{the_row as routes_row};
     ghost use Rattle.irc_server.specs.contracts.clients.Client.{the_row as client_row};
-    ghost use Rattle.irc_server.specs.Stage.{view_of, IsReady};
+    ghost use Rattle.irc_server.specs.Loops.Stage.{view_of, IsReady};
     ghost use Rattle.irc_server.specs.Matched.{IsMatched};
 
     ghost coded = { coded_option (view_code routes_row.coded client_row.coded users_row.coded channel_row.coded) };
@@ -68,11 +67,11 @@ impl Server {
             failed: false,
             stage: Stage {
                 routes,
+                peers: config.peers,
                 clients,
                 room,
                 alloc,
             },
-            peers: config.peers,
         })
     }
 

@@ -5,10 +5,11 @@ ghost use Rattle.irc_room.specs.After.{after};
 ghost use Rattle.irc_room.specs.Applying.{shown_here};
 ghost use Rattle.irc_room.specs.Effects.{IsPossible};
 ghost use Rattle.irc_server.specs.Handle.{all_stepped, clients_after, closing, stepped, with_effect};
-ghost use Rattle.irc_server.specs.Grown.{Grew};
-ghost use Rattle.irc_server.specs.Stage.{clients_of, so_far, view_of, AreFit, IsFit, IsIndexed, IsReady, IsSound, LeavesApart};
+ghost use Rattle.irc_server.specs.Loops.Grown.{Grew};
+ghost use Rattle.irc_server.specs.Loops.Stage.{clients_of, so_far, view_of, AreFit, IsFit, IsIndexed, IsReady, IsSound, LeavesApart};
 
 use crate::clients::{ClientTable, rename, show_all, take_out};
+use crate::config::Peer;
 use crate::event::Out;
 use irc_acts::Act;
 use irc_line::Text;
@@ -23,6 +24,8 @@ use std::alloc::{AllocError, Global};
 pub(crate) struct Stage {
     /// Its own row, and the servers that it knows.
     pub routes: Routes,
+    /// The servers that it may be linked to.
+    pub peers: Vec<Peer, Global>,
     /// Its clients.
     pub clients: ClientTable,
     /// Its room.

@@ -1,5 +1,5 @@
 -- What was played, put together.
-use Rattle.std.proofs.Common.{◌≡◌, ℕ, ◌+◌, ◌<◌, get_or, Option, Some, None, Result, Ok, Err, OnOk, IfOk, List, [], ◌∷◌, ◌++◌, length, take, map, ap, sym, subst, refl, ◌∙◌, append_assoc}
+use Rattle.std.proofs.Common.{◌≡◌, ℕ, ◌+◌, ◌<◌, get_or, Option, Some, Result, Ok, Err, OnOk, IfOk, List, [], ◌∷◌, ◌++◌, length, take, map, ap, sym, subst, refl, ◌∙◌, append_assoc}
 use Rattle.std.proofs.lemmas.List.{append-nil}
 use Rattle.std.specs.Io.KnownBytes.{Appends, Keeps}
 use Rattle.arrayvec.specs.ArrayVec.{ArrayVec}
@@ -8,9 +8,8 @@ use Rattle.irc_server.specs.declared.event.Event.{Event}
 use Rattle.irc_server.specs.declared.event.Event.TheVariants.{Line}
 use Rattle.irc_server.specs.declared.event.Out.{Out}
 use Rattle.irc_server.specs.declared.event.ServerFault.{ServerFault}
-use Rattle.irc_server.specs.declared.event.ServerFault.TheVariants.{Memory as MemoryFault, Failed as FailedFault, NoSuchConnection, ConnectionThere, NoSuchLink, LinkThere}
 use Rattle.irc_server.specs.View.{View}
-use Rattle.irc_server.specs.Happening.{IsHandled}
+use Rattle.irc_server.specs.Happening.{IsHandled, refuses_it, wants_memory, has_failed}
 use Rattle.ircd.specs.declared.fault.SimFault.{SimFault}
 use Rattle.ircd.specs.declared.fault.SimFault.TheVariants.{BadScript, Failed, Device}
 use Rattle.ircd.specs.declared.fault.Trouble.{Trouble}
@@ -64,18 +63,11 @@ pub handled_answer : (old new : Option View) (e : Event) (start outs : List Out)
     → AnswersAt (Some old) e (puts_out outs) (Some new)
 handled_answer old new e start outs is h = subst (λ out. IsHandled old e out (Ok tt) new outs) is h
 
-pub refused_answer : (old new : Option View) (e : Event) (start outs : List Out) (fault : ServerFault) (number : ℕ) → refusal_number fault ≡ Some number
+pub refused_answer : {old new : Option View} {e : Event} {start outs : List Out} {fault : ServerFault} (number : ℕ) → refusal_number fault ≡ Some number
     → IsHandled old e start (Err fault) new outs → AnswersAt (Some old) e (refuses number) (Some new)
-refused_answer old new e start outs MemoryFault number is h = cc
-refused_answer old new e start outs FailedFault number is h = cc
-refused_answer (Some view) new e start outs NoSuchConnection number is h = record { fault = NoSuchConnection; number_is = is; is_refused = (h.0, h.1, refl) }
-refused_answer (Some view) new e start outs ConnectionThere number is h = record { fault = ConnectionThere; number_is = is; is_refused = (h.0, h.1, refl) }
-refused_answer (Some view) new e start outs NoSuchLink number is h = record { fault = NoSuchLink; number_is = is; is_refused = (h.0, h.1, refl) }
-refused_answer (Some view) new e start outs LinkThere number is h = record { fault = LinkThere; number_is = is; is_refused = (h.0, h.1, refl) }
-refused_answer None new e start outs NoSuchConnection number is h = absurd h
-refused_answer None new e start outs ConnectionThere number is h = absurd h
-refused_answer None new e start outs NoSuchLink number is h = absurd h
-refused_answer None new e start outs LinkThere number is h = absurd h
+refused_answer number is (refuses_it {fault = fault} owed) = record { fault = fault; number_is = is; is_refused = refuses_it owed }
+refused_answer number is (wants_memory none) = cc is
+refused_answer number is has_failed = cc is
 
 runs_both : {a b c : Standing} {xs ys : List Request} {s t : List ℕ} → Runs a xs b s → Runs b ys c t → Runs a (xs ++ ys) c (s ++ t)
 runs_both end q = q

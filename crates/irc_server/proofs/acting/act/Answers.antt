@@ -1,7 +1,7 @@
 use Rattle.std.proofs.Common.{ap, ◌∙◌, sym}
 use Rattle.irc_line.specs.MessageViews.{parsed_result}
 use Rattle.irc_server.specs.Handle.{read_as}
-use Rattle.irc_server.specs.Stage.{behind, view_of}
+use Rattle.irc_server.specs.Loops.Stage.{behind, view_of}
 use Rattle.irc_server.proofs.Steps.{nothing_behind}
 use Rattle.irc_server.proofs.Growing.{on_ok}
 use Rattle.irc_server.proofs.WhatEventsDo.{absent, connected_does, gone_does, said_does}

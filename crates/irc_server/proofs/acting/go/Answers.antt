@@ -2,7 +2,7 @@ use Rattle.std.proofs.Common.{ap, ◌∙◌, sym, subst}
 use Rattle.irc_room.specs.declared.effect.Effect.TheVariants.{Quit}
 use Rattle.irc_server.specs.View.{without_client}
 use Rattle.irc_server.specs.Handle.{quits, unchanged, with_effect}
-use Rattle.irc_server.specs.Stage.{behind, view_of, IsFit}
+use Rattle.irc_server.specs.Loops.Stage.{behind, view_of, IsFit}
 use Rattle.irc_server.proofs.Steps.{nothing_behind}
 use Rattle.irc_server.proofs.MatchedEvents.{gone_fit}
 use Rattle.irc_server.proofs.Growing.{on_ok}

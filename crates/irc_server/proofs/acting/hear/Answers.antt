@@ -1,5 +1,5 @@
 use Rattle.irc_line.specs.MessageViews.{parsed}
-use Rattle.irc_server.specs.Stage.{view_of}
+use Rattle.irc_server.specs.Loops.Stage.{view_of}
 use Rattle.irc_server.proofs.MatchedEvents.{registering_fit, registering_free}
 use Rattle.irc_server.proofs.acting.hear.Goals as goal
 

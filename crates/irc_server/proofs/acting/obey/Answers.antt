@@ -3,7 +3,7 @@ use Rattle.irc_line.specs.MessageViews.{parsed}
 use Rattle.irc_names.specs.Fold.{key}
 use Rattle.irc_names.specs.Tables.{row}
 use Rattle.irc_commands.specs.Decisions.{Decided}
-use Rattle.irc_server.specs.Stage.{behind, view_of}
+use Rattle.irc_server.specs.Loops.Stage.{behind, view_of}
 use Rattle.irc_server.proofs.MatchedEvents.{decided_fit}
 use Rattle.irc_server.proofs.Growing.{on_ok}
 use Rattle.irc_server.proofs.WhatEventsDo.{carried, decided_by_name}

@@ -1,6 +1,6 @@
 use Rattle.std.proofs.Common.{ap, ◌∙◌, refl, sym, subst}
 use Rattle.std.specs.FinMap.{insert}
-use Rattle.irc_server.specs.Stage.{clients_of, view_of, AreFit, IsFreeOf}
+use Rattle.irc_server.specs.Loops.Stage.{clients_of, view_of, AreFit, IsFreeOf}
 use Rattle.irc_server.proofs.Growing.{on_ok}
 use Rattle.irc_server.proofs.WhatEventsDo.{carried, copied_now}
 use Rattle.irc_server.proofs.acting.settle.Goals as goal

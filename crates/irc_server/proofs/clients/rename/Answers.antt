@@ -1,7 +1,7 @@
 use Rattle.std.proofs.Common.{sym, ◌∙◌, ap}
 use Rattle.std.specs.FinMap.{insert}
 use Rattle.irc_server.specs.declared.clients.Client.TheVariants.{Registered}
-use Rattle.irc_server.specs.Stage.{clients_of, numbered}
+use Rattle.irc_server.specs.Loops.Stage.{clients_of, numbered}
 use Rattle.irc_server.proofs.Index.{nobody_renamed, one_renamed, rename_indexed}
 use Rattle.irc_server.proofs.Growing.{on_ok}
 use Rattle.irc_server.proofs.clients.rename.Goals as goal

@@ -1,4 +1,4 @@
-use Rattle.irc_server.specs.Stage.{clients_of, numbered}
+use Rattle.irc_server.specs.Loops.Stage.{clients_of, numbered}
 use Rattle.irc_server.proofs.Index.{seated_indexed}
 use Rattle.irc_server.proofs.Growing.{on_ok}
 use Rattle.irc_server.proofs.clients.seat.Goals as goal

@@ -1,7 +1,7 @@
 use Rattle.std.proofs.Common.{[], ◌∷◌, ◌++◌, sym, ◌∙◌, ap, append-nil}
 use Rattle.irc_acts.specs.Acts.{kept}
 use Rattle.irc_server.specs.declared.event.Out.TheVariants.{ToClient}
-use Rattle.irc_server.specs.Stage.{clients_of}
+use Rattle.irc_server.specs.Loops.Stage.{clients_of}
 use Rattle.irc_server.proofs.Showings.{indexed, not_indexed}
 use Rattle.irc_server.proofs.clients.show.Goals as goal
 

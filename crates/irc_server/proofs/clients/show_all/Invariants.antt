@@ -1,6 +1,6 @@
 use Rattle.std.proofs.Common.{◌≡◌, ◌++◌, drop}
-use Rattle.irc_server.specs.Grown.{Grew}
-use Rattle.irc_server.specs.Stage.{all_shown, clients_of}
+use Rattle.irc_server.specs.Loops.Grown.{Grew}
+use Rattle.irc_server.specs.Loops.Stage.{all_shown, clients_of}
 use Rattle.irc_server.proofs.clients.show_all.Given as goal
 
 -- the lines so far, with those of the showings behind, are all

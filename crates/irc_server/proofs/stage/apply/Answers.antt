@@ -1,5 +1,5 @@
 use Rattle.std.proofs.Common.{refl, ◌∙◌}
-use Rattle.irc_server.specs.Stage.{clients_of, view_of}
+use Rattle.irc_server.specs.Loops.Stage.{clients_of, view_of}
 use Rattle.irc_server.proofs.HomeRoom.{effect_applied}
 use Rattle.irc_server.proofs.Growing.{on_ok}
 use Rattle.irc_server.proofs.stage.apply.Goals as goal

@@ -1,6 +1,6 @@
 use Rattle.std.proofs.Common.{◌++◌, sym, ◌∙◌, ap, subst}
 use Rattle.irc_room.specs.Applying.{shown_here}
-use Rattle.irc_server.specs.Stage.{IsSound}
+use Rattle.irc_server.specs.Loops.Stage.{IsSound}
 use Rattle.irc_server.proofs.stage.happen.Goals as goal
 
 pub returns-in-Ok-clause-shown : goal.returns-in-Ok-clause-shown

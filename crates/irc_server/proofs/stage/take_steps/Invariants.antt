@@ -1,8 +1,8 @@
 use Rattle.std.proofs.Common.{◌≡◌, drop}
 use Rattle.irc_line.specs.MessageViews.{optional_now}
 use Rattle.irc_server.specs.Handle.{all_stepped}
-use Rattle.irc_server.specs.Grown.{Grew}
-use Rattle.irc_server.specs.Stage.{so_far, view_of, AreFit, IsReady}
+use Rattle.irc_server.specs.Loops.Grown.{Grew}
+use Rattle.irc_server.specs.Loops.Stage.{so_far, view_of, AreFit, IsReady}
 use Rattle.irc_server.proofs.stage.take_steps.Given as goal
 
 -- the steps behind complete what was done so far, and are fit

@@ -1,8 +1,8 @@
 use Rattle.std.proofs.Common.{Some, None, Err, ap, subst, ◌∙◌, sym, if◌then◌else◌}
 use Rattle.irc_server.specs.declared.event.ServerFault.TheVariants.{Memory}
 use Rattle.irc_server.specs.Happening.{IsHandled}
-use Rattle.irc_server.specs.Stage.{view_of}
-use Rattle.irc_server.proofs.WhatEventsDo.{failed_stays, matched_after, refused, ran_out}
+use Rattle.irc_server.specs.Loops.Stage.{view_of}
+use Rattle.irc_server.proofs.WhatEventsDo.{failed_stays, matched_after, refused, ran_out, taken}
 use Rattle.irc_server.proofs.server.Server.handle.Goals as goal
 
 pub returns-then-self : goal.returns-then-self
@@ -31,3 +31,9 @@ invariant_of-self c = λ serves. (
   matched_after c.stays_matched.ensures (view_of c.self.inside.stage) (view_of c.act.new.stage) c.args.event c.args.out.now.items c.act.new.out.items
   (c.self.invariant c.if-self.false).1 (c.self.invariant c.if-self.false).0.sound.well_formed c.in-Ok.ensures.ok,
 )
+
+pub returns-in-Ok : goal.returns-in-Ok
+returns-in-Ok c =
+    taken c.args.self.now (view_of c.self.inside.stage) (view_of c.act.new.stage) c.args.event c.args.out.now.items c.act.new.out.items
+    (sym c.self.view_is ∙ ap (λ b. if b then None else Some (view_of c.self.inside.stage)) c.if-self.false) (sym c.fault_of.ensures ∙ c.in_default.is)
+    c.in-Ok.ensures.ok

@@ -21,7 +21,7 @@ use Rattle.irc_server.specs.declared.clients.Client.TheVariants.{Registered}
 use Rattle.irc_server.specs.declared.clients.ClientTable.{ClientTable}
 use Rattle.irc_server.specs.declared.event.Out.{Out}
 use Rattle.irc_server.specs.declared.stage.Stage.{Stage}
-use Rattle.irc_server.specs.View.{Clients, View, client_of}
+use Rattle.irc_server.specs.View.{Clients, View, client_of, known_peer}
 use Rattle.irc_server.specs.Handle.{Handled, to_viewer, view_after}
 
 -- what a room hands out, as it is shown
@@ -61,7 +61,7 @@ departed (Some (Registered nick)) by_nick = alter (key nick) (λ _. None) by_nic
 departed client by_nick = by_nick
 
 abbrev pub view_of : Stage → View
-view_of stage = record { place = stage.routes; clients = clients_of stage.clients; room = stage.room.room }
+view_of stage = record { place = stage.routes; peers = map known_peer stage.peers.items; clients = clients_of stage.clients; room = stage.room.room }
 
 -- the server now, and what has been put out
 abbrev pub so_far : Stage → List Out → Handled
