@@ -2,7 +2,7 @@
 use Rattle.std.proofs.Common.{◌≡◌, ℕ, ◌<◌, Bool, true, false, cond, not, ◌&&◌, ◌||◌, Some, None, List, [], ◌∷◌, ◌++◌, length, get_or, filter, refl, sym, ap, ◌∙◌, is_some, suc, zero, ◌+◌, nat_lt, arith}
 use Rattle.std.proofs.lemmas.Bool.Decides.{nat_tests}
 use Rattle.std.proofs.lemmas.List.Quantifiers.{position-Some}
-use Rattle.std.specs.List.{list_any, list_all, find, position, position_or_len, insert, remove}
+use Rattle.std.specs.List.{list_any, list_all, position, position_or_len, insert, remove}
 use Rattle.std.specs.Ordering.{is_lt, is_eq, ordering_reverse}
 use Rattle.std.specs.declared.cmp.Ordering.{Ordering}
 use Rattle.std.specs.declared.cmp.Ordering.TheVariants.{Less, Equal, Greater}
@@ -13,12 +13,12 @@ use Rattle.irc_channels.specs.Bans.{before, rises}
 use Rattle.irc_channels.specs.Channels.{with_ban, without_ban}
 
 -- on which side of a mask a ban stands
-data Side (mask ban : List ℕ) : Type 0 where
+pub data Side (mask ban : List ℕ) : Type 0 where
   low : before ban mask ≡ true → before mask ban ≡ false → same mask ban ≡ false → Side mask ban
   level : name_cmp mask ban ≡ Equal → before ban mask ≡ false → before mask ban ≡ false → same mask ban ≡ true → Side mask ban
   high : before ban mask ≡ false → before mask ban ≡ true → same mask ban ≡ false → Side mask ban
 
-side : (mask ban : List ℕ) → Side mask ban
+pub side : (mask ban : List ℕ) → Side mask ban
 side mask ban = by (name_cmp mask ban) refl
   where
     back : (order : Ordering) → name_cmp mask ban ≡ order → before ban mask ≡ is_lt (ordering_reverse order)
@@ -201,22 +201,6 @@ rises-filter q (ban ∷ bans) rising =
 
 -- ---- what a search finds
 
-pub find_none : {X : Type 0} (p : X → Bool) (xs : List X) → list_any p xs ≡ false → find p xs ≡ None
-find_none p [] none = refl
-find_none p (x ∷ xs) none = by (p x) none (λ others. find_none p xs others)
-  where
-    by : (test : Bool) → (test || list_any p xs) ≡ false → (list_any p xs ≡ false → find p xs ≡ None) → cond test (Some x) (find p xs) ≡ None
-    by true none later = cc
-    by false none later = later none
-
-pub find_first : {X : Type 0} (p : X → Bool) (xs : List X) (i : ℕ) (d : X) → i < length xs → p (get_or xs i d) ≡ true
-    → ((k : ℕ) → k < i → p (get_or xs k d) ≡ false) → find p xs ≡ Some (get_or xs i d)
-find_first p [] i d within here earlier = absurd (omega arith)
-find_first p (x ∷ xs) zero d within here earlier = rw (here) refl
-find_first p (x ∷ xs) (suc i) d within here earlier =
-    let other : p x ≡ false = earlier zero (omega arith) in
-    rw (other) (find_first p xs i d (omega arith) here (λ k less. earlier (suc k) (omega arith)))
-
 ltb-suc : (m n : ℕ) → nat_lt (1 + m) (suc n) ≡ nat_lt m n
 ltb-suc m n = grind (arith, nat_tests)
 
@@ -241,28 +225,24 @@ found_any p xs = some_test (nat_lt (position_or_len p xs) (length xs)) (position
 
 -- ---- what the edits of a list of bans make
 
-pub insert_there : (mask : List ℕ) (bans : List (List ℕ)) → is_some (position (same mask) bans) ≡ true → bans ≡ with_ban mask bans
-insert_there mask bans found =
-    let there : list_any (same mask) bans ≡ true = sym (found_any (same mask) bans) ∙ found in
-    rw (there) refl
+-- with a mask that is there the bans are what they were
+pub set_there : (mask : List ℕ) (bans : List (List ℕ)) → list_any (same mask) bans ≡ true → bans ≡ with_ban mask bans
+set_there mask bans there = rw (there) refl
 
-pub insert_new : (mask : List ℕ) (bans : List (List ℕ)) → rises bans ≡ true → is_some (position (same mask) bans) ≡ false
+pub set_new : (mask : List ℕ) (bans : List (List ℕ)) → rises bans ≡ true → list_any (same mask) bans ≡ false
     → insert bans (place mask bans) mask ≡ with_ban mask bans
-insert_new mask bans rising missing =
-    let none : list_any (same mask) bans ≡ false = sym (found_any (same mask) bans) ∙ missing in
-    let put = places mask bans rising none in
-    rw (none) (put.is_insert ∙ sym put.is_parts)
+set_new mask bans rising none = let put = places mask bans rising none in rw (none) (put.is_insert ∙ sym put.is_parts)
 
-pub insert_rises : (mask : List ℕ) (bans : List (List ℕ)) → rises bans ≡ true → is_some (position (same mask) bans) ≡ false
+pub set_rises : (mask : List ℕ) (bans : List (List ℕ)) → rises bans ≡ true → list_any (same mask) bans ≡ false
     → rises (insert bans (place mask bans) mask) ≡ true
-insert_rises mask bans rising missing =
-    let none : list_any (same mask) bans ≡ false = sym (found_any (same mask) bans) ∙ missing in
-    let put = places mask bans rising none in
-    ap rises put.is_insert ∙ put.still_rises
+set_rises mask bans rising none = let put = places mask bans rising none in ap rises put.is_insert ∙ put.still_rises
+
+-- the bans with a mask that was not there
+pub is_placed : (mask : List ℕ) (bans : List (List ℕ)) → rises bans ≡ true → list_any (same mask) bans ≡ false → with_ban mask bans ≡ placed mask bans
+is_placed mask bans rising none = rw (none) ((places mask bans rising none).is_parts)
 
 -- what is taken out, and what is left
 pub record TakenOut (mask : List ℕ) (bans : List (List ℕ)) (i : ℕ) : Type 0 where
-  pub found : (d : List ℕ) → Some (get_or bans i d) ≡ find (same mask) bans
   pub rest : remove bans i ≡ without_ban mask bans
   pub in_order : rises (remove bans i) ≡ true
   pub within : i < length bans
@@ -272,18 +252,10 @@ taken_out mask bans i rising at =
     let facts = position-Some (same mask) bans i mask at in
     let rest = removed mask bans i rising facts.0 facts.1 in
     record {
-      found = λ d. sym (find_first (same mask) bans i d facts.0 (position-Some (same mask) bans i d at).1 (position-Some (same mask) bans i d at).2);
       rest = rest;
       in_order = ap rises rest ∙ rises-filter (λ ban. not (same mask ban)) bans rising;
       within = facts.0;
     }
 
--- where there is nothing to take out
-pub record NoneOut (mask : List ℕ) (bans : List (List ℕ)) : Type 0 where
-  pub missing : None ≡ find (same mask) bans
-  pub rest : bans ≡ without_ban mask bans
-
-pub none_out : (mask : List ℕ) (bans : List (List ℕ)) → position (same mask) bans ≡ None → NoneOut mask bans
-none_out mask bans at =
-    let none : list_any (same mask) bans ≡ false = sym (found_any (same mask) bans) ∙ ap is_some at in
-    record { missing = sym (find_none (same mask) bans none); rest = sym (unchanged mask bans none) }
+pub none_out : (mask : List ℕ) (bans : List (List ℕ)) → position (same mask) bans ≡ None → bans ≡ without_ban mask bans
+none_out mask bans at = sym (unchanged mask bans (sym (found_any (same mask) bans) ∙ ap is_some at))

@@ -1,4 +1,5 @@
 pub mod BanPlaces
+pub mod BanRoom
 pub mod ChangesParted
 pub mod DigitSteps
 pub mod ModeSteps

@@ -7,7 +7,7 @@ use Rattle.irc_channels.specs.ModeWords.{Asked, Reading, next_word, letter_asks,
 use Rattle.irc_channels.specs.declared.mode_words.ModeItem.{ModeItem}
 use Rattle.irc_channels.specs.ModeViews.{asked, all_asked}
 use Rattle.irc_channels.specs.Letters.{plus_byte}
-use Rattle.irc_channels.specs.ModeLimits.{Remembers, Judges}
+use Rattle.irc_channels.specs.Loops.ModeLimits.{Remembers, Judges}
 
 -- ---- which parameter is the next
 

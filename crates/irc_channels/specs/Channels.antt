@@ -142,6 +142,23 @@ abbrev pub bans_by_word : Bool → Option (List ℕ) → List (List ℕ) → Lis
 bans_by_word plus (Some word) bans = bans_changed plus word bans
 bans_by_word plus None bans = bans
 
+-- the mask that a change of a ban names; none where it changes no ban, or its parameter is no mask
+abbrev pub mask_in : Option (List ℕ) → Option (List ℕ)
+mask_in None = None
+mask_in (Some word) = if is_mask word then Some word else None
+
+abbrev pub ban_mask : ModeLetter → Option (List ℕ) → Option (List ℕ)
+ban_mask letter.Ban word = mask_in word
+ban_mask other word = None
+
+abbrev pub is_new : List (List ℕ) → Option (List ℕ) → Bool
+is_new bans None = false
+is_new bans (Some mask) = not (list_any (same mask) bans)
+
+-- whether a change sets a ban that is not there: no other change of modes takes memory
+abbrev pub adds_ban : List (List ℕ) → ModeChange → Bool
+adds_ban bans change = is_new bans (ban_mask change.letter change.word) && change.plus
+
 -- a flag of one member; whoever is none has none
 abbrev pub member_changed : List ℕ → (Flags → Flags) → Channel → Channel
 member_changed nick change channel = record channel { members = alter (key nick) (option_map change) channel.members }
@@ -161,6 +178,13 @@ mode_changed plus letter.Key word m = record m { key = key_changed plus word m.k
 mode_changed plus letter.Limit word m = record m { limit = limit_changed plus word m.limit }
 mode_changed plus letter.Ban word m = record m { bans = bans_by_word plus word m.bans }
 mode_changed plus other word m = m
+
+abbrev pub mode_step : Modes → ModeChange → Modes
+mode_step modes change = mode_changed change.plus change.letter change.word modes
+
+-- the modes of a channel after changes, one after another
+abbrev pub modes_after : List ModeChange → Modes → Modes
+modes_after changes modes = fold mode_step modes changes
 
 -- what a change of a mode does, of a member or of the channel; one that wants a parameter and has none changes nothing
 abbrev pub letter_changed : Bool → ModeLetter → Option (List ℕ) → Channel → Channel

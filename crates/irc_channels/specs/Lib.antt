@@ -2,9 +2,8 @@ pub mod Limits
 pub mod Texts
 pub mod Bans
 pub mod Channels
-pub mod ManyChanges
 pub mod ChannelTable
 pub mod Letters
 pub mod ModeWords
 pub mod ModeViews
-pub mod ModeLimits
+pub mod Loops

@@ -5,6 +5,10 @@ use Rattle.std.specs.Prelude.{ℕ}
 abbrev pub max_mode_parameters : ℕ
 max_mode_parameters = 3
 
+-- the most bans that a client's MODE may set on a channel (our own choice); a change that is applied knows no such limit
+abbrev pub max_bans : ℕ
+max_bans = 30
+
 -- the longest word that any letter takes: the mask of a ban
 abbrev pub max_mode_word : ℕ
 max_mode_word = 90

@@ -1,10 +1,14 @@
 //! A channel's bans.
-ghost use Rattle.std.specs.Prelude.{◌≡◌, ◌≤◌, [], length, filter, find, position, is_ok, vec_len, IfOk, if◌then◌else◌};
+ghost use Rattle.std.specs.Prelude.{◌≡◌, [], false, length, find, IfOk, IsOk, OnOk, OnErr};
+ghost use Rattle.std.specs.List.{list_any};
 ghost use Rattle.std.specs.Option.{option_copied};
 ghost use Rattle.irc_names.specs.Fold.{same};
-ghost use Rattle.irc_channels.specs.Bans.{before, IsBanList, some_matches};
-ghost use Rattle.irc_channels.specs.Channels.{is_nil, with_ban, without_ban};
+ghost use Rattle.irc_channels.specs.Bans.{IsBanList, some_matches};
+ghost use Rattle.irc_channels.specs.Channels.{adds_ban, is_nil};
+ghost use Rattle.irc_channels.specs.Loops.ManyChanges.{bans_after};
 
+use crate::ban_changing::{additions, change_all};
+use crate::modes::ModeChange;
 use irc_names::{BanMask, mask_matches};
 use std::alloc::{AllocError, Global};
 use std::marker::Model;
@@ -84,42 +88,15 @@ impl BanList {
             .any(|ban| mask_matches(ban.as_bytes(), text))
     }
 
-    /// Adds a ban in its place, unless one that is the same under the fold is there already, which then keeps its spelling. Where
-    /// there is no memory nothing has changed.
-    pub fn insert(&mut self, mask: BanMask) -> Result<(), AllocError>
-        ensures { self.new ≡ (if is_ok result then with_ban mask self.old else self.old) }
+    /// Makes the changes that are of bans, one after another; however many bans there are, a ban is added. Room for those that are
+    /// added is made before the first change, so where there is no memory nothing has changed.
+    pub fn change(&mut self, changes: &[ModeChange]) -> Result<(), AllocError>
+        ensures ok { OnOk result (self.new ≡ bans_after changes.now self.old) }
+        ensures refused { OnErr result (self.new ≡ self.old) }
+        ensures none_added { list_any (adds_ban self.old) changes.now ≡ false → IsOk result }
     {
-        if position_of(&self.masks, &mask).is_some() {
-            return Ok(());
-        }
-        let place = place_of(&self.masks, &mask);
-        self.masks.insert(place, mask)?;
+        self.masks.reserve(additions(&self.masks, changes))?;
+        change_all(&mut self.masks, changes);
         Ok(())
     }
-
-    /// Takes the ban out that is the same under the fold, and hands it back as it was spelled here.
-    pub fn remove(&mut self, mask: &BanMask) -> Option<BanMask>
-        ensures value { result ≡ find (same mask.now) self.old }
-        ensures after { self.new ≡ without_ban mask.now self.old }
-    {
-        match position_of(&self.masks, mask) {
-            Some(place) => Some(self.masks.remove(place)),
-            None => None,
-        }
-    }
-}
-
-/// Where the ban stands that is the same under the fold.
-fn position_of(bans: &[BanMask], mask: &BanMask) -> Option<usize>
-    ensures { result ≡ position (same mask.now) bans.now }
-{
-    bans.iter().position(|ban| mask == ban)
-}
-
-/// How many bans stand before a mask.
-fn place_of(bans: &[BanMask], mask: &BanMask) -> usize
-    ensures value { result ≡ length (filter (λ ban. before ban mask.now) bans.now) }
-    ensures within { result ≤ length bans.now }
-{
-    bans.iter().filter(|ban| (*ban).cmp(mask).is_lt()).count()
 }

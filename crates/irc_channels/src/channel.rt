@@ -1,8 +1,9 @@
 //! A channel.
-ghost use Rattle.std.specs.Prelude.{◌≡◌, not, Some, None, OnOk, OnErr, if◌then◌else◌};
+ghost use Rattle.std.specs.Prelude.{◌≡◌, false, not, Some, None, IsOk, IsTrue, OnOk, OnErr, if◌then◌else◌};
+ghost use Rattle.std.specs.List.{list_any};
 ghost use Rattle.std.specs.FinMap.{keys};
 ghost use Rattle.irc_names.specs.Fold.{key};
-ghost use Rattle.irc_channels.specs.Channels.{new_channel, has_member, is_nil, joined, left, without_user, renamed, invited_too, uninvited, with_topic, all_changed};
+ghost use Rattle.irc_channels.specs.Channels.{adds_ban, new_channel, has_member, is_nil, joined, left, without_user, renamed, invited_too, uninvited, with_topic, all_changed};
 
 use crate::flags::Flags;
 use crate::member_changing::change_members;
@@ -56,11 +57,12 @@ impl Channel {
         self.members.len() > 0
     }
 
-    /// A user joins, and its invitation is used up; one who is a member already changes nothing. Where there is no memory nothing
-    /// has changed.
+    /// A user joins, and its invitation is used up; one who is a member already changes nothing, and takes no memory. Where there is
+    /// no memory nothing has changed.
     pub fn join(&mut self, nick: &Nick, op: bool) -> Result<(), AllocError>
         ensures ok { OnOk result (self.new ≡ joined (key nick.now) op self.old) }
         ensures refused { OnErr result (self.new ≡ self.old) }
+        ensures member { IsTrue (has_member (key nick.now) self.old) → IsOk result }
     {
         if self.has_member(nick) {
             return Ok(());
@@ -122,15 +124,16 @@ impl Channel {
         self.topic = topic.copy();
     }
 
-    /// Changes modes, of the channel and of its members, one after another. Where there is no memory nothing has changed.
+    /// Changes modes, of the channel and of its members, one after another. Only a ban that is added takes memory; where there is none
+    /// nothing has changed.
     #[tactic(auto, using(crate::proofs::ChangesParted::all_parted))]
     pub fn change(&mut self, changes: &[ModeChange]) -> Result<(), AllocError>
         ensures ok { OnOk result (self.new ≡ all_changed changes.now self.old) }
         ensures refused { OnErr result (self.new ≡ self.old) }
+        ensures none_added { list_any (adds_ban self.old.modes.bans) changes.now ≡ false → IsOk result }
     {
-        let modes = self.modes.changed(changes)?;
+        self.modes.change(changes)?;
         change_members(&mut self.members, changes);
-        self.modes = modes;
         Ok(())
     }
 }

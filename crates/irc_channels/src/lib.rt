@@ -1,6 +1,7 @@
 //! The channels of a room: their modes, members and invitations.
 #![tactic(auto)]
 
+mod ban_changing;
 mod bans;
 mod channel;
 mod channels;
@@ -28,7 +29,7 @@ pub use mode_words::{ModeItem, read_modes};
 pub use modes::{AskedChange, ModeChange, ModeLetter, Modes, Privacy};
 pub use words::Words;
 
-/// The most bans that clients may set on a channel (our own choice).
+/// The most bans that a client's MODE may set on a channel (our own choice). A change that is applied knows no such limit.
 pub const MAX_BANS: usize = 30;
 
 /// How many letters of one MODE count that take a parameter (RFC 2812 section 3.2.3).

@@ -1,6 +1,6 @@
 //! Changes of the flags of a channel's members.
 ghost use Rattle.std.specs.Prelude.{◌≡◌, Some, if◌then◌else◌};
-ghost use Rattle.irc_channels.specs.ManyChanges.{flag_changed, members_step, members_after};
+ghost use Rattle.irc_channels.specs.Loops.ManyChanges.{flag_changed, members_step, members_after};
 
 use crate::flags::Flags;
 use crate::modes::{ModeChange, ModeLetter};

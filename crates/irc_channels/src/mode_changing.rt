@@ -1,14 +1,14 @@
 //! Changes of a channel's modes.
-ghost use Rattle.std.specs.Prelude.{◌≡◌, IfOk, OnOk, OnErr};
+ghost use Rattle.std.specs.Prelude.{◌≡◌, false, IfOk, IsOk, OnOk, OnErr};
+ghost use Rattle.std.specs.List.{list_any};
 ghost use Rattle.std.specs.Option.{option_copied};
-ghost use Rattle.irc_channels.specs.Channels.{no_modes, mode_changed, private_changed, secret_changed, key_changed, limit_changed, bans_by_word};
-ghost use Rattle.irc_channels.specs.ManyChanges.{modes_after};
+ghost use Rattle.irc_channels.specs.Channels.{adds_ban, no_modes, modes_after, private_changed, secret_changed, key_changed, limit_changed};
+ghost use Rattle.irc_channels.specs.Loops.ManyChanges.{setting_step, settings_after};
 
 use crate::bans::BanList;
 use crate::key::Key;
 use crate::limit::read_limit;
 use crate::modes::{ModeChange, ModeLetter, Modes, Privacy};
-use irc_names::BanMask;
 use std::alloc::{AllocError, Global};
 
 impl Modes {
@@ -44,38 +44,44 @@ impl Modes {
         })
     }
 
-    /// The modes after changes of them, one after another.
-    pub fn changed(&self, changes: &[ModeChange]) -> Result<Self, AllocError>
-        ensures { IfOk result (λ modes. modes ≡ modes_after changes.now self.now) }
-    {
-        let mut modes = self.copy()?;
-        for change in changes {
-            modes.change(change)?;
-        }
-        Ok(modes)
-    }
-
-    /// Changes a mode of the channel. The letters o and v are modes of a member, and change nothing here. Where there is no memory
-    /// nothing has changed.
-    pub fn change(&mut self, change: &ModeChange) -> Result<(), AllocError>
-        ensures ok { OnOk result (self.new ≡ mode_changed change.now.plus change.now.letter change.now.word self.old) }
+    /// Changes modes of the channel, one after another. The letters o and v are modes of a member, and change nothing here. Only a
+    /// ban that is added takes memory; where there is none nothing has changed.
+    #[tactic(auto, using(crate::proofs::ChangesParted::modes_parted))]
+    pub fn change(&mut self, changes: &[ModeChange]) -> Result<(), AllocError>
+        ensures ok { OnOk result (self.new ≡ modes_after changes.now self.old) }
         ensures refused { OnErr result (self.new ≡ self.old) }
+        ensures none_added { list_any (adds_ban self.old.bans) changes.now ≡ false → IsOk result }
     {
-        let plus = change.plus;
-        let word = change.word_bytes();
-        match change.letter {
-            ModeLetter::InviteOnly => self.invite_only = plus,
-            ModeLetter::Moderated => self.moderated = plus,
-            ModeLetter::NoOutside => self.no_outside = plus,
-            ModeLetter::TopicLocked => self.topic_locked = plus,
-            ModeLetter::Private => self.privacy = private_changed(plus, self.privacy),
-            ModeLetter::Secret => self.privacy = secret_changed(plus, self.privacy),
-            ModeLetter::Key => change_key(&mut self.key, plus, word),
-            ModeLetter::Limit => change_limit(&mut self.limit, plus, word),
-            ModeLetter::Ban => change_bans(&mut self.bans, plus, word)?,
-            ModeLetter::Operator | ModeLetter::Voice => {}
-        }
+        self.bans.change(changes)?;
+        change_settings(self, changes);
         Ok(())
+    }
+}
+
+/// Makes the changes but for those of bans, one after another. They take no memory.
+fn change_settings(modes: &mut Modes, changes: &[ModeChange])
+    ensures { modes.new ≡ settings_after changes.now modes.old }
+{
+    for change in changes {
+        change_setting(modes, change);
+    }
+}
+
+fn change_setting(modes: &mut Modes, change: &ModeChange)
+    ensures { modes.new ≡ setting_step modes.old change.now }
+{
+    let plus = change.plus;
+    let word = change.word_bytes();
+    match change.letter {
+        ModeLetter::InviteOnly => modes.invite_only = plus,
+        ModeLetter::Moderated => modes.moderated = plus,
+        ModeLetter::NoOutside => modes.no_outside = plus,
+        ModeLetter::TopicLocked => modes.topic_locked = plus,
+        ModeLetter::Private => modes.privacy = private_changed(plus, modes.privacy),
+        ModeLetter::Secret => modes.privacy = secret_changed(plus, modes.privacy),
+        ModeLetter::Key => change_key(&mut modes.key, plus, word),
+        ModeLetter::Limit => change_limit(&mut modes.limit, plus, word),
+        ModeLetter::Ban | ModeLetter::Operator | ModeLetter::Voice => {}
     }
 }
 
@@ -161,22 +167,5 @@ fn change_limit(limit: &mut Option<u16>, plus: bool, word: Option<&[u8]>)
     let Some(bytes) = word else { return };
     if let Some(new) = read_limit(bytes) {
         *limit = Some(new);
-    }
-}
-
-/// Mode b: a parameter that is no mask changes nothing. Where there is no memory nothing has changed.
-fn change_bans(bans: &mut BanList, plus: bool, word: Option<&[u8]>) -> Result<(), AllocError>
-    ensures ok { OnOk result (bans.new ≡ bans_by_word plus (option_copied word.entry) bans.old) }
-    ensures refused { OnErr result (bans.new ≡ bans.old) }
-{
-    let Some(bytes) = word else { return Ok(()) };
-    let Some(mask) = BanMask::read(bytes) else {
-        return Ok(());
-    };
-    if plus {
-        bans.insert(mask)
-    } else {
-        bans.remove(&mask);
-        Ok(())
     }
 }

@@ -3,7 +3,7 @@ ghost use Rattle.std.specs.Prelude.{◌≡◌, ◌≤◌, [], ◌∷◌, ◌++�
 ghost use Rattle.std.specs.Option.{option_copied};
 ghost use Rattle.irc_channels.specs.ModeWords.{answer, change, counted, is_sign, letter_asks, letters_read, mode_of, modes_read, needs, next_word, once, reading, takes, words_after};
 ghost use Rattle.irc_channels.specs.ModeViews.{all_asked, asked, letter_read};
-ghost use Rattle.irc_channels.specs.ModeLimits.{Judges};
+ghost use Rattle.irc_channels.specs.Loops.ModeLimits.{Judges};
 
 use crate::MAX_MODE_PARAMETERS;
 use crate::modes::{AskedChange, ModeLetter};

@@ -1,5 +1,5 @@
 use Rattle.std.proofs.Common.{◌≡◌, take}
-use Rattle.irc_channels.specs.ManyChanges.{members_after}
+use Rattle.irc_channels.specs.Loops.ManyChanges.{members_after}
 use Rattle.irc_channels.proofs.member_changing.change_members.Given as goal
 
 abbrev pub invariant-loop-change : goal.invariant-loop-change

@@ -1,9 +1,5 @@
-use Rattle.std.proofs.Common.{rules}
-use Rattle.irc_channels.proofs.ChangesParted.{all_parted}
+use Rattle.std.proofs.Common.{◌≡◌, false, true}
 use Rattle.irc_channels.proofs.channel.Channel.change.Goals as goal
 
-pub returns-in_err-modes-clause-refused : goal.returns-in_err-modes-clause-refused
-returns-in_err-modes-clause-refused c = search rules
-
-pub returns-clause-ok : goal.returns-clause-ok
-returns-clause-ok c = search (rules, all_parted)
+pub returns-in_err-change-clause-none_added : goal.returns-in_err-change-clause-none_added
+returns-in_err-change-clause-none_added c none = let bad : false ≡ true = c.in_err-change.ensures.none_added none in cc
