@@ -9,7 +9,7 @@ use Rattle.irc_channels.specs.declared.modes.Modes.{Modes}
 use Rattle.irc_channels.specs.declared.modes.ModeChange.{ModeChange}
 use Rattle.irc_channels.specs.declared.modes.ModeLetter.{ModeLetter}
 use Rattle.irc_channels.specs.declared.modes.ModeLetter.TheVariants as letter
-use Rattle.irc_names.specs.Names.{is_mask}
+use Rattle.irc_names.specs.Names.{is_ban_mask}
 use Rattle.irc_channels.specs.Channels.{ban_changed, ban_mask, bans_by_word, mode_changed, mode_step, modes_after, letter_changed, all_changed}
 use Rattle.irc_channels.specs.Loops.ManyChanges.{bans_by_mask, ban_step, bans_after, setting_changed, settings_after, members_changed, members_step, members_after}
 
@@ -34,7 +34,7 @@ beside_bans plus letter.Voice word bans modes = refl
 
 by_word : (plus : Bool) (word : Option (List ℕ)) (bans : List (List ℕ)) → bans_by_word plus word bans ≡ bans_by_mask plus (ban_mask letter.Ban word) bans
 by_word plus None bans = refl
-by_word plus (Some word) bans = by (is_mask word)
+by_word plus (Some word) bans = by (is_ban_mask word)
   where
     by : (test : Bool) → cond test (ban_changed plus word bans) bans ≡ bans_by_mask plus (cond test (Some word) None) bans
     by true = refl

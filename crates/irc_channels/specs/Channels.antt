@@ -145,7 +145,7 @@ bans_by_word plus None bans = bans
 -- the mask that a change of a ban names; none where it changes no ban, or its parameter is no mask
 abbrev pub mask_in : Option (List ℕ) → Option (List ℕ)
 mask_in None = None
-mask_in (Some word) = if is_mask word then Some word else None
+mask_in (Some word) = if is_ban_mask word then Some word else None
 
 abbrev pub ban_mask : ModeLetter → Option (List ℕ) → Option (List ℕ)
 ban_mask letter.Ban word = mask_in word
