@@ -2,5 +2,8 @@ pub mod NumbersWritten
 pub mod LineEnds
 pub mod ScriptSteps
 pub mod Printed
+pub mod Sinking
 pub mod Playing
+pub mod OneRun
+pub mod CutShort
 pub mod LineBodies

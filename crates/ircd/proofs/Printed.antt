@@ -1,9 +1,9 @@
 -- What is appended in turn.
-use Rattle.std.proofs.Common.{◌≡◌, ℕ, ◌+◌, ◌<◌, Option, Some, None, List, [], ◌∷◌, ◌++◌, length, take, get_or, ap, sym, refl, ◌∙◌, append_assoc, append-nil}
+use Rattle.std.proofs.Common.{◌≡◌, ℕ, ◌+◌, ◌<◌, Option, Some, None, List, [], ◌∷◌, ◌++◌, length, take, drop, get_or, ap, sym, refl, ◌∙◌, append_assoc, append-nil}
 use Rattle.std.specs.Io.KnownBytes.{Appends, Keeps, Consumes, IsAtEnd}
 use Rattle.std.specs.List.{flat_map}
 use Rattle.ircd.specs.Runs.{IsTextOf}
-use Rattle.std.proofs.lemmas.List.{take_more}
+use Rattle.std.proofs.lemmas.List.{take_more, take-append-drop, drop_more}
 use Rattle.std.proofs.lemmas.Grind.{flat_map-append}
 
 pub appends_nothing : (known : Option (List ℕ)) → Appends known known []
@@ -22,6 +22,15 @@ one_more f xs i d within is =
     ap (flat_map f) (take_more xs i d within) ∙ flat_map-append f (take i xs) (get_or xs i d ∷ [])
     ∙ ap (λ last. flat_map f (take i xs) ++ last) (append-nil (f (get_or xs i d)))
     ∙ ap (λ x. flat_map f (take i xs) ++ f x) (sym is)
+
+-- the elements before one, that one, and those behind it
+pub all_around : {X : Type 0} (f : X → List ℕ) (xs : List X) (i : ℕ) (d : X) → i < length xs → d ≡ get_or xs i d
+    → flat_map f xs ≡ (flat_map f (take i xs) ++ f d) ++ flat_map f (drop (i + 1) xs)
+all_around f xs i d within is =
+    ap (flat_map f) (sym (take-append-drop i xs) ∙ ap (λ ds. take i xs ++ ds) (drop_more xs i d within))
+    ∙ flat_map-append f (take i xs) (get_or xs i d ∷ drop (i + 1) xs)
+    ∙ ap (λ x. flat_map f (take i xs) ++ (f x ++ flat_map f (drop (i + 1) xs))) (sym is)
+    ∙ sym (append_assoc (flat_map f (take i xs)) (f d) (flat_map f (drop (i + 1) xs)))
 
 pub keeps_appended : (old middle new : Option (List ℕ)) (bytes : List ℕ) → Appends old middle bytes → Keeps middle new → Appends old new bytes
 keeps_appended None middle new bytes p q = tt

@@ -2,10 +2,12 @@
 use Rattle.std.specs.Prelude.{◌≡◌, ℕ, Option, Result, List}
 use Rattle.ircd.specs.declared.fault.SimFault.{SimFault}
 use Rattle.ircd.specs.Runs.{Ran}
-use Rattle.ircd.specs.Statuses.{exit_status}
+use Rattle.ircd.specs.Sinks.{Tells}
+use Rattle.ircd.specs.Statuses.{exit_status, told_of}
 
--- the status is that of how the script's run ended
-pub record EndsRun (status : ℕ) (remaining old new : Option (List ℕ)) : Type 0 where
+-- the status is that of how the script's run ended, and so is what is said on standard error
+pub record EndsRun (status : ℕ) (remaining old new errors errors_after : Option (List ℕ)) : Type 0 where
   pub ending : Result (Unit {0}) SimFault
   pub ran : Ran remaining ending old new
   pub status_is : status ≡ exit_status ending
+  pub tells : Tells errors errors_after (told_of ending)

@@ -5,6 +5,8 @@ pub mod Scripts
 pub mod ScriptViews
 pub mod Events
 pub mod Printing
+pub mod Sinks
 pub mod Runs
+pub mod Loops
 pub mod Endings
 pub mod Codes

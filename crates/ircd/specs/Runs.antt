@@ -1,5 +1,5 @@
 -- What a script does: which events it gives to the server, in which order, what the server answers to each, and what is printed.
-use Rattle.std.specs.Prelude.{◌≡◌, ℕ, ◌+◌, ◌-◌, ◌^◌, Option, Some, None, Result, Ok, Err, List, [], ◌∷◌, ◌++◌, codes, nat_lt, ⊤, IfSome, if◌then◌else◌}
+use Rattle.std.specs.Prelude.{◌≡◌, ℕ, ◌+◌, ◌-◌, ◌^◌, Option, Some, None, Result, Ok, Err, List, [], ◌∷◌, ◌++◌, ◌⊎◌, codes, nat_lt, IfSome, if◌then◌else◌}
 use Rattle.std.specs.Io.KnownBytes.{Appends}
 use Rattle.std.specs.List.{flat_map}
 use Rattle.std.specs.FinMap.{empty}
@@ -47,11 +47,6 @@ pub record Standing : Type 0 where
   pub next : ℕ
   pub server : Option (Option View)
 
--- an answer as the code has it: the number of a refusal, or what was put out
-abbrev pub answer_by : Option ℕ → List Out → Answer
-answer_by None outs = puts_out outs
-answer_by (Some number) outs = refuses number
-
 -- a server refuses an event, by the number of a fault
 pub record IsRefused (old : Option View) (e : Event) (number : ℕ) (new : Option View) : Type 0 where
   pub fault : ServerFault
@@ -78,16 +73,13 @@ pub data Runs : Standing → List Request → Standing → List ℕ → Type 0 w
   request : {first middle last : Standing} {r : Request} {requests : List Request} {start more text : List ℕ}
       → text ≡ start ++ more → Plays first (events_of first.next r) middle start → Runs middle requests last more → Runs first (r ∷ requests) last text
 
--- what was played, and printed behind what was there
-pub record Played (first : Standing) (events : List Event) (last : Standing) (old new : Option (List ℕ)) : Type 0 where
-  pub text : List ℕ
-  pub plays : Plays first events last text
-  pub appended : Appends old new text
-
-pub record HasRun (first : Standing) (requests : List Request) (last : Standing) (old new : Option (List ℕ)) : Type 0 where
-  pub text : List ℕ
-  pub runs : Runs first requests last text
-  pub appended : Appends old new text
+-- What is asked for is begun, and this is printed: some of it is done, and of the next request some events. All of it may be done.
+pub data Begins : Standing → List Request → List ℕ → Type 0 where
+  to_the_end : {first : Standing} → Begins first [] []
+  partly : {first last : Standing} {r : Request} {requests : List Request} {text : List ℕ} (events left : List Event)
+      → events_of first.next r ≡ events ++ left → Plays first events last text → Begins first (r ∷ requests) text
+  further : {first middle : Standing} {r : Request} {requests : List Request} {start more text : List ℕ}
+      → text ≡ start ++ more → Plays first (events_of first.next r) middle start → Begins middle requests more → Begins first (r ∷ requests) text
 
 -- the text is what a reader had, where that is known
 abbrev pub IsTextOf : List ℕ → Option (List ℕ) → Type 0
@@ -113,7 +105,9 @@ pub record Finished (remaining old new : Option (List ℕ)) : Type 0 where
   pub asked : Asked
   pub read : script_read text ≡ Ok asked
   pub last : Standing
-  pub run : HasRun (first_standing asked.server) asked.requests last old new
+  pub printed : List ℕ
+  pub runs : Runs (first_standing asked.server) asked.requests last printed
+  pub appended : Appends old new printed
 
 -- a script was refused for this line, and nothing was printed
 pub record Refused (line : ℕ) (remaining old new : Option (List ℕ)) : Type 0 where
@@ -122,9 +116,30 @@ pub record Refused (line : ℕ) (remaining old new : Option (List ℕ)) : Type 0
   pub bad : script_read text ≡ Err line
   pub silent : new ≡ old
 
+-- a text is a front of another
+pub record IsFront (front whole : List ℕ) : Type 0 where
+  pub more : List ℕ
+  pub whole_is : whole ≡ front ++ more
+
+-- A script was begun, and what was printed is a front of what the events that were played come to.
+pub record CutShort (remaining old new : Option (List ℕ)) : Type 0 where
+  pub text : List ℕ
+  pub is_text : IsTextOf text remaining
+  pub asked : Asked
+  pub read : script_read text ≡ Ok asked
+  pub came : List ℕ
+  pub begins : Begins (first_standing asked.server) asked.requests came
+  pub printed : List ℕ
+  pub appended : Appends old new printed
+  pub front : IsFront printed came
+
+-- a run that memory or a device ended: nothing was printed yet, or a front of what would have been
+abbrev pub EndsEarly : Option (List ℕ) → Option (List ℕ) → Option (List ℕ) → Type 0
+EndsEarly remaining old new = (new ≡ old) ⊎ CutShort remaining old new
+
 -- how a run ends, by what the reader had and by what the writer held before and holds now
 abbrev pub Ran : Option (List ℕ) → Result (Unit {0}) SimFault → Option (List ℕ) → Option (List ℕ) → Type 0
 Ran remaining (Ok _) old new = Finished remaining old new
 Ran remaining (Err (BadScript line)) old new = Refused line remaining old new
-Ran remaining (Err Failed) old new = ⊤
-Ran remaining (Err Device) old new = ⊤
+Ran remaining (Err Failed) old new = EndsEarly remaining old new
+Ran remaining (Err Device) old new = EndsEarly remaining old new

@@ -1,5 +1,5 @@
 -- How the program ends: the exit status, and what it says on standard error.
-use Rattle.std.specs.Prelude.{ℕ, List, ◌++◌, codes, decimal, Result, Ok, Err}
+use Rattle.std.specs.Prelude.{ℕ, List, [], ◌++◌, codes, decimal, Result, Ok, Err}
 use Rattle.ircd.specs.declared.fault.SimFault.{SimFault}
 use Rattle.ircd.specs.declared.fault.SimFault.TheVariants as fault
 use Rattle.ircd.specs.declared.fault.Trouble.{Trouble}
@@ -31,3 +31,8 @@ told stop.Failed = codes "ircd: failed\n"
 abbrev pub exit_status : Result (Unit {0}) SimFault → ℕ
 exit_status (Ok _) = 0
 exit_status (Err fault) = status_of (stop_of fault)
+
+-- what is said of a run: nothing where it came to its end
+abbrev pub told_of : Result (Unit {0}) SimFault → List ℕ
+told_of (Ok _) = []
+told_of (Err fault) = told (stop_of fault)

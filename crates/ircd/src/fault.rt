@@ -1,12 +1,16 @@
 //! Why the program ends before its work is done, what it says then, and its exit status.
-ghost use Rattle.std.specs.Prelude.{◌≡◌, OnOk};
+ghost use Rattle.std.specs.Prelude.{◌≡◌, ◌++◌, codes, decimal, OnOk};
 ghost use Rattle.std.specs.Io.KnownBytes.{Appends};
 ghost use Rattle.ircd.specs.declared.fault.SimFault.TheVariants.{Failed};
+ghost use Rattle.ircd.specs.declared.fault.Stop.TheVariants.{BadScript};
 ghost use Rattle.ircd.specs.declared.fault.Trouble.TheVariants.{Memory};
+ghost use Rattle.ircd.specs.Sinks.{Tells};
 ghost use Rattle.ircd.specs.Statuses.{status_of, told, stop_of, fault_of};
 
+use crate::sink::write_whole;
+use arrayvec::ArrayVec;
+use itoa::Buffer;
 use std::alloc::AllocError;
-use std::io;
 use std::io::Write;
 use thiserror::Error;
 
@@ -106,14 +110,37 @@ impl Stop {
     /// Says why the program ends, in one line.
     ///
     /// # Errors
-    /// Where the write fails.
-    pub fn tell<E: Write>(self, errors: &mut E) -> io::Result<()>
-        ensures { OnOk result (Appends (E.contents errors.old) (E.contents errors.new) (told self)) }
+    /// Where the write fails. What was written then is a front of the line.
+    pub fn tell<E: Write>(self, errors: &mut E) -> Result<(), Trouble>
+        ensures whole { OnOk result (Appends (E.contents errors.old) (E.contents errors.new) (told self)) }
+        ensures front { Tells (E.contents errors.old) (E.contents errors.new) (told self) }
     {
         match self {
-            Stop::Usage => errors.write_all(b"ircd: usage: ircd sim | ircd serve FILE [TURNS]\n"),
-            Stop::BadScript(line) => writeln!(errors, "ircd: line {line}: bad script"),
-            Stop::Failed => errors.write_all(b"ircd: failed\n"),
+            Stop::Usage => write_whole(b"ircd: usage: ircd sim | ircd serve FILE [TURNS]\n", errors),
+            Stop::BadScript(line) => tell_bad_script(line, errors),
+            Stop::Failed => write_whole(b"ircd: failed\n", errors),
         }
     }
+}
+
+fn tell_bad_script<E: Write>(line: u64, errors: &mut E) -> Result<(), Trouble>
+    ensures whole { OnOk result (Appends (E.contents errors.old) (E.contents errors.new) (told (BadScript line))) }
+    ensures front { Tells (E.contents errors.old) (E.contents errors.new) (told (BadScript line)) }
+{
+    let text = bad_script(line);
+    write_whole(text.as_slice(), errors)
+}
+
+/// The longest line on a bad script: it has a number of 64 bits in it.
+const MAX_BAD_SCRIPT: usize = 64;
+
+/// What is said of a script whose line with this number is bad.
+fn bad_script(line: u64) -> ArrayVec<u8, MAX_BAD_SCRIPT>
+    ensures { result.items ≡ told (BadScript line) }
+{
+    let mut text = ArrayVec::new();
+    let _ = text.try_extend_from_slice(b"ircd: line ");
+    let _ = text.try_extend_from_slice(Buffer::new().format(line).as_bytes());
+    let _ = text.try_extend_from_slice(b": bad script\n");
+    text
 }

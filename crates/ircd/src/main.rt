@@ -18,6 +18,7 @@ mod program;
 mod registration_tests;
 mod script;
 mod sim;
+mod sink;
 mod stage;
 #[cfg(test)]
 mod tests;

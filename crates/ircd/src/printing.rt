@@ -1,11 +1,12 @@
 //! What is printed.
-ghost use Rattle.std.specs.Prelude.{◌≡◌, ◌++◌, ◌≤◌, ◌^◌, ◌<◌, [], ◌∷◌, OnOk, codes, decimal, length};
-ghost use Rattle.std.specs.Io.KnownBytes.{Appends};
+ghost use Rattle.std.specs.Prelude.{◌≡◌, ◌++◌, ◌≤◌, ◌+◌, length};
+ghost use Rattle.arrayvec.specs.ArrayVec.{array_vec_len};
+ghost use Rattle.ircd.specs.Sinks.{IsPrinted, sink};
 ghost use Rattle.std.specs.List.{flat_map};
 ghost use Rattle.ircd.specs.Printing.{printed, printed_line, refusal_line, refusal_number, body_of};
 
 use crate::fault::Trouble;
-use arrayvec::ArrayVec;
+use crate::sink::{WAITING_ROOM, Waiting, make_room};
 use irc_line::limits::MAX_TEXT;
 use irc_line::{Text, body};
 use irc_server::{Out, ServerFault};
@@ -36,48 +37,77 @@ pub fn refusal_number(fault: ServerFault) -> Option<u64>
 }
 
 /// Prints each line to a client that was put out, in order.
-pub fn print_lines<W: Write>(outs: &[Out], output: &mut W) -> Result<(), Trouble>
-    ensures { OnOk result (Appends (W.contents output.old) (W.contents output.new) (flat_map printed outs.now)) }
+///
+/// # Errors
+/// Here and below: where a write fails.
+pub fn print_lines<W: Write>(
+    outs: &[Out],
+    waiting: &mut Waiting,
+    output: &mut W,
+) -> Result<(), Trouble>
+    ensures { IsPrinted result (sink (W.contents output.old) waiting.old.items) (sink (W.contents output.new) waiting.new.items) (flat_map printed outs.now) }
 {
     for out in outs {
-        print_out(out, output)?;
+        print_out(out, waiting, output)?;
     }
     Ok(())
 }
 
-/// Prints a line to a client: the number of the client, a space, and the line. The end of a connection is not printed.
-fn print_out<W: Write>(out: &Out, output: &mut W) -> Result<(), Trouble>
-    ensures { OnOk result (Appends (W.contents output.old) (W.contents output.new) (printed out.now)) }
+/// Prints a line to a client. The end of a connection is not printed.
+fn print_out<W: Write>(out: &Out, waiting: &mut Waiting, output: &mut W) -> Result<(), Trouble>
+    ensures { IsPrinted result (sink (W.contents output.old) waiting.old.items) (sink (W.contents output.new) waiting.new.items) (printed out.now) }
 {
     match out {
-        Out::ToClient(client, text) => print(printed_line(*client, text).as_slice(), output),
-        Out::CloseClient(_) => print(b"", output),
+        Out::ToClient(client, text) => print_line(*client, text, waiting, output),
+        Out::CloseClient(_) => Ok(()),
     }
 }
 
+/// Prints a line to a client: the number of the client, a space, and the line.
+fn print_line<W: Write>(
+    client: u64,
+    text: &Text,
+    waiting: &mut Waiting,
+    output: &mut W,
+) -> Result<(), Trouble>
+    ensures { IsPrinted result (sink (W.contents output.old) waiting.old.items) (sink (W.contents output.new) waiting.new.items) (printed_line client text.now.items) }
+{
+    make_room(MAX_PRINTED, waiting, output)?;
+    push_line(client, text, waiting);
+    Ok(())
+}
+
 /// Prints the number of a refusal.
-pub fn print_refusal<W: Write>(number: u64, output: &mut W) -> Result<(), Trouble>
-    ensures { OnOk result (Appends (W.contents output.old) (W.contents output.new) (refusal_line number)) }
+pub fn print_refusal<W: Write>(
+    number: u64,
+    waiting: &mut Waiting,
+    output: &mut W,
+) -> Result<(), Trouble>
+    ensures { IsPrinted result (sink (W.contents output.old) waiting.old.items) (sink (W.contents output.new) waiting.new.items) (refusal_line number) }
 {
-    writeln!(output, "! {number}").map_err(|_| Trouble::Device)
+    make_room(MAX_PRINTED, waiting, output)?;
+    push_refusal(number, waiting);
+    Ok(())
 }
 
-fn print<W: Write>(bytes: &[u8], output: &mut W) -> Result<(), Trouble>
-    ensures { OnOk result (Appends (W.contents output.old) (W.contents output.new) bytes.now) }
+fn push_line(client: u64, text: &Text, waiting: &mut Waiting)
+    requires { array_vec_len waiting.old + MAX_PRINTED ≤ WAITING_ROOM }
+    ensures { waiting.new.items ≡ waiting.old.items ++ printed_line client text.now.items }
 {
-    output.write_all(bytes).map_err(|_| Trouble::Device)
-}
-
-fn printed_line(client: u64, text: &Text) -> ArrayVec<u8, MAX_PRINTED>
-    ensures { result.items ≡ printed_line client text.now.items }
-{
-    let mut line = ArrayVec::new();
     let _whole = text.as_slice();
-    let _ = line.try_extend_from_slice(Buffer::new().format(client).as_bytes());
-    let _ = line.try_extend_from_slice(b" ");
-    let _ = line.try_extend_from_slice(line_body(text));
-    let _ = line.try_extend_from_slice(b"\n");
-    line
+    let _ = waiting.try_extend_from_slice(Buffer::new().format(client).as_bytes());
+    let _ = waiting.try_extend_from_slice(b" ");
+    let _ = waiting.try_extend_from_slice(line_body(text));
+    let _ = waiting.try_extend_from_slice(b"\n");
+}
+
+fn push_refusal(number: u64, waiting: &mut Waiting)
+    requires { array_vec_len waiting.old + MAX_PRINTED ≤ WAITING_ROOM }
+    ensures { waiting.new.items ≡ waiting.old.items ++ refusal_line number }
+{
+    let _ = waiting.try_extend_from_slice(b"! ");
+    let _ = waiting.try_extend_from_slice(Buffer::new().format(number).as_bytes());
+    let _ = waiting.try_extend_from_slice(b"\n");
 }
 
 /// A text without its CR LF.

@@ -3,12 +3,14 @@ ghost use Rattle.std.specs.Prelude.{◌≡◌, Some, None};
 ghost use Rattle.ircd.specs.declared.fault.Stop.TheVariants.{Usage};
 ghost use Rattle.ircd.specs.declared.words.Task.TheVariants.{Sim};
 ghost use Rattle.ircd.specs.Endings.{EndsRun};
-ghost use Rattle.ircd.specs.Statuses.{status_of};
+ghost use Rattle.ircd.specs.Sinks.{Tells};
+ghost use Rattle.ircd.specs.Statuses.{exit_status, status_of, told, told_of};
 ghost use Rattle.ircd.specs.Words.{task_of, texts_of};
 
-use crate::fault::Stop;
+use crate::fault::{SimFault, Stop};
 use crate::sim::run_sim;
 use crate::words::Task;
+use std::alloc::Global;
 use std::io::{Read, Write};
 
 /// Does what the words behind the program's name ask for, and gives the exit status. Where that is not 0, the reason is written
@@ -21,23 +23,44 @@ pub fn run<T: AllocGlobal, R: Read, W: Write, E: Write>(
     errors: &mut E,
 ) -> u8
     ensures usage { task_of (texts_of words.now) ≡ None → result ≡ status_of Usage }
+    ensures usage_told { task_of (texts_of words.now) ≡ None → Tells (E.contents errors.old) (E.contents errors.new) (told Usage) }
     ensures unread { task_of (texts_of words.now) ≡ None → input.new ≡ input.old }
     ensures unwritten { task_of (texts_of words.now) ≡ None → output.new ≡ output.old }
-    ensures sim { task_of (texts_of words.now) ≡ Some Sim → EndsRun result (R.remaining input.old) (W.contents output.old) (W.contents output.new) }
+    ensures sim { task_of (texts_of words.now) ≡ Some Sim → EndsRun result (R.remaining input.old) (W.contents output.old) (W.contents output.new) (E.contents errors.old) (E.contents errors.new) }
 {
-    let ended = match Task::read(words) {
-        Some(Task::Sim) => run_sim(rt.alloc(), input, output).map_err(Stop::from),
-        None => Err(Stop::Usage),
-    };
+    match Task::read(words) {
+        Some(Task::Sim) => run_script(rt.alloc(), input, output, errors),
+        None => stop_with(Stop::Usage, errors),
+    }
+}
+
+fn run_script<R: Read, W: Write, E: Write>(
+    alloc: Global,
+    input: &mut R,
+    output: &mut W,
+    errors: &mut E,
+) -> u8
+    ensures { EndsRun result (R.remaining input.old) (W.contents output.old) (W.contents output.new) (E.contents errors.old) (E.contents errors.new) }
+{
+    let ended = run_sim(alloc, input, output);
+    end_with(ended, errors)
+}
+
+/// The exit status of a run. Where it did not come to its end, the reason is written.
+fn end_with<E: Write>(ended: Result<(), SimFault>, errors: &mut E) -> u8
+    ensures status { result ≡ exit_status ended }
+    ensures tells { Tells (E.contents errors.old) (E.contents errors.new) (told_of ended) }
+{
     match ended {
         Ok(()) => 0,
-        Err(stop) => stop_with(stop, errors),
+        Err(fault) => stop_with(Stop::from(fault), errors),
     }
 }
 
 /// Says why the program ends, and gives the exit status.
 pub fn stop_with<E: Write>(stop: Stop, errors: &mut E) -> u8
-    ensures { result ≡ status_of stop }
+    ensures status { result ≡ status_of stop }
+    ensures tells { Tells (E.contents errors.old) (E.contents errors.new) (told stop) }
 {
     // Where even this cannot be written, the status alone tells.
     let _ = stop.tell(errors);

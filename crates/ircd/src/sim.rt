@@ -1,11 +1,14 @@
 //! `ircd sim`: a script is read to its end, and run.
-ghost use Rattle.std.specs.Prelude.{◌≡◌, ◌<◌, ◌≤◌, length, take, IfOk, OnOk};
-ghost use Rattle.std.specs.Io.KnownBytes.{Keeps, Consumes, IsAtEnd};
-ghost use Rattle.ircd.specs.Runs.{Ran, HasRun, IsTextOf};
+ghost use Rattle.std.specs.Prelude.{◌≡◌, ◌<◌, ◌≤◌, [], length, take, IfOk};
+ghost use Rattle.std.specs.Io.KnownBytes.{Consumes, IsAtEnd};
+ghost use Rattle.ircd.specs.Loops.Steps.{HasRun};
+ghost use Rattle.ircd.specs.Runs.{Ran, IsTextOf};
 ghost use Rattle.ircd.specs.ScriptViews.{requests};
+ghost use Rattle.ircd.specs.Sinks.{sink};
 
 use crate::fault::{SimFault, Trouble};
 use crate::script::{Command, read_script};
+use crate::sink::{Waiting, flush, write_waiting};
 use crate::stage::Stage;
 use std::alloc::Global;
 use std::io::{Read, Write};
@@ -33,8 +36,7 @@ pub fn run_sim<R: Read, W: Write>(
     let text = read_text(alloc, input)?;
     let script = read_script(alloc, &text)?;
     let mut stage = Stage::new(alloc, script.server.as_ref())?;
-    perform_all(&mut stage, &script.commands, output)?;
-    finish(output)?;
+    run_all(&mut stage, &script.commands, output)?;
     Ok(())
 }
 
@@ -64,22 +66,32 @@ fn read_some<R: Read>(input: &mut R, piece: &mut [u8]) -> Result<usize, Trouble>
     input.read(piece).map_err(|_| Trouble::Device)
 }
 
-fn perform_all<W: Write>(
+/// Runs commands, and writes all that they print; also where memory runs out, what was printed before that.
+fn run_all<W: Write>(
     stage: &mut Stage,
     commands: &[Command<'_>],
     output: &mut W,
 ) -> Result<(), Trouble>
-    ensures { OnOk result (HasRun stage.old (requests commands.now) stage.new (W.contents output.old) (W.contents output.new)) }
+    ensures { HasRun result stage.old (requests commands.now) stage.new (sink (W.contents output.old) []) (sink (W.contents output.new) []) }
 {
-    for command in commands {
-        stage.perform(command, output)?;
-    }
-    Ok(())
+    let mut waiting = Waiting::new();
+    let performed = perform_all(stage, commands, &mut waiting, output);
+    let written = write_waiting(&mut waiting, output);
+    performed?;
+    written?;
+    flush(output)
 }
 
-/// Sees to it that all that was printed is written.
-fn finish<W: Write>(output: &mut W) -> Result<(), Trouble>
-    ensures { OnOk result (Keeps (W.contents output.old) (W.contents output.new)) }
+fn perform_all<W: Write>(
+    stage: &mut Stage,
+    commands: &[Command<'_>],
+    waiting: &mut Waiting,
+    output: &mut W,
+) -> Result<(), Trouble>
+    ensures { HasRun result stage.old (requests commands.now) stage.new (sink (W.contents output.old) waiting.old.items) (sink (W.contents output.new) waiting.new.items) }
 {
-    output.flush().map_err(|_| Trouble::Device)
+    for command in commands {
+        stage.perform(command, waiting, output)?;
+    }
+    Ok(())
 }

@@ -1,14 +1,18 @@
 //! The server of a script, and what the script does to it.
-ghost use Rattle.std.specs.Prelude.{◌≡◌, [], ◌∷◌, codes, Some, IfOk, OnOk};
-ghost use Rattle.ircd.specs.Events.{events_of};
-ghost use Rattle.ircd.specs.Runs.{AnswersAt, Played, answer_by, first_standing, first_view, next_if_taken, number_behind};
+ghost use Rattle.std.specs.Prelude.{◌≡◌, [], ◌∷◌, codes, Some, IfOk};
+ghost use Rattle.ircd.specs.Events.{events_of, lines_said};
+ghost use Rattle.ircd.specs.Loops.Steps.{IsPlayed, answer_by};
+ghost use Rattle.ircd.specs.Runs.{AnswersAt, first_standing, first_view, next_if_taken, number_behind};
 ghost use Rattle.ircd.specs.ScriptViews.{name_now, request};
+ghost use Rattle.ircd.specs.Scripts.{connects};
+ghost use Rattle.ircd.specs.Sinks.{sink};
 
-use crate::events::events_of;
+use crate::events::lines_said;
 use crate::fault::Trouble;
 use crate::printing::{NO_SUCH_CLIENT, print_lines, print_refusal, refusal_number};
 use crate::script::Command;
-use irc_names::ServerName;
+use crate::sink::Waiting;
+use irc_names::{Host, ServerName};
 use irc_routes::Own;
 use irc_server::{Config, Event, Out, Server};
 use std::alloc::{AllocError, Global};
@@ -73,27 +77,64 @@ impl Stage {
     pub fn perform<W: Write>(
         &mut self,
         command: &Command<'_>,
+        waiting: &mut Waiting,
         output: &mut W,
     ) -> Result<(), Trouble>
-        ensures { OnOk result (Played self.old (events_of self.old.next (request command.now)) self.new (W.contents output.old) (W.contents output.new)) }
+        ensures { IsPlayed result self.old (events_of self.old.next (request command.now)) self.new (sink (W.contents output.old) waiting.old.items) (sink (W.contents output.new) waiting.new.items) }
     {
-        let events = events_of(self.alloc, command, self.next)?;
-        for event in events {
-            self.give(event, output)?;
+        match command {
+            Command::Connect(host) => self.connect(host, waiting, output),
+            Command::Say(client, rest) => self.say(*client, rest, waiting, output),
+            Command::Gone(client) => self.give(Event::Gone(*client), waiting, output),
+        }
+    }
+
+    /// The same of a client that connects.
+    fn connect<W: Write>(
+        &mut self,
+        host: &Host,
+        waiting: &mut Waiting,
+        output: &mut W,
+    ) -> Result<(), Trouble>
+        ensures { IsPlayed result self.old (events_of self.old.next (connects host.now)) self.new (sink (W.contents output.old) waiting.old.items) (sink (W.contents output.new) waiting.new.items) }
+    {
+        let event = Event::Connect(self.next, host.copy());
+        self.give(event, waiting, output)
+    }
+
+    /// The same of the lines that a client says.
+    fn say<W: Write>(
+        &mut self,
+        client: u64,
+        rest: &[u8],
+        waiting: &mut Waiting,
+        output: &mut W,
+    ) -> Result<(), Trouble>
+        ensures { IsPlayed result self.old (lines_said client rest.now) self.new (sink (W.contents output.old) waiting.old.items) (sink (W.contents output.new) waiting.new.items) }
+    {
+        let lines = lines_said(self.alloc, rest)?;
+        let mut left = lines.into_iter();
+        while let Some(line) = left.next() {
+            self.give(Event::Line(client, line), waiting, output)?;
         }
         Ok(())
     }
 
     /// Gives one event to the server, and prints the lines that it puts out, or the number of its refusal.
-    fn give<W: Write>(&mut self, event: Event, output: &mut W) -> Result<(), Trouble>
-        ensures { OnOk result (Played self.old (event ∷ []) self.new (W.contents output.old) (W.contents output.new)) }
+    fn give<W: Write>(
+        &mut self,
+        event: Event,
+        waiting: &mut Waiting,
+        output: &mut W,
+    ) -> Result<(), Trouble>
+        ensures { IsPlayed result self.old (event ∷ []) self.new (sink (W.contents output.old) waiting.old.items) (sink (W.contents output.new) waiting.new.items) }
     {
         let next = next_if_taken(&event, self.next);
         if let Some(number) = refusal_of(&mut self.server, event, &mut self.out)? {
-            return print_refusal(number, output);
+            return print_refusal(number, waiting, output);
         }
         self.next = next;
-        print_lines(&self.out, output)
+        print_lines(&self.out, waiting, output)
     }
 }
 

@@ -348,16 +348,19 @@ fn endless_fails(rt: &HostRuntime) -> bool {
         && errors.as_slice() == b"ircd: failed\n".as_slice()
 }
 
-/// Whether the run fails with the write behind so many lines.
-fn breaks_unwritten(alloc: Global, lines: usize) -> bool {
+/// The bytes of three lines `1 :a.net PONG a.net :x`, with their LF.
+const PRINTED: usize = 69;
+
+/// Whether the run fails where the writer takes so many bytes and no more.
+fn breaks_unwritten(alloc: Global, room: usize) -> bool {
     let mut input: &[u8] = b"server a.net\nconnect a.net h\nsay 1 PING x\rPING y\rPING z\n";
-    let mut output = Filling { lines };
+    let mut output = Filling { room };
     run_sim(alloc, &mut input, &mut output) == Err(SimFault::Device)
 }
 
 fn all_break(alloc: Global) -> bool {
-    for lines in 0..3 {
-        if !breaks_unwritten(alloc, lines) {
+    for room in 0..PRINTED {
+        if !breaks_unwritten(alloc, room) {
             return false;
         }
     }
@@ -404,19 +407,20 @@ impl Read for Endless {
     }
 }
 
-/// A writer that takes some lines, and breaks then.
+/// A writer that takes some bytes, and breaks then.
 #[derive(Drop)]
 struct Filling {
-    lines: usize,
+    room: usize,
 }
 
 impl Write for Filling {
     fn write(&mut self, buf: &[u8]) -> io::Result<usize> {
-        if self.lines == 0 {
+        if self.room == 0 {
             return Err(io::Error::from(ErrorKind::Other));
         }
-        self.lines -= 1;
-        Ok(buf.len())
+        let count = min(self.room, buf.len());
+        self.room -= count;
+        Ok(count)
     }
 
     fn flush(&mut self) -> io::Result<()> {

@@ -1,10 +1,10 @@
 use Rattle.std.proofs.Common.{take}
-use Rattle.std.specs.Io.KnownBytes.{Appends}
 use Rattle.std.specs.List.{flat_map}
 use Rattle.ircd.specs.Printing.{printed}
+use Rattle.ircd.specs.Sinks.{Prints, sink}
 use Rattle.ircd.proofs.printing.print_lines.Given as goal
 
 -- what was put out so far is printed
 abbrev pub invariant-loop-out : goal.invariant-loop-out
 invariant-loop-out g l =
-    Appends (g.W.Write.contents l.fn.output) (g.W.Write.contents l.output) (flat_map printed (take l.out-index l.outs))
+    Prints (sink (g.W.Write.contents l.fn.output) l.fn.waiting.items) (sink (g.W.Write.contents l.output) l.waiting.items) (flat_map printed (take l.out-index l.outs))

@@ -1,8 +1,22 @@
-use Rattle.ircd.proofs.Playing.{played_nothing, played_both}
+use Rattle.std.proofs.Common.{rules, subst}
+use Rattle.ircd.specs.Loops.Steps.{IsPlayed}
+use Rattle.ircd.specs.Sinks.{sink}
 use Rattle.ircd.proofs.stage.Stage.perform.Goals as goal
 
-pub loop-event-init : goal.loop-event-init
-loop-event-init g c = played_nothing _ _
+pub returns-in-Connect : goal.returns-in-Connect
+returns-in-Connect g c =
+    let old = sink (g.W.Write.contents c.args.output.now) c.args.waiting.now.items in
+    let new = sink (g.W.Write.contents c.connect.new.output) c.connect.new.waiting.items in
+    subst (λ events. IsPlayed c.connect.result c.args.self.now events c.connect.new.self old new) (search rules) c.connect.ensures
 
-pub loop-event-preserved : goal.loop-event-preserved
-loop-event-preserved g c = played_both c.loop-event.invariant c.in_ok-give.ensures
+pub returns-in-Say : goal.returns-in-Say
+returns-in-Say g c =
+    let old = sink (g.W.Write.contents c.args.output.now) c.args.waiting.now.items in
+    let new = sink (g.W.Write.contents c.say.new.output) c.say.new.waiting.items in
+    subst (λ events. IsPlayed c.say.result c.args.self.now events c.say.new.self old new) (search rules) c.say.ensures
+
+pub returns-in-Gone : goal.returns-in-Gone
+returns-in-Gone g c =
+    let old = sink (g.W.Write.contents c.args.output.now) c.args.waiting.now.items in
+    let new = sink (g.W.Write.contents c.give.new.output) c.give.new.waiting.items in
+    subst (λ events. IsPlayed c.give.result c.args.self.now events c.give.new.self old new) (search rules) c.give.ensures

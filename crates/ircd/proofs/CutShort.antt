@@ -1,0 +1,35 @@
+-- A run that memory or a device ended.
+use Rattle.std.proofs.Common.{◌≡◌, ℕ, Option, Result, Ok, Err, IsErr, IsErrAnd, List, []}
+use Rattle.ircd.specs.Loops.Steps.{RunInto}
+use Rattle.ircd.specs.Runs.{IsTextOf, CutShort, EndsEarly, Ran, first_standing}
+use Rattle.ircd.specs.Scripts.{Asked, script_read}
+use Rattle.ircd.specs.Sinks.{sink}
+use Rattle.ircd.specs.Statuses.{fault_of as fault_by}
+use Rattle.ircd.specs.declared.fault.SimFault.{SimFault}
+use Rattle.ircd.specs.declared.fault.SimFault.TheVariants.{BadScript, Failed, Device}
+use Rattle.ircd.specs.declared.fault.Trouble.{Trouble}
+use Rattle.ircd.specs.declared.fault.Trouble.TheVariants.{Memory, Device as NoDevice}
+
+-- a run that was broken off
+pub cut_short : (remaining old new : Option (List ℕ)) (text : List ℕ) (asked : Asked) → IsTextOf text remaining → script_read text ≡ Ok asked
+    → RunInto (first_standing asked.server) asked.requests (sink old []) (sink new []) → CutShort remaining old new
+cut_short remaining old new text asked is_text read p = record {
+  text = text;
+  is_text = is_text;
+  asked = asked;
+  read = read;
+  came = p.text;
+  begins = p.begins;
+  printed = p.loses.prints.written;
+  appended = p.loses.prints.appended;
+  front = record { more = p.loses.lost; whole_is = p.loses.prints.whole };
+}
+
+-- a trouble ends a run
+pub ran_early : (r : Result (Unit {0}) SimFault) (trouble : Trouble) (remaining old new : Option (List ℕ)) → IsErr r → IsErrAnd r (λ fault. fault ≡ fault_by trouble)
+    → EndsEarly remaining old new → Ran remaining r old new
+ran_early (Ok _) trouble remaining old new failed is p = absurd is
+ran_early (Err (BadScript line)) Memory remaining old new failed is p = cc
+ran_early (Err (BadScript line)) NoDevice remaining old new failed is p = cc
+ran_early (Err Failed) trouble remaining old new failed is p = p
+ran_early (Err Device) trouble remaining old new failed is p = p
