@@ -1,10 +1,13 @@
 -- Whatever happens, the effects that come of it are fit in their turn, and clients and users are matched afterwards.
-use Rattle.std.proofs.Common.{◌≡◌, ℕ, Bool, true, false, ◌&&◌, Option, Some, None, Ok, Err, List, ◌∷◌, refl, sym, ◌∙◌, ap, subst, option_map, is_some, if◌then◌else◌}
+use Rattle.std.proofs.Common.{◌≡◌, ℕ, Bool, true, false, cond, ◌&&◌, Option, Some, None, Ok, Err, List, ◌∷◌, refl, sym, ◌∙◌, ap, subst, option_map, is_some, if◌then◌else◌}
+use Rattle.std.specs.FinMap.{get}
 use Rattle.std.specs.List.{list_any}
+use Rattle.std.specs.Option.{option_map_or}
 use Rattle.irc_line.specs.Messages.{Parsed}
 use Rattle.irc_names.specs.Fold.{key}
 use Rattle.irc_names.specs.Tables.{row}
 use Rattle.irc_users.specs.declared.user.User.{User}
+use Rattle.irc_users.specs.UserTable.{is_home}
 use Rattle.irc_room.specs.declared.effect.Effect.TheVariants.{AddUser, Quit}
 use Rattle.irc_room.specs.Room.{Room, IsWellFormed}
 use Rattle.irc_room.specs.Effects.{IsPossible}
@@ -23,7 +26,8 @@ use Rattle.irc_server.specs.declared.clients.Client.TheVariants.{Registering, Re
 use Rattle.irc_server.specs.View.{View, client_of, with_client, without_client}
 use Rattle.irc_server.specs.Handle.{connects, says, goes, handled, client_after, closing, all_stepped, unchanged, pending_decided, user_decided, said_by, quits, gone, user_of, lost_text, fresh, view_after, with_effect}
 use Rattle.irc_server.specs.Matched.{IsMatched, StaysMatched}
-use Rattle.irc_server.specs.Loops.Stage.{AreFit, IsFit, IsFreeOf}
+use Rattle.irc_server.specs.Loops.Stage.{AreFit, IsFit, IsFreeOf, IsNoUser}
+use Rattle.irc_server.proofs.Numbers.{get-with, same_number-refl}
 use Rattle.irc_server.proofs.Matching.{fit_by, quiet_fit, quiet_steps, still_fit, still_steps, pending_matched, left_matched, free_of, added_fit, added_matched, quit_matched, quit_fit}
 
 -- a line of a user
@@ -111,13 +115,13 @@ module _ (view : View) (conn : ℕ) (given : Given) (matched : IsMatched view) (
     new_free : IsFreeOf (client_after given given.pending.nick) view.clients
     new_free = subst (λ client. IsFreeOf client view.clients) (sym client_is) (free_of view conn first.user matched add_possible first.is_home)
 
-    new_matched : IsMatched (pending_decided view conn given).view
-    new_matched =
+    new_matched : IsNoUser (client_of view conn) → IsMatched (pending_decided view conn given).view
+    new_matched none =
         subst (λ b. IsMatched (closing b conn (all_stepped conn given.pending.nick given.steps (unchanged given_view))).view) (sym (stays is))
         (subst (λ acts. IsMatched (all_stepped conn given.pending.nick acts (unchanged given_view)).view) (sym first.steps_are)
         (subst IsMatched (sym (still_steps conn given.pending.nick first.behind (with_effect (AddUser first.user) (unchanged given_view)) first.no_more))
         (subst (λ client. IsMatched (view_after (with_client view conn client) (AddUser first.user))) (sym client_is)
-        (added_matched view conn first.user matched add_possible first.is_home))))
+        (added_matched view conn first.user matched add_possible first.is_home none))))
 
   module _ (is : given.registered ≡ false) where
     waits : client_after given given.pending.nick ≡ Registering given.pending
@@ -126,14 +130,22 @@ module _ (view : View) (conn : ℕ) (given : Given) (matched : IsMatched view) (
     still_free : IsFreeOf (client_after given given.pending.nick) view.clients
     still_free = subst (λ client. IsFreeOf client view.clients) (sym waits) tt
 
-    waiting_matched : IsMatched (with_client view conn (client_after given given.pending.nick))
-    waiting_matched = subst (λ client. IsMatched (with_client view conn client)) (sym waits) (pending_matched view conn (Registering given.pending) tt matched)
+    waiting_matched : IsNoUser (client_of view conn) → IsMatched (with_client view conn (client_after given given.pending.nick))
+    waiting_matched none =
+        subst (λ client. IsMatched (with_client view conn client)) (sym waits) (pending_matched view conn (Registering given.pending) tt none matched)
 
-    closed : (b : Bool) → IsMatched (closing b conn (all_stepped conn given.pending.nick given.steps (unchanged given_view))).view
-    closed true =
+    still_none : IsNoUser (client_of given_view conn)
+    still_none =
+        subst IsNoUser
+        (sym (get-with view.clients conn (client_after given given.pending.nick) conn
+        ∙ ap (λ b. cond b (Some (client_after given given.pending.nick)) (get view.clients conn)) (same_number-refl conn)))
+        (subst (λ client. IsNoUser (Some client)) (sym waits) tt)
+
+    closed : IsNoUser (client_of view conn) → (b : Bool) → IsMatched (closing b conn (all_stepped conn given.pending.nick given.steps (unchanged given_view))).view
+    closed none true =
         subst (λ (v : View). IsMatched (without_client v conn)) (sym (still_steps conn given.pending.nick given.steps (unchanged given_view) (still is)))
-        (left_matched given_view conn waiting_matched)
-    closed false = subst IsMatched (sym (still_steps conn given.pending.nick given.steps (unchanged given_view) (still is))) waiting_matched
+        (left_matched given_view conn still_none (waiting_matched none))
+    closed none false = subst IsMatched (sym (still_steps conn given.pending.nick given.steps (unchanged given_view) (still is))) (waiting_matched none)
 
   pub given_fit : AreFit given_view given.steps
   given_fit = by given.registered refl
@@ -149,12 +161,12 @@ module _ (view : View) (conn : ℕ) (given : Given) (matched : IsMatched view) (
       by true is = new_free is
       by false is = still_free is
 
-  pub given_matched : IsMatched (pending_decided view conn given).view
-  given_matched = by given.registered refl
+  pub given_matched : IsNoUser (client_of view conn) → IsMatched (pending_decided view conn given).view
+  given_matched none = by given.registered refl
     where
       by : (b : Bool) → given.registered ≡ b → IsMatched (pending_decided view conn given).view
-      by true is = new_matched is
-      by false is = closed is given.close
+      by true is = new_matched is none
+      by false is = closed is none given.close
 
 -- a client is gone
 
@@ -181,13 +193,15 @@ gone_fit view conn nick text matched well is =
 
 gone_matched : (view : View) (conn : ℕ) → IsMatched view → IsWellFormed view.room → (client : Option Client) → client_of view conn ≡ client
     → IsMatched (gone view conn client).view
-gone_matched view conn matched well None is = left_matched view conn matched
-gone_matched view conn matched well (Some (Registering pending)) is = left_matched view conn matched
+gone_matched view conn matched well None is = left_matched view conn (subst IsNoUser (sym is) tt) matched
+gone_matched view conn matched well (Some (Registering pending)) is = left_matched view conn (subst IsNoUser (sym is) tt) matched
 gone_matched view conn matched well (Some (Registered name)) is = by_row (row view.room.users (key name)) refl
   where
     by_row : (o : Option User) → row view.room.users (key name) ≡ o
         → IsMatched (quits (option_map (λ (user : User). user.nick) o) (unchanged (without_client view conn))).view
-    by_row None there = left_matched view conn matched
+    by_row None there =
+        let here = matched.registered_is_user conn name is in
+        let nobody = ap (λ o. option_map_or (is_home view.place.name) o false) there in absurd cc
     by_row (Some user) there = quit_matched view conn name user.nick lost_text matched is (well.users_named (key name) user there)
 
 -- whatever happens
@@ -195,18 +209,19 @@ gone_matched view conn matched well (Some (Registered name)) is = by_row (row vi
 pub stays_matched : DecidedIsPossible → WhoStaysIsUser → WhoIsClosedQuits → RegisteringIsPossible → RegisteredIsAdded → UnregisteredChangesNothing → RegisteredStays
     → StaysMatched
 unfolding handled
-stays_matched possible stays closes register_possible added unchanging kept view matched well (connects conn host) =
-    pending_matched view conn (fresh host) tt matched
-stays_matched possible stays closes register_possible added unchanging kept view matched well (says conn (Err fault)) = matched
-stays_matched possible stays closes register_possible added unchanging kept view matched well (goes conn) =
+stays_matched possible stays closes register_possible added unchanging kept view matched well (connects conn host) due =
+    pending_matched view conn (fresh host) tt (subst IsNoUser (sym due) tt) matched
+stays_matched possible stays closes register_possible added unchanging kept view matched well (says conn (Err fault)) due = matched
+stays_matched possible stays closes register_possible added unchanging kept view matched well (goes conn) due =
     gone_matched view conn matched well (client_of view conn) refl
-stays_matched possible stays closes register_possible added unchanging kept view matched well (says conn (Ok message)) = by (client_of view conn) refl
+stays_matched possible stays closes register_possible added unchanging kept view matched well (says conn (Ok message)) due = by (client_of view conn) refl
   where
     by : (o : Option Client) → client_of view conn ≡ o → IsMatched (said_by view conn o message).view
     by None is = matched
     by (Some (Registering pending)) is =
         given_matched view conn (register view.room view.place pending message) matched (register_possible view.room view.place pending message well)
         (added view.room view.place pending message) (unchanging view.room view.place pending message) (kept view.room view.place pending message)
+        (subst IsNoUser (sym is) tt)
     by (Some (Registered nick)) is =
         user_matched possible stays closes view matched well conn nick is message (row view.room.users (key nick)) refl
 

@@ -1,9 +1,10 @@
 -- Clients and users stay matched, whatever happens.
-use Rattle.std.proofs.Common.{◌≡◌, ℕ, Bool, true, false, cond, not, ◌&&◌, ◌||◌, Option, Some, None, List, [], ◌∷◌, refl, sym, ◌∙◌, ap, option_map, is_some, if◌then◌else◌}
+use Rattle.std.proofs.Common.{◌≡◌, ℕ, Bool, true, false, cond, not, ◌&&◌, ◌||◌, T, Option, Some, None, List, [], ◌∷◌, refl, sym, ◌∙◌, ap, option_map, is_some, if◌then◌else◌}
 use Rattle.std.specs.List.{list_any}
 use Rattle.std.specs.Option.{option_map_or}
 use Rattle.std.specs.Cmp.Lexicographic.{bytes_decides}
-use Rattle.std.specs.FinMap.{get, insert, remove}
+use Rattle.std.specs.Ordering.{nat_cmp}
+use Rattle.std.specs.FinMap.{get, insert, remove, entries, entries_sorted, find, is_sorted, get-entries}
 use Rattle.irc_names.specs.Fold.{key, same}
 use Rattle.irc_names.specs.Tables.{row, alter}
 use Rattle.irc_names.specs.TableLaws.{same_fold, same_fold-refl, one_fold, row-alter, row-moved}
@@ -14,6 +15,7 @@ use Rattle.irc_room.specs.declared.effect.Effect.TheVariants.{AddUser, Rename, Q
 use Rattle.irc_room.specs.Effects.{IsPossible, has_user}
 use Rattle.irc_room.specs.After.{after}
 use Rattle.irc_room.proofs.Rows.{same_some}
+use Rattle.irc_room.proofs.ViewerLaws.{both_true}
 use Rattle.irc_acts.specs.declared.act.Act.{Act}
 use Rattle.irc_acts.specs.declared.act.Act.TheVariants.{Answer, Raw, Do}
 use Rattle.irc_acts.specs.Possible.{ArePossible}
@@ -22,9 +24,9 @@ use Rattle.irc_server.specs.declared.clients.Client.{Client}
 use Rattle.irc_server.specs.declared.clients.Client.TheVariants.{Registering, Registered}
 use Rattle.irc_server.specs.View.{Clients, View, client_of, with_client, without_client}
 use Rattle.irc_server.specs.Handle.{Handled, renamed_in, view_after, clients_after, stepped, all_stepped}
-use Rattle.irc_server.specs.Matched.{is_user_here, IsMatched}
+use Rattle.irc_server.specs.Matched.{has_client, is_user_here, is_user_of, IsMatched}
 use Rattle.irc_server.specs.Loops.Stage.{IsFit, AreFit, LeavesApart, IsFreeFor, IsFreeOf, IsNoUser}
-use Rattle.irc_server.proofs.Numbers.{same_number, one_number, same_number-is, get-with, get-without, get-each}
+use Rattle.irc_server.proofs.Numbers.{here, later, same_number, one_number, same_number-refl, same_number-is, get-with, get-without, get-each}
 
 -- a nickname in a client
 pub nick_in : (nick name : List ℕ) → Some (Registered nick) ≡ Some (Registered name) → nick ≡ name
@@ -54,20 +56,59 @@ left_client clients conn q client is = by (same_number q conn) refl (sym (get-wi
 
 pub new_client : {A : Type 0} (clients : Clients) (conn q : ℕ) (client other : Client) → get (insert clients conn client) q ≡ Some other
     → (q ≡ conn → client ≡ other → A) → (same_number q conn ≡ false → get clients q ≡ Some other → A) → A
-new_client {A = A} clients conn q client other is here there = by (same_number q conn) refl (sym (get-with clients conn client q) ∙ is)
+new_client {A = A} clients conn q client other is mine others = by (same_number q conn) refl (sym (get-with clients conn client q) ∙ is)
   where
     by : (b : Bool) → same_number q conn ≡ b → cond b (Some client) (get clients q) ≡ Some other → A
-    by true one left = here (one_number q conn one) (same_some client other left)
-    by false two left = there two left
+    by true one left = mine (one_number q conn one) (same_some client other left)
+    by false two left = others two left
+
+-- some client has a nickname
+
+-- some entry passes a test
+any_found : (p : Client → Bool) (es : List (ℕ × Client)) (q : ℕ) (c : Client) → find nat_cmp q es ≡ Some c → p c ≡ true → list_any (λ (e : ℕ × Client). p e.1) es ≡ true
+any_found p [] q c is passes = cc is
+any_found p (e ∷ es) q c is passes = by (same_number q e.0) refl (any_found p es q c) is
+  where
+    or_right : (a b : Bool) → b ≡ true → (a || b) ≡ true
+    or_right true b right = refl
+    or_right false b right = right
+
+    by : (b : Bool) → same_number q e.0 ≡ b → (find nat_cmp q es ≡ Some c → p c ≡ true → list_any (λ (x : ℕ × Client). p x.1) es ≡ true)
+        → cond b (Some e.1) (find nat_cmp q es) ≡ Some c → (p e.1 || list_any (λ (x : ℕ × Client). p x.1) es) ≡ true
+    by true one rest found = ap (λ b. b || list_any (λ (x : ℕ × Client). p x.1) es) (ap p (same_some e.1 c found) ∙ passes)
+    by false two rest found = or_right (p e.1) (list_any (λ (x : ℕ × Client). p x.1) es) (rest found passes)
+
+-- and is found under its number
+any_gives : {A : Type 0} (p : Client → Bool) (es : List (ℕ × Client)) → T (is_sorted nat_cmp es) → list_any (λ (e : ℕ × Client). p e.1) es ≡ true
+    → ((q : ℕ) (c : Client) → find nat_cmp q es ≡ Some c → p c ≡ true → A) → A
+any_gives p [] rise some gives = cc some
+any_gives {A = A} p (e ∷ es) rise some gives =
+    by (p e.1) refl some (λ rest. any_gives p es (both_true _ _ rise).1 rest (λ q c is passes. gives q c (later e es q c (both_true _ _ rise).0 is) passes))
+  where
+    by : (b : Bool) → p e.1 ≡ b → (b || list_any (λ (x : ℕ × Client). p x.1) es) ≡ true → (list_any (λ (x : ℕ × Client). p x.1) es ≡ true → A) → A
+    by true passes some rest = gives e.0 e.1 (here e es) passes
+    by false fails some rest = rest some
+
+pub has_from : (clients : Clients) (conn : ℕ) (nick fold : List ℕ) → get clients conn ≡ Some (Registered nick) → key nick ≡ fold → has_client clients fold ≡ true
+has_from clients conn nick fold is named =
+    any_found (is_user_of fold) (entries clients) conn (Registered nick) (sym (get-entries clients conn) ∙ is) ((bytes_decides (key nick) fold).1 named)
+
+pub has_to : {A : Type 0} (clients : Clients) (fold : List ℕ) → has_client clients fold ≡ true
+    → ((conn : ℕ) (nick : List ℕ) → get clients conn ≡ Some (Registered nick) → key nick ≡ fold → A) → A
+has_to {A = A} clients fold has gives = any_gives (is_user_of fold) (entries clients) (entries_sorted clients) has (λ q c is. by q c (get-entries clients q ∙ is))
+  where
+    by : (q : ℕ) (c : Client) → get clients q ≡ Some c → is_user_of fold c ≡ true → A
+    by q (Registering pending) is passes = cc passes
+    by q (Registered nick) is passes = gives q nick is ((bytes_decides (key nick) fold).0 passes)
 
 -- a user that is here
 
 here_row : (view : View) (nick : List ℕ) → is_user_here view nick ≡ true → is_some (row view.room.users (key nick)) ≡ true
-here_row view nick here = by (row view.room.users (key nick)) here
+here_row view nick known = by (row view.room.users (key nick)) known
   where
     by : (o : Option User) → option_map_or (is_home view.place.name) o false ≡ true → is_some o ≡ true
-    by None here = cc here
-    by (Some user) here = refl
+    by None known = cc known
+    by (Some user) known = refl
 
 pub live : (view : View) → IsMatched view → (conn : ℕ) (nick : List ℕ) (user : User) → client_of view conn ≡ Some (Registered nick)
     → row view.room.users (key nick) ≡ Some user → user.home ≡ view.place.name
@@ -174,9 +215,44 @@ module _ (view : View) (nick new : List ℕ) (matched : IsMatched view) (possibl
       (λ older was_other same_older new_is. apart_from conn name was two (sym same_names ∙ ap key (sym new_is)))
       (λ was_other two_other. matched.user_has_one conn other name second was was_other same_names))
 
+  has_after : (x : User) → row view.room.users (key nick) ≡ Some x → (fold : List ℕ) (user : User) → row (after view.room (Rename nick new)).users fold ≡ Some user
+      → user.home ≡ view.place.name → has_client (clients_after (Rename nick new) view.clients) fold ≡ true
+  unfolding after
+  has_after x there fold user is home =
+      by (same_fold fold (key new)) (same_fold fold (key nick)) refl refl (sym (row-moved (key nick) (key new) (with_nick new) view.room.users x there fold) ∙ is)
+    where
+      its_client : (conn : ℕ) (name : List ℕ) → get view.clients conn ≡ Some (Registered name) → key name ≡ key nick
+          → get (clients_after (Rename nick new) view.clients) conn ≡ Some (Registered new)
+      its_client conn name was one =
+          get-each (renamed_in nick new) view.clients conn ∙ ap (option_map (renamed_in nick new)) was
+          ∙ ap (λ b. Some (if b then Registered new else Registered name)) (same_by_key name nick one)
+
+      other_client : (conn : ℕ) (name : List ℕ) → get view.clients conn ≡ Some (Registered name) → same name nick ≡ false
+          → get (clients_after (Rename nick new) view.clients) conn ≡ Some (Registered name)
+      other_client conn name was two =
+          get-each (renamed_in nick new) view.clients conn ∙ ap (option_map (renamed_in nick new)) was
+          ∙ ap (λ b. Some (if b then Registered new else Registered name)) two
+
+      apart_name : (name : List ℕ) → key name ≡ fold → same_fold fold (key nick) ≡ false → (b : Bool) → same name nick ≡ b → b ≡ false
+      apart_name name named two true one =
+          let folds = ap (same_fold fold) (sym (key_by_same name nick one) ∙ named) ∙ same_fold-refl fold in cc
+      apart_name name named two false other = refl
+
+      by : (b c : Bool) → same_fold fold (key new) ≡ b → same_fold fold (key nick) ≡ c
+          → cond b (Some (with_nick new x)) (cond c None (row view.room.users fold)) ≡ Some user
+          → has_client (clients_after (Rename nick new) view.clients) fold ≡ true
+      by true c is_new is_old found =
+          has_to view.clients (key nick) (matched.user_has_client (key nick) x there (ap (λ (u : User). u.home) (same_some (with_nick new x) user found) ∙ home))
+          (λ conn name was one. has_from (clients_after (Rename nick new) view.clients) conn new fold (its_client conn name was one) (sym (one_fold fold (key new) is_new)))
+      by false true is_new is_old found = cc found
+      by false false is_new is_old found =
+          has_to view.clients fold (matched.user_has_client fold user found home)
+          (λ conn name was named. has_from (clients_after (Rename nick new) view.clients) conn name fold
+          (other_client conn name was (apart_name name named is_old (same name nick) refl)) named)
+
   there_is : (o : Option User) → row view.room.users (key nick) ≡ o → is_some o ≡ true → IsMatched renamed_view
   there_is None none some = absurd (cc some)
-  there_is (Some x) there some = record { registered_is_user = here_after x there; user_has_one = one_after }
+  there_is (Some x) there some = record { registered_is_user = here_after x there; user_has_one = one_after; user_has_client = has_after x there }
 
   pub renamed_matched : IsMatched renamed_view
   renamed_matched = there_is (row view.room.users (key nick)) refl (front (is_some (row view.room.users (key nick))) possible.users_there)
@@ -197,8 +273,22 @@ unfolding after
 mode_matched view nick invisible matched = record {
   registered_is_user = λ conn name is. by conn name is (same_fold (key name) (key nick)) refl;
   user_has_one = matched.user_has_one;
+  user_has_client = λ fold user is home.
+      had fold user home (same_fold fold (key nick)) refl (sym (row-alter (key nick) (option_map (with_invisible invisible)) view.room.users fold) ∙ is);
 }
   where
+    was_there : (user : User) → user.home ≡ view.place.name → (o : Option User) → row view.room.users (key nick) ≡ o → option_map (with_invisible invisible) o ≡ Some user
+        → has_client view.clients (key nick) ≡ true
+    was_there user home None there is = cc is
+    was_there user home (Some x) there is =
+        matched.user_has_client (key nick) x there (ap (λ (u : User). u.home) (same_some (with_invisible invisible x) user is) ∙ home)
+
+    had : (fold : List ℕ) (user : User) → user.home ≡ view.place.name → (b : Bool) → same_fold fold (key nick) ≡ b
+        → cond b (option_map (with_invisible invisible) (row view.room.users (key nick))) (row view.room.users fold) ≡ Some user → has_client view.clients fold ≡ true
+    had fold user home true one is =
+        ap (has_client view.clients) (one_fold fold (key nick) one) ∙ was_there user home (row view.room.users (key nick)) refl is
+    had fold user home false two is = matched.user_has_client fold user is home
+
     by : (conn : ℕ) (name : List ℕ) → get view.clients conn ≡ Some (Registered name) → (b : Bool) → same_fold (key name) (key nick) ≡ b
         → option_map_or (is_home view.place.name) (row (alter (key nick) (option_map (with_invisible invisible)) view.room.users) (key name)) false ≡ true
     by conn name is true one =
@@ -220,13 +310,13 @@ unfolding after
 quiet_matched view (AddUser user) matched possible quiet = absurd (cc quiet)
 quiet_matched view (Rename nick new) matched possible quiet = renamed_matched view nick new matched possible
 quiet_matched view (Quit nick text) matched possible quiet = absurd (cc quiet)
-quiet_matched view (Join nick channel op) matched possible quiet = record { registered_is_user = matched.registered_is_user; user_has_one = matched.user_has_one }
-quiet_matched view (Part nick channel text) matched possible quiet = record { registered_is_user = matched.registered_is_user; user_has_one = matched.user_has_one }
-quiet_matched view (Kick by channel nick text) matched possible quiet = record { registered_is_user = matched.registered_is_user; user_has_one = matched.user_has_one }
-quiet_matched view (ChangeModes by channel changes) matched possible quiet = record { registered_is_user = matched.registered_is_user; user_has_one = matched.user_has_one }
-quiet_matched view (SetTopic by channel text) matched possible quiet = record { registered_is_user = matched.registered_is_user; user_has_one = matched.user_has_one }
-quiet_matched view (Say by notice target text) matched possible quiet = record { registered_is_user = matched.registered_is_user; user_has_one = matched.user_has_one }
-quiet_matched view (Invite by nick channel) matched possible quiet = record { registered_is_user = matched.registered_is_user; user_has_one = matched.user_has_one }
+quiet_matched view (Join nick channel op) matched possible quiet = record { registered_is_user = matched.registered_is_user; user_has_one = matched.user_has_one; user_has_client = matched.user_has_client }
+quiet_matched view (Part nick channel text) matched possible quiet = record { registered_is_user = matched.registered_is_user; user_has_one = matched.user_has_one; user_has_client = matched.user_has_client }
+quiet_matched view (Kick by channel nick text) matched possible quiet = record { registered_is_user = matched.registered_is_user; user_has_one = matched.user_has_one; user_has_client = matched.user_has_client }
+quiet_matched view (ChangeModes by channel changes) matched possible quiet = record { registered_is_user = matched.registered_is_user; user_has_one = matched.user_has_one; user_has_client = matched.user_has_client }
+quiet_matched view (SetTopic by channel text) matched possible quiet = record { registered_is_user = matched.registered_is_user; user_has_one = matched.user_has_one; user_has_client = matched.user_has_client }
+quiet_matched view (Say by notice target text) matched possible quiet = record { registered_is_user = matched.registered_is_user; user_has_one = matched.user_has_one; user_has_client = matched.user_has_client }
+quiet_matched view (Invite by nick channel) matched possible quiet = record { registered_is_user = matched.registered_is_user; user_has_one = matched.user_has_one; user_has_client = matched.user_has_client }
 quiet_matched view (UserMode nick invisible) matched possible quiet = mode_matched view nick invisible matched
 
 -- steps by which nobody comes and nobody goes
@@ -271,24 +361,47 @@ still_steps conn name (Do effect ∷ acts) h still = absurd (cc still)
 
 -- Who comes and who goes.
 
+-- a client under another number stays
+other_number : (clients : Clients) (conn q : ℕ) (name : List ℕ) → IsNoUser (get clients conn) → get clients q ≡ Some (Registered name) → same_number q conn ≡ false
+other_number clients conn q name none was = by (same_number q conn) refl
+  where
+    by : (b : Bool) → same_number q conn ≡ b → b ≡ false
+    by true one = never_registered (get clients conn) name none (ap (get clients) (sym (one_number q conn one)) ∙ was)
+    by false two = refl
+
+still_left : (clients : Clients) (conn q : ℕ) (name : List ℕ) → same_number q conn ≡ false → get clients q ≡ Some (Registered name)
+    → get (remove clients conn) q ≡ Some (Registered name)
+still_left clients conn q name two was = get-without clients conn q ∙ ap (λ b. cond b None (get clients q)) two ∙ was
+
+still_there : (clients : Clients) (conn q : ℕ) (client : Client) (name : List ℕ) → IsNoUser (get clients conn) → get clients q ≡ Some (Registered name)
+    → get (insert clients conn client) q ≡ Some (Registered name)
+still_there clients conn q client name none was =
+    get-with clients conn client q ∙ ap (λ b. cond b (Some client) (get clients q)) (other_number clients conn q name none was) ∙ was
+
 -- one that is no user is seated, or is there no more
-pub pending_matched : (view : View) (conn : ℕ) (client : Client) → IsNoUser (Some client) → IsMatched view → IsMatched (with_client view conn client)
-pending_matched view conn client none matched = record {
+pub pending_matched : (view : View) (conn : ℕ) (client : Client) → IsNoUser (Some client) → IsNoUser (client_of view conn) → IsMatched view → IsMatched (with_client view conn client)
+pending_matched view conn client none was_none matched = record {
   registered_is_user = λ q name is. new_client view.clients conn q client (Registered name) is (λ at now. absurd (never now)) (λ two was. matched.registered_is_user q name was);
   user_has_one = λ q other nick name is is_other same_names.
       new_client view.clients conn q client (Registered nick) is (λ at now. absurd (never now))
       (λ two was. new_client view.clients conn other client (Registered name) is_other (λ at now. absurd (never now))
       (λ two_other was_other. matched.user_has_one q other nick name was was_other same_names));
+  user_has_client = λ fold user is home.
+      has_to view.clients fold (matched.user_has_client fold user is home)
+      (λ q name was named. has_from (insert view.clients conn client) q name fold (still_there view.clients conn q client name was_none was) named);
 }
   where
     never : {name : List ℕ} → client ≡ Registered name → ⊥
     never {name} now = never_registered (Some client) name none (ap Some now)
 
-pub left_matched : (view : View) (conn : ℕ) → IsMatched view → IsMatched (without_client view conn)
-left_matched view conn matched = record {
+pub left_matched : (view : View) (conn : ℕ) → IsNoUser (client_of view conn) → IsMatched view → IsMatched (without_client view conn)
+left_matched view conn was_none matched = record {
   registered_is_user = λ q name is. matched.registered_is_user q name (left_client view.clients conn q (Registered name) is).1;
   user_has_one = λ q other nick name is is_other same_names.
       matched.user_has_one q other nick name (left_client view.clients conn q (Registered nick) is).1 (left_client view.clients conn other (Registered name) is_other).1 same_names;
+  user_has_client = λ fold user is home.
+      has_to view.clients fold (matched.user_has_client fold user is home)
+      (λ q name was named. has_from (remove view.clients conn) q name fold (still_left view.clients conn q name (other_number view.clients conn q name was_none was) was) named);
 }
 
 -- a user is added, and its connection is registered
@@ -319,9 +432,9 @@ module _ (view : View) (conn : ℕ) (user : User) (matched : IsMatched view) (po
     apart = tt;
   }
 
-  pub added_matched : IsMatched (view_after seated (AddUser user))
+  pub added_matched : IsNoUser (client_of view conn) → IsMatched (view_after seated (AddUser user))
   unfolding after
-  added_matched = record {
+  added_matched was_none = record {
     registered_is_user = λ q name is.
         new_client view.clients conn q (Registered (user.nick)) (Registered name) is
         (λ at now. new_here name (nick_in user.nick name (ap Some now)))
@@ -334,8 +447,21 @@ module _ (view : View) (conn : ℕ) (user : User) (matched : IsMatched view) (po
         (λ two was. new_client view.clients conn other (Registered (user.nick)) (Registered name) is_other
         (λ at_other now_other. taken_by q nick was (sym same_names ∙ ap key (sym (nick_in user.nick name (ap Some now_other)))))
         (λ two_other was_other. matched.user_has_one q other nick name was was_other same_names));
+    user_has_client = λ fold other is home_is.
+        had was_none fold other home_is (same_fold fold (key user.nick)) refl (sym (row-alter (key user.nick) (λ _. Some user) view.room.users fold) ∙ is);
   }
     where
+      had : IsNoUser (client_of view conn) → (fold : List ℕ) (other : User) → other.home ≡ view.place.name → (b : Bool) → same_fold fold (key user.nick) ≡ b
+          → cond b (Some user) (row view.room.users fold) ≡ Some other → has_client (insert view.clients conn (Registered (user.nick))) fold ≡ true
+      had none fold other home_is true one is =
+          has_from (insert view.clients conn (Registered (user.nick))) conn user.nick fold
+          (get-with view.clients conn (Registered (user.nick)) conn ∙ ap (λ b. cond b (Some (Registered (user.nick))) (get view.clients conn)) (same_number-refl conn))
+          (sym (one_fold fold (key user.nick) one))
+      had none fold other home_is false two is =
+          has_to view.clients fold (matched.user_has_client fold other is home_is)
+          (λ q name was named. has_from (insert view.clients conn (Registered (user.nick))) q name fold
+          (still_there view.clients conn q (Registered (user.nick)) name none was) named)
+
       new_here : (name : List ℕ) → user.nick ≡ name → option_map_or (is_home view.place.name) (row (alter (key user.nick) (λ _. Some user) view.room.users) (key name)) false ≡ true
       new_here name is =
           ap (λ o. option_map_or (is_home view.place.name) o false)
@@ -360,9 +486,26 @@ quit_matched view conn nick who text matched mine who_is = record {
   registered_is_user = λ q name is.
       let left = left_client view.clients conn q (Registered name) is in
       still_here q name left.0 left.1 (same_fold (key name) (key who)) refl;
-  user_has_one = (left_matched view conn matched).user_has_one;
+  user_has_one = λ q other first name is is_other same_names.
+      matched.user_has_one q other first name (left_client view.clients conn q (Registered first) is).1 (left_client view.clients conn other (Registered name) is_other).1 same_names;
+  user_has_client = λ fold user is home. had fold user home (same_fold fold (key who)) refl (sym (row-alter (key who) (λ _. None) view.room.users fold) ∙ is);
 }
   where
+    another : (q : ℕ) (name fold : List ℕ) → get view.clients q ≡ Some (Registered name) → key name ≡ fold → same_fold fold (key who) ≡ false → (b : Bool)
+        → same_number q conn ≡ b → b ≡ false
+    another q name fold was named two true one =
+        let one_name : name ≡ nick = nick_in name nick (sym was ∙ ap (get view.clients) (one_number q conn one) ∙ mine) in
+        let folds = ap (same_fold fold) (who_is ∙ ap key (sym one_name) ∙ named) ∙ same_fold-refl fold in cc
+    another q name fold was named two false other = refl
+
+    had : (fold : List ℕ) (user : User) → user.home ≡ view.place.name → (b : Bool) → same_fold fold (key who) ≡ b → cond b None (row view.room.users fold) ≡ Some user
+        → has_client (remove view.clients conn) fold ≡ true
+    had fold user home true one is = cc is
+    had fold user home false two is =
+        has_to view.clients fold (matched.user_has_client fold user is home)
+        (λ q name was named. has_from (remove view.clients conn) q name fold
+        (still_left view.clients conn q name (another q name fold was named two (same_number q conn) refl) was) named)
+
     still_here : (q : ℕ) (name : List ℕ) → same_number q conn ≡ false → get view.clients q ≡ Some (Registered name) → (b : Bool) → same_fold (key name) (key who) ≡ b
         → option_map_or (is_home view.place.name) (row (alter (key who) (λ _. None) view.room.users) (key name)) false ≡ true
     still_here q name two was true one =
@@ -374,4 +517,8 @@ quit_matched view conn nick who text matched mine who_is = record {
         ∙ matched.registered_is_user q name was
 
 pub quit_fit : (view : View) (conn : ℕ) (who text : List ℕ) → IsMatched view → IsPossible view.room (Quit who text) → IsFit (without_client view conn) (Quit who text)
-quit_fit view conn who text matched possible = fit_by (without_client view conn) (Quit who text) (left_matched view conn matched) possible
+quit_fit view conn who text matched possible = record {
+  possible = possible;
+  at_home = λ q name user is there. live view matched q name user (left_client view.clients conn q (Registered name) is).1 there;
+  apart = tt;
+}

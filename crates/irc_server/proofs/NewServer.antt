@@ -2,6 +2,9 @@
 use Rattle.std.proofs.Common.{◌≡◌, ℕ, false, List, refl, sym, ◌∙◌, ap, subst}
 use Rattle.std.specs.Ordering.{nat_cmp}
 use Rattle.std.specs.FinMap.{empty, get, get-empty}
+use Rattle.irc_names.specs.Tables.{fold_cmp, row}
+use Rattle.irc_users.specs.declared.user.User.{User}
+use Rattle.irc_room.specs.Room.{Room}
 use Rattle.irc_room.specs.Applying.{Kept}
 use Rattle.irc_room.specs.Laws.{no_room}
 use Rattle.irc_room.proofs.WellFormedLaw.{no_room_is_well_formed}
@@ -22,8 +25,9 @@ is_ready stage own own_is room_is indexed = record {
   indexed = indexed;
 }
 
-pub is_matched : (view : View) → view.clients ≡ empty → IsMatched view
-is_matched view none = record {
+pub is_matched : (view : View) → view.clients ≡ empty → view.room ≡ no_room → IsMatched view
+is_matched view none empty_room = record {
   registered_is_user = λ conn nick is. let nobody = get-empty {X = Client} nat_cmp conn in let same = ap (λ cs. get cs conn) none in cc;
   user_has_one = λ conn other nick name is is_other same_names. let nobody = get-empty {X = Client} nat_cmp conn in let same = ap (λ cs. get cs conn) none in cc;
+  user_has_client = λ fold user is home. let nobody = get-empty {X = User} fold_cmp fold in let same = ap (λ (r : Room). row r.users fold) empty_room in cc;
 }

@@ -1,9 +1,11 @@
 -- Clients by number: what they answer after a change, and what the code's map has.
-use Rattle.std.proofs.Common.{◌≡◌, ℕ, Bool, true, false, cond, Some, None, List, [], ◌∷◌, refl, sym, ◌∙◌, ap, map, option_map}
+use Rattle.std.proofs.Common.{◌≡◌, ℕ, Bool, true, false, cond, T, Some, None, List, [], ◌∷◌, refl, sym, ◌∙◌, ap, map, option_map}
 use Rattle.std.specs.Ordering.{nat_cmp, eq_by_cmp, is_eq}
 use Rattle.std.specs.Cmp.{nat_cmp_total, eq_by_cmp_equiv, Equal-is}
 use Rattle.std.specs.Map.{lookup}
 use Rattle.std.specs.BTreeMap.{BTreeMap, UpdatesBy, is_at, get as number_in}
+use Rattle.std.specs.FinMap.Entries.{below_all}
+use Rattle.irc_tables.proofs.OrderedEntries.{above-is, find-above}
 use Rattle.std.specs.FinMap.{get, insert, remove, entries, find, get-from_entries, get-entries, get-insert, get-remove, same_map, nat_cmp-IsAntisymmetric}
 use Rattle.irc_server.specs.declared.clients.Client.{Client}
 use Rattle.irc_server.specs.View.{Clients, each_client}
@@ -72,3 +74,24 @@ taken-numbered old new conn updates = same_clients _ _ (λ q.
     get-numbered new q ∙ updates.0 q ∙ turned conn q _ _
     ∙ ap (cond (same_number q conn) None) (sym (get-numbered old q))
     ∙ sym (get-without (numbered old) conn q))
+
+-- entries in the order of their numbers
+
+told : (b : Bool) → T b → b ≡ true
+told true h = refl
+told false h = absurd h
+
+-- no entry behind one in order has its number
+pub none_behind : (e : (ℕ × Client)) (es : List (ℕ × Client)) → T (below_all nat_cmp e.0 es) → find nat_cmp e.0 es ≡ None
+none_behind e es below = find-above nat_cmp_total e.0 es (sym (above-is nat_cmp_total e.0 es) ∙ told _ below)
+
+-- what is found behind an entry is found with it
+pub later : (e : (ℕ × Client)) (es : List (ℕ × Client)) (q : ℕ) (c : Client) → T (below_all nat_cmp e.0 es) → find nat_cmp q es ≡ Some c → find nat_cmp q (e ∷ es) ≡ Some c
+later e es q c below is = by (same_number q e.0) refl
+  where
+    by : (b : Bool) → same_number q e.0 ≡ b → cond b (Some e.1) (find nat_cmp q es) ≡ Some c
+    by true one = let none = none_behind e es below in let moved = ap (λ n. find nat_cmp n es) (one_number q e.0 one) in cc
+    by false two = is
+
+pub here : (e : (ℕ × Client)) (es : List (ℕ × Client)) → find nat_cmp e.0 (e ∷ es) ≡ Some e.1
+here e es = ap (λ b. cond b (Some e.1) (find nat_cmp e.0 es)) (same_number-refl e.0)

@@ -2,14 +2,12 @@
 use Rattle.std.proofs.Common.{◌≡◌, ℕ, ◌+◌, ◌<◌, ◌≤◌, Bool, true, false, cond, T, Option, Some, None, List, [], ◌∷◌, ◌++◌, length, drop, get_or, refl, sym, ◌∙◌, ap, append-nil, append_assoc, filter_map, if◌then◌else◌}
 use Rattle.std.specs.List.{cons_option}
 use Rattle.std.specs.Ordering.{nat_cmp}
-use Rattle.std.specs.Cmp.{nat_cmp_total}
 use Rattle.std.specs.FinMap.{get, entries, entries_sorted, find, is_sorted, get-entries}
 use Rattle.std.specs.FinMap.Entries.{below_all}
 use Rattle.std.proofs.lemmas.List.{drop_more, drop_all}
 use Rattle.arrayvec.specs.ArrayVec.{ArrayVec}
 use Rattle.irc_names.specs.Fold.{key, same}
 use Rattle.irc_names.specs.Tables.{Table, row}
-use Rattle.irc_tables.proofs.OrderedEntries.{above-is, find-above}
 use Rattle.irc_room.specs.Seen.{Showing}
 use Rattle.irc_room.proofs.Rows.{same_some}
 use Rattle.irc_room.proofs.ViewerLaws.{both_true}
@@ -21,31 +19,12 @@ use Rattle.irc_server.specs.declared.event.Out.TheVariants.{ToClient}
 use Rattle.irc_server.specs.View.{Clients}
 use Rattle.irc_server.specs.Handle.{is_client, to_viewer}
 use Rattle.irc_server.specs.Loops.Stage.{all_shown, shown_of, IsIndex}
-use Rattle.irc_server.proofs.Numbers.{same_number, one_number, same_number-refl}
+use Rattle.irc_server.proofs.Numbers.{here, later, none_behind, same_number}
 use Rattle.irc_server.proofs.Matching.{same_by_key, key_by_same}
 use Rattle.irc_server.proofs.Index.{differs, named_is}
 
 abbrev Entry : Type 0
 Entry = ℕ × Client
-
-told : (b : Bool) → T b → b ≡ true
-told true h = refl
-told false h = absurd h
-
--- no entry behind one in order has its number
-none_behind : (e : Entry) (es : List Entry) → T (below_all nat_cmp e.0 es) → find nat_cmp e.0 es ≡ None
-none_behind e es below = find-above nat_cmp_total e.0 es (sym (above-is nat_cmp_total e.0 es) ∙ told _ below)
-
--- what is found behind an entry is found with it
-later : (e : Entry) (es : List Entry) (q : ℕ) (c : Client) → T (below_all nat_cmp e.0 es) → find nat_cmp q es ≡ Some c → find nat_cmp q (e ∷ es) ≡ Some c
-later e es q c below is = by (same_number q e.0) refl
-  where
-    by : (b : Bool) → same_number q e.0 ≡ b → cond b (Some e.1) (find nat_cmp q es) ≡ Some c
-    by true one = let none = none_behind e es below in let moved = ap (λ n. find nat_cmp n es) (one_number q e.0 one) in cc
-    by false two = is
-
-here : (e : Entry) (es : List Entry) → find nat_cmp e.0 (e ∷ es) ≡ Some e.1
-here e es = ap (λ b. cond b (Some e.1) (find nat_cmp e.0 es)) (same_number-refl e.0)
 
 module _ (test : Client → Bool) (line : ℕ → Out) where
   abbrev chosen : Entry → Option Out

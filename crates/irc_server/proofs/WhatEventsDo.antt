@@ -21,9 +21,9 @@ use Rattle.irc_server.specs.declared.event.Out.{Out}
 use Rattle.irc_server.specs.declared.event.ServerFault.{ServerFault}
 use Rattle.irc_server.specs.declared.event.ServerFault.TheVariants.{Memory, Failed}
 use Rattle.irc_server.specs.View.{View, client_of, with_client}
-use Rattle.irc_server.specs.Handle.{Handled, connects, says, goes, handled, fault_of, there, fresh, gone, read_as, unchanged, closing, all_stepped, decided, user_decided, lost_text}
-use Rattle.irc_server.specs.Happening.{Is, Does, IsHandled, takes_it, refuses_it, wants_memory, has_failed}
-use Rattle.irc_server.specs.Matched.{IsMatched, StaysMatched}
+use Rattle.irc_server.specs.Handle.{Handled, Happening, connects, says, goes, handled, fault_of, there, fresh, gone, read_as, unchanged, closing, all_stepped, decided, user_decided, lost_text}
+use Rattle.irc_server.specs.Happening.{Happens, Is, Does, IsHandled, takes_it, refuses_it, wants_memory, has_failed}
+use Rattle.irc_server.specs.Matched.{IsDue, IsMatched, StaysMatched}
 use Rattle.irc_server.specs.Loops.Grown.{Grew}
 use Rattle.irc_server.specs.Loops.Stage.{behind}
 use Rattle.irc_server.proofs.Steps.{carried_behind}
@@ -128,6 +128,13 @@ nobody_there (Some client) is = cc is
 pub absent : (view : View) (event : Event) (conn : ℕ) (host : List ℕ) → event ≡ Connect conn host → fault_of view event ≡ None → client_of view conn ≡ None
 absent view event conn host is owed = nobody_there (client_of view conn) (sym (ap (fault_of view) is) ∙ owed)
 
-pub matched_after : StaysMatched → (old new : View) (event : Event) (out out_after : List Out) → IsMatched old → IsWellFormed old.room → Does old event out new out_after
-    → IsMatched new
-matched_after stays old new event out out_after matched well does = subst IsMatched (sym does.view_is) (stays old matched well does.happening)
+-- where no fault is owed what happens is due
+due_by : (view : View) (event : Event) (happening : Happening) → fault_of view event ≡ None → Happens event happening → IsDue view happening
+due_by view (Connect conn host) happening owed is = subst (IsDue view) (sym is) (nobody_there (client_of view conn) owed)
+due_by view (Line conn line) happening owed said = subst (IsDue view) (sym said.is) tt
+due_by view (Gone conn) happening owed is = subst (IsDue view) (sym is) tt
+
+pub matched_after : StaysMatched → (old new : View) (event : Event) (out out_after : List Out) → IsMatched old → IsWellFormed old.room → fault_of old event ≡ None
+    → Does old event out new out_after → IsMatched new
+matched_after stays old new event out out_after matched well owed does =
+    subst IsMatched (sym does.view_is) (stays old matched well does.happening (due_by old event does.happening owed does.is.happens))
