@@ -79,7 +79,7 @@ KeepsNews old new =
     → IsForest (links_of old.edges.items)
     → GoesAway (streams_from (links_of old.edges.items) (from_one (links_of old.edges.items) source)) (net_of old)
     → SameOutcome (relaying old.edges.items) (streams_from (links_of old.edges.items) (from_one (links_of old.edges.items) source))
-        (net_of old) (net_of new)
+    (net_of old) (net_of new)
     × GoesAway (streams_from (links_of old.edges.items) (from_one (links_of old.edges.items) source)) (net_of new)
 
 -- news that a server publishes at rest, in a forest, come to every server on the way from that one

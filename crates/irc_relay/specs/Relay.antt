@@ -102,7 +102,7 @@ pub data ComesInTurn {State Line Shown : Type 0} (m : Machine State Line Shown) 
   from_source : streams.depth t ≡ 1 → coming m streams net t ≡ under_way net (streams.parent t) t → ComesInTurn m streams net t
   from_parent : 0 < streams.depth (streams.parent t) → streams.depth t ≡ suc (streams.depth (streams.parent t))
       → coming m streams net t ≡ under_way net (streams.parent t) t
-          ++ passed_on m (streams.parent t) (streams.parent (streams.parent t)) (net.state (streams.parent t)) (coming m streams net (streams.parent t)) t
+      ++ passed_on m (streams.parent t) (streams.parent (streams.parent t)) (net.state (streams.parent t)) (coming m streams net (streams.parent t)) t
       → ComesInTurn m streams net t
 
 -- t's state after all that is coming to it

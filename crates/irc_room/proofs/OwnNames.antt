@@ -96,12 +96,12 @@ module _ (nick : List ℕ) (channels : Table Channel) where
       same_entries fold_cmp order (slice_cmp-IsAntisymmetric nat_cmp-IsAntisymmetric) ns
       (map name_of (where_key fold_cmp (holds has_member channels nick) (entries channels))) sorted own_sorted
       (λ q.
-        one_name (find fold_cmp q ns) (row channels q) (just q)
-        ∙ ap (λ o. option_map unit_of (cond (holds has_member channels nick q) o None)) (get-entries channels q)
-        ∙ ap (option_map unit_of)
-        (sym (find-where_key fold_cmp (holds has_member channels nick) q
-        (λ x tie. ap (holds has_member channels nick) (sym (slice_cmp-IsAntisymmetric nat_cmp-IsAntisymmetric q x tie))) (entries channels)))
-        ∙ sym (find_name q (where_key fold_cmp (holds has_member channels nick) (entries channels))))
+      one_name (find fold_cmp q ns) (row channels q) (just q)
+      ∙ ap (λ o. option_map unit_of (cond (holds has_member channels nick q) o None)) (get-entries channels q)
+      ∙ ap (option_map unit_of)
+      (sym (find-where_key fold_cmp (holds has_member channels nick) q
+      (λ x tie. ap (holds has_member channels nick) (sym (slice_cmp-IsAntisymmetric nat_cmp-IsAntisymmetric q x tie))) (entries channels)))
+      ∙ sym (find_name q (where_key fold_cmp (holds has_member channels nick) (entries channels))))
       ∙ ap (map name_of) (by_value (entries channels) all_at)
 
   pub names_told : (index : Index) → Tells index (holds has_member channels) → names_in (row index nick) ≡ own_names nick channels

@@ -84,7 +84,11 @@ fn show_and_change(
 /// # Errors
 /// Where memory runs out; nothing has changed then.
 #[tactic(auto, unfolding(crate::specs::After::after))]
-fn change(users: &mut Users, channels: &mut IndexedChannels, effect: &Effect) -> Result<(), AllocError>
+fn change(
+    users: &mut Users,
+    channels: &mut IndexedChannels,
+    effect: &Effect,
+) -> Result<(), AllocError>
     requires well { IsWellFormed (record { users = users.old; channels = channels.old }) }
     requires free { brings_free (record { users = users.old; channels = channels.old }) effect.now ≡ true }
     requires there { list_all (λ nick. is_some (row users.old (key nick))) (needs_users effect.now) ≡ true }

@@ -74,11 +74,7 @@ impl NameIndex {
 }
 
 /// Gives a nickname a row, where it has none.
-fn open(
-    rows: &mut NameTable<NameTable<()>>,
-    alloc: Global,
-    nick: &Nick,
-) -> Result<(), AllocError>
+fn open(rows: &mut NameTable<NameTable<()>>, alloc: Global, nick: &Nick) -> Result<(), AllocError>
     ensures ok { OnOk result (IsOpened rows.old rows.new (key nick.now)) }
     ensures refused { OnErr result (rows.new ≡ rows.old) }
 {

@@ -12,7 +12,6 @@ use Rattle.ircd.specs.Printing.{refusal_number}
 use Rattle.ircd.specs.Runs.{Standing, AnswersAt, IsRefused, Answer, puts_out, refuses, answer_text, next_after, Plays, nothing, event, Runs, end, request, Begins, to_the_end, partly, further, IsFront}
 use Rattle.ircd.specs.Scripts.{Request}
 
-
 -- one thing happens by an event, and so it does one thing
 same_view : (old : View) (e : Event) (a b : View) (xs ys : List Out) → Does old e [] a xs → Does old e [] b ys → a ≡ b
 same_view old e a b xs ys p q = p.view_is ∙ ap (λ h. (handled old h).view) (q.is.only p.happening p.is.happens) ∙ sym q.view_is
@@ -123,7 +122,7 @@ plays_front {a = a} {c = c} {s = s} {w = w} left (event {middle = m} {e = ev} {e
     record {
       more = rest.more;
       whole_is = is_y ∙ ap (λ z. answer_text z ++ u) (sym one.answer) ∙ ap (λ z. answer_text x ++ z) rest.whole_is ∙ sym (append_assoc (answer_text x) t rest.more)
-        ∙ ap (λ z. z ++ rest.more) (sym is);
+          ∙ ap (λ z. z ++ rest.more) (sym is);
       plays = rest.plays;
     }
 

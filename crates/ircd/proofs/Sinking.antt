@@ -36,7 +36,7 @@ loses_more {a = a} {b = b} {s = s} t p = record {
     written = p.prints.written;
     appended = p.prints.appended;
     whole = sym (append_assoc a.waiting s t) ∙ ap (λ x. x ++ t) p.prints.whole ∙ append_assoc p.prints.written (b.waiting ++ p.lost) t
-      ∙ ap (λ x. p.prints.written ++ x) (append_assoc b.waiting p.lost t);
+        ∙ ap (λ x. p.prints.written ++ x) (append_assoc b.waiting p.lost t);
   };
 }
 

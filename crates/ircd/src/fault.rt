@@ -116,7 +116,10 @@ impl Stop {
         ensures front { Tells (E.contents errors.old) (E.contents errors.new) (told self) }
     {
         match self {
-            Stop::Usage => write_whole(b"ircd: usage: ircd sim | ircd serve FILE [TURNS]\n", errors),
+            Stop::Usage => write_whole(
+                b"ircd: usage: ircd sim | ircd serve FILE [TURNS]\n",
+                errors,
+            ),
             Stop::BadScript(line) => tell_bad_script(line, errors),
             Stop::Failed => write_whole(b"ircd: failed\n", errors),
         }

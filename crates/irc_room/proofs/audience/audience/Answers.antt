@@ -10,8 +10,8 @@ returns-then-is_idle c =
     let room = room_of c.args.parts in
     let effect = c.args.effect.now in
     c.new.ensures.items ∙ elim c.then-is_idle.branch [
-      then-is_idle-via-then-is_idle w ↦ idle_has_no_viewers room effect (sym c.is_idle.ensures ∙ w.if-is_idle.true)
-    | then-is_idle-via-else-is_idle+then-not-has_line w ↦ no_line_no_viewers room effect (λ viewer. w.has_line.ensures viewer ∙ w.if-not-has_line.true)
+      | then-is_idle-via-then-is_idle w ↦ idle_has_no_viewers room effect (sym c.is_idle.ensures ∙ w.if-is_idle.true)
+      | then-is_idle-via-else-is_idle+then-not-has_line w ↦ no_line_no_viewers room effect (λ viewer. w.has_line.ensures viewer ∙ w.if-not-has_line.true)
     ]
 
 pub returns : goal.returns
