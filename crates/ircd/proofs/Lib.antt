@@ -4,6 +4,5 @@ pub mod ScriptSteps
 pub mod Printed
 pub mod Sinking
 pub mod Playing
-pub mod OneRun
 pub mod CutShort
 pub mod LineBodies
