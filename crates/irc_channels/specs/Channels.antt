@@ -159,6 +159,10 @@ is_new bans (Some mask) = not (list_any (same mask) bans)
 abbrev pub adds_ban : List (List ℕ) → ModeChange → Bool
 adds_ban bans change = is_new bans (ban_mask change.letter change.word) && change.plus
 
+-- none of these changes sets a ban that the channel has not
+abbrev pub adds_none : List ModeChange → Channel → Bool
+adds_none changes channel = not (list_any (adds_ban channel.modes.bans) changes)
+
 -- a flag of one member; whoever is none has none
 abbrev pub member_changed : List ℕ → (Flags → Flags) → Channel → Channel
 member_changed nick change channel = record channel { members = alter (key nick) (option_map change) channel.members }

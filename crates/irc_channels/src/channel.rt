@@ -3,7 +3,7 @@ ghost use Rattle.std.specs.Prelude.{◌≡◌, false, not, Some, None, IsOk, IsT
 ghost use Rattle.std.specs.List.{list_any};
 ghost use Rattle.std.specs.FinMap.{keys};
 ghost use Rattle.irc_names.specs.Fold.{key};
-ghost use Rattle.irc_channels.specs.Channels.{adds_ban, new_channel, has_member, is_nil, joined, left, without_user, renamed, invited_too, uninvited, with_topic, all_changed};
+ghost use Rattle.irc_channels.specs.Channels.{adds_ban, new_channel, has_member, is_nil, joined, left, without_user, renamed, invited_too, is_invited, uninvited, with_topic, all_changed};
 
 use crate::flags::Flags;
 use crate::member_changing::change_members;
@@ -102,10 +102,11 @@ impl Channel {
         self.invited.rename(nick.as_bytes(), new.as_bytes());
     }
 
-    /// A user is invited. Where there is no memory nothing has changed.
+    /// A user is invited; one who is invited already takes no memory. Where there is no memory nothing has changed.
     pub fn invite(&mut self, nick: &Nick) -> Result<(), AllocError>
         ensures ok { OnOk result (self.new ≡ invited_too (key nick.now) self.old) }
         ensures refused { OnErr result (self.new ≡ self.old) }
+        ensures there { IsTrue (is_invited (key nick.now) self.old) → IsOk result }
     {
         self.invited.insert(nick.as_bytes(), ())
     }

@@ -1,12 +1,12 @@
 //! The channels of a room, by name.
-ghost use Rattle.std.specs.Prelude.{◌≡◌, Some, None, OnOk, OnErr, is_some, map, unwrap_or};
-ghost use Rattle.std.specs.Option.{option_copied, option_map, option_and_then};
+ghost use Rattle.std.specs.Prelude.{◌≡◌, Some, None, IsTrue, IsOk, OnOk, OnErr, false, is_some, map, unwrap_or};
+ghost use Rattle.std.specs.Option.{option_copied, option_map, option_map_or, option_and_then};
 ghost use Rattle.std.specs.Result.{result_err};
 ghost use Rattle.std.specs.FinMap.{empty, entries};
 ghost use Rattle.irc_names.specs.Fold.{key};
 ghost use Rattle.irc_names.specs.Tables.{row, alter, each};
 ghost use Rattle.irc_tables.specs.RowViews.{row_entry};
-ghost use Rattle.irc_channels.specs.Channels.{new_channel, joined, left, without_user, renamed, invited_too, uninvited, with_topic, all_changed};
+ghost use Rattle.irc_channels.specs.Channels.{new_channel, adds_none, has_member, is_invited, joined, left, without_user, renamed, invited_too, uninvited, with_topic, all_changed};
 ghost use Rattle.irc_channels.specs.ChannelTable.{members_in, channel_fault, leaving_fault, IsOwedOrMemory};
 
 use crate::channel::Channel;
@@ -94,7 +94,7 @@ impl Channels {
     }
 
     /// A user joins a channel, which is made where it is not there, as it is spelled here (RFC 2812 section 3.2.1). One who is a
-    /// member already changes nothing.
+    /// member already changes nothing, and takes no memory.
     pub fn join(
         &mut self,
         nick: &Nick,
@@ -104,6 +104,7 @@ impl Channels {
         ensures fault { IsOwedOrMemory None (result_err result) }
         ensures ok { OnOk result (self.new ≡ alter (key channel.now) (λ c. Some (joined (key nick.now) op (unwrap_or c (new_channel channel.now)))) self.old) }
         ensures refused { OnErr result (self.new ≡ self.old) }
+        ensures member { IsTrue (option_map_or (has_member (key nick.now)) (row self.old (key channel.now)) false) → IsOk result }
     {
         if self.has(channel) {
             self.rows.try_at(channel.as_bytes(), &Joining { nick, op })?;
@@ -131,7 +132,7 @@ impl Channels {
         Ok(())
     }
 
-    /// Changes modes of a channel and of its members, one after another (RFC 2811 section 4).
+    /// Changes modes of a channel and of its members, one after another (RFC 2811 section 4). Only a ban that is added takes memory.
     pub fn change(
         &mut self,
         channel: &ChannelName,
@@ -140,6 +141,7 @@ impl Channels {
         ensures fault { IsOwedOrMemory (channel_fault (row self.old (key channel.now))) (result_err result) }
         ensures ok { OnOk result (self.new ≡ alter (key channel.now) (option_map (all_changed changes.now)) self.old) }
         ensures refused { OnErr result (self.new ≡ self.old) }
+        ensures none_added { IsTrue (option_map_or (adds_none changes.now) (row self.old (key channel.now)) false) → IsOk result }
     {
         if !self.has(channel) {
             return Err(ChannelsFault::NoSuchChannel);
@@ -162,11 +164,12 @@ impl Channels {
         Ok(())
     }
 
-    /// Invites a user to a channel.
+    /// Invites a user to a channel. One who is invited already takes no memory.
     pub fn invite(&mut self, nick: &Nick, channel: &ChannelName) -> Result<(), ChannelsFault>
         ensures fault { IsOwedOrMemory (channel_fault (row self.old (key channel.now))) (result_err result) }
         ensures ok { OnOk result (self.new ≡ alter (key channel.now) (option_map (invited_too (key nick.now))) self.old) }
         ensures refused { OnErr result (self.new ≡ self.old) }
+        ensures there { IsTrue (option_map_or (is_invited (key nick.now)) (row self.old (key channel.now)) false) → IsOk result }
     {
         if !self.has(channel) {
             return Err(ChannelsFault::NoSuchChannel);

@@ -1,7 +1,7 @@
 //! What the calls on the channels do to one of them.
 ghost use Rattle.std.specs.Prelude.{Some};
 ghost use Rattle.irc_names.specs.Fold.{key};
-ghost use Rattle.irc_channels.specs.Channels.{joined, left, without_user, renamed, invited_too, uninvited, with_topic, all_changed};
+ghost use Rattle.irc_channels.specs.Channels.{adds_none, has_member, is_invited, joined, left, without_user, renamed, invited_too, uninvited, with_topic, all_changed};
 
 use crate::channel::Channel;
 use crate::modes::ModeChange;
@@ -19,6 +19,8 @@ pub(crate) struct Joining<'a> {
 
 impl<'a> RowAttempt<Channel> for Joining<'a> {
     ghost tried = { λ joining channel. joined (key joining.nick.now) joining.op channel };
+
+    ghost surely = { λ joining channel. has_member (key joining.nick.now) channel };
 
     fn attempt(&self, channel: &mut Channel) -> Result<(), AllocError> {
         channel.join(self.nick, self.op)
@@ -78,6 +80,8 @@ pub(crate) struct Inviting<'a> {
 impl<'a> RowAttempt<Channel> for Inviting<'a> {
     ghost tried = { λ inviting channel. invited_too (key inviting.nick.now) channel };
 
+    ghost surely = { λ inviting channel. is_invited (key inviting.nick.now) channel };
+
     fn attempt(&self, channel: &mut Channel) -> Result<(), AllocError> {
         channel.invite(self.nick)
     }
@@ -121,6 +125,8 @@ pub(crate) struct Changing<'a> {
 
 impl<'a> RowAttempt<Channel> for Changing<'a> {
     ghost tried = { λ changing channel. all_changed changing.changes.now channel };
+
+    ghost surely = { λ changing channel. adds_none changing.changes.now channel };
 
     fn attempt(&self, channel: &mut Channel) -> Result<(), AllocError> {
         channel.change(self.changes)

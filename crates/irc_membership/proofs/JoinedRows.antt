@@ -1,6 +1,7 @@
 -- The channels that a user is in, by the rows of the code's table.
 use Rattle.std.proofs.Common.{◌≡◌, ℕ, Bool, cond, true, false, List, [], ◌∷◌, filter, length, map, refl, sym, ◌∙◌, ap}
 use Rattle.std.proofs.lemmas.List.{length-map}
+use Rattle.std.specs.Borrow.{Bor}
 use Rattle.std.specs.FinMap.{entries}
 use Rattle.irc_names.specs.Fold.{key}
 use Rattle.irc_tables.specs.declared.table.Row.{Row}
@@ -12,24 +13,6 @@ use Rattle.irc_room.specs.Room.{Room}
 use Rattle.irc_acts.specs.declared.act.Act.{Act}
 use Rattle.irc_acts.specs.Moves.{own_channels}
 use Rattle.irc_membership.specs.Join.{leaves}
-
-abbrev value_of : Row Channel → Channel
-value_of row = row.value
-
-kept_rows : (p : Channel → Bool) (rows : List (Row Channel)) → filter p (map (λ e. e.1) (map row_entry rows)) ≡ map value_of (filter (λ (row : Row Channel). p row.value) rows)
-kept_rows p [] = refl
-kept_rows p (row ∷ rows) = by_test (p row.value) (kept_rows p rows)
-  where
-    by_test : (b : Bool) → filter p (map (λ e. e.1) (map row_entry rows)) ≡ map value_of (filter (λ (row : Row Channel). p row.value) rows)
-        → cond b (row.value ∷ filter p (map (λ e. e.1) (map row_entry rows))) (filter p (map (λ e. e.1) (map row_entry rows)))
-        ≡ map value_of (cond b (row ∷ filter (λ (row : Row Channel). p row.value) rows) (filter (λ (row : Row Channel). p row.value) rows))
-    by_test true later = ap (λ cs. row.value ∷ cs) later
-    by_test false later = later
-
-own_rows : (room : Room) (me : User) (rows : List (Row Channel)) → map row_entry rows ≡ entries room.channels
-    → own_channels room me ≡ map value_of (filter (λ (row : Row Channel). has_member (key me.nick) row.value) rows)
-own_rows room me rows are =
-    ap (λ es. filter (has_member (key me.nick)) (map (λ e. e.1) es)) (sym are) ∙ kept_rows (has_member (key me.nick)) rows
 
 kept_entries : (p : Channel → Bool) (es : List (List ℕ × Channel)) → filter p (map (λ e. e.1) es) ≡ map (λ e. e.1) (filter (λ e. p e.1) es)
 kept_entries p [] = refl
@@ -45,11 +28,15 @@ count_of_entries room me =
     sym (length-map (filter (λ e. has_member (key me.nick) e.1) (entries room.channels)) (λ e. e.1))
     ∙ ap length (sym (kept_entries (has_member (key me.nick)) (entries room.channels)))
 
-mapped_twice : (f : Channel → Act) (rows : List (Row Channel)) → map (λ (row : Row Channel). f row.value) rows ≡ map f (map value_of rows)
-mapped_twice f [] = refl
-mapped_twice f (row ∷ rows) = ap (λ acts. f row.value ∷ acts) (mapped_twice f rows)
+mapped_entries : (f : Channel → Act) (rows : List (Bor (Row Channel)))
+    → map (λ (row : Bor (Row Channel)). f row.now.value) rows ≡ map f (map (λ e. e.1) (map (λ (row : Bor (Row Channel)). row_entry row.now) rows))
+mapped_entries f [] = refl
+mapped_entries f (row ∷ rows) = ap (λ acts. f row.now.value ∷ acts) (mapped_entries f rows)
 
-pub leaves_of_rows : (room : Room) (me : User) (rows : List (Row Channel)) → map row_entry rows ≡ entries room.channels
-    → map (λ (row : Row Channel). leaves me row.value) (filter (λ (row : Row Channel). has_member (key me.nick) row.value) rows) ≡ map (leaves me) (own_channels room me)
+pub leaves_of_rows : (room : Room) (me : User) (rows : List (Bor (Row Channel)))
+    → map (λ (row : Bor (Row Channel)). row_entry row.now) rows ≡ filter (λ e. has_member (key me.nick) e.1) (entries room.channels)
+    → map (λ (row : Bor (Row Channel)). leaves me row.now.value) rows ≡ map (leaves me) (own_channels room me)
 leaves_of_rows room me rows are =
-    mapped_twice (leaves me) (filter (λ (row : Row Channel). has_member (key me.nick) row.value) rows) ∙ ap (map (leaves me)) (sym (own_rows room me rows are))
+    mapped_entries (leaves me) rows
+    ∙ ap (λ es. map (leaves me) (map (λ (e : List ℕ × Channel). e.1) es)) are
+    ∙ ap (map (leaves me)) (sym (kept_entries (has_member (key me.nick)) (entries room.channels)))

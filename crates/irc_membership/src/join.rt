@@ -50,7 +50,7 @@ pub fn steps(context: &Context<'_>, params: &[&[u8]]) -> Result<Vec<Act, Global>
         return only(context.alloc, need_more_params(b"JOIN"));
     };
     if is_zero(list) {
-        leave_each(context.room.channels(), context.alloc, context.me)
+        leave_each(context)
     } else {
         join_list(context, list, keys_given(more))
     }
@@ -73,18 +73,19 @@ fn keys_given<'a>(more: &[&'a [u8]]) -> &'a [u8]
     }
 }
 
-/// A Part of each of these channels that the user is in, with its nickname as the text.
-fn leave_each(
-    rows: &[Row<Channel>],
-    alloc: Global,
-    me: &User,
-) -> Result<Vec<Act, Global>, AllocError>
-    ensures { IfOk result (λ steps. steps.items ≡ map (λ row. leaves me.now row.value) (filter (λ row. has_member (key me.now.nick) row.value) rows.now)) }
+/// A Part of each channel that the user is in, with its nickname as the text. No other channel is looked at.
+fn leave_each(context: &Context<'_>) -> Result<Vec<Act, Global>, AllocError>
+    ensures { IfOk result (λ steps. steps.items ≡ map (leaves context.now.me.now) (own_channels context.now.room.now.room context.now.me.now)) }
 {
-    rows.iter()
-        .filter(|row| row.value.has_member(&me.nick))
-        .map(|row| leave(me, &row.value))
-        .collect(alloc)
+    let rows = context.room.channels_of(context.me.nick.as_bytes())?;
+    leave_all(context.alloc, context.me, rows.as_slice())
+}
+
+/// A Part of each of these channels.
+fn leave_all(alloc: Global, me: &User, rows: &[&Row<Channel>]) -> Result<Vec<Act, Global>, AllocError>
+    ensures { IfOk result (λ steps. steps.items ≡ map (λ row. leaves me.now row.now.value) rows.now) }
+{
+    rows.iter().map(|row| leave(me, &row.value)).collect(alloc)
 }
 
 /// A Part of one channel.

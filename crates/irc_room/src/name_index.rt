@@ -100,6 +100,8 @@ struct Adding<'a> {
 impl<'a> RowAttempt<NameTable<()>> for Adding<'a> {
     ghost tried = { λ adding names. alter (key adding.name.now) (λ _. Some tt) names };
 
+    ghost surely = { λ adding names. is_some (row names (key adding.name.now)) };
+
     fn attempt(&self, names: &mut NameTable<()>) -> Result<(), AllocError> {
         names.insert(self.name.as_bytes(), ())
     }

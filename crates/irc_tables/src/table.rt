@@ -1,6 +1,6 @@
 //! A table by name.
-ghost use Rattle.std.specs.Prelude.{◌≡◌, ℕ, Ok, Err, ◌<◌, ◌≤◌, Option, Some, None, Result, is_some, is_ok, IsTrue, OnOk, OnErr, IsOk, map, length, if◌then◌else◌, IfNone, OnSome, vec_len, vec_capacity};
-ghost use Rattle.std.specs.Option.{option_copied, option_map, option_and_then};
+ghost use Rattle.std.specs.Prelude.{◌≡◌, ℕ, Bool, false, Ok, Err, ◌<◌, ◌≤◌, Option, Some, None, Result, is_some, is_ok, IsTrue, OnOk, OnErr, IsOk, map, length, if◌then◌else◌, IfNone, OnSome, vec_len, vec_capacity};
+ghost use Rattle.std.specs.Option.{option_copied, option_map, option_map_or, option_and_then};
 ghost use Rattle.std.specs.FinMap.{empty, entries, keys};
 ghost use Rattle.irc_names.specs.Fold.{key};
 ghost use Rattle.irc_names.specs.Tables.{row, alter, each, moved};
@@ -58,10 +58,14 @@ pub trait RowAttempt<V> {
     /// What becomes of a value.
     ghost tried: { Self → V → V };
 
+    /// Whether the change of a value surely takes no memory.
+    ghost surely: { Self → V → Bool };
+
     /// Changes a value. Where there is no memory nothing has changed.
     fn attempt(&self, value: &mut V) -> Result<(), AllocError>
         ensures ok { OnOk result (value.new ≡ tried self.now value.old) }
-        ensures refused { OnErr result (value.new ≡ value.old) };
+        ensures refused { OnErr result (value.new ≡ value.old) }
+        ensures sure { IsTrue (surely self.now value.old) → IsOk result };
 }
 
 impl<V: Drop> NameTable<V> {
@@ -174,7 +178,8 @@ impl<V: Drop> NameTable<V> {
         }
     }
 
-    /// Tries a change of what stands under a name; where nothing does, nothing changes, and no memory is wanted.
+    /// Tries a change of what stands under a name; where nothing does, nothing changes, and no memory is wanted. A change that takes
+    /// none is made.
     ///
     /// # Errors
     /// Where memory runs out; nothing has changed then.
@@ -182,6 +187,7 @@ impl<V: Drop> NameTable<V> {
         ensures ok { OnOk result (self.new ≡ alter (key name.now) (option_map (C.tried change.now)) self.old) }
         ensures refused { OnErr result (self.new ≡ self.old) }
         ensures absent { row self.old (key name.now) ≡ None → IsOk result }
+        ensures sure { IsTrue (option_map_or (C.surely change.now) (row self.old (key name.now)) false) → IsOk result }
     {
         match place_of(&self.rows, name) {
             Ok(place) => try_row(&mut self.rows, place, name, change),
@@ -314,6 +320,7 @@ fn try_row<V: Drop, C: RowAttempt<V>>(
     requires at { IsPlaceOf row_entry rows.old.items (key name.now) (Ok place) }
     ensures ok { OnOk result (table_of row_entry rows.new.items ≡ alter (key name.now) (option_map (C.tried change.now)) (table_of row_entry rows.old.items)) }
     ensures refused { OnErr result (table_of row_entry rows.new.items ≡ table_of row_entry rows.old.items) }
+    ensures sure { IsTrue (option_map_or (C.surely change.now) (row (table_of row_entry rows.old.items) (key name.now)) false) → IsOk result }
     ensures ordered { IsInFoldedOrder row_entry rows.new.items }
 {
     change.attempt(&mut rows[place].value)

@@ -2,12 +2,10 @@ use Rattle.std.proofs.Common.{◌≡◌, List, ◌∙◌, sym, subst}
 use Rattle.std.specs.Result.{IfOk}
 use Rattle.irc_acts.specs.declared.act.Act.{Act}
 use Rattle.irc_membership.proofs.JoinAsked.{all_left}
-use Rattle.irc_membership.proofs.JoinedRows.{leaves_of_rows}
 use Rattle.irc_membership.proofs.join.steps.Goals as goal
 
 pub returns-then-is_zero : goal.returns-then-is_zero
 returns-then-is_zero c =
     subst (λ (target : List Act). IfOk c.leave_each.result (λ steps. steps.items ≡ target))
-    (leaves_of_rows c.args.context.now.room.now.room c.args.context.now.me.now c.channels.result.now c.channels.ensures
-    ∙ all_left c.args.context.now.room.now.room c.args.context.now.me.now c.args.params.now c.in-Some.more.now c.in-Some.list.now c.in-Some.ensures.cases.0 (sym c.is_zero.ensures ∙ c.if-is_zero.true))
+    (all_left c.args.context.now.room.now.room c.args.context.now.me.now c.args.params.now c.in-Some.more.now c.in-Some.list.now c.in-Some.ensures.cases.0 (sym c.is_zero.ensures ∙ c.if-is_zero.true))
     c.leave_each.ensures

@@ -1,5 +1,5 @@
-use Rattle.std.proofs.Common.{◌∙◌, ap, sym, Some}
-use Rattle.std.specs.Option.{option_map}
+use Rattle.std.proofs.Common.{false, IsTrue, ◌∙◌, ap, sym, subst, Some}
+use Rattle.std.specs.Option.{option_map, option_map_or}
 use Rattle.irc_names.specs.Fold.{key}
 use Rattle.irc_tables.specs.RowViews.{row_entry}
 use Rattle.irc_tables.proofs.RowsAsTable.{replaced-table, replaced-sorted, row-present, alter_alike, ok_also}
@@ -29,3 +29,13 @@ returns-clause-ordered g c =
     let there = ap (λ r. key r.name.items) c.index_mut.ensures.value ∙ c.requires.at.named _ in
     replaced-sorted row_entry c.args.rows.now.items fold c.args.place x x.value c.requires.ordered c.requires.at.within c.index_mut.ensures.value
     (ap (λ k. (k, x.value)) there) _ w (ap (λ k. (k, w)) there)
+
+pub returns-clause-sure : goal.returns-clause-sure
+returns-clause-sure g c =
+    let fold = key c.args.name.now in
+    let x = c.index_mut.result.now in
+    let there = ap (λ r. key r.name.items) c.index_mut.ensures.value ∙ c.requires.at.named _ in
+    let stands =
+        row-present row_entry c.args.rows.now.items fold c.args.place x x.value c.requires.ordered c.requires.at.within c.index_mut.ensures.value
+        (ap (λ k. (k, x.value)) there) in
+    λ sure. c.attempt.ensures.sure (subst IsTrue (ap (λ o. option_map_or (g.C.RowAttempt.surely c.args.change.now) o false) stands) sure)

@@ -1,4 +1,4 @@
-use Rattle.std.proofs.Common.{◌∙◌, ap, sym, subst, option_map}
+use Rattle.std.proofs.Common.{◌∙◌, ap, subst, option_map}
 use Rattle.irc_names.specs.Fold.{key}
 use Rattle.irc_names.specs.Tables.{row}
 use Rattle.irc_tables.specs.FoldedRows.{StandsAt}
