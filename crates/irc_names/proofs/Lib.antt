@@ -1,4 +1,3 @@
-pub mod FoldTwice
 pub mod FoldsByRanges
 pub mod MaskSteps
 pub mod RuleFacts

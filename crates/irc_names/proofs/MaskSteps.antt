@@ -20,9 +20,6 @@ pub record Follows (mask text mask_left text_left : List ℕ) : Type 0 where
   pub later : Somewhere mask text → Somewhere mask_left text_left
   pub shorter : length mask_left ≤ length mask
 
-pub follows_all : (mask text : List ℕ) → Follows mask text mask text
-follows_all mask text = record { sound = λ m. m; complete = λ m. m; later = λ m. m; shorter = omega arith }
-
 -- one byte further, a later place is still one
 later_one : {part : Part} {mask rest : List ℕ} (byte : ℕ) (more : List ℕ) → front mask ≡ Begins part rest → part ≢ Run
     → Somewhere mask (byte ∷ more) → Somewhere rest more
@@ -91,35 +88,14 @@ pub record Seeks (mask text rest : List ℕ) : Type 0 where
   pub sound : Somewhere mask rest → Somewhere mask text
   pub complete : Somewhere mask text → Somewhere mask rest
 
-pub seeks_all : (mask text : List ℕ) → Seeks mask text text
-seeks_all mask text = record { sound = λ m. m; complete = λ m. m }
-
 pub seeks_more : {mask text rest more : List ℕ} {byte : ℕ} → rest ≡ byte ∷ more → ¬ (Matches mask rest) → Seeks mask text rest → Seeks mask text more
 seeks_more {mask} {text} {rest} {more} {byte} split differs so_far = record {
   sound = λ here. so_far.sound (somewhere_after (byte ∷ []) split here);
   complete = λ here. somewhere_past byte more (subst (λ t. ¬ (Matches mask t)) split differs) (subst (λ t. Somewhere mask t) split (so_far.complete here));
 }
 
-pub seeks_none : {mask text rest : List ℕ} → rest ≡ [] → ¬ (Matches mask rest) → Seeks mask text rest → ¬ (Somewhere mask text)
-seeks_none {mask} {text} {rest} none differs so_far here = by left.skipped (sym none ∙ left.split)
-  where
-    left : Somewhere mask rest
-    left = so_far.complete here
-
-    by : (skipped : List ℕ) → [] ≡ skipped ++ left.more → ⊥
-    by [] split = differs (subst (λ t. Matches mask t) (sym (none ∙ split)) left.matches)
-    by (first ∷ skipped) split = cc
-
 -- ---- what a walk tells
 
--- what holds of the whole where a walk began anew from a `*`
-pub tells_through : {mask text : List ℕ} {whole : Type 0} (walk : Walk) → RestsOn mask text whole → Tells walk (Somewhere mask text) → Tells walk whole
-tells_through (Star rest left) from told = record {
-  sound = λ here. from.sound (told.sound here);
-  complete = λ all. told.complete (from.complete all);
-}
-tells_through Done from told = from.sound told
-tells_through Differs from told = λ all. told (from.complete all)
 
 -- what holds of a whole text at the first place where the mask can be followed
 pub tells_first : {mask text rest : List ℕ} (walk : Walk) → walk ≢ Differs → Seeks mask text rest → Tells walk (Matches mask rest) → IsFirst walk mask rest

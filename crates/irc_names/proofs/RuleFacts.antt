@@ -38,9 +38,6 @@ ban_mask-fits bytes h = grind (arith, nat_tests)
 
 -- ---- bytes
 
-letter_alphanumeric : (byte : ℕ) → is_ascii_alphabetic byte ≡ true → is_ascii_alphanumeric byte ≡ true
-letter_alphanumeric byte h = grind (arith, nat_tests)
-
 both : (a b : Bool) → a ≡ true → b ≡ true → (a && b) ≡ true
 both a b p q = cc
 
@@ -49,39 +46,6 @@ either : (letter special alphanumeric dash : Bool) → (letter ≡ true → alph
 either true special alphanumeric dash h starts = let p : alphanumeric ≡ true = h refl in cc
 either false special true dash h starts = refl
 either false special false dash h starts = cc
-
-pub nick-bytes : (bytes : List ℕ) → is_nick bytes ≡ true → list_all is_nick_byte bytes ≡ true
-unfolding is_nick
-nick-bytes [] h = grind (arith, nat_tests)
-nick-bytes (x ∷ xs) h =
-    let front = is_ascii_alphabetic x || is_special x in
-    let before : (front && list_all is_nick_byte xs) ≡ true = first_so _ (fits MAX_NICK (x ∷ xs)) h in
-    let starts : front ≡ true = first_so front (list_all is_nick_byte xs) before in
-    let rest : list_all is_nick_byte xs ≡ true = second_so front (list_all is_nick_byte xs) before in
-    let first : is_nick_byte x ≡ true =
-    either (is_ascii_alphabetic x) (is_special x) (is_ascii_alphanumeric x) (nat_eq x 0x2D) (letter_alphanumeric x) starts in
-    both (is_nick_byte x) (list_all is_nick_byte xs) first rest
-
-pub channel-bytes : (bytes : List ℕ) → is_channel bytes ≡ true → list_all is_channel_byte bytes ≡ true
-unfolding is_channel
-channel-bytes [] h = grind (arith, nat_tests)
-channel-bytes (x ∷ xs) h = grind (arith, nat_tests)
-
-pub host-bytes : (bytes : List ℕ) → is_host bytes ≡ true → list_all is_host_byte bytes ≡ true
-unfolding is_host
-host-bytes bytes h = grind (arith, nat_tests)
-
-pub server-bytes : (bytes : List ℕ) → is_server bytes ≡ true → list_all is_server_byte bytes ≡ true
-unfolding is_server
-server-bytes bytes h = grind (arith, nat_tests)
-
-pub key-bytes : (bytes : List ℕ) → is_key bytes ≡ true → list_all is_key_byte bytes ≡ true
-unfolding is_key
-key-bytes bytes h = grind (arith, nat_tests)
-
-pub ban_mask-bytes : (bytes : List ℕ) → is_ban_mask bytes ≡ true → list_all is_ban_mask_byte bytes ≡ true
-unfolding is_ban_mask
-ban_mask-bytes bytes h = grind (arith, nat_tests)
 
 -- A byte that a rule refuses is nowhere in bytes that all meet it. At a rule of this crate and a numeral, as NUL or a space, the
 -- premise is `refl`.
@@ -96,53 +60,6 @@ lacks rule byte refused (x ∷ xs) all =
     by : (test : Bool) → nat_eq byte x ≡ test → rule x ≡ true → list_any (nat_eq byte) xs ≡ false → list_any (nat_eq byte) (x ∷ xs) ≡ false
     by true equal first rest = let same : byte ≡ x = eqb-true byte x equal in cc
     by false other first rest = cc
-
--- ---- first bytes: a name can stand as a middle parameter of a line
-
-pub nick-starts : (bytes : List ℕ) → is_nick bytes ≡ true → starts_without_colon bytes ≡ true
-unfolding is_nick
-nick-starts [] h = h
-nick-starts (x ∷ xs) h = grind (arith, nat_tests)
-
-pub channel-starts : (bytes : List ℕ) → is_channel bytes ≡ true → starts_without_colon bytes ≡ true
-unfolding is_channel
-channel-starts [] h = h
-channel-starts (x ∷ xs) h = grind (arith, nat_tests)
-
-pub host-starts : (bytes : List ℕ) → is_host bytes ≡ true → starts_without_colon bytes ≡ true
-unfolding is_host
-host-starts bytes h = grind (arith, nat_tests)
-
-pub server-starts : (bytes : List ℕ) → is_server bytes ≡ true → starts_without_colon bytes ≡ true
-unfolding is_server
-server-starts [] h = h
-server-starts (x ∷ xs) h = grind (arith, nat_tests)
-
-pub key-starts : (bytes : List ℕ) → is_key bytes ≡ true → starts_without_colon bytes ≡ true
-unfolding is_key
-key-starts bytes h = grind (arith, nat_tests)
-
-pub ban_mask-starts : (bytes : List ℕ) → is_ban_mask bytes ≡ true → starts_without_colon bytes ≡ true
-unfolding is_ban_mask
-ban_mask-starts bytes h = grind (arith, nat_tests)
-
--- a channel's name begins with `#`
-pub channel-hash : (first : ℕ) (rest : List ℕ) → is_channel (first ∷ rest) ≡ true → first ≡ 0x23
-unfolding is_channel
-channel-hash first rest h = grind (arith, nat_tests)
-
--- ---- a server's name is never a nickname
-
-pub server-not_nick : (bytes : List ℕ) → is_server bytes ≡ true → is_nick bytes ≡ false
-unfolding is_server
-server-not_nick bytes server = by (is_nick bytes) refl
-  where
-    by : (test : Bool) → is_nick bytes ≡ test → is_nick bytes ≡ false
-    by false is = is
-    by true is =
-        let none : list_any (nat_eq 0x2E) bytes ≡ false = lacks is_nick_byte 0x2E refl bytes (nick-bytes bytes is) in
-        let dot : list_any (nat_eq 0x2E) bytes ≡ true = grind (arith, nat_tests) in
-        cc
 
 -- how long each kind is, for proofs that name this set
 pub ruleset lengths = (nick-fits, channel-fits, host-fits, server-fits, key-fits, ban_mask-fits)

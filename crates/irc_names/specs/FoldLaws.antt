@@ -23,16 +23,8 @@ name_cmp-total = on_total key nat_list_cmp_total
 pub same-ties : (a b : List ℕ) → same a b ≡ is_eq (name_cmp a b)
 same-ties a b = texts_ties (key a) (key b)
 
-pub equal-key : (a b : List ℕ) → name_cmp a b ≡ Equal → key a ≡ key b
-equal-key a b tie = (same-tells a b).0 (same-ties a b ∙ ap is_eq tie)
-
 pub key-equal : (a b : List ℕ) → key a ≡ key b → name_cmp a b ≡ Equal
 key-equal a b keys = (Equal-is (name_cmp a b)).0 (sym (same-ties a b) ∙ (same-tells a b).1 keys)
-
--- a fold is as long as its name
-pub key-length : (a : List ℕ) → length (key a) ≡ length a
-key-length [] = refl
-key-length (x ∷ xs) = ap suc (key-length xs)
 
 -- what a name feeds a hasher: its length, and then each byte of its fold
 abbrev pub folds_fed : List ℕ → List (List ℕ)

@@ -33,9 +33,6 @@ opened before after nick none is = record {
     by_fold n c true one = none_here c ∙ sym (ap (is_among c) (ap (row before) (one_fold n nick one) ∙ none))
     by_fold n c false two = refl
 
-pub opened_already : (index : Index) (nick : List ℕ) → is_some (row index nick) ≡ true → IsOpened index index nick
-opened_already index nick there = record { there = there; alike = record { at = λ n c. refl } }
-
 -- a name put in a row that is there
 among_put : (name : List ℕ) (o : Option Names) (c : List ℕ) → is_some o ≡ true → is_among c (option_map (λ (ns : Names). alter name (λ _. Some tt) ns) o) ≡ (same_fold c name || is_among c o)
 among_put name None c there = cc

@@ -40,6 +40,3 @@ owed_stays change (Some channel) fault owed other = absurd (other owed)
 
 pub none_is_memory : NoSuchChannel ≡ Memory → ⊥
 none_is_memory e = cc
-
-pub outsider_is_memory : NotMember ≡ Memory → ⊥
-outsider_is_memory e = cc

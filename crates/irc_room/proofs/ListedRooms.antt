@@ -125,9 +125,6 @@ member_listed nick c = ap is_some (row_listed (λ f. f) c.members nick) ∙ is_s
 while_listed : (c : ListedChannel) → while_members (channel_of c) ≡ option_map channel_of (list_while_members c)
 while_listed c = cond_of (option_map channel_of) _ (is_nil c.members) None (Some (channel_of c)) None (Some c) (keys_listed (λ f. f) c.members) refl refl
 
-new_listed : (name : List ℕ) → new_channel name ≡ channel_of (list_new name)
-new_listed name = refl
-
 joined_listed : (nick : List ℕ) (op : Bool) (c : ListedChannel) → joined nick op (channel_of c) ≡ channel_of (list_joined nick op c)
 joined_listed nick op c =
     cond_of channel_of _ (lists_member nick c) (channel_of c) _ c _ (member_listed nick c) refl

@@ -54,9 +54,6 @@ pub tells_either : {U E : Type 0} (test : Test) (index : Index) (result : Result
 tells_either test index (Ok u) channels done left ok refused after before = tells_at test index channels done ok after
 tells_either test index (Err e) channels done left ok refused after before = tells_at test index channels left refused before
 
-pub tells_alike : (test : List ℕ → List ℕ → Bool) (before after : Index) → Tells before test → IsAlike before after → Tells after test
-tells_alike test before after tells alike = record { at = λ n c. alike.at n c ∙ tells.at n c }
-
 -- a name that was put in where the test does not hold, and taken out again
 pub tells_restored : (test : List ℕ → List ℕ → Bool) (before between after : Index) (nick name : List ℕ) → Tells before test → test nick name ≡ false
     → Adds before between nick name → Drops between after nick name → Tells after test

@@ -14,9 +14,6 @@ use Rattle.irc_room.proofs.Rows.{some_key, some_row, not_none, not_true, same_so
 pub record IsWithin {X Y : Type 0} (small : Table X) (large : Table Y) : Type 0 where
   pub at : (q : List ℕ) → is_some (row small q) ≡ true → is_some (row large q) ≡ true
 
-pub within_itself : {X : Type 0} (table : Table X) → IsWithin table table
-within_itself table = record { at = λ q there. there }
-
 pub empty_within : {X Y : Type 0} (table : Table Y) → IsWithin (empty {X = X} {R = fold_cmp}) table
 empty_within {X} table = record { at = λ q there. not_true (sym (ap is_some (get-empty {X = X} fold_cmp q)) ∙ there) }
 

@@ -13,46 +13,6 @@ abbrev pub letters_from : Option Bool → List ModeChange → List ℕ
 letters_from None changes = letters_text changes
 letters_from (Some sign) changes = letters_behind sign changes
 
-signs_agree : (sign plus : Bool)
-    → (if plus then (if sign then [] else sign_byte true ∷ []) else (if sign then sign_byte false ∷ [] else [])) ≡ sign_between (Some sign) plus
-signs_agree true true = refl
-signs_agree true false = refl
-signs_agree false true = refl
-signs_agree false false = refl
-
-one_letter : (sign : Option Bool) (c : ModeChange) (changes : List ModeChange)
-    → letters_from sign (c ∷ changes) ≡ sign_between sign c.plus ++ letter_byte c.letter ∷ letters_behind c.plus changes
-one_letter None c changes = refl
-one_letter (Some sign) c changes = ap (λ s. s ++ letter_byte c.letter ∷ letters_behind c.plus changes) (signs_agree sign c.plus)
-
--- one change more is written
-pub letter_more : (changes : List ModeChange) (i : ℕ) (d : ModeChange) (sign : Option Bool) (letters signed more whole : List ℕ)
-    → i < length changes
-    → signed ≡ letters ++ sign_between sign (get_or changes i d).plus
-    → more ≡ signed ++ letter_byte (get_or changes i d).letter ∷ []
-    → letters ++ letters_from sign (drop i changes) ≡ whole
-    → more ++ letters_from (Some (get_or changes i d).plus) (drop (i + 1) changes) ≡ whole
-letter_more changes i d sign letters signed more whole within signed_is more_is completes =
-    let c = get_or changes i d in
-    let byte = letter_byte c.letter in
-    let rest = letters_behind c.plus (drop (i + 1) changes) in
-    ap (λ xs. xs ++ rest) more_is
-    ∙ append_assoc signed (byte ∷ []) rest
-    ∙ ap (λ xs. xs ++ byte ∷ rest) signed_is
-    ∙ append_assoc letters (sign_between sign c.plus) (byte ∷ rest)
-    ∙ ap (λ xs. letters ++ xs) (sym (one_letter sign c (drop (i + 1) changes)) ∙ ap (letters_from sign) (sym (drop_more changes i d within)))
-    ∙ completes
-
-none_left : (sign : Option Bool) → letters_from sign [] ≡ []
-none_left None = refl
-none_left (Some sign) = refl
-
--- all changes are written
-pub letters_done : (changes : List ModeChange) (i : ℕ) (sign : Option Bool) (letters whole : List ℕ) → length changes ≤ i
-    → letters ++ letters_from sign (drop i changes) ≡ whole → letters ≡ whole
-letters_done changes i sign letters whole past completes =
-    sym (ap (λ xs. letters ++ xs) (ap (letters_from sign) (drop_all i changes past) ∙ none_left sign) ∙ append-nil letters) ∙ completes
-
 one_option : (o : Option (List ℕ)) → cons_option o [] ≡ option_to_list o
 one_option None = refl
 one_option (Some word) = refl

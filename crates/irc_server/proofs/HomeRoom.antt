@@ -124,12 +124,6 @@ by_causes false false known a b c = cc b
 by_causes false true false a b c = cc c
 by_causes false true true a b c = refl
 
--- a sound room has no cause to refuse a possible effect
-pub never_refused : (kept : Kept) (effect : Effect) → IsSound kept → IsPossible kept.room effect → room_fault kept effect ≡ None
-never_refused kept effect sound possible =
-    by_causes kept.failed (list_all (has_user kept.room) (needs_users effect)) (option_map_or (has_channel kept.room) (needs_channel effect) true)
-    sound.serves possible.users_there possible.channel_there
-
 -- an effect on the room, what it hands out, and the clients that follow it
 pub effect_applied : (view : View) (kept now : Kept) (effect : Effect) → kept.room ≡ view.room → kept.own ≡ view.place.name → IsSound kept → IsFit view effect
     → (clients : Clients) (shown : List (List ℕ × ArrayVec ℕ)) (out out_after : List Out) → now ≡ record kept { room = after kept.room effect }

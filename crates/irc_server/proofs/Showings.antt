@@ -99,17 +99,3 @@ module _ (clients : Clients) (by_nick : Table ℕ) (index : IsIndex clients by_n
           same_some q conn (sym (index.found q name is) ∙ ap (row by_nick) (key_by_same name showing.viewer passes) ∙ is_conn)
 
 -- one showing after another
-
-pub showing_done : (clients : Clients) (pairs : List (List ℕ × ArrayVec ℕ)) (i : ℕ) (d : List ℕ × ArrayVec ℕ) (out more total : List Out)
-    → i < length pairs → more ≡ out ++ to_viewer clients (shown_of (get_or pairs i d))
-    → out ++ all_shown clients (drop i pairs) ≡ total → more ++ all_shown clients (drop (i + 1) pairs) ≡ total
-showing_done clients pairs i d out more total within more_is so_far =
-    let now = to_viewer clients (shown_of (get_or pairs i d)) in
-    let later = all_shown clients (drop (i + 1) pairs) in
-    ap (λ l. l ++ later) more_is ∙ append_assoc out now later
-    ∙ ap (λ l. out ++ l) (sym (ap (all_shown clients) (drop_more pairs i d within))) ∙ so_far
-
-pub showings_done : (clients : Clients) (pairs : List (List ℕ × ArrayVec ℕ)) (i : ℕ) (out total : List Out) → length pairs ≤ i
-    → out ++ all_shown clients (drop i pairs) ≡ total → out ≡ total
-showings_done clients pairs i out total all so_far =
-    sym (append-nil out) ∙ ap (λ l. out ++ l) (sym (ap (all_shown clients) (drop_all i pairs all))) ∙ so_far

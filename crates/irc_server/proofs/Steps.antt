@@ -16,37 +16,6 @@ use Rattle.irc_server.specs.Loops.Stage.{behind, AreFit}
 
 -- the first step, and those behind it
 
-first_fit : (view : View) (act : Act) (acts : List Act) → AreFit view (act ∷ acts) → AreFit view (act ∷ [])
-first_fit view (Answer reply) acts are = tt
-first_fit view (Raw line) acts are = tt
-first_fit view (Do effect) acts are = record { now = are.now; later = tt }
-
-later_fit : (conn : ℕ) (name : Option (List ℕ)) (act : Act) (acts : List Act) (before : Handled) → AreFit before.view (act ∷ acts)
-    → AreFit (stepped conn name act before).view acts
-later_fit conn name (Answer reply) acts before are = are
-later_fit conn name (Raw line) acts before are = are
-later_fit conn name (Do effect) acts before are = are.later
-
-pub now_fit : (view : View) (acts : List Act) (i : ℕ) (d : Act) → i < length acts → AreFit view (drop i acts) → AreFit view (get_or acts i d ∷ [])
-now_fit view acts i d within are =
-    first_fit view (get_or acts i d) (drop (i + 1) acts) (subst (AreFit view) (drop_more acts i d within) are)
-
-pub left_fit : (conn : ℕ) (name : Option (List ℕ)) (acts : List Act) (i : ℕ) (d : Act) (before now : Handled) → i < length acts
-    → now ≡ stepped conn name (get_or acts i d) before → AreFit before.view (drop i acts) → AreFit now.view (drop (i + 1) acts)
-left_fit conn name acts i d before now within is are =
-    subst (λ (h : Handled). AreFit h.view (drop (i + 1) acts)) (sym is)
-    (later_fit conn name (get_or acts i d) (drop (i + 1) acts) before (subst (AreFit before.view) (drop_more acts i d within) are))
-
-pub step_taken : (conn : ℕ) (name : Option (List ℕ)) (acts : List Act) (i : ℕ) (d : Act) (before now total : Handled) → i < length acts
-    → now ≡ stepped conn name (get_or acts i d) before → all_stepped conn name (drop i acts) before ≡ total
-    → all_stepped conn name (drop (i + 1) acts) now ≡ total
-step_taken conn name acts i d before now total within is so_far =
-    ap (all_stepped conn name (drop (i + 1) acts)) is ∙ sym (ap (λ l. all_stepped conn name l before) (drop_more acts i d within)) ∙ so_far
-
-pub steps_taken : (conn : ℕ) (name : Option (List ℕ)) (acts : List Act) (i : ℕ) (now total : Handled) → length acts ≤ i
-    → all_stepped conn name (drop i acts) now ≡ total → now ≡ total
-steps_taken conn name acts i now total all so_far = sym (ap (λ l. all_stepped conn name l now) (drop_all i acts all)) ∙ so_far
-
 -- What was put out before stays in front.
 
 put_behind : (view : View) (out before more : List Out) → record { view = view; out = (out ++ before) ++ more } ≡ behind out (record { view = view; out = before ++ more })
@@ -76,6 +45,3 @@ carried_behind out conn name acts close view =
     ap (λ h. closing close conn (all_stepped conn name acts h)) (nothing_behind view out)
     ∙ ap (closing close conn) (steps_behind out conn name acts (unchanged view))
     ∙ close_behind out conn close (all_stepped conn name acts (unchanged view))
-
-pub effect_behind : (out : List Out) (effect : Effect) (view : View) → with_effect effect (record { view = view; out = out }) ≡ behind out (with_effect effect (unchanged view))
-effect_behind out effect view = refl
