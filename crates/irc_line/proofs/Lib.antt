@@ -6,3 +6,4 @@ pub mod WrittenLaws
 pub mod ReadingLaws
 pub mod RoundTrip
 pub mod ReadingSteps
+pub mod LinesRead

@@ -56,7 +56,7 @@ not_equal : (a b : ℕ) → (a ≡ b → ⊥) → eqb a b ≡ false
 not_equal a b differ = elim (eqb_tells a b) [ inl same ↦ absurd (differ (same.1)) | inr other ↦ other.0 ]
 
 -- the first byte is neither a space nor a colon
-neither : (b : ℕ) (more : List ℕ) → begins is_space (b ∷ more) ≡ false → (b ≡ colon → ⊥) → begins (λ c. is_space c || is_colon c) (b ∷ more) ≡ false
+pub neither : (b : ℕ) (more : List ℕ) → begins is_space (b ∷ more) ≡ false → (b ≡ colon → ⊥) → begins (λ c. is_space c || is_colon c) (b ∷ more) ≡ false
 neither b more no_space no_colon = ap (λ v. v || is_colon b) no_space ∙ not_equal b colon no_colon
 
 pub rest_ends : (text rest more : List ℕ) (items new : List (Bor (List ℕ))) (first : ℕ) (x : Bor (List ℕ)) → Completes text items rest → begins is_space rest ≡ false
@@ -74,13 +74,13 @@ not_false true h = cc h
 not_false false h = refl
 
 -- the word at the front of a text that begins with neither a space nor a colon
-some_word : (first : ℕ) (behind word more : List ℕ) → begins is_space (first ∷ behind) ≡ false → EndsWord more → first ∷ behind ≡ word ++ more → word ≢ []
+pub some_word : (first : ℕ) (behind word more : List ℕ) → begins is_space (first ∷ behind) ≡ false → EndsWord more → first ∷ behind ≡ word ++ more → word ≢ []
 some_word first behind word more no_space ends is none =
     let more_is : first ∷ behind ≡ more = is ∙ ap (λ w. w ++ more) none in
     let never : true ≡ false = sym (not_false (is_space first) no_space) ∙ ap (begins is_word_byte) more_is ∙ ends in
     cc never
 
-word_no_colon : (first : ℕ) (behind word more : List ℕ) → word ≢ [] → first ∷ behind ≡ word ++ more → (first ≡ colon → ⊥) → begins is_colon word ≡ false
+pub word_no_colon : (first : ℕ) (behind word more : List ℕ) → word ≢ [] → first ∷ behind ≡ word ++ more → (first ≡ colon → ⊥) → begins is_colon word ≡ false
 word_no_colon first behind [] more some is no_colon = absurd (some refl)
 word_no_colon first behind (b ∷ word) more some is no_colon =
     let same : first ≡ b = cc is in

@@ -4,6 +4,7 @@ pub mod Lines
 pub mod Framed
 pub mod Messages
 pub mod Grammar
+pub mod Reading
 pub mod MessageViews
 pub mod PartViews
 pub mod Loops

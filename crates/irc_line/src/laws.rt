@@ -1,7 +1,7 @@
 //! What holds of reading and writing together. Each law is a function that does nothing, and its contract is the law: the
 //! check proves it, and a crate above may cite it.
 ghost use Rattle.std.specs.Prelude.{◌≡◌};
-ghost use Rattle.irc_line.specs.Laws.{WrittenIsRead};
+ghost use Rattle.irc_line.specs.Laws.{WrittenIsRead, EveryLineIsRead, IsReadSoAlone};
 ghost use Rattle.irc_line.specs.Limits.{max_line, max_text, max_parameters};
 
 use crate::limits::{MAX_LINE, MAX_PARAMETERS, MAX_TEXT};
@@ -11,6 +11,13 @@ use crate::limits::{MAX_LINE, MAX_PARAMETERS, MAX_TEXT};
 /// colon, and no NUL anywhere.
 pub fn written_is_read()
     ensures { WrittenIsRead }
+{}
+
+/// The function by which a line is read (`read_of` of `specs/`) gives what the grammar reads, whatever the line, and the grammar reads
+/// it as nothing else.
+pub fn every_line_is_read()
+    ensures so { EveryLineIsRead }
+    ensures alone { IsReadSoAlone }
 {}
 
 /// The constants of [`limits`](crate::limits) are the numbers that the definitions name.

@@ -5,6 +5,7 @@ ghost use Rattle.irc_line.specs.Messages.{Parsed};
 ghost use Rattle.irc_line.specs.MessageViews.{parsed_result, params_now, optional_now};
 ghost use Rattle.irc_line.specs.Limits.{max_parameters};
 ghost use Rattle.irc_line.specs.Grammar.{IsReadAs, CommandAt, ReadsParams};
+ghost use Rattle.irc_line.specs.Reading.{read_of};
 ghost use Rattle.irc_line.specs.Loops.Reading.{AfterGap, WordAt};
 ghost use Rattle.irc_line.specs.declared.reading.LineFault.{LineFault};
 
@@ -54,6 +55,8 @@ pub fn parse(line: &[u8]) -> Result<Message<'_>, LineFault>
     ensures given { IsReadAs line.now (parsed_result result) }
     // What the line is read as is given, and so is the fault that it has.
     ensures only { (read : Result Parsed LineFault) → IsReadAs line.now read → parsed_result result ≡ read }
+    // It is what the line is read as from left to right.
+    ensures as_function { parsed_result result ≡ read_of line.now }
 {
     if line.contains(&NUL) {
         return Err(LineFault::HasNul);

@@ -3,6 +3,7 @@ use Rattle.std.specs.Borrow.{Bor}
 use Rattle.irc_line.specs.Grammar.{CommandAt}
 use Rattle.irc_line.specs.MessageViews.{params_now, optional_now}
 use Rattle.irc_line.proofs.ReadingLaws.{read_as_one}
+use Rattle.irc_line.proofs.LinesRead.{is_read_so_alone}
 use Rattle.irc_line.proofs.ReadingSteps.{plain_line, prefixed_line, not_empty}
 use Rattle.irc_line.proofs.reading.parse.Goals as goal
 use Rattle.irc_line.proofs.reading.parse.Goals.{then-first-eq-COLON+else-is_empty, else-first-eq-COLON}
@@ -31,3 +32,15 @@ returns-clause-given c =
 
 pub returns-clause-only : goal.returns-clause-only
 returns-clause-only c = λ read is. read_as_one _ _ read (returns-clause-given c) is
+
+pub returns-then-contains-clause-as_function : goal.returns-then-contains-clause-as_function
+returns-then-contains-clause-as_function c = is_read_so_alone _ _ (search rules)
+
+pub returns-in_default-clause-as_function : goal.returns-in_default-clause-as_function
+returns-in_default-clause-as_function c = is_read_so_alone _ _ (search rules)
+
+pub returns-then-is_empty-clause-as_function : goal.returns-then-is_empty-clause-as_function
+returns-then-is_empty-clause-as_function c = is_read_so_alone _ _ (search rules)
+
+pub returns-clause-as_function : goal.returns-clause-as_function
+returns-clause-as_function c = is_read_so_alone _ _ (returns-clause-given c)
