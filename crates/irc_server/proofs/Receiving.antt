@@ -6,23 +6,23 @@ use Rattle.irc_server.specs.declared.event.Out.{Out}
 use Rattle.irc_server.specs.declared.event.ServerFault.{ServerFault}
 use Rattle.irc_server.specs.View.{View}
 use Rattle.irc_server.specs.Handle.{handled}
-use Rattle.irc_server.specs.Happening.{Does, IsHandled, takes_it, AreHandled}
-use Rattle.irc_server.specs.Owed.{line_to, lines_to, after_all, owed, Receives}
+use Rattle.irc_server.specs.Happening.{happening_of, Does, IsHandled, takes_it, AreHandled}
+use Rattle.irc_server.specs.Owed.{line_to, lines_to, after_all, owed, happenings_of, Receives}
 
 receives_more : (view after : View) (event : Event) (events : List Event) (out out_between : List Out) (new : Option View) (out_after : List Out)
     → Does view event out after out_between → Receives after events out_between new out_after → Receives view (event ∷ events) out new out_after
-receives_more view after event events out out_between new out_after does later = record {
-  happenings = does.happening ∷ later.happenings;
-  are = (does.is, later.are);
-  view_is = later.view_is ∙ ap (λ (v : View). Some (after_all v later.happenings)) does.view_is;
-  received = λ conn.
-      let put = (handled view does.happening).out in
-      later.received conn
-      ∙ ap (λ l. lines_to conn l ++ owed conn after later.happenings) does.out_is
-      ∙ ap (λ l. l ++ owed conn after later.happenings) (filter_map-append (line_to conn) out put)
-      ∙ append_assoc (lines_to conn out) (lines_to conn put) (owed conn after later.happenings)
-      ∙ ap (λ (v : View). lines_to conn out ++ (lines_to conn put ++ owed conn v later.happenings)) does.view_is;
-}
+receives_more view after event events out out_between new out_after does later =
+    let put = (handled view (happening_of event)).out in
+    let left = happenings_of events in
+    record {
+      view_is = later.view_is ∙ ap (λ (v : View). Some (after_all v left)) does.view_is;
+      received = λ conn.
+          later.received conn
+          ∙ ap (λ l. lines_to conn l ++ owed conn after left) does.out_is
+          ∙ ap (λ l. l ++ owed conn after left) (filter_map-append (line_to conn) out put)
+          ∙ append_assoc (lines_to conn out) (lines_to conn put) (owed conn after left)
+          ∙ ap (λ (v : View). lines_to conn out ++ (lines_to conn put ++ owed conn v left)) does.view_is;
+    }
 
 -- the first event is handled, and those behind it
 by_between : {view : View} {event : Event} {out out_between : List Out} {between : Option View} (events : List Event) (new : Option View) (out_after : List Out)
@@ -42,8 +42,6 @@ by_first view event events out new out_after later (inr goes) =
 pub receives : (view : View) (events : List Event) (out : List Out) (new : Option View) (out_after : List Out)
     → AreHandled (Some view) events out (Ok tt) new out_after → Receives view events out new out_after
 receives view [] out new out_after all = record {
-  happenings = [];
-  are = tt;
   view_is = all.1;
   received = λ conn. ap (lines_to conn) all.2 ∙ sym (append-nil (lines_to conn out));
 }

@@ -5,7 +5,7 @@ use Rattle.std.specs.Borrow.{Bor}
 use Rattle.std.specs.Option.{option_copied}
 use Rattle.arrayvec.specs.ArrayVec.{ArrayVec}
 use Rattle.irc_line.specs.declared.reading.LineFault.{LineFault}
-use Rattle.irc_line.specs.Grammar.{IsReadAs}
+use Rattle.irc_line.specs.Reading.{read_of}
 use Rattle.irc_line.specs.Messages.{Parsed}
 use Rattle.irc_line.specs.MessageViews.{optional_now}
 use Rattle.irc_channels.specs.Texts.{cut_words}
@@ -21,8 +21,8 @@ use Rattle.irc_server.specs.declared.event.Out.{Out}
 use Rattle.irc_server.specs.declared.event.ServerFault.{ServerFault}
 use Rattle.irc_server.specs.declared.event.ServerFault.TheVariants.{Memory, Failed}
 use Rattle.irc_server.specs.View.{View, client_of, with_client}
-use Rattle.irc_server.specs.Handle.{Handled, Happening, connects, says, goes, handled, fault_of, there, fresh, gone, read_as, unchanged, closing, all_stepped, decided, user_decided, lost_text}
-use Rattle.irc_server.specs.Happening.{Happens, Is, Does, IsHandled, takes_it, refuses_it, wants_memory, has_failed}
+use Rattle.irc_server.specs.Handle.{Handled, handled, fault_of, there, fresh, gone, read_as, unchanged, closing, all_stepped, decided, user_decided, lost_text}
+use Rattle.irc_server.specs.Happening.{happening_of, Does, IsHandled, takes_it, refuses_it, wants_memory, has_failed}
 use Rattle.irc_server.specs.Matched.{IsDue, IsMatched, StaysMatched}
 use Rattle.irc_server.specs.Loops.Grown.{Grew}
 use Rattle.irc_server.specs.Loops.Stage.{behind}
@@ -61,40 +61,23 @@ pub connected_does : (old new : View) (event : Event) (out : List Out) (conn : �
     → new ≡ with_client old conn (fresh host) → Does old event out new out
 unfolding handled
 connected_does old new event out conn host event_is new_is =
-    subst (λ (e : Event). Does old e out new out) (sym event_is)
-    (record { happening = connects conn host; is = record { happens = refl; only = λ other happens. happens }; view_is = new_is; out_is = sym (append-nil out) })
+    subst (λ (e : Event). Does old e out new out) (sym event_is) (record { view_is = new_is; out_is = sym (append-nil out) })
 
 pub gone_does : (old new : View) (event : Event) (out out_after : List Out) (conn : ℕ) → event ≡ Gone conn
     → record { view = new; out = out_after } ≡ behind out (gone old conn (client_of old conn)) → Does old event out new out_after
 unfolding handled
 gone_does old new event out out_after conn event_is is =
     subst (λ (e : Event). Does old e out new out_after) (sym event_is)
-    (record {
-      happening = goes conn;
-      is = record { happens = refl; only = λ other happens. happens };
-      view_is = ap (λ (h : Handled). h.view) is;
-      out_is = ap (λ (h : Handled). h.out) is;
-    })
-
-one_reading : (conn : ℕ) (line : ArrayVec ℕ) (bytes : List ℕ) (read : Result Parsed LineFault) → bytes ≡ line.items → IsReadAs bytes read
-    → ((other : Result Parsed LineFault) → IsReadAs bytes other → read ≡ other) → Is (Line conn line) (says conn read)
-one_reading conn line bytes read bytes_are is_read only = record {
-  happens = record { read = read; is_read = subst (λ l. IsReadAs l read) bytes_are is_read; is = refl };
-  only = λ other happens. happens.is ∙ ap (says conn) (sym (only happens.read (subst (λ l. IsReadAs l happens.read) (sym bytes_are) happens.is_read)));
-}
+    (record { view_is = ap (λ (h : Handled). h.view) is; out_is = ap (λ (h : Handled). h.out) is })
 
 pub said_does : (old new : View) (event : Event) (out out_after : List Out) (conn : ℕ) (line : ArrayVec ℕ) (bytes : List ℕ) (read : Result Parsed LineFault)
-    → event ≡ Line conn line → bytes ≡ line.items → IsReadAs bytes read → ((other : Result Parsed LineFault) → IsReadAs bytes other → read ≡ other)
+    → event ≡ Line conn line → bytes ≡ line.items → read ≡ read_of bytes
     → record { view = new; out = out_after } ≡ behind out (read_as old conn read) → Does old event out new out_after
 unfolding handled
-said_does old new event out out_after conn line bytes read event_is bytes_are is_read only is =
+said_does old new event out out_after conn line bytes read event_is bytes_are read_is is =
+    let all = is ∙ ap (λ r. behind out (read_as old conn r)) (read_is ∙ ap read_of bytes_are) in
     subst (λ (e : Event). Does old e out new out_after) (sym event_is)
-    (record {
-      happening = says conn read;
-      is = one_reading conn line bytes read bytes_are is_read only;
-      view_is = ap (λ (h : Handled). h.view) is;
-      out_is = ap (λ (h : Handled). h.out) is;
-    })
+    (record { view_is = ap (λ (h : Handled). h.view) all; out_is = ap (λ (h : Handled). h.out) all })
 
 -- what comes of each way out of `handle`
 
@@ -129,12 +112,12 @@ pub absent : (view : View) (event : Event) (conn : ℕ) (host : List ℕ) → ev
 absent view event conn host is owed = nobody_there (client_of view conn) (sym (ap (fault_of view) is) ∙ owed)
 
 -- where no fault is owed what happens is due
-due_by : (view : View) (event : Event) (happening : Happening) → fault_of view event ≡ None → Happens event happening → IsDue view happening
-due_by view (Connect conn host) happening owed is = subst (IsDue view) (sym is) (nobody_there (client_of view conn) owed)
-due_by view (Line conn line) happening owed said = subst (IsDue view) (sym said.is) tt
-due_by view (Gone conn) happening owed is = subst (IsDue view) (sym is) tt
+due_by : (view : View) (event : Event) → fault_of view event ≡ None → IsDue view (happening_of event)
+due_by view (Connect conn host) owed = nobody_there (client_of view conn) owed
+due_by view (Line conn line) owed = tt
+due_by view (Gone conn) owed = tt
 
 pub matched_after : StaysMatched → (old new : View) (event : Event) (out out_after : List Out) → IsMatched old → IsWellFormed old.room → fault_of old event ≡ None
     → Does old event out new out_after → IsMatched new
 matched_after stays old new event out out_after matched well owed does =
-    subst IsMatched (sym does.view_is) (stays old matched well does.happening (due_by old event does.happening owed does.is.happens))
+    subst IsMatched (sym does.view_is) (stays old matched well (happening_of event) (due_by old event owed))

@@ -1,8 +1,6 @@
 -- What an event is, what it does, and what comes of asking a server for it.
-use Rattle.std.specs.Prelude.{◌≡◌, ℕ, Option, Some, None, Result, Ok, Err, List, [], ◌∷◌, ◌++◌, ◌⊎◌}
-use Rattle.irc_line.specs.declared.reading.LineFault.{LineFault}
-use Rattle.irc_line.specs.Grammar.{IsReadAs}
-use Rattle.irc_line.specs.Messages.{Parsed}
+use Rattle.std.specs.Prelude.{◌≡◌, Option, Some, None, Result, Ok, Err, List, [], ◌∷◌, ◌++◌, ◌⊎◌}
+use Rattle.irc_line.specs.Reading.{read_of}
 use Rattle.irc_server.specs.declared.event.Event.{Event}
 use Rattle.irc_server.specs.declared.event.Event.TheVariants.{Connect, Line, Gone}
 use Rattle.irc_server.specs.declared.event.Out.{Out}
@@ -11,29 +9,16 @@ use Rattle.irc_server.specs.declared.event.ServerFault.TheVariants.{Memory, Fail
 use Rattle.irc_server.specs.View.{View}
 use Rattle.irc_server.specs.Handle.{Happening, connects, says, goes, handled, fault_of}
 
--- a line of a client, as what it is read as
-pub record IsSaid (line : List ℕ) (conn : ℕ) (happening : Happening) : Type 0 where
-  pub read : Result Parsed LineFault
-  pub is_read : IsReadAs line read
-  pub is : happening ≡ says conn read
-
--- what happens by an event
-abbrev pub Happens : Event → Happening → Type 0
-Happens (Connect conn host) happening = happening ≡ connects conn host
-Happens (Line conn line) happening = IsSaid line.items conn happening
-Happens (Gone conn) happening = happening ≡ goes conn
-
--- the one thing that happens by an event
-pub record Is (event : Event) (happening : Happening) : Type 0 where
-  pub happens : Happens event happening
-  pub only : (other : Happening) → Happens event other → other ≡ happening
+-- what happens by an event; of a line, what it is read as
+abbrev pub happening_of : Event → Happening
+happening_of (Connect conn host) = connects conn host
+happening_of (Line conn line) = says conn (read_of line.items)
+happening_of (Gone conn) = goes conn
 
 -- an event is handled: the server is the one after it, and what it puts out is appended
 pub record Does (old : View) (event : Event) (out : List Out) (new : View) (out_after : List Out) : Type 0 where
-  pub happening : Happening
-  pub is : Is event happening
-  pub view_is : new ≡ (handled old happening).view
-  pub out_is : out_after ≡ out ++ (handled old happening).out
+  pub view_is : new ≡ (handled old (happening_of event)).view
+  pub out_is : out_after ≡ out ++ (handled old (happening_of event)).out
 
 -- What comes of asking a server for an event: it is handled, it is refused and nothing changes, memory runs out, or memory ran out before.
 -- A server for which memory ran out is no view: it has failed for good.

@@ -1,12 +1,12 @@
 -- What each connection is owed over a list of events: the lines to it that the room machine's steps put out, in order.
-use Rattle.std.specs.Prelude.{◌≡◌, ℕ, ⊤, Option, Some, None, List, [], ◌∷◌, ◌++◌, nat_eq, if◌then◌else◌}
+use Rattle.std.specs.Prelude.{◌≡◌, ℕ, Option, Some, None, List, [], ◌∷◌, ◌++◌, map, nat_eq, if◌then◌else◌}
 use Rattle.std.specs.List.{filter_map}
 use Rattle.irc_server.specs.declared.event.Event.{Event}
 use Rattle.irc_server.specs.declared.event.Out.{Out}
 use Rattle.irc_server.specs.declared.event.Out.TheVariants.{ToClient, CloseClient}
 use Rattle.irc_server.specs.View.{View}
 use Rattle.irc_server.specs.Handle.{Happening, handled}
-use Rattle.irc_server.specs.Happening.{Is}
+use Rattle.irc_server.specs.Happening.{happening_of}
 
 -- a line, where it is one to this connection
 abbrev pub line_to : ℕ → Out → Option (List ℕ)
@@ -27,15 +27,11 @@ abbrev pub owed : ℕ → View → List Happening → List (List ℕ)
 owed conn view [] = []
 owed conn view (happening ∷ happenings) = lines_to conn (handled view happening).out ++ owed conn (handled view happening).view happenings
 
--- what happens by each of these events
-abbrev pub AllAre : List Event → List Happening → Type 0
-AllAre [] [] = ⊤
-AllAre (event ∷ events) (happening ∷ happenings) = Is event happening × AllAre events happenings
-AllAre events happenings = ⊥
+-- what happens by these events
+abbrev pub happenings_of : List Event → List Happening
+happenings_of events = map happening_of events
 
 -- From one view of a server to another by these events, each connection has received what it is owed.
 pub record Receives (old : View) (events : List Event) (out : List Out) (new : Option View) (out_after : List Out) : Type 0 where
-  pub happenings : List Happening
-  pub are : AllAre events happenings
-  pub view_is : new ≡ Some (after_all old happenings)
-  pub received : (conn : ℕ) → lines_to conn out_after ≡ lines_to conn out ++ owed conn old happenings
+  pub view_is : new ≡ Some (after_all old (happenings_of events))
+  pub received : (conn : ℕ) → lines_to conn out_after ≡ lines_to conn out ++ owed conn old (happenings_of events)

@@ -17,14 +17,14 @@ pub returns-in-Ok-clause-ok : goal.returns-in-Ok-clause-ok
 returns-in-Ok-clause-ok c =
     on_ok c.hear.result _ _
     (λ is. said_does (view_of c.args.stage.now) (view_of c.hear.new.stage) c.args.event c.args.out.now.items c.hear.new.out.items c.in-Line.conn c.in-Line.line
-    c.deref.result.now (parsed_result c.parse.result) c.in-Line.is c.deref.ensures.0 c.parse.ensures.given c.parse.ensures.only
+    c.deref.result.now (parsed_result c.parse.result) c.in-Line.is c.deref.ensures.0 c.parse.ensures.as_function
     (is ∙ ap (λ r. behind c.args.out.now.items (read_as (view_of c.args.stage.now) c.in-Line.conn (parsed_result r))) (sym c.in-Ok.is)))
     c.hear.ensures.ok
 
 pub returns-in-Err-clause-ok : goal.returns-in-Err-clause-ok
 returns-in-Err-clause-ok c =
     said_does (view_of c.args.stage.now) (view_of c.args.stage.now) c.args.event c.args.out.now.items c.args.out.now.items c.in-Line.conn c.in-Line.line
-    c.deref.result.now (parsed_result c.parse.result) c.in-Line.is c.deref.ensures.0 c.parse.ensures.given c.parse.ensures.only
+    c.deref.result.now (parsed_result c.parse.result) c.in-Line.is c.deref.ensures.0 c.parse.ensures.as_function
     (nothing_behind (view_of c.args.stage.now) c.args.out.now.items
     ∙ ap (λ r. behind c.args.out.now.items (read_as (view_of c.args.stage.now) c.in-Line.conn (parsed_result r))) (sym c.in-Err.is))
 
