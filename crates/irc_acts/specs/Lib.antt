@@ -4,6 +4,7 @@ pub mod Acts
 pub mod Words
 pub mod CommaLists
 pub mod Standing
+pub mod Refusing
 pub mod Ahead
 pub mod AheadLaws
 pub mod Moves

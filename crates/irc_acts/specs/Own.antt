@@ -1,17 +1,24 @@
--- The effects by which a user does something and stays what it is: texts, channels that it joins or leaves, and topics.
-use Rattle.std.specs.Prelude.{◌≡◌, ℕ, Bool, Some, List}
+-- The effects by which a user does something and stays what it is: texts, channels that it joins or leaves, kicks, invitations and topics.
+use Rattle.std.specs.Prelude.{◌≡◌, ℕ, Bool, true, Some, List}
 use Rattle.irc_names.specs.Fold.{key}
+use Rattle.irc_names.specs.Names.{is_channel}
 use Rattle.irc_names.specs.Tables.{row}
 use Rattle.irc_users.specs.declared.user.User.{User}
 use Rattle.irc_channels.specs.declared.channel.Channel.{Channel}
+use Rattle.irc_channels.specs.Channels.{has_member}
 use Rattle.irc_room.specs.declared.effect.By.TheVariants as by
 use Rattle.irc_room.specs.declared.effect.Target.TheVariants as target
 use Rattle.irc_room.specs.declared.effect.Effect.{Effect}
-use Rattle.irc_room.specs.declared.effect.Effect.TheVariants.{Join, Part, SetTopic, Say}
+use Rattle.irc_room.specs.declared.effect.Effect.TheVariants.{Join, Part, Kick, SetTopic, Say, Invite}
 use Rattle.irc_room.specs.Room.{Room}
 use Rattle.irc_room.specs.InTurn.{EachInTurn}
 use Rattle.irc_acts.specs.declared.act.Act.{Act}
 use Rattle.irc_acts.specs.Acts.{kept, effects_among}
+
+-- a channel's name: of one that was found under some spelling, or by the rule for names
+pub data IsChannelName (room : Room) : List ℕ → Type 0 where
+  of_found : (name : List ℕ) (channel : Channel) → row room.channels (key name) ≡ Some channel → IsChannelName room channel.name
+  by_rule : (name : List ℕ) → is_channel name ≡ true → IsChannelName room name
 
 -- the user does it, and what it names was found in the room, under some spelling
 pub data IsOwn (me : User) (room : Room) : Effect → Type 0 where
@@ -23,6 +30,10 @@ pub data IsOwn (me : User) (room : Room) : Effect → Type 0 where
   parts : (name text : List ℕ) (channel : Channel) → row room.channels (key name) ≡ Some channel → IsOwn me room (Part me.nick channel.name text)
   sets_topic : (name text : List ℕ) (channel : Channel) → row room.channels (key name) ≡ Some channel
       → IsOwn me room (SetTopic (by.User me.nick) channel.name text)
+  kicks : (name nick text : List ℕ) (channel : Channel) (other : User) → row room.channels (key name) ≡ Some channel
+      → has_member (key nick) channel ≡ true → row room.users (key nick) ≡ Some other → IsOwn me room (Kick me.nick channel.name other.nick text)
+  invites : (nick name : List ℕ) (other : User) → row room.users (key nick) ≡ Some other → IsChannelName room name
+      → IsOwn me room (Invite me.nick other.nick name)
 
 -- each effect of these steps is its own in the room that those before it have left
 abbrev pub AreOwn : User → Room → List Act → Type 0

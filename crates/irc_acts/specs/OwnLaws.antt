@@ -16,7 +16,7 @@ use Rattle.irc_acts.specs.declared.act.Act.{Act}
 use Rattle.irc_acts.specs.declared.act.Act.TheVariants.{Answer, Raw, Do}
 use Rattle.irc_acts.specs.Acts.{effects_among}
 use Rattle.irc_acts.specs.Possible.{ArePossible}
-use Rattle.irc_acts.specs.Own.{IsOwn, to_user, to_channel, joins, parts, sets_topic, AreOwn}
+use Rattle.irc_acts.specs.Own.{IsOwn, to_user, to_channel, joins, parts, sets_topic, kicks, invites, AreOwn}
 
 -- an answer, a line, or a text: it leaves the room as it is
 pub record LeavesRoom (me : User) (room : Room) (effect : Effect) : Type 0 where
@@ -73,6 +73,16 @@ own_possible me room effect well there (sets_topic name text channel is) = recor
   channel_there = channel_there room well (key name) channel is;
   nick_free = refl;
 }
+own_possible me room effect well there (kicks name nick text channel other is member known) = record {
+  users_there = two_there room me.nick other.nick there (stored_there room well (key nick) other known);
+  channel_there = channel_there room well (key name) channel is;
+  nick_free = refl;
+}
+own_possible me room effect well there (invites nick name other is named) = record {
+  users_there = two_there room me.nick other.nick there (stored_there room well (key nick) other is);
+  channel_there = refl;
+  nick_free = refl;
+}
 
 -- none of them changes a user
 own_stays : (me : User) (room : Room) (effect : Effect) → IsOwn me room effect → (after room effect).users ≡ room.users
@@ -82,6 +92,8 @@ own_stays me room effect (to_channel name channel notice words is) = refl
 own_stays me room effect (joins name op) = refl
 own_stays me room effect (parts name text channel is) = refl
 own_stays me room effect (sets_topic name text channel is) = refl
+own_stays me room effect (kicks name nick text channel other is member known) = refl
+own_stays me room effect (invites nick name other is named) = refl
 
 own_are_so : (me : User) (room : Room) (effects : List Effect) → IsWellFormed room → has_user room me.nick ≡ true → EachInTurn (IsOwn me) room effects
     → EachInTurn IsPossible room effects

@@ -1,5 +1,5 @@
 -- How a user stands to a channel: what it is there, whether it is banned, and what it may know of it.
-use Rattle.std.specs.Prelude.{ℕ, Bool, true, false, not, ◌||◌, List, if◌then◌else◌}
+use Rattle.std.specs.Prelude.{ℕ, Bool, true, false, not, ◌||◌, Option, Some, None, List, if◌then◌else◌}
 use Rattle.std.specs.List.{list_any}
 use Rattle.irc_names.specs.Fold.{key}
 use Rattle.irc_names.specs.MaskLaws.{matches}
@@ -21,6 +21,11 @@ mask_of user = full_name user.nick user.user user.host
 
 abbrev pub is_banned : User → Channel → Bool
 is_banned user channel = list_any (λ ban. matches ban (mask_of user)) channel.modes.bans
+
+-- whether a user is an operator, by its flags, if it is a member
+abbrev pub is_operator : Option Flags → Bool
+is_operator None = false
+is_operator (Some flags) = flags.op
 
 -- what a member is shown as: an operator, else a member with voice, else a member
 abbrev pub mark_of : Flags → Mark

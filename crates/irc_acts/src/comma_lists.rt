@@ -19,6 +19,19 @@ pub fn next_entry(list: &[u8]) -> Option<(&[u8], &[u8])>
     Some((&behind[..end], &behind[end..]))
 }
 
+/// How many entries of a comma list are not empty.
+pub fn entry_count(list: &[u8]) -> usize
+    ensures { result ≡ length (entries list.now) }
+{
+    let mut count = 0;
+    let mut rest = list;
+    while let Some((_, behind)) = next_entry(rest) {
+        count += 1;
+        rest = behind;
+    }
+    count
+}
+
 /// The first piece of a comma list, which may be empty, and the list behind its comma, if there is one.
 pub fn first_piece(list: &[u8]) -> (&[u8], Option<&[u8]>)
     ensures parted { pieces list.now ≡ result.0.now ∷ pieces_left (optional_now result.1) }

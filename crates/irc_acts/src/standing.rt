@@ -1,6 +1,6 @@
 //! How a user stands to a channel.
 ghost use Rattle.std.specs.Prelude.{◌≡◌};
-ghost use Rattle.irc_acts.specs.Standing.{is_banned, is_known, is_listed, mark_of, mask_of, visibility_of};
+ghost use Rattle.irc_acts.specs.Standing.{is_banned, is_known, is_listed, is_operator, mark_of, mask_of, visibility_of};
 
 use arrayvec::ArrayVec;
 use irc_channels::{Channel, Flags, Privacy};
@@ -24,6 +24,16 @@ pub fn mark_of(flags: Flags) -> Mark
         Mark::Voiced
     } else {
         Mark::Plain
+    }
+}
+
+/// Whether a user is an operator, by its flags, if it is a member.
+pub fn is_operator(flags: Option<Flags>) -> bool
+    ensures { result ≡ is_operator flags }
+{
+    match flags {
+        Some(flags) => flags.op,
+        None => false,
     }
 }
 

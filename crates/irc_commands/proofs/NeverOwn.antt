@@ -10,7 +10,7 @@ use Rattle.irc_room.specs.Room.{Room}
 use Rattle.irc_room.specs.After.{after}
 use Rattle.irc_acts.specs.declared.act.Act.{Act}
 use Rattle.irc_acts.specs.declared.act.Act.TheVariants.{Answer, Raw, Do}
-use Rattle.irc_acts.specs.Own.{IsOwn, to_user, to_channel, joins, parts, sets_topic, AreOwn}
+use Rattle.irc_acts.specs.Own.{IsOwn, to_user, to_channel, joins, parts, sets_topic, kicks, invites, AreOwn}
 use Rattle.irc_membership.specs.Join.{leaves}
 use Rattle.irc_commands.specs.Comings.{adds_user, adds_or_ends, renames_other}
 
@@ -38,6 +38,8 @@ own_adds_nobody me = record { of_answers = λ reply. refl; of_lines = λ line. r
     by_effect room effect (joins name op) = refl
     by_effect room effect (parts name text channel is) = refl
     by_effect room effect (sets_topic name text channel is) = refl
+    by_effect room effect (kicks name nick text channel other is member known) = refl
+    by_effect room effect (invites nick name other is named) = refl
 
 pub own_ends_nobody : (me : User) → IsNeverOwn me adds_or_ends
 own_ends_nobody me = record { of_answers = λ reply. refl; of_lines = λ line. refl; of_own = by_effect }
@@ -48,6 +50,8 @@ own_ends_nobody me = record { of_answers = λ reply. refl; of_lines = λ line. r
     by_effect room effect (joins name op) = refl
     by_effect room effect (parts name text channel is) = refl
     by_effect room effect (sets_topic name text channel is) = refl
+    by_effect room effect (kicks name nick text channel other is member known) = refl
+    by_effect room effect (invites nick name other is named) = refl
 
 pub own_renames_nobody : (me : User) (who : List ℕ) → IsNeverOwn me (renames_other who)
 own_renames_nobody me who = record { of_answers = λ reply. refl; of_lines = λ line. refl; of_own = by_effect }
@@ -58,6 +62,8 @@ own_renames_nobody me who = record { of_answers = λ reply. refl; of_lines = λ 
     by_effect room effect (joins name op) = refl
     by_effect room effect (parts name text channel is) = refl
     by_effect room effect (sets_topic name text channel is) = refl
+    by_effect room effect (kicks name nick text channel other is member known) = refl
+    by_effect room effect (invites nick name other is named) = refl
 
 -- a test that fails for each channel that is left
 pub none_leaving : (me : User) (test : Act → Bool) (channels : List Channel) → ((channel : Channel) → test (leaves me channel) ≡ false)

@@ -23,7 +23,11 @@ use Rattle.irc_commands.specs.Decide.{is_from, decide_for, decide}
 use Rattle.irc_acts.specs.Moves.{own_channels}
 use Rattle.irc_acts.specs.Own.{IsOwn, AreOwn}
 use Rattle.irc_membership.specs.Join.{leaves, join_steps}
+use Rattle.irc_membership.specs.Invite.{invite_steps}
+use Rattle.irc_membership.specs.Kick.{kick_steps}
+use Rattle.irc_membership.specs.Laws.InviteLaw.{invite_is_own}
 use Rattle.irc_membership.specs.Laws.JoinLaw.{join_is_own_or_leaves}
+use Rattle.irc_membership.specs.Laws.KickLaw.{kick_is_own}
 use Rattle.irc_membership.specs.Laws.PartLaw.{part_is_own}
 use Rattle.irc_answers.specs.Names.{names_steps}
 use Rattle.irc_answers.specs.Laws.NamesLaw.{names_only_answers}
@@ -95,6 +99,8 @@ by_row room place who me message Q so is (Some command.Join) = by_join room who 
 by_row room place who me message Q so is (Some command.Part) = so.own me (part_steps room me message.params) is (part_is_own me room message.params)
 by_row room place who me message Q so is (Some command.Topic) = so.own me (topic_steps room me message.params) is (topic_own me room message.params)
 by_row room place who me message Q so is (Some command.Names) = so.own me (names_steps room me message.params) is (subst (EachInTurn (IsOwn me) room) (sym (names_only_answers room me message.params)) tt)
+by_row room place who me message Q so is (Some command.Kick) = so.own me (kick_steps room me message.params) is (kick_is_own me room message.params)
+by_row room place who me message Q so is (Some command.Invite) = so.own me (invite_steps room me message.params) is (invite_is_own me room message.params)
 by_row room place who me message Q so is None = so.own me _ is tt
 
 by_user : (room : Room) (place : Place) (who : List ℕ) (message : Parsed) (Q : Decided → Type 0) → IsSoDecided room who Q
@@ -172,6 +178,8 @@ pending_by_row room place pending Q so params (Some command.Join) = so.answered 
 pending_by_row room place pending Q so params (Some command.Part) = so.answered _ _
 pending_by_row room place pending Q so params (Some command.Topic) = so.answered _ _
 pending_by_row room place pending Q so params (Some command.Names) = so.answered _ _
+pending_by_row room place pending Q so params (Some command.Kick) = so.answered _ _
+pending_by_row room place pending Q so params (Some command.Invite) = so.answered _ _
 pending_by_row room place pending Q so params None = so.answered _ _
 
 pub registering_so : (room : Room) (place : Place) (pending : Pending) (message : Parsed) (Q : Registered → Type 0) → IsSoRegistering room place Q

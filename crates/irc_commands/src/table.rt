@@ -14,7 +14,7 @@ use irc_acts::words::client_words;
 use irc_acts::{Act, Context, only};
 use irc_answers::names;
 use irc_line::Message;
-use irc_membership::{join, part};
+use irc_membership::{invite, join, kick, part};
 use irc_numerics::Reply;
 use std::alloc::{AllocError, Global};
 
@@ -47,10 +47,14 @@ pub enum Command {
     Topic,
     /// NAMES
     Names,
+    /// KICK
+    Kick,
+    /// INVITE
+    Invite,
 }
 
 /// Each command by its name.
-const NAMES: [(&[u8], Command); 13] = [
+const NAMES: [(&[u8], Command); 15] = [
     (b"PASS", Command::Pass),
     (b"NICK", Command::Nick),
     (b"USER", Command::User),
@@ -64,6 +68,8 @@ const NAMES: [(&[u8], Command); 13] = [
     (b"PART", Command::Part),
     (b"TOPIC", Command::Topic),
     (b"NAMES", Command::Names),
+    (b"KICK", Command::Kick),
+    (b"INVITE", Command::Invite),
 ];
 
 impl Command {
@@ -109,6 +115,8 @@ pub(crate) fn decide_for(
         Some(Command::Part) => stays(part::steps(context, params)),
         Some(Command::Topic) => stays(topic::steps(context, params)),
         Some(Command::Names) => stays(names::steps(context, params)),
+        Some(Command::Kick) => stays(kick::steps(context, params)),
+        Some(Command::Invite) => stays(invite::steps(context, params)),
         None => unknown(context.alloc, message.command),
     }
 }

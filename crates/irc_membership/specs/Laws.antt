@@ -3,3 +3,5 @@ pub mod JoinWalk
 pub mod JoinZero
 pub mod JoinLaw
 pub mod PartLaw
+pub mod KickLaw
+pub mod InviteLaw

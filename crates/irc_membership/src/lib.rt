@@ -2,7 +2,9 @@
 #![tactic(auto)]
 
 mod admission;
+pub mod invite;
 pub mod join;
+pub mod kick;
 pub mod part;
 
 /// The most channels that a user is in by its own joining (our own choice).
