@@ -1,0 +1,18 @@
+use Rattle.std.proofs.Common.{◌≡◌, ◌++◌, length}
+use Rattle.irc_acts.specs.Ahead.{ahead, in_turn}
+use Rattle.irc_acts.specs.CommaLists.{entries}
+use Rattle.irc_acts.specs.Moves.{AreLeaves}
+use Rattle.irc_membership.specs.Kick.{kick_one}
+use Rattle.irc_membership.specs.Loops.KickList.{kicks_left}
+use Rattle.irc_membership.proofs.kick.kick_list.Given as goal
+
+-- the steps so far, and those of what is left in the room that they leave, are the steps of all
+abbrev pub invariant-loop-channel : goal.invariant-loop-channel
+invariant-loop-channel l = record {
+  leaves : AreLeaves l.context.room.now.room l.steps.items;
+  served : l.steps.items ++ in_turn (kick_one l.context.me.now l.text) (ahead l.context.room.now.room l.steps.items) (kicks_left l.left.is_one (entries l.left.channels) (entries l.left.nicks))
+      ≡ in_turn (kick_one l.context.me.now l.text) l.context.room.now.room (kicks_left l.asked.is_one (entries l.asked.channels) (entries l.asked.nicks));
+}
+
+abbrev pub decreases-loop-channel : goal.decreases-loop-channel
+decreases-loop-channel l = length l.left.nicks
