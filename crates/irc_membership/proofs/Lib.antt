@@ -2,3 +2,6 @@ pub mod JoinAsked
 pub mod JoinedRows
 pub mod JoinOne
 pub mod PartOne
+pub mod KickMember
+pub mod KickAsked
+pub mod KickOne

@@ -1,10 +1,10 @@
 //! INVITE.
-ghost use Rattle.std.specs.Prelude.{◌≡◌, ℕ, List, None, Some, IfOk};
+ghost use Rattle.std.specs.Prelude.{◌≡◌, None, IfOk};
 ghost use Rattle.irc_names.specs.Fold.{key};
 ghost use Rattle.irc_names.specs.Tables.{row};
 ghost use Rattle.irc_line.specs.PartViews.{words_now};
 ghost use Rattle.irc_room.specs.declared.effect.Effect.TheVariants.{Invite};
-ghost use Rattle.irc_acts.specs.Refusing.{first_refusal};
+ghost use Rattle.irc_acts.specs.Refusing.{first_refusal, unless_refused};
 ghost use Rattle.irc_membership.specs.Invite.{invite_refusals, invite_steps, invites, invites_found, invites_user};
 ghost use Rattle.irc_membership.specs.Laws.InviteLaw.{InviteIsOwn};
 
@@ -62,7 +62,7 @@ fn invite_to(
     other: &User,
     channel: &Channel,
 ) -> Result<Vec<Act, Global>, AllocError>
-    ensures { (asked : List ℕ) → IfOk result (λ steps. steps.items ≡ invites_found context.now.me.now other.now asked (Some channel.now)) }
+    ensures { IfOk result (λ steps. steps.items ≡ unless_refused (first_refusal (invite_refusals context.now.me.now other.now channel.now)) (invites context.now.me.now other.now channel.now.name)) }
 {
     match refusal(context.me, other, channel) {
         Some(reply) => only(context.alloc, Act::Answer(reply)),

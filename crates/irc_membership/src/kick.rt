@@ -54,12 +54,18 @@ fn kick_asked(
     ensures { IfOk result (λ steps. steps.items ≡ kick_all context.now.me.now text.now context.now.room.now.room (kicks_asked (entries channels.now) (entries nicks.now))) }
 {
     let count = entry_count(channels);
-    let is_one = count == 1;
-    if is_one || count == entry_count(nicks) {
+    if count == 1 {
         let asked = Lists {
             channels,
             nicks,
-            is_one,
+            is_one: true,
+        };
+        kick_list(context, text, asked)
+    } else if count == entry_count(nicks) {
+        let asked = Lists {
+            channels,
+            nicks,
+            is_one: false,
         };
         kick_list(context, text, asked)
     } else {
@@ -77,7 +83,7 @@ struct Lists<'a> {
 
 /// The next nickname of the lists with its channel, and what is left then.
 fn next_kick(left: Lists<'_>) -> Option<(&[u8], &[u8], Lists<'_>)>
-    ensures { MatchOption result (kicks_left left.is_one (entries left.channels.now) (entries left.nicks.now) ≡ []) (λ next. (kicks_left left.is_one (entries left.channels.now) (entries left.nicks.now) ≡ kicking next.0.now next.1.now ∷ kicks_left next.2.is_one (entries next.2.channels.now) (entries next.2.nicks.now)) × (length next.2.nicks.now < length left.nicks.now)) }
+    ensures { MatchOption result (kicks_left left.entry.is_one (entries left.entry.channels.now) (entries left.entry.nicks.now) ≡ []) (λ next. (kicks_left left.entry.is_one (entries left.entry.channels.now) (entries left.entry.nicks.now) ≡ kicking next.0.now next.1.now ∷ kicks_left next.2.is_one (entries next.2.channels.now) (entries next.2.nicks.now)) × (length next.2.nicks.now < length left.entry.nicks.now)) }
 {
     let (nick, nicks) = next_entry(left.nicks)?;
     let (channel, channels) = next_entry(left.channels)?;
@@ -96,7 +102,7 @@ fn kick_list(
     text: &Words,
     asked: Lists<'_>,
 ) -> Result<Vec<Act, Global>, AllocError>
-    ensures { IfOk result (λ steps. steps.items ≡ in_turn (kick_one context.now.me.now text.now) context.now.room.now.room (kicks_left asked.is_one (entries asked.channels.now) (entries asked.nicks.now))) }
+    ensures { IfOk result (λ steps. steps.items ≡ in_turn (kick_one context.now.me.now text.now) context.now.room.now.room (kicks_left asked.entry.is_one (entries asked.entry.channels.now) (entries asked.entry.nicks.now))) }
 {
     know_well_formed(context.room);
     let mut steps = Vec::new(context.alloc);

@@ -1,5 +1,5 @@
 -- The steps of an INVITE are its user's own.
-use Rattle.std.proofs.Common.{◌≡◌, ℕ, Bool, true, false, cond, Option, Some, None, List, [], ◌∷◌, refl}
+use Rattle.std.proofs.Common.{◌≡◌, ℕ, Option, Some, None, List, [], ◌∷◌, refl}
 use Rattle.irc_names.specs.Fold.{key}
 use Rattle.irc_names.specs.Names.{is_channel}
 use Rattle.irc_names.specs.Tables.{row}

@@ -1,13 +1,11 @@
 -- The steps of a KICK are its user's own.
-use Rattle.std.proofs.Common.{◌≡◌, ℕ, true, not, is_some, Option, Some, None, List, [], ◌∷◌, refl, cond, if◌then◌else◌}
+use Rattle.std.proofs.Common.{◌≡◌, ℕ, true, Option, Some, None, List, [], ◌∷◌, refl}
 use Rattle.irc_names.specs.Fold.{key}
 use Rattle.irc_names.specs.Tables.{row}
 use Rattle.irc_users.specs.declared.user.User.{User}
-use Rattle.irc_channels.specs.declared.flags.Flags.{Flags}
 use Rattle.irc_channels.specs.declared.channel.Channel.{Channel}
 use Rattle.irc_channels.specs.Channels.{has_member}
 use Rattle.irc_numerics.specs.declared.replies.Reply.{Reply}
-use Rattle.irc_numerics.specs.declared.replies.Reply.TheVariants.{NotOnChannel, ChanOPrivsNeeded}
 use Rattle.irc_room.specs.declared.effect.Effect.{Effect}
 use Rattle.irc_room.specs.declared.effect.Effect.TheVariants.{Kick}
 use Rattle.irc_room.specs.Room.{Room}
@@ -20,7 +18,6 @@ use Rattle.irc_acts.specs.CommaLists.{entries}
 use Rattle.irc_acts.specs.Own as own
 use Rattle.irc_acts.specs.Own.{IsOwn, AreOwn}
 use Rattle.irc_acts.specs.Refusing.{first_refusal, unless_refused}
-use Rattle.irc_acts.specs.Standing.{is_operator}
 use Rattle.irc_acts.specs.Words.{reason_given}
 use Rattle.irc_membership.specs.Kick.{Kicking, kicks_asked, member_named, kick_refusals, kicks, kicks_found, kick_one, kick_all, kick_steps}
 

@@ -10,9 +10,9 @@ use Rattle.irc_membership.proofs.kick.kick_list.Given as goal
 abbrev pub invariant-loop-channel : goal.invariant-loop-channel
 invariant-loop-channel l = record {
   leaves : AreLeaves l.context.room.now.room l.steps.items;
-  served : l.steps.items ++ in_turn (kick_one l.context.me.now l.text) (ahead l.context.room.now.room l.steps.items) (kicks_left l.left.is_one (entries l.left.channels) (entries l.left.nicks))
-      ≡ in_turn (kick_one l.context.me.now l.text) l.context.room.now.room (kicks_left l.asked.is_one (entries l.asked.channels) (entries l.asked.nicks));
+  served : l.steps.items ++ in_turn (kick_one l.context.me.now l.text) (ahead l.context.room.now.room l.steps.items) (kicks_left l.left.is_one (entries l.left.channels.now) (entries l.left.nicks.now))
+      ≡ in_turn (kick_one l.context.me.now l.text) l.context.room.now.room (kicks_left l.asked.is_one (entries l.asked.channels.now) (entries l.asked.nicks.now));
 }
 
 abbrev pub decreases-loop-channel : goal.decreases-loop-channel
-decreases-loop-channel l = length l.left.nicks
+decreases-loop-channel l = length l.left.nicks.now

@@ -1,0 +1,5 @@
+use Rattle.irc_acts.specs.MoveLaws.{leaves_are_moves}
+use Rattle.irc_membership.proofs.kick.kick_one.Goals as goal
+
+pub flags-flags-requires : goal.flags-flags-requires
+flags-flags-requires c = leaves_are_moves c.args.context.now.room.now.room c.args.steps.now c.requires
