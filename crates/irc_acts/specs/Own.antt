@@ -1,4 +1,5 @@
--- The effects by which a user does something and stays what it is: texts, channels that it joins or leaves, kicks, invitations and topics.
+-- The effects by which a user does something under its own name and stays a user: texts, channels that it joins or leaves, kicks, invitations, topics, and
+-- modes.
 use Rattle.std.specs.Prelude.{◌≡◌, ℕ, Bool, true, Some, List}
 use Rattle.irc_names.specs.Fold.{key}
 use Rattle.irc_names.specs.Names.{is_channel}
@@ -6,10 +7,11 @@ use Rattle.irc_names.specs.Tables.{row}
 use Rattle.irc_users.specs.declared.user.User.{User}
 use Rattle.irc_channels.specs.declared.channel.Channel.{Channel}
 use Rattle.irc_channels.specs.Channels.{has_member}
+use Rattle.irc_channels.specs.declared.modes.ModeChange.{ModeChange}
 use Rattle.irc_room.specs.declared.effect.By.TheVariants as by
 use Rattle.irc_room.specs.declared.effect.Target.TheVariants as target
 use Rattle.irc_room.specs.declared.effect.Effect.{Effect}
-use Rattle.irc_room.specs.declared.effect.Effect.TheVariants.{Join, Part, Kick, SetTopic, Say, Invite}
+use Rattle.irc_room.specs.declared.effect.Effect.TheVariants.{Join, Part, Kick, ChangeModes, SetTopic, Say, Invite, UserMode}
 use Rattle.irc_room.specs.Room.{Room}
 use Rattle.irc_room.specs.InTurn.{EachInTurn}
 use Rattle.irc_acts.specs.declared.act.Act.{Act}
@@ -34,6 +36,9 @@ pub data IsOwn (me : User) (room : Room) : Effect → Type 0 where
       → has_member (key nick) channel ≡ true → row room.users (key nick) ≡ Some other → IsOwn me room (Kick me.nick channel.name other.nick text)
   invites : (nick name : List ℕ) (other : User) → row room.users (key nick) ≡ Some other → IsChannelName room name
       → IsOwn me room (Invite me.nick other.nick name)
+  changes_modes : (name : List ℕ) (changes : List ModeChange) (channel : Channel) → row room.channels (key name) ≡ Some channel
+      → IsOwn me room (ChangeModes (by.User me.nick) channel.name changes)
+  sets_user_mode : (invisible : Bool) → IsOwn me room (UserMode me.nick invisible)
 
 -- each effect of these steps is its own in the room that those before it have left
 abbrev pub AreOwn : User → Room → List Act → Type 0

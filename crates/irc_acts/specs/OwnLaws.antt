@@ -5,18 +5,20 @@ use Rattle.std.specs.List.{AllByRecursion, list_all}
 use Rattle.irc_names.specs.Fold.{key}
 use Rattle.irc_names.specs.Tables.{row}
 use Rattle.irc_users.specs.declared.user.User.{User}
+use Rattle.irc_users.specs.UserTable.{with_invisible}
 use Rattle.irc_channels.specs.declared.channel.Channel.{Channel}
 use Rattle.irc_room.specs.declared.effect.Effect.{Effect}
 use Rattle.irc_room.specs.Room.{Room, IsWellFormed}
 use Rattle.irc_room.specs.Effects.{IsPossible, has_user, has_channel}
 use Rattle.irc_room.specs.After.{after}
 use Rattle.irc_room.specs.InTurn.{EachInTurn}
+use Rattle.irc_room.proofs.ModesKept.{same_rows}
 use Rattle.irc_room.proofs.WellFormedLaw.{after_is_well_formed}
 use Rattle.irc_acts.specs.declared.act.Act.{Act}
 use Rattle.irc_acts.specs.declared.act.Act.TheVariants.{Answer, Raw, Do}
 use Rattle.irc_acts.specs.Acts.{effects_among}
 use Rattle.irc_acts.specs.Possible.{ArePossible}
-use Rattle.irc_acts.specs.Own.{IsOwn, to_user, to_channel, joins, parts, sets_topic, kicks, invites, AreOwn}
+use Rattle.irc_acts.specs.Own.{IsOwn, to_user, to_channel, joins, parts, sets_topic, kicks, invites, changes_modes, sets_user_mode, AreOwn}
 
 -- an answer, a line, or a text: it leaves the room as it is
 pub record LeavesRoom (me : User) (room : Room) (effect : Effect) : Type 0 where
@@ -83,17 +85,26 @@ own_possible me room effect well there (invites nick name other is named) = reco
   channel_there = refl;
   nick_free = refl;
 }
+own_possible me room effect well there (changes_modes name changes channel is) = record {
+  users_there = one_there room me.nick there;
+  channel_there = channel_there room well (key name) channel is;
+  nick_free = refl;
+}
+own_possible me room effect well there (sets_user_mode invisible) = record { users_there = one_there room me.nick there; channel_there = refl; nick_free = refl }
 
--- none of them changes a user
-own_stays : (me : User) (room : Room) (effect : Effect) → IsOwn me room effect → (after room effect).users ≡ room.users
+-- who is a user stays one, and nobody else becomes one
+own_stays : (me : User) (room : Room) (effect : Effect) → IsOwn me room effect → (fold : List ℕ)
+    → is_some (row (after room effect).users fold) ≡ is_some (row room.users fold)
 unfolding after
-own_stays me room effect (to_user name other notice words is) = refl
-own_stays me room effect (to_channel name channel notice words is) = refl
-own_stays me room effect (joins name op) = refl
-own_stays me room effect (parts name text channel is) = refl
-own_stays me room effect (sets_topic name text channel is) = refl
-own_stays me room effect (kicks name nick text channel other is member known) = refl
-own_stays me room effect (invites nick name other is named) = refl
+own_stays me room effect (to_user name other notice words is) fold = refl
+own_stays me room effect (to_channel name channel notice words is) fold = refl
+own_stays me room effect (joins name op) fold = refl
+own_stays me room effect (parts name text channel is) fold = refl
+own_stays me room effect (sets_topic name text channel is) fold = refl
+own_stays me room effect (kicks name nick text channel other is member known) fold = refl
+own_stays me room effect (invites nick name other is named) fold = refl
+own_stays me room effect (changes_modes name changes channel is) fold = refl
+own_stays me room effect (sets_user_mode invisible) fold = same_rows (key me.nick) (with_invisible invisible) room.users fold
 
 own_are_so : (me : User) (room : Room) (effects : List Effect) → IsWellFormed room → has_user room me.nick ≡ true → EachInTurn (IsOwn me) room effects
     → EachInTurn IsPossible room effects
@@ -103,7 +114,7 @@ own_are_so me room (effect ∷ effects) well there own =
     record {
       now = possible;
       later = own_are_so me (after room effect) effects (after_is_well_formed room effect well possible)
-          (ap (λ users. is_some (row users (key me.nick))) (own_stays me room effect own.now) ∙ there) own.later;
+          (own_stays me room effect own.now (key me.nick) ∙ there) own.later;
     }
 
 pub own_are_possible : (me : User) (room : Room) (acts : List Act) → IsWellFormed room → has_user room me.nick ≡ true → AreOwn me room acts
