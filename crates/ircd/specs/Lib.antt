@@ -1,3 +1,4 @@
+pub mod Limits
 pub mod Statuses
 pub mod Words
 pub mod Numbers

@@ -1,5 +1,5 @@
 -- What a script does: which events it gives to the server, in which order, what the server answers to each, and what is printed.
-use Rattle.std.specs.Prelude.{◌≡◌, ℕ, ◌+◌, ◌-◌, ◌^◌, Option, Some, None, Result, Ok, Err, List, [], ◌∷◌, ◌++◌, ◌⊎◌, codes, nat_lt, IfSome, if◌then◌else◌}
+use Rattle.std.specs.Prelude.{◌≡◌, ℕ, ◌+◌, Option, Some, None, Result, Ok, Err, List, [], ◌∷◌, ◌++◌, ◌⊎◌, codes, nat_lt, IfSome, if◌then◌else◌}
 use Rattle.std.specs.Io.KnownBytes.{Appends}
 use Rattle.std.specs.List.{flat_map}
 use Rattle.std.specs.FinMap.{empty}
@@ -16,6 +16,7 @@ use Rattle.ircd.specs.declared.fault.SimFault.{SimFault}
 use Rattle.ircd.specs.declared.fault.SimFault.TheVariants.{BadScript, Failed, Device}
 use Rattle.ircd.specs.Scripts.{Request, Asked, script_read}
 use Rattle.ircd.specs.Events.{events_of}
+use Rattle.ircd.specs.Limits.{max_number}
 use Rattle.ircd.specs.Printing.{printed, refusal_line, refusal_number}
 
 -- what an event comes to: the server puts something out, or refuses it
@@ -27,9 +28,9 @@ abbrev pub answer_text : Answer → List ℕ
 answer_text (puts_out outs) = flat_map printed outs
 answer_text (refuses number) = refusal_line number
 
--- the number behind a client's, of 64 bits
+-- the number behind a client's; the last stays
 abbrev pub number_behind : ℕ → ℕ
-number_behind number = if nat_lt number (2 ^ 64 - 1) then number + 1 else number
+number_behind number = if nat_lt number max_number then number + 1 else number
 
 -- the number for the next client, once an event was not refused
 abbrev pub next_if_taken : Event → ℕ → ℕ

@@ -134,8 +134,8 @@ fn tell_bad_script<E: Write>(line: u64, errors: &mut E) -> Result<(), Trouble>
     write_whole(text.as_slice(), errors)
 }
 
-/// The longest line on a bad script: it has a number of 64 bits in it.
-const MAX_BAD_SCRIPT: usize = 64;
+/// The longest line on a bad script: the greatest number has 20 digits.
+pub const MAX_BAD_SCRIPT: usize = 44;
 
 /// What is said of a script whose line with this number is bad.
 fn bad_script(line: u64) -> ArrayVec<u8, MAX_BAD_SCRIPT>

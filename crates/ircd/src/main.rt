@@ -5,6 +5,7 @@
 mod channel_tests;
 mod events;
 mod fault;
+mod laws;
 #[cfg(test)]
 mod leaving_tests;
 #[cfg(test)]

@@ -1,12 +1,13 @@
 //! What is printed.
 ghost use Rattle.std.specs.Prelude.{◌≡◌, ◌++◌, ◌≤◌, ◌+◌, length};
 ghost use Rattle.arrayvec.specs.ArrayVec.{array_vec_len};
+ghost use Rattle.ircd.specs.Limits.{max_printed, waiting_room};
 ghost use Rattle.ircd.specs.Sinks.{IsPrinted, sink};
 ghost use Rattle.std.specs.List.{flat_map};
 ghost use Rattle.ircd.specs.Printing.{printed, printed_line, refusal_line, refusal_number, body_of};
 
 use crate::fault::Trouble;
-use crate::sink::{WAITING_ROOM, Waiting, make_room};
+use crate::sink::{Waiting, make_room};
 use irc_line::limits::MAX_TEXT;
 use irc_line::{Text, body};
 use irc_server::{Out, ServerFault};
@@ -14,10 +15,10 @@ use itoa::Buffer;
 use std::io::Write;
 
 /// The most digits of a number of 64 bits.
-const MAX_DIGITS: usize = 20;
+pub const MAX_DIGITS: usize = 20;
 
 /// The longest line that is printed: a number, a space, a text and LF.
-const MAX_PRINTED: usize = MAX_DIGITS + 1 + MAX_TEXT + 1;
+pub const MAX_PRINTED: usize = MAX_DIGITS + 1 + MAX_TEXT + 1;
 
 /// The number of the refusal of an event for a client that is not there.
 pub const NO_SUCH_CLIENT: u64 = 3;
@@ -91,7 +92,7 @@ pub fn print_refusal<W: Write>(
 }
 
 fn push_line(client: u64, text: &Text, waiting: &mut Waiting)
-    requires { array_vec_len waiting.old + MAX_PRINTED ≤ WAITING_ROOM }
+    requires { array_vec_len waiting.old + max_printed ≤ waiting_room }
     ensures { waiting.new.items ≡ waiting.old.items ++ printed_line client text.now.items }
 {
     let _whole = text.as_slice();
@@ -102,7 +103,7 @@ fn push_line(client: u64, text: &Text, waiting: &mut Waiting)
 }
 
 fn push_refusal(number: u64, waiting: &mut Waiting)
-    requires { array_vec_len waiting.old + MAX_PRINTED ≤ WAITING_ROOM }
+    requires { array_vec_len waiting.old + max_printed ≤ waiting_room }
     ensures { waiting.new.items ≡ waiting.old.items ++ refusal_line number }
 {
     let _ = waiting.try_extend_from_slice(b"! ");

@@ -1,6 +1,8 @@
 //! `ircd sim`: a script is read to its end, and run.
 ghost use Rattle.std.specs.Prelude.{◌≡◌, ◌<◌, ◌≤◌, [], length, take, IfOk};
 ghost use Rattle.std.specs.Io.KnownBytes.{Consumes, IsAtEnd};
+ghost use Rattle.ircd.specs.Limits.{read_size};
+ghost use Rattle.ircd.specs.Loops.Reading.{IsReadTo};
 ghost use Rattle.ircd.specs.Loops.Steps.{HasRun};
 ghost use Rattle.ircd.specs.Runs.{Ran, IsTextOf};
 ghost use Rattle.ircd.specs.ScriptViews.{requests};
@@ -14,10 +16,10 @@ use std::alloc::Global;
 use std::io::{Read, Write};
 
 /// How many reads a script may take.
-const MAX_READS: u32 = 16_777_216;
+pub const MAX_READS: u32 = 16_777_216;
 
 /// How many bytes are asked for in one read.
-const READ_SIZE: usize = 4096;
+pub const READ_SIZE: usize = 4096;
 
 /// Runs a script on one server, and prints each line that a client receives, as the client's number and the line, in the order
 /// of the calls.
@@ -45,20 +47,32 @@ fn read_text<R: Read>(alloc: Global, input: &mut R) -> Result<Vec<u8, Global>, T
     ensures { IfOk result (λ text. IsTextOf text.items (R.remaining input.old)) }
 {
     let mut text = Vec::new(alloc);
+    if reads_to_end(input, &mut text)? {
+        Ok(text)
+    } else {
+        Err(Trouble::Device)
+    }
+}
+
+/// Reads into an empty text until the reader has no more, in at most [`MAX_READS`] reads. Says whether it came to the end.
+fn reads_to_end<R: Read>(input: &mut R, text: &mut Vec<u8, Global>) -> Result<bool, Trouble>
+    requires { text.old.items ≡ [] }
+    ensures { IfOk result (λ ended. IsReadTo ended text.new.items (R.remaining input.old)) }
+{
     let mut piece = [0; READ_SIZE];
     for _ in 0..MAX_READS {
         let count = read_some(input, &mut piece)?;
         if count == 0 {
-            return Ok(text);
+            return Ok(true);
         }
         text.extend_from_slice(&piece[..count])?;
     }
-    Err(Trouble::Device)
+    Ok(false)
 }
 
 /// One read: how many bytes it gave, none only where the reader has no more.
 fn read_some<R: Read>(input: &mut R, piece: &mut [u8]) -> Result<usize, Trouble>
-    requires { 0 < length piece.old }
+    requires { length piece.old ≡ read_size }
     ensures within { IfOk result (λ count. count ≤ length piece.new) }
     ensures bytes { IfOk result (λ count. Consumes (R.remaining input.old) (R.remaining input.new) (take count piece.new)) }
     ensures end { IfOk result (λ count. count ≡ 0 → IsAtEnd (R.remaining input.new)) }

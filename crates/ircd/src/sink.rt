@@ -2,6 +2,7 @@
 ghost use Rattle.std.specs.Prelude.{◌≡◌, ◌+◌, ◌≤◌, [], IfOk, OnOk, OnErr};
 ghost use Rattle.std.specs.Io.KnownBytes.{Appends, Keeps};
 ghost use Rattle.arrayvec.specs.ArrayVec.{array_vec_len};
+ghost use Rattle.ircd.specs.Limits.{waiting_room};
 ghost use Rattle.ircd.specs.Sinks.{IsPrinted, Prints, Tells, sink};
 
 use crate::fault::Trouble;
@@ -12,7 +13,7 @@ use std::io::{ErrorKind, Write};
 pub const WAITING_ROOM: usize = 16_384;
 
 /// How many writes one text may take: a writer may take less than it is given, and may be interrupted.
-const MAX_WRITES: u32 = 16_777_216;
+pub const MAX_WRITES: u32 = 16_777_216;
 
 /// What is printed and not yet written.
 pub type Waiting = ArrayVec<u8, WAITING_ROOM>;
@@ -26,9 +27,9 @@ pub fn make_room<W: Write>(
     waiting: &mut Waiting,
     output: &mut W,
 ) -> Result<(), Trouble>
-    requires { bytes ≤ WAITING_ROOM }
+    requires { bytes ≤ waiting_room }
     ensures prints { IsPrinted result (sink (W.contents output.old) waiting.old.items) (sink (W.contents output.new) waiting.new.items) [] }
-    ensures room { OnOk result (array_vec_len waiting.new + bytes ≤ WAITING_ROOM) }
+    ensures room { OnOk result (array_vec_len waiting.new + bytes ≤ waiting_room) }
 {
     if waiting.remaining_capacity() < bytes {
         write_waiting(waiting, output)

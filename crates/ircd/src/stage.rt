@@ -170,6 +170,7 @@ fn next_if_taken(event: &Event, next: u64) -> u64
 }
 
 /// The number behind a client's. At the greatest number it stays.
+#[tactic(auto, unfolding(crate::specs::Limits::max_number))]
 fn number_behind(number: u64) -> u64
     ensures { result ≡ number_behind number }
 {

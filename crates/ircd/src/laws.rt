@@ -1,0 +1,20 @@
+//! What holds of the program's constants. The law is a function that does nothing, and its contract is the law.
+ghost use Rattle.std.specs.Prelude.{◌≡◌};
+ghost use Rattle.ircd.specs.Limits.{max_bad_script, max_digits, max_printed, max_reads, max_writes, read_size, waiting_room};
+
+use crate::fault::MAX_BAD_SCRIPT;
+use crate::printing::{MAX_DIGITS, MAX_PRINTED};
+use crate::sim::{MAX_READS, READ_SIZE};
+use crate::sink::{MAX_WRITES, WAITING_ROOM};
+
+/// The constants of the code are the numbers that the definitions name.
+#[tactic(auto, unfolding(crate::specs::Limits::max_reads, crate::specs::Limits::max_writes))]
+pub fn limits_are_so()
+    ensures bad_script { MAX_BAD_SCRIPT ≡ max_bad_script }
+    ensures digits { MAX_DIGITS ≡ max_digits }
+    ensures printed { MAX_PRINTED ≡ max_printed }
+    ensures reads { MAX_READS ≡ max_reads }
+    ensures read { READ_SIZE ≡ read_size }
+    ensures writes { MAX_WRITES ≡ max_writes }
+    ensures waiting { WAITING_ROOM ≡ waiting_room }
+{}
