@@ -1,9 +1,10 @@
 -- A run that memory or a device ended.
-use Rattle.std.proofs.Common.{◌≡◌, ℕ, Option, Result, Ok, Err, IsErr, IsErrAnd, List, []}
+use Rattle.std.proofs.Common.{◌≡◌, ℕ, Option, Result, Ok, Err, IsErr, IsErrAnd, List, [], ◌++◌, ap, ◌∙◌, append_assoc}
 use Rattle.ircd.specs.Loops.Steps.{RunInto}
 use Rattle.ircd.specs.Runs.{IsTextOf, CutShort, EndsEarly, Ran, first_standing}
 use Rattle.ircd.specs.Scripts.{Asked, script_read}
 use Rattle.ircd.specs.Sinks.{sink}
+use Rattle.ircd.proofs.RunningOn.{first_lives, run_whole}
 use Rattle.ircd.specs.Statuses.{fault_of as fault_by}
 use Rattle.ircd.specs.declared.fault.SimFault.{SimFault}
 use Rattle.ircd.specs.declared.fault.SimFault.TheVariants.{BadScript, Failed, Device}
@@ -13,16 +14,20 @@ use Rattle.ircd.specs.declared.fault.Trouble.TheVariants.{Memory, Device as NoDe
 -- a run that was broken off
 pub cut_short : (remaining old new : Option (List ℕ)) (text : List ℕ) (asked : Asked) → IsTextOf text remaining → script_read text ≡ Ok asked
     → RunInto (first_standing asked.server) asked.requests (sink old []) (sink new []) → CutShort remaining old new
-cut_short remaining old new text asked is_text read p = record {
+cut_short remaining old new text asked is_text read p = let run = run_whole p.begins (first_lives asked.server) in record {
   text = text;
   is_text = is_text;
   asked = asked;
   read = read;
-  came = p.text;
-  begins = p.begins;
+  last = run.last;
+  whole = run.whole;
+  runs = run.runs;
   printed = p.loses.prints.written;
   appended = p.loses.prints.appended;
-  front = record { more = p.loses.lost; whole_is = p.loses.prints.whole };
+  front = record {
+    more = p.loses.lost ++ run.front.more;
+    whole_is = run.front.whole_is ∙ ap (λ t. t ++ run.front.more) p.loses.prints.whole ∙ append_assoc p.loses.prints.written p.loses.lost run.front.more;
+  };
 }
 
 -- a trouble ends a run

@@ -4,5 +4,7 @@ pub mod ScriptSteps
 pub mod Printed
 pub mod Sinking
 pub mod Playing
+pub mod EachLineIsRead
+pub mod RunningOn
 pub mod CutShort
 pub mod LineBodies

@@ -13,8 +13,8 @@ use Rattle.irc_server.specs.Happening.{IsHandled, refuses_it, wants_memory, has_
 use Rattle.ircd.specs.declared.fault.Trouble.{Trouble}
 use Rattle.ircd.specs.Events.{line_event, events_of}
 use Rattle.ircd.specs.Printing.{refusal_number}
-use Rattle.ircd.specs.Loops.Steps.{Played, Breaks, IsPlayed, RunWhole, RunInto, HasRun}
-use Rattle.ircd.specs.Runs.{Standing, AnswersAt, Answer, puts_out, refuses, answer_text, next_after, Plays, nothing, event, Runs, end, request, Begins, to_the_end, partly, further}
+use Rattle.ircd.specs.Loops.Steps.{Played, Breaks, IsPlayed, RunWhole, RunInto, HasRun, Begins, to_the_end, partly, further}
+use Rattle.ircd.specs.Runs.{Standing, AnswersAt, Answer, puts_out, refuses, answer_text, next_after, Plays, nothing, event, Runs, end, request}
 use Rattle.ircd.specs.Scripts.{Request}
 use Rattle.ircd.specs.ScriptViews.{requests, request as request_now}
 use Rattle.ircd.specs.declared.script.Command.{Command}
@@ -27,7 +27,7 @@ pub events_of_lines : (client : ℕ) (lines : List (ArrayVec ℕ)) → map (λ l
 events_of_lines client [] = refl
 events_of_lines client (line ∷ lines) = ap (λ events. Line client line ∷ events) (events_of_lines client lines)
 
-plays_both : {a b c : Standing} {xs ys : List Event} {s t : List ℕ} → Plays a xs b s → Plays b ys c t → Plays a (xs ++ ys) c (s ++ t)
+pub plays_both : {a b c : Standing} {xs ys : List Event} {s t : List ℕ} → Plays a xs b s → Plays b ys c t → Plays a (xs ++ ys) c (s ++ t)
 plays_both nothing q = q
 plays_both {t = t} (event answer at next e p) q = event answer at next (ap (λ bytes. bytes ++ t) e ∙ append_assoc (answer_text answer) _ t) (plays_both p q)
 

@@ -74,14 +74,6 @@ pub data Runs : Standing → List Request → Standing → List ℕ → Type 0 w
   request : {first middle last : Standing} {r : Request} {requests : List Request} {start more text : List ℕ}
       → text ≡ start ++ more → Plays first (events_of first.next r) middle start → Runs middle requests last more → Runs first (r ∷ requests) last text
 
--- What is asked for is begun, and this is printed: some of it is done, and of the next request some events. All of it may be done.
-pub data Begins : Standing → List Request → List ℕ → Type 0 where
-  to_the_end : {first : Standing} → Begins first [] []
-  partly : {first last : Standing} {r : Request} {requests : List Request} {text : List ℕ} (events left : List Event)
-      → events_of first.next r ≡ events ++ left → Plays first events last text → Begins first (r ∷ requests) text
-  further : {first middle : Standing} {r : Request} {requests : List Request} {start more text : List ℕ}
-      → text ≡ start ++ more → Plays first (events_of first.next r) middle start → Begins middle requests more → Begins first (r ∷ requests) text
-
 -- the text is what a reader had, where that is known
 abbrev pub IsTextOf : List ℕ → Option (List ℕ) → Type 0
 IsTextOf text remaining = IfSome remaining (λ bytes. text ≡ bytes)
@@ -122,17 +114,18 @@ pub record IsFront (front whole : List ℕ) : Type 0 where
   pub more : List ℕ
   pub whole_is : whole ≡ front ++ more
 
--- A script was begun, and what was printed is a front of what the events that were played come to.
+-- A script was begun, and what was printed is a front of what the whole script prints where neither memory nor a device fails.
 pub record CutShort (remaining old new : Option (List ℕ)) : Type 0 where
   pub text : List ℕ
   pub is_text : IsTextOf text remaining
   pub asked : Asked
   pub read : script_read text ≡ Ok asked
-  pub came : List ℕ
-  pub begins : Begins (first_standing asked.server) asked.requests came
+  pub last : Standing
+  pub whole : List ℕ
+  pub runs : Runs (first_standing asked.server) asked.requests last whole
   pub printed : List ℕ
   pub appended : Appends old new printed
-  pub front : IsFront printed came
+  pub front : IsFront printed whole
 
 -- a run that memory or a device ended: nothing was printed yet, or a front of what would have been
 abbrev pub EndsEarly : Option (List ℕ) → Option (List ℕ) → Option (List ℕ) → Type 0

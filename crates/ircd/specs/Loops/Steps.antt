@@ -1,9 +1,10 @@
 -- What the steps of a run are at: what was played so far, and what of it is printed.
-use Rattle.std.specs.Prelude.{◌≡◌, ℕ, Option, Some, None, Result, Ok, Err, List, ◌++◌}
+use Rattle.std.specs.Prelude.{◌≡◌, ℕ, Option, Some, None, Result, Ok, Err, List, [], ◌∷◌, ◌++◌}
 use Rattle.irc_server.specs.declared.event.Event.{Event}
 use Rattle.irc_server.specs.declared.event.Out.{Out}
 use Rattle.ircd.specs.declared.fault.Trouble.{Trouble}
-use Rattle.ircd.specs.Runs.{Standing, Answer, puts_out, refuses, Plays, Runs, Begins}
+use Rattle.ircd.specs.Events.{events_of}
+use Rattle.ircd.specs.Runs.{Standing, Answer, puts_out, refuses, Plays, Runs}
 use Rattle.ircd.specs.Scripts.{Request}
 use Rattle.ircd.specs.Sinks.{Sink, Prints, Loses}
 
@@ -31,6 +32,14 @@ pub record Breaks (first : Standing) (all : List Event) (old new : Sink) : Type 
 abbrev pub IsPlayed : Result (Unit {0}) Trouble → Standing → List Event → Standing → Sink → Sink → Type 0
 IsPlayed (Ok _) first events last old new = Played first events last old new
 IsPlayed (Err trouble) first events last old new = Breaks first events old new
+
+-- What is asked for is begun, and this is printed: some of it is done, and of the next request some events. All of it may be done.
+pub data Begins : Standing → List Request → List ℕ → Type 0 where
+  to_the_end : {first : Standing} → Begins first [] []
+  partly : {first last : Standing} {r : Request} {requests : List Request} {text : List ℕ} (events left : List Event)
+      → events_of first.next r ≡ events ++ left → Plays first events last text → Begins first (r ∷ requests) text
+  further : {first middle : Standing} {r : Request} {requests : List Request} {start more text : List ℕ}
+      → text ≡ start ++ more → Plays first (events_of first.next r) middle start → Begins middle requests more → Begins first (r ∷ requests) text
 
 -- the same of requests
 pub record RunWhole (first : Standing) (requests : List Request) (last : Standing) (old new : Sink) : Type 0 where
