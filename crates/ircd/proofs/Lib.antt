@@ -6,5 +6,6 @@ pub mod Sinking
 pub mod Playing
 pub mod EachLineIsRead
 pub mod RunningOn
+pub mod OneRun
 pub mod CutShort
 pub mod LineBodies

@@ -8,6 +8,7 @@ pub mod Events
 pub mod Printing
 pub mod Sinks
 pub mod Runs
+pub mod RunLaws
 pub mod Loops
 pub mod Endings
 pub mod Codes
