@@ -70,17 +70,6 @@ breaks_behind {xs = xs} left p q = record {
   loses = prints_loses p.prints q.loses;
 }
 
--- an event is handled by a server from which nothing was put out yet
-pub handled_answer : (old new : Option View) (e : Event) (start outs : List Out) → start ≡ [] → IsHandled old e start (Ok tt) new outs
-    → AnswersAt (Some old) e (puts_out outs) (Some new)
-handled_answer old new e start outs is h = subst (λ out. IsHandled old e out (Ok tt) new outs) is h
-
-pub refused_answer : {old new : Option View} {e : Event} {start outs : List Out} {fault : ServerFault} (number : ℕ) → refusal_number fault ≡ Some number
-    → IsHandled old e start (Err fault) new outs → AnswersAt (Some old) e (refuses number) (Some new)
-refused_answer number is (refuses_it {fault = fault} owed) = record { fault = fault; number_is = is; is_refused = refuses_it owed }
-refused_answer number is (wants_memory none) = cc is
-refused_answer number is has_failed = cc is
-
 runs_both : {a b c : Standing} {xs ys : List Request} {s t : List ℕ} → Runs a xs b s → Runs b ys c t → Runs a (xs ++ ys) c (s ++ t)
 runs_both end q = q
 runs_both {t = t} (request {start = start} e p r) q = request (ap (λ bytes. bytes ++ t) e ∙ append_assoc start _ t) p (runs_both r q)

@@ -37,21 +37,3 @@ keeps_appended None middle new bytes p q = tt
 keeps_appended (Some xs) None new bytes p q = absurd p
 keeps_appended (Some xs) (Some ys) None bytes p q = absurd q
 keeps_appended (Some xs) (Some ys) (Some zs) bytes p q = q ∙ p
-
-pub consumes_nothing : (known : Option (List ℕ)) → Consumes known known []
-consumes_nothing None = tt
-consumes_nothing (Some bytes) = refl
-
-pub consumes_both : (old middle new : Option (List ℕ)) (first more : List ℕ) → Consumes old middle first → Consumes middle new more → Consumes old new (first ++ more)
-consumes_both None middle new first more p q = tt
-consumes_both (Some xs) None new first more p q = absurd p
-consumes_both (Some xs) (Some ys) None first more p q = absurd q
-consumes_both (Some xs) (Some ys) (Some zs) first more p q = p ∙ ap (λ bytes. first ++ bytes) q ∙ sym (append_assoc first more zs)
-
--- what was taken is all that there was
-pub consumes_all : (old middle new : Option (List ℕ)) (text last : List ℕ) → Consumes old middle text → Consumes middle new last → last ≡ [] → IsAtEnd new → IsTextOf text old
-consumes_all None middle new text last p q none end = tt
-consumes_all (Some xs) None new text last p q none end = absurd p
-consumes_all (Some xs) (Some ys) None text last p q none end = absurd q
-consumes_all (Some xs) (Some ys) (Some zs) text last p q none end =
-    sym (p ∙ ap (λ bytes. text ++ bytes) (q ∙ ap (λ bytes. bytes ++ zs) none ∙ end) ∙ append-nil text)

@@ -63,43 +63,11 @@ pub loses_when : (r : Result (Unit {0}) Trouble) (a b : Sink) (s : List ℕ) →
 loses_when (Ok _) a b s p = no_loss p
 loses_when (Err trouble) a b s p = p
 
--- bytes are put behind what waits
-pub pushed : (held : Option (List ℕ)) (old new text : List ℕ) → new ≡ old ++ text → Prints (sink held old) (sink held new) text
-pushed held old new text e = record { written = []; appended = appends_nothing held; whole = sym e }
-
--- a text is written whole, and so is what waits
-pub written_whole : (old new : Option (List ℕ)) (text : List ℕ) → Appends old new text → Prints (sink old text) (sink new []) []
-written_whole old new text p = record { written = text; appended = p; whole = refl }
-
 pub prints_kept : {a b : Sink} {s : List ℕ} (held : Option (List ℕ)) → Prints a b s → Keeps b.held held → Prints a (sink held b.waiting) s
 prints_kept {a = a} {b = b} held p k = record { written = p.written; appended = keeps_appended a.held b.held held p.written p.appended k; whole = p.whole }
 
 pub loses_kept : {a b : Sink} {s : List ℕ} (held : Option (List ℕ)) → Loses a b s → Keeps b.held held → Loses a (sink held b.waiting) s
 loses_kept held p k = record { lost = p.lost; prints = prints_kept held p.prints k }
-
--- printed behind what was
-pub printed_behind : (r : Result (Unit {0}) Trouble) {a b : Sink} (c : Sink) {s : List ℕ} (t : List ℕ) → Prints a b s → IsPrinted r b c t → IsPrinted r a c (s ++ t)
-printed_behind (Ok _) c t p q = prints_both p q
-printed_behind (Err trouble) c t p q = prints_loses p q
-
--- nothing waits in front of a text: it is told
-pub told_of : {old new : Option (List ℕ)} {text rest : List ℕ} → Prints (sink old text) (sink new rest) [] → Tells old new text
-told_of {text = text} {rest = rest} p =
-    record { lost = rest; prints = record { written = p.written; appended = p.appended; whole = sym (append-nil text) ∙ p.whole } }
-
--- one write more of a text
-pub written_more : {old middle new : Option (List ℕ)} {text rest left : List ℕ} → Prints (sink old text) (sink middle rest) [] → Prints (sink middle rest) (sink new left) []
-    → Prints (sink old text) (sink new left) []
-written_more p q = prints_both p q
-
--- nothing is left of a text
-pub written_all : (old new : Option (List ℕ)) (text rest : List ℕ) → Prints (sink old text) (sink new rest) [] → rest ≡ [] → Appends old new text
-written_all old new text rest p none =
-    let all : text ≡ p.written = sym (append-nil text) ∙ p.whole ∙ ap (λ r. p.written ++ r) none ∙ append-nil p.written in
-    subst (λ bytes. Appends old new bytes) (sym all) p.appended
-
-pub kept_on : (old new held : Option (List ℕ)) (text rest : List ℕ) → Prints (sink old text) (sink new rest) [] → Keeps new held → Tells old held text
-kept_on old new held text rest p k = told_of (prints_kept held p k)
 
 pub printing_failed : (r : Result (Unit {0}) Trouble) (a b : Sink) (s : List ℕ) → IsErr r → Loses a b s → IsPrinted r a b s
 printing_failed (Ok _) a b s failed p = let never : false ≡ true = failed in cc never
