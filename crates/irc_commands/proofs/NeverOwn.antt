@@ -10,7 +10,7 @@ use Rattle.irc_room.specs.Room.{Room}
 use Rattle.irc_room.specs.After.{after}
 use Rattle.irc_acts.specs.declared.act.Act.{Act}
 use Rattle.irc_acts.specs.declared.act.Act.TheVariants.{Answer, Raw, Do}
-use Rattle.irc_acts.specs.Own.{IsOwn, to_user, to_channel, joins, parts, sets_topic, kicks, invites, AreOwn}
+use Rattle.irc_acts.specs.Own.{IsOwn, to_user, to_channel, joins, parts, sets_topic, kicks, invites, changes_modes, sets_user_mode, AreOwn}
 use Rattle.irc_membership.specs.Join.{leaves}
 use Rattle.irc_commands.specs.Comings.{adds_user, adds_or_ends, renames_other}
 
@@ -40,6 +40,8 @@ own_adds_nobody me = record { of_answers = λ reply. refl; of_lines = λ line. r
     by_effect room effect (sets_topic name text channel is) = refl
     by_effect room effect (kicks name nick text channel other is member known) = refl
     by_effect room effect (invites nick name other is named) = refl
+    by_effect room effect (changes_modes name changes channel is) = refl
+    by_effect room effect (sets_user_mode invisible) = refl
 
 pub own_ends_nobody : (me : User) → IsNeverOwn me adds_or_ends
 own_ends_nobody me = record { of_answers = λ reply. refl; of_lines = λ line. refl; of_own = by_effect }
@@ -52,6 +54,8 @@ own_ends_nobody me = record { of_answers = λ reply. refl; of_lines = λ line. r
     by_effect room effect (sets_topic name text channel is) = refl
     by_effect room effect (kicks name nick text channel other is member known) = refl
     by_effect room effect (invites nick name other is named) = refl
+    by_effect room effect (changes_modes name changes channel is) = refl
+    by_effect room effect (sets_user_mode invisible) = refl
 
 pub own_renames_nobody : (me : User) (who : List ℕ) → IsNeverOwn me (renames_other who)
 own_renames_nobody me who = record { of_answers = λ reply. refl; of_lines = λ line. refl; of_own = by_effect }
@@ -64,6 +68,8 @@ own_renames_nobody me who = record { of_answers = λ reply. refl; of_lines = λ 
     by_effect room effect (sets_topic name text channel is) = refl
     by_effect room effect (kicks name nick text channel other is member known) = refl
     by_effect room effect (invites nick name other is named) = refl
+    by_effect room effect (changes_modes name changes channel is) = refl
+    by_effect room effect (sets_user_mode invisible) = refl
 
 -- a test that fails for each channel that is left
 pub none_leaving : (me : User) (test : Act → Bool) (channels : List Channel) → ((channel : Channel) → test (leaves me channel) ≡ false)
