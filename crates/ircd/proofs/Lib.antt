@@ -4,7 +4,6 @@ pub mod ScriptSteps
 pub mod Printed
 pub mod Sinking
 pub mod Playing
-pub mod EachLineIsRead
 pub mod RunningOn
 pub mod OneRun
 pub mod CutShort

@@ -19,12 +19,10 @@ record SameAnswer (answer other : Answer) (new after : Option (Option View)) : T
 
 both_taken : {old new after : Option View} {e : Event} {outs more : List Out} → IsHandled old e [] (Ok tt) new outs → IsHandled old e [] (Ok tt) after more
     → SameAnswer (puts_out outs) (puts_out more) (Some new) (Some after)
-both_taken (takes_it {old = old} owed does) (takes_it owed' does') =
-    let same : does.happening ≡ does'.happening = sym (does.is.only does'.happening does'.is.happens) in
-    record {
-      answer_is = ap puts_out (does.out_is ∙ ap (λ h. (handled old h).out) same ∙ sym does'.out_is);
-      new_is = ap (λ (v : View). Some (Some v)) (does.view_is ∙ ap (λ h. (handled old h).view) same ∙ sym does'.view_is);
-    }
+both_taken (takes_it owed does) (takes_it owed' does') = record {
+  answer_is = ap puts_out (does.out_is ∙ sym does'.out_is);
+  new_is = ap (λ (v : View). Some (Some v)) (does.view_is ∙ sym does'.view_is);
+}
 
 -- what is taken is not refused
 taken_not_refused : {old new after : Option View} {e : Event} {outs : List Out} {fault : ServerFault} {number : ℕ} → IsHandled old e [] (Ok tt) new outs → refusal_number fault ≡ Some number

@@ -9,13 +9,12 @@ use Rattle.irc_server.specs.declared.event.ServerFault.TheVariants.{NoSuchConnec
 use Rattle.irc_server.specs.declared.clients.Client.{Client}
 use Rattle.irc_server.specs.View.{View, client_of}
 use Rattle.irc_server.specs.Handle.{handled, fault_of, there, not_there}
-use Rattle.irc_server.specs.Happening.{IsHandled, takes_it, refuses_it, wants_memory, has_failed}
+use Rattle.irc_server.specs.Happening.{happening_of, IsHandled, takes_it, refuses_it, wants_memory, has_failed}
 use Rattle.ircd.specs.Events.{events_of}
 use Rattle.ircd.specs.Printing.{refusal_number}
 use Rattle.ircd.specs.Loops.Steps.{Begins, to_the_end, partly, further}
 use Rattle.ircd.specs.Runs.{Standing, AnswersAt, IsRefused, Answer, puts_out, refuses, answer_text, next_after, Plays, nothing, event, Runs, end, request, IsFront, first_standing}
 use Rattle.ircd.specs.Scripts.{Request}
-use Rattle.ircd.proofs.EachLineIsRead.{each_event_happens}
 use Rattle.ircd.proofs.Playing.{plays_both}
 
 -- The server has not run out of memory, if there is one.
@@ -76,12 +75,11 @@ refusal view e fault number owed is = record { answer = refuses number; new = So
 
 taken : (view : View) (e : Event) → fault_of view e ≡ None → Answered (Some (Some view)) e
 taken view e owed =
-    let what = each_event_happens e in
-    let after = handled view what.happening in
+    let after = handled view (happening_of e) in
     record {
       answer = puts_out after.out;
       new = Some (Some after.view);
-      at = takes_it owed (record { happening = what.happening; is = what.is; view_is = refl; out_is = refl });
+      at = takes_it owed (record { view_is = refl; out_is = refl });
     }
 
 answered : (old : Option (Option View)) (e : Event) → Lives old → Answered old e
