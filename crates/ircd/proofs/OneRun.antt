@@ -6,7 +6,6 @@ use Rattle.irc_server.specs.declared.event.ServerFault.{ServerFault}
 use Rattle.irc_server.specs.View.{View}
 use Rattle.irc_server.specs.Handle.{handled}
 use Rattle.irc_server.specs.Happening.{IsHandled, takes_it, refuses_it, wants_memory, has_failed}
-use Rattle.ircd.specs.Events.{events_of}
 use Rattle.ircd.specs.Printing.{refusal_number}
 use Rattle.ircd.specs.RunLaws.{SameRun}
 use Rattle.ircd.specs.Runs.{Standing, AnswersAt, IsRefused, Answer, puts_out, refuses, answer_text, next_after, Plays, nothing, event, Runs, end, request}

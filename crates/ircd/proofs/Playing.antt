@@ -1,20 +1,15 @@
 -- What was played, put together.
-use Rattle.std.proofs.Common.{◌≡◌, ℕ, ◌+◌, ◌<◌, get_or, true, false, Option, Some, None, Result, Ok, Err, IsErr, List, [], ◌∷◌, ◌++◌, length, take, drop, map, ap, sym, subst, refl, ◌∙◌, append_assoc}
+use Rattle.std.proofs.Common.{◌≡◌, ℕ, ◌+◌, ◌<◌, get_or, true, false, Option, Result, Ok, Err, IsErr, List, [], ◌∷◌, ◌++◌, length, take, drop, map, ap, sym, subst, refl, ◌∙◌, append_assoc}
 use Rattle.std.proofs.lemmas.List.{append-nil}
 use Rattle.std.specs.Io.KnownBytes.{Keeps}
 use Rattle.arrayvec.specs.ArrayVec.{ArrayVec}
 use Rattle.irc_line.specs.Framed.{bytes_of}
 use Rattle.irc_server.specs.declared.event.Event.{Event}
 use Rattle.irc_server.specs.declared.event.Event.TheVariants.{Line}
-use Rattle.irc_server.specs.declared.event.Out.{Out}
-use Rattle.irc_server.specs.declared.event.ServerFault.{ServerFault}
-use Rattle.irc_server.specs.View.{View}
-use Rattle.irc_server.specs.Happening.{IsHandled, refuses_it, wants_memory, has_failed}
 use Rattle.ircd.specs.declared.fault.Trouble.{Trouble}
 use Rattle.ircd.specs.Events.{line_event, events_of}
-use Rattle.ircd.specs.Printing.{refusal_number}
 use Rattle.ircd.specs.Loops.Steps.{Played, Breaks, IsPlayed, RunWhole, RunInto, HasRun, Begins, to_the_end, partly, further}
-use Rattle.ircd.specs.Runs.{Standing, AnswersAt, Answer, puts_out, refuses, answer_text, next_after, Plays, nothing, event, Runs, end, request}
+use Rattle.ircd.specs.Runs.{Standing, AnswersAt, Answer, answer_text, next_after, Plays, nothing, event, Runs, end, request}
 use Rattle.ircd.specs.Scripts.{Request}
 use Rattle.ircd.specs.ScriptViews.{requests, request as request_now}
 use Rattle.ircd.specs.declared.script.Command.{Command}

@@ -13,7 +13,7 @@ use Rattle.irc_server.specs.Happening.{happening_of, IsHandled, takes_it, refuse
 use Rattle.ircd.specs.Events.{events_of}
 use Rattle.ircd.specs.Printing.{refusal_number}
 use Rattle.ircd.specs.Loops.Steps.{Begins, to_the_end, partly, further}
-use Rattle.ircd.specs.Runs.{Standing, AnswersAt, IsRefused, Answer, puts_out, refuses, answer_text, next_after, Plays, nothing, event, Runs, end, request, IsFront, first_standing}
+use Rattle.ircd.specs.Runs.{Standing, AnswersAt, Answer, puts_out, refuses, answer_text, next_after, Plays, nothing, event, Runs, end, request, IsFront, first_standing}
 use Rattle.ircd.specs.Scripts.{Request}
 use Rattle.ircd.proofs.Playing.{plays_both}
 

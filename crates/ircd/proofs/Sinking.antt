@@ -1,5 +1,5 @@
 -- What is printed in turn, and what is lost.
-use Rattle.std.proofs.Common.{◌≡◌, ℕ, true, false, Option, Some, None, Result, Ok, Err, IsErr, OnOk, List, [], ◌∷◌, ◌++◌, take, drop, ap, sym, subst, refl, ◌∙◌, append_assoc, append-nil}
+use Rattle.std.proofs.Common.{◌≡◌, ℕ, true, false, Option, Result, Ok, Err, IsErr, OnOk, List, [], ◌++◌, ap, sym, subst, refl, ◌∙◌, append_assoc, append-nil}
 use Rattle.std.specs.Io.KnownBytes.{Appends, Keeps}
 use Rattle.ircd.specs.declared.fault.Trouble.{Trouble}
 use Rattle.ircd.specs.Sinks.{Sink, sink, Prints, Loses, IsPrinted, Tells}

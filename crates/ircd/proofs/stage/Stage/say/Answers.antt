@@ -3,7 +3,6 @@ use Rattle.std.proofs.lemmas.Grind.{common_steps}
 use Rattle.std.specs.Vec.Iter.{into_iter_items}
 use Rattle.irc_server.specs.declared.event.Event.TheVariants.{Line}
 use Rattle.ircd.specs.Events.{line_event, lines_said}
-use Rattle.ircd.specs.Sinks.{sink}
 use Rattle.ircd.proofs.Playing.{breaks_first, events_of_lines, playing_failed, going_first, going_on, going_breaks, going_end}
 use Rattle.ircd.proofs.stage.Stage.say.Goals as goal
 
