@@ -13,3 +13,7 @@ pub mod Loops
 pub mod Possible
 pub mod Own
 pub mod OwnLaws
+pub mod Doing
+pub mod DoingLaws
+pub mod OtherInvitations
+pub mod OtherInvitationsLaws

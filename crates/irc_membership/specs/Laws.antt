@@ -4,4 +4,6 @@ pub mod JoinZero
 pub mod JoinLaw
 pub mod PartLaw
 pub mod KickLaw
+pub mod KickDoes
 pub mod InviteLaw
+pub mod InviteDoes

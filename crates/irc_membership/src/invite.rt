@@ -6,6 +6,7 @@ ghost use Rattle.irc_line.specs.PartViews.{words_now};
 ghost use Rattle.irc_room.specs.declared.effect.Effect.TheVariants.{Invite};
 ghost use Rattle.irc_acts.specs.Refusing.{first_refusal, unless_refused};
 ghost use Rattle.irc_membership.specs.Invite.{invite_refusals, invite_steps, invites, invites_found, invites_user};
+ghost use Rattle.irc_membership.specs.Laws.InviteDoes.{InviteDoes, InviteIsPossible, InviteLooksAtNoInvitation};
 ghost use Rattle.irc_membership.specs.Laws.InviteLaw.{InviteIsOwn};
 
 use irc_acts::refusals::{need_more_params, no_such_channel};
@@ -136,4 +137,19 @@ fn invitation(me: &User, other: &User, channel: &ChannelName) -> Effect
 /// A law: each effect of an INVITE is its user's own.
 pub fn is_own()
     ensures { InviteIsOwn }
+{}
+
+/// A law: in a well-formed room what an INVITE of a user does can be done, effect by effect.
+pub fn is_possible()
+    ensures { InviteIsPossible }
+{}
+
+/// A law: each effect of an INVITE does something.
+pub fn does_something()
+    ensures { InviteDoes }
+{}
+
+/// A law: an INVITE does the same whoever is invited to channels.
+pub fn looks_at_no_invitation()
+    ensures { InviteLooksAtNoInvitation }
 {}

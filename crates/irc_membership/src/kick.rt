@@ -10,6 +10,7 @@ ghost use Rattle.irc_acts.specs.CommaLists.{entries};
 ghost use Rattle.irc_acts.specs.Moves.{AreLeaves};
 ghost use Rattle.irc_acts.specs.Refusing.{first_refusal};
 ghost use Rattle.irc_membership.specs.Kick.{kick_all, kick_one, kick_refusals, kick_steps, kicking, kicks, kicks_asked};
+ghost use Rattle.irc_membership.specs.Laws.KickDoes.{KickDoes, KickIsPossible, KickLooksAtNoInvitation};
 ghost use Rattle.irc_membership.specs.Laws.KickLaw.{KickIsOwn};
 ghost use Rattle.irc_membership.specs.Loops.KickList.{kicks_left, member_at};
 
@@ -180,4 +181,19 @@ fn kick(me: &User, text: &Words, channel: &ChannelName, nick: &[u8], member: Opt
 /// A law: each effect of a KICK is its user's own, in the room that those before it have left.
 pub fn is_own()
     ensures { KickIsOwn }
+{}
+
+/// A law: in a well-formed room what a KICK of a user does can be done, effect by effect.
+pub fn is_possible()
+    ensures { KickIsPossible }
+{}
+
+/// A law: each effect of a KICK does something.
+pub fn does_something()
+    ensures { KickDoes }
+{}
+
+/// A law: a KICK does the same whoever is invited to channels.
+pub fn looks_at_no_invitation()
+    ensures { KickLooksAtNoInvitation }
 {}
