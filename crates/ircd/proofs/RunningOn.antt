@@ -14,6 +14,7 @@ use Rattle.ircd.specs.Events.{events_of}
 use Rattle.ircd.specs.Printing.{refusal_number}
 use Rattle.ircd.specs.Loops.Steps.{Begins, to_the_end, partly, further}
 use Rattle.ircd.specs.Runs.{Standing, AnswersAt, Answer, puts_out, refuses, answer_text, next_after, Plays, nothing, event, Runs, end, request, IsFront, first_standing}
+use Rattle.ircd.specs.RunLaws.{RunsToItsEnd}
 use Rattle.ircd.specs.Scripts.{Request}
 use Rattle.ircd.proofs.Playing.{plays_both}
 
@@ -126,6 +127,10 @@ run_on (r ∷ requests) first lives =
       runs = request refl one.plays more.runs;
       front = record { more = one.text ++ more.whole; whole_is = refl };
     }
+
+-- a whole script
+pub script_runs : (name : Option (List ℕ)) (requests : List Request) → RunsToItsEnd (first_standing name) requests
+script_runs name requests = let run = run_on requests (first_standing name) (first_lives name) in record { last = run.last; text = run.whole; runs = run.runs }
 
 pub run_whole : {first : Standing} {requests : List Request} {text : List ℕ} → Begins first requests text → Lives first.server → RunOn first requests text
 run_whole {first = first} to_the_end lives = record { last = first; whole = []; runs = end; front = record { more = []; whole_is = refl } }

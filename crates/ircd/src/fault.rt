@@ -1,5 +1,5 @@
 //! Why the program ends before its work is done, what it says then, and its exit status.
-ghost use Rattle.std.specs.Prelude.{◌≡◌, ◌++◌, codes, decimal, OnOk};
+ghost use Rattle.std.specs.Prelude.{◌≡◌, OnOk};
 ghost use Rattle.std.specs.Io.KnownBytes.{Appends};
 ghost use Rattle.ircd.specs.declared.fault.SimFault.TheVariants.{Failed};
 ghost use Rattle.ircd.specs.declared.fault.Stop.TheVariants.{BadScript};

@@ -1,7 +1,7 @@
 //! What holds of scripts, and of the program's constants. Each law is a function that does nothing, and its contract is the law.
 ghost use Rattle.std.specs.Prelude.{◌≡◌};
 ghost use Rattle.ircd.specs.Limits.{max_bad_script, max_digits, max_printed, max_reads, max_writes, read_size, waiting_room};
-ghost use Rattle.ircd.specs.RunLaws.{RunsOneWay};
+ghost use Rattle.ircd.specs.RunLaws.{EachRuns, RunsOneWay};
 
 use crate::fault::MAX_BAD_SCRIPT;
 use crate::printing::{MAX_DIGITS, MAX_PRINTED};
@@ -20,7 +20,8 @@ pub fn limits_are_so()
     ensures waiting { WAITING_ROOM ≡ waiting_room }
 {}
 
-/// A script runs in one way: what it prints, and where it comes to, is one.
+/// Each script can be run to its end, and runs in one way: what it prints, and where it comes to, is one.
 pub fn scripts_run_one_way()
-    ensures { RunsOneWay }
+    ensures each { EachRuns }
+    ensures one_way { RunsOneWay }
 {}

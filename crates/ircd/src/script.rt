@@ -1,5 +1,5 @@
 //! Scripts: their lines, and what each line asks for.
-ghost use Rattle.std.specs.Prelude.{◌≡◌, IfOk, map, length, drop, option_to_list, position, ◌+◌, ◌++◌, OnOk};
+ghost use Rattle.std.specs.Prelude.{◌≡◌, IfOk, length, drop, option_to_list, position, ◌+◌, ◌++◌, OnOk};
 ghost use Rattle.std.specs.List.{filter_map, slice_split};
 ghost use Rattle.std.specs.Option.{option_map};
 ghost use Rattle.irc_line.specs.Bytes.{is_space};

@@ -1,5 +1,5 @@
 //! `ircd sim`: a script is read to its end, and run.
-ghost use Rattle.std.specs.Prelude.{◌≡◌, ◌<◌, ◌≤◌, [], length, take, IfOk};
+ghost use Rattle.std.specs.Prelude.{◌≡◌, ◌≤◌, [], length, take, IfOk};
 ghost use Rattle.std.specs.Io.KnownBytes.{Consumes, IsAtEnd};
 ghost use Rattle.ircd.specs.Limits.{read_size};
 ghost use Rattle.ircd.specs.Loops.Reading.{IsReadTo};
