@@ -1,0 +1,88 @@
+-- MODE of a channel (RFC 2812 section 3.2.3).
+use Rattle.std.specs.Prelude.{ℕ, Bool, false, Option, Some, None, List, [], ◌∷◌, ◌++◌, codes, if◌then◌else◌}
+use Rattle.std.specs.List.{flat_map}
+use Rattle.std.specs.Option.{option_map_or}
+use Rattle.irc_names.specs.Fold.{key}
+use Rattle.irc_names.specs.Tables.{Table, row}
+use Rattle.irc_users.specs.declared.user.User.{User}
+use Rattle.irc_channels.specs.declared.channel.Channel.{Channel}
+use Rattle.irc_channels.specs.declared.flags.Flags.{Flags}
+use Rattle.irc_channels.specs.declared.modes.ModeChange.{ModeChange}
+use Rattle.irc_channels.specs.Channels.{all_changed}
+use Rattle.irc_channels.specs.ModeWords.{Asked, change, list, no_word, unknown, modes_read}
+use Rattle.irc_numerics.specs.declared.replies.Reply.TheVariants.{NoSuchChannel, NeedMoreParams, UnknownMode, ChanOPrivsNeeded}
+use Rattle.irc_room.specs.declared.effect.By.TheVariants as by
+use Rattle.irc_room.specs.declared.effect.Effect.TheVariants.{ChangeModes}
+use Rattle.irc_acts.specs.declared.act.Act.{Act}
+use Rattle.irc_acts.specs.declared.act.Act.TheVariants.{Answer, Do}
+use Rattle.irc_acts.specs.Acts.{client_words}
+use Rattle.irc_moderation.specs.declared.verdict.Verdict.{Verdict}
+use Rattle.irc_moderation.specs.declared.verdict.Verdict.TheVariants.{Says, Keeps, Nothing}
+use Rattle.irc_moderation.specs.Judging.{judge}
+use Rattle.irc_moderation.specs.ModesShown.{modes_shown, bans_shown}
+
+-- what comes of some letters: what is answered, and the changes that are made, in order
+pub record Outcome : Type 0 where
+  pub replies : List Act
+  pub changes : List ModeChange
+
+abbrev pub says : List Act → Outcome
+says replies = record { replies = replies; changes = [] }
+
+abbrev pub outcome_of : Verdict → Outcome
+outcome_of (Says reply) = says (Answer reply ∷ [])
+outcome_of (Keeps made) = record { replies = []; changes = made ∷ [] }
+outcome_of Nothing = says []
+
+-- what is told to a letter that asks for no change, to anybody; the bans are those that stood at the command's start
+abbrev pub told : Channel → Asked → List Act
+told start list = bans_shown start
+told start no_word = Answer (NeedMoreParams (client_words (codes "MODE"))) ∷ []
+told start (unknown byte) = Answer (UnknownMode byte start.name) ∷ []
+told start (change plus which word) = []
+
+-- what comes of one letter, where the channel was one at the command's start and is another now
+abbrev pub one_served : Table User → Channel → Channel → Asked → Outcome
+one_served users start now (change plus which word) = outcome_of (judge users now plus which word)
+one_served users start now other = says (told start other)
+
+-- What comes of the letters of an operator, each in the channel as the changes before it have left it. That it is an operator is asked of
+-- the command's start alone (our own choice).
+abbrev pub served : Table User → Channel → Channel → List Asked → Outcome
+served users start now [] = says []
+served users start now (item ∷ items) =
+    let first = one_served users start now item in
+    let rest = served users start (all_changed first.changes now) items in
+    record { replies = first.replies ++ rest.replies; changes = first.changes ++ rest.changes }
+
+-- Who is no operator changes nothing: the first change that it asks for is answered by 482, whatever would have come of it, and no other is
+-- answered.
+abbrev pub denied : Channel → List Asked → List Act
+denied start [] = []
+denied start (change plus which word ∷ items) = Answer (ChanOPrivsNeeded start.name) ∷ flat_map (told start) items
+denied start (item ∷ items) = told start item ++ denied start items
+
+-- all changes are made at once
+abbrev pub changing : User → Channel → List ModeChange → List Act
+changing me channel [] = []
+changing me channel (first ∷ changes) = Do (ChangeModes (by.User me.nick) channel.name (first ∷ changes)) ∷ []
+
+-- the replies, and then the changes
+abbrev pub in_one : User → Channel → Outcome → List Act
+in_one me channel outcome = outcome.replies ++ changing me channel outcome.changes
+
+abbrev pub is_operator : User → Channel → Bool
+is_operator me channel = option_map_or (λ (flags : Flags). flags.op) (row channel.members (key me.nick)) false
+
+abbrev pub asked_of : Table User → User → Channel → List Asked → List Act
+asked_of users me channel items =
+    if is_operator me channel then in_one me channel (served users channel channel items) else denied channel items
+
+-- what the parameters behind the channel do
+abbrev pub in_channel : Table User → User → Channel → List (List ℕ) → List Act
+in_channel users me channel [] = modes_shown me channel ∷ []
+in_channel users me channel (letters ∷ words) = asked_of users me channel (modes_read (letters ∷ words))
+
+unfoldable pub channel_mode : Table User → User → List ℕ → List (List ℕ) → Option Channel → List Act
+channel_mode users me name more None = Answer (NoSuchChannel (client_words name)) ∷ []
+channel_mode users me name more (Some channel) = in_channel users me channel more

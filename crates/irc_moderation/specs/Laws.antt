@@ -1,0 +1,1 @@
+-- What holds of the steps of these commands: laws, with their proofs. No rule stands here.

@@ -1,0 +1,7 @@
+pub mod UserMode
+pub mod ModesShown
+pub mod Judging
+pub mod ChannelMode
+pub mod Mode
+pub mod Laws
+pub mod Loops

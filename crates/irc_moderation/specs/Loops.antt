@@ -1,0 +1,1 @@
+-- What the code's own loops are at: no rule stands here.

@@ -1,0 +1,49 @@
+-- MODE of a user (RFC 2812 section 3.1.5). Of its modes a user has `i` alone: it is invisible (our own choice).
+use Rattle.std.specs.Prelude.{ℕ, Bool, true, not, ◌||◌, List, [], ◌∷◌, ◌++◌, nat_eq, if◌then◌else◌}
+use Rattle.std.specs.List.{list_any}
+use Rattle.irc_names.specs.Fold.{same}
+use Rattle.irc_users.specs.declared.user.User.{User}
+use Rattle.irc_channels.specs.Letters.{plus_byte}
+use Rattle.irc_channels.specs.ModeWords.{is_sign}
+use Rattle.irc_numerics.specs.declared.replies.Reply.TheVariants.{UserModeIs, UModeUnknownFlag, UsersDontMatch}
+use Rattle.irc_room.specs.declared.effect.Effect.TheVariants.{UserMode}
+use Rattle.irc_acts.specs.declared.act.Act.{Act}
+use Rattle.irc_acts.specs.declared.act.Act.TheVariants.{Answer, Do}
+
+-- i
+abbrev pub invisible_byte : ℕ
+invisible_byte = 0x69
+
+-- whether two settings differ
+abbrev pub differs : Bool → Bool → Bool
+differs true other = not other
+differs _ other = other
+
+-- a byte that is neither a sign nor a mode
+abbrev pub is_unknown_flag : ℕ → Bool
+is_unknown_flag byte = not (is_sign byte || nat_eq byte invisible_byte)
+
+-- Whether mode i is set once the letters were read, by the sign that holds at their beginning and by whether it was set before: `+` and `-`
+-- set the sign, and each `i` gives it.
+abbrev pub invisible_after : Bool → Bool → List ℕ → Bool
+invisible_after plus before [] = before
+invisible_after plus before (byte ∷ letters) =
+    if is_sign byte then invisible_after (nat_eq byte plus_byte) before letters
+    else invisible_after plus (if nat_eq byte invisible_byte then plus else before) letters
+
+-- one reply for all bytes that are no mode
+abbrev pub unknown_told : List ℕ → List Act
+unknown_told letters = if list_any is_unknown_flag letters then Answer UModeUnknownFlag ∷ [] else []
+
+-- what makes it invisible, or visible, where it is not so already
+abbrev pub made_invisible : User → Bool → List Act
+made_invisible me invisible = if differs me.invisible invisible then Do (UserMode me.nick invisible) ∷ [] else []
+
+-- what the parameters behind the nickname do; the first sign is `+`, and those behind the letters are ignored
+abbrev pub own_mode : User → List (List ℕ) → List Act
+own_mode me [] = Answer (UserModeIs me.invisible) ∷ []
+own_mode me (letters ∷ more) = unknown_told letters ++ made_invisible me (invisible_after true me.invisible letters)
+
+-- a user sees and changes its own mode alone
+unfoldable pub user_mode : User → List ℕ → List (List ℕ) → List Act
+user_mode me target more = if same target me.nick then own_mode me more else Answer UsersDontMatch ∷ []
