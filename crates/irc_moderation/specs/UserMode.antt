@@ -23,13 +23,18 @@ differs _ other = other
 abbrev pub is_unknown_flag : ℕ → Bool
 is_unknown_flag byte = not (is_sign byte || nat_eq byte invisible_byte)
 
--- Whether mode i is set once the letters were read, by the sign that holds at their beginning and by whether it was set before: `+` and `-`
--- set the sign, and each `i` gives it.
+-- the sign that holds behind a byte
+abbrev pub sign_after : Bool → ℕ → Bool
+sign_after plus byte = if is_sign byte then nat_eq byte plus_byte else plus
+
+-- whether mode i is set behind a byte, by the sign that holds there
+abbrev pub invisible_by : Bool → Bool → ℕ → Bool
+invisible_by plus before byte = if nat_eq byte invisible_byte then plus else before
+
+-- whether mode i is set once the letters were read, by the sign that holds at their beginning and by whether it was set before
 abbrev pub invisible_after : Bool → Bool → List ℕ → Bool
 invisible_after plus before [] = before
-invisible_after plus before (byte ∷ letters) =
-    if is_sign byte then invisible_after (nat_eq byte plus_byte) before letters
-    else invisible_after plus (if nat_eq byte invisible_byte then plus else before) letters
+invisible_after plus before (byte ∷ letters) = invisible_after (sign_after plus byte) (invisible_by plus before byte) letters
 
 -- one reply for all bytes that are no mode
 abbrev pub unknown_told : List ℕ → List Act

@@ -1,6 +1,10 @@
 //! Commands by which channels and users are kept in order.
 #![tactic(auto)]
 
+mod channel_mode;
+mod judging;
+mod kept_changes;
+pub mod mode;
+mod modes_shown;
+mod user_mode;
 mod verdict;
-
-pub use verdict::Verdict;

@@ -1,0 +1,46 @@
+-- A limit, written without leading zeros, is short.
+use Rattle.std.proofs.Common.{◌≡◌, ◌≤◌, ◌<◌, ◌+◌, ℕ, Bool, true, false, cond, not, List, [], ◌∷◌, length, drop, get_or, suc, refl, sym, ◌∙◌, ap, arith, nat_eq}
+use Rattle.std.proofs.lemmas.List.{drop_more}
+use Rattle.irc_channels.proofs.DigitSteps.{limit-few}
+use Rattle.irc_channels.specs.Channels.{is_limit}
+use Rattle.irc_channels.specs.Limits.{max_mode_word}
+use Rattle.irc_moderation.specs.Judging.{without_zeros}
+
+shorter : (digits : List ℕ) → length (without_zeros digits) ≤ length digits
+shorter [] = omega arith
+shorter (digit ∷ digits) = by (nat_eq digit 0x30) (shorter digits)
+  where
+    by : (test : Bool) → length (without_zeros digits) ≤ length digits → length (cond test (without_zeros digits) (digit ∷ digits)) ≤ suc (length digits)
+    by true rest = omega (arith, rest)
+    by false rest = omega arith
+
+within_word : (n : ℕ) → n ≤ 5 → n ≤ 90
+within_word n few = omega (arith, few)
+
+below : (m n : ℕ) → m ≤ n → n ≤ 5 → m ≤ 5
+below m n fits few = omega (arith, fits, few)
+
+pub limit_fits : (digits : List ℕ) → is_limit digits ≡ true → length (without_zeros digits) ≤ max_mode_word
+limit_fits digits is = within_word _ (below _ _ (shorter digits) (limit-few digits is))
+
+-- a zero in front makes no difference
+pub one_zero : (digits : List ℕ) (i d : ℕ) → i < length digits → nat_eq (get_or digits i d) 0x30 ≡ true
+    → without_zeros (drop i digits) ≡ without_zeros (drop (i + 1) digits)
+one_zero digits i d within zero_there =
+    ap without_zeros (drop_more digits i d within)
+    ∙ ap (λ b. cond b (without_zeros (drop (i + 1) digits)) (get_or digits i d ∷ drop (i + 1) digits)) zero_there
+
+-- another digit is the first that is written
+pub no_zero : (digits : List ℕ) (i d : ℕ) → i < length digits → nat_eq (get_or digits i d) 0x30 ≡ false → without_zeros (drop i digits) ≡ drop i digits
+no_zero digits i d within other =
+    ap without_zeros (drop_more digits i d within)
+    ∙ ap (λ b. cond b (without_zeros (drop (i + 1) digits)) (get_or digits i d ∷ drop (i + 1) digits)) other
+    ∙ sym (drop_more digits i d within)
+
+pub not_so : (b : Bool) → not b ≡ true → b ≡ false
+not_so true h = cc
+not_so false h = refl
+
+pub so_then : (b : Bool) → not b ≡ false → b ≡ true
+so_then true h = refl
+so_then false h = cc

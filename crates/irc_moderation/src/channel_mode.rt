@@ -1,0 +1,247 @@
+//! MODE of a channel.
+ghost use Rattle.std.specs.Prelude.{◌≡◌, ◌&&◌, not, [], ◌++◌, true, IfOk, OnOk, if◌then◌else◌};
+ghost use Rattle.std.specs.Prelude.{fold};
+ghost use Rattle.irc_names.specs.Fold.{key};
+ghost use Rattle.irc_names.specs.Tables.{row};
+ghost use Rattle.irc_line.specs.PartViews.{words_now};
+ghost use Rattle.irc_channels.specs.Bans.{IsBanList};
+ghost use Rattle.irc_channels.specs.Channels.{all_changed};
+ghost use Rattle.irc_channels.specs.Loops.ManyChanges.{setting_step};
+ghost use Rattle.irc_channels.specs.ModeViews.{all_asked, asked};
+ghost use Rattle.irc_moderation.specs.ChannelMode.{
+  asked_of,
+  changing,
+  channel_mode,
+  denied,
+  in_channel,
+  in_one,
+  is_operator,
+  one_served,
+  outcome_of,
+  served,
+  told,
+};
+ghost use Rattle.irc_acts.specs.declared.act.Act.TheVariants.{Answer};
+ghost use Rattle.irc_numerics.specs.declared.replies.Reply.TheVariants.{UnknownMode};
+ghost use Rattle.irc_moderation.specs.Loops.Denied.{denied_one, is_change};
+ghost use Rattle.irc_moderation.specs.Loops.KeptChanges.{Follows};
+
+use crate::judging::judge;
+use crate::kept_changes::KeptChanges;
+use crate::modes_shown::{modes_shown, put_bans};
+use crate::verdict::Verdict;
+use irc_acts::refusals::{need_more_params, no_such_channel};
+use irc_acts::{Act, Context, only, put};
+use irc_channels::{Channel, ModeItem, read_modes};
+use irc_numerics::Reply;
+use irc_room::{By, Effect, ModeChanges, Room};
+use irc_users::User;
+use std::alloc::{AllocError, Global};
+
+/// What a MODE of a channel's name does (RFC 2812 section 3.2.3).
+#[tactic(auto, unfolding(crate::specs::ChannelMode::channel_mode))]
+pub(crate) fn steps(
+    context: &Context<'_>,
+    name: &[u8],
+    more: &[&[u8]],
+) -> Result<Vec<Act, Global>, AllocError>
+    ensures { IfOk result (λ steps. steps.items ≡ channel_mode context.now.room.now.room.users context.now.me.now name.now (words_now more.now) (row context.now.room.now.room.channels (key name.now))) }
+{
+    match context.room.channel(name) {
+        Some(channel) => in_channel(context, channel, more),
+        None => only(context.alloc, no_such_channel(name)),
+    }
+}
+
+/// What the parameters behind a channel do.
+fn in_channel(
+    context: &Context<'_>,
+    channel: &Channel,
+    more: &[&[u8]],
+) -> Result<Vec<Act, Global>, AllocError>
+    ensures { IfOk result (λ steps. steps.items ≡ in_channel context.now.room.now.room.users context.now.me.now channel.now (words_now more.now)) }
+{
+    if more.is_empty() {
+        return only(context.alloc, modes_shown(context.me, channel));
+    }
+    let items = read_modes(context.alloc, more)?;
+    asked_of(context, channel, items.as_slice())
+}
+
+/// What letters that were read do.
+fn asked_of(
+    context: &Context<'_>,
+    channel: &Channel,
+    items: &[ModeItem<'_>],
+) -> Result<Vec<Act, Global>, AllocError>
+    ensures { IfOk result (λ steps. steps.items ≡ asked_of context.now.room.now.room.users context.now.me.now channel.now (all_asked items.now)) }
+{
+    if is_operator(context.me, channel) {
+        serve(context, channel, items)
+    } else {
+        deny(context.alloc, channel, items)
+    }
+}
+
+/// Whether a user is an operator of a channel.
+fn is_operator(me: &User, channel: &Channel) -> bool
+    ensures { result ≡ is_operator me.now channel.now }
+{
+    match channel.members.get(me.nick.as_bytes()) {
+        Some(flags) => flags.op,
+        None => false,
+    }
+}
+
+/// What the letters of an operator do: the replies, and then one effect of all changes that are made.
+fn serve(
+    context: &Context<'_>,
+    channel: &Channel,
+    items: &[ModeItem<'_>],
+) -> Result<Vec<Act, Global>, AllocError>
+    ensures { IfOk result (λ steps. steps.items ≡ in_one context.now.me.now channel.now (served context.now.room.now.room.users channel.now channel.now (all_asked items.now))) }
+{
+    let mut steps = Vec::new(context.alloc);
+    let mut kept = KeptChanges::none(context.alloc, channel);
+    serve_each(context.room, channel, items, &mut kept, &mut steps)?;
+    put_changes(context.me, channel, kept, &mut steps)?;
+    Ok(steps)
+}
+
+/// Serves the letters of an operator one after another.
+fn serve_each(
+    room: &Room,
+    channel: &Channel,
+    items: &[ModeItem<'_>],
+    kept: &mut KeptChanges,
+    steps: &mut Vec<Act, Global>,
+) -> Result<(), AllocError>
+    requires none { kept.old.changes.items ≡ [] }
+    requires follows { Follows channel.now kept.old.changes.items kept.old.settings }
+    ensures replies { OnOk result (steps.new.items ≡ steps.old.items ++ (served room.now.room.users channel.now channel.now (all_asked items.now)).replies) }
+    ensures changes { OnOk result (kept.new.changes.items ≡ (served room.now.room.users channel.now channel.now (all_asked items.now)).changes) }
+{
+    for item in items {
+        serve_one(room, channel, item, kept, steps)?;
+    }
+    Ok(())
+}
+
+/// Serves one letter of an operator in the channel as the changes so far have left it.
+fn serve_one(
+    room: &Room,
+    channel: &Channel,
+    item: &ModeItem<'_>,
+    kept: &mut KeptChanges,
+    steps: &mut Vec<Act, Global>,
+) -> Result<(), AllocError>
+    requires { Follows channel.now kept.old.changes.items kept.old.settings }
+    ensures replies { OnOk result (steps.new.items ≡ steps.old.items ++ (one_served room.now.room.users channel.now (all_changed kept.old.changes.items channel.now) (asked item.now)).replies) }
+    ensures changes { OnOk result (kept.new.changes.items ≡ kept.old.changes.items ++ (one_served room.now.room.users channel.now (all_changed kept.old.changes.items channel.now) (asked item.now)).changes) }
+    ensures follows { OnOk result (Follows channel.now kept.new.changes.items kept.new.settings) }
+{
+    match item {
+        ModeItem::Change(asked) => take(judge(room, channel, kept, asked), kept, steps),
+        _ => tell(channel, item, steps),
+    }
+}
+
+/// Does what came of a change: a reply, or one change more.
+fn take(
+    verdict: Verdict,
+    kept: &mut KeptChanges,
+    steps: &mut Vec<Act, Global>,
+) -> Result<(), AllocError>
+    ensures replies { OnOk result (steps.new.items ≡ steps.old.items ++ (outcome_of verdict).replies) }
+    ensures changes { OnOk result (kept.new.changes.items ≡ kept.old.changes.items ++ (outcome_of verdict).changes) }
+    ensures settings { OnOk result (kept.new.settings ≡ fold setting_step kept.old.settings (outcome_of verdict).changes) }
+{
+    match verdict {
+        Verdict::Says(reply) => put(steps, Act::Answer(reply)),
+        Verdict::Keeps(change) => kept.keep(change),
+        Verdict::Nothing => Ok(()),
+    }
+}
+
+/// Answers a letter that asks for no change.
+fn tell(
+    channel: &Channel,
+    item: &ModeItem<'_>,
+    steps: &mut Vec<Act, Global>,
+) -> Result<(), AllocError>
+    ensures { OnOk result (steps.new.items ≡ steps.old.items ++ told channel.now (asked item.now)) }
+{
+    match item {
+        ModeItem::Change(_) => Ok(()),
+        ModeItem::List => put_bans(channel, steps),
+        ModeItem::NoWord => put(steps, need_more_params(b"MODE")),
+        ModeItem::Unknown(mode) => put(steps, unknown_mode(*mode, channel)),
+    }
+}
+
+fn unknown_mode(mode: u8, channel: &Channel) -> Act
+    ensures { result ≡ Answer (UnknownMode mode channel.now.name) }
+{
+    let channel = channel.name.copy();
+    Act::Answer(Reply::UnknownMode { mode, channel })
+}
+
+/// Appends the changes that are made, if there are any.
+fn put_changes(
+    me: &User,
+    channel: &Channel,
+    kept: KeptChanges,
+    steps: &mut Vec<Act, Global>,
+) -> Result<(), AllocError>
+    ensures { OnOk result (steps.new.items ≡ steps.old.items ++ changing me.now channel.now kept.changes.items) }
+{
+    if kept.changes.is_empty() {
+        return Ok(());
+    }
+    let effect = Effect::ChangeModes {
+        by: By::User(me.nick.copy()),
+        channel: channel.name.copy(),
+        changes: ModeChanges::new(kept.changes),
+    };
+    put(steps, Act::Do(effect))
+}
+
+/// What the letters of one who is no operator do: the first change is refused.
+fn deny(
+    alloc: Global,
+    channel: &Channel,
+    items: &[ModeItem<'_>],
+) -> Result<Vec<Act, Global>, AllocError>
+    ensures { IfOk result (λ steps. steps.items ≡ denied channel.now (all_asked items.now)) }
+{
+    let mut steps = Vec::new(alloc);
+    let mut refused = false;
+    for item in items {
+        deny_one(refused, channel, item, &mut steps)?;
+        refused |= is_change(item);
+    }
+    Ok(steps)
+}
+
+/// Answers one letter of one who is no operator: a change is refused once.
+fn deny_one(
+    refused: bool,
+    channel: &Channel,
+    item: &ModeItem<'_>,
+    steps: &mut Vec<Act, Global>,
+) -> Result<(), AllocError>
+    ensures { OnOk result (steps.new.items ≡ steps.old.items ++ denied_one refused channel.now (asked item.now)) }
+{
+    if is_change(item) && !refused {
+        let channel = channel.name.copy();
+        return put(steps, Act::Answer(Reply::ChanOPrivsNeeded { channel }));
+    }
+    tell(channel, item, steps)
+}
+
+/// Whether a letter asks for a change.
+fn is_change(item: &ModeItem<'_>) -> bool
+    ensures { result ≡ is_change (asked item.now) }
+{
+    matches!(item, ModeItem::Change(_))
+}
