@@ -1,5 +1,6 @@
 -- A limit, written without leading zeros, is short.
-use Rattle.std.proofs.Common.{◌≡◌, ◌≤◌, ◌<◌, ◌+◌, ℕ, Bool, true, false, cond, not, List, [], ◌∷◌, length, drop, get_or, suc, refl, sym, ◌∙◌, ap, arith, nat_eq}
+use Rattle.std.proofs.Common.{◌≡◌, ◌≢◌, ◌⊎◌, inl, inr, ◌≤◌, ◌<◌, ◌+◌, ℕ, Bool, true, false, cond, List, [], ◌∷◌, length, drop, get_or, suc, refl, sym, ◌∙◌, ap, arith, nat_eq}
+use Rattle.std.proofs.lemmas.Bool.Decides.{eqb_tells}
 use Rattle.std.proofs.lemmas.List.{drop_more}
 use Rattle.irc_channels.proofs.DigitSteps.{limit-few}
 use Rattle.irc_channels.specs.Channels.{is_limit}
@@ -24,23 +25,22 @@ pub limit_fits : (digits : List ℕ) → is_limit digits ≡ true → length (wi
 limit_fits digits is = within_word _ (below _ _ (shorter digits) (limit-few digits is))
 
 -- a zero in front makes no difference
-pub one_zero : (digits : List ℕ) (i d : ℕ) → i < length digits → nat_eq (get_or digits i d) 0x30 ≡ true
+pub one_zero : (digits : List ℕ) (i d : ℕ) → i < length digits → get_or digits i d ≡ 0x30
     → without_zeros (drop i digits) ≡ without_zeros (drop (i + 1) digits)
 one_zero digits i d within zero_there =
     ap without_zeros (drop_more digits i d within)
-    ∙ ap (λ b. cond b (without_zeros (drop (i + 1) digits)) (get_or digits i d ∷ drop (i + 1) digits)) zero_there
+    ∙ ap (λ b. cond b (without_zeros (drop (i + 1) digits)) (get_or digits i d ∷ drop (i + 1) digits)) (ap (λ n. nat_eq n 0x30) zero_there)
+
+differs_from : (a b : ℕ) → a ≢ b → nat_eq a b ≡ false
+differs_from a b other = by (eqb_tells a b)
+  where
+    by : ((nat_eq a b ≡ true) × (a ≡ b)) ⊎ ((nat_eq a b ≡ false) × (a ≢ b)) → nat_eq a b ≡ false
+    by (inl alike) = absurd (other alike.1)
+    by (inr apart) = apart.0
 
 -- another digit is the first that is written
-pub no_zero : (digits : List ℕ) (i d : ℕ) → i < length digits → nat_eq (get_or digits i d) 0x30 ≡ false → without_zeros (drop i digits) ≡ drop i digits
+pub no_zero : (digits : List ℕ) (i d : ℕ) → i < length digits → get_or digits i d ≢ 0x30 → without_zeros (drop i digits) ≡ drop i digits
 no_zero digits i d within other =
     ap without_zeros (drop_more digits i d within)
-    ∙ ap (λ b. cond b (without_zeros (drop (i + 1) digits)) (get_or digits i d ∷ drop (i + 1) digits)) other
+    ∙ ap (λ b. cond b (without_zeros (drop (i + 1) digits)) (get_or digits i d ∷ drop (i + 1) digits)) (differs_from (get_or digits i d) 0x30 other)
     ∙ sym (drop_more digits i d within)
-
-pub not_so : (b : Bool) → not b ≡ true → b ≡ false
-not_so true h = cc
-not_so false h = refl
-
-pub so_then : (b : Bool) → not b ≡ false → b ≡ true
-so_then true h = refl
-so_then false h = cc

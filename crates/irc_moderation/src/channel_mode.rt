@@ -4,7 +4,6 @@ ghost use Rattle.std.specs.Prelude.{fold};
 ghost use Rattle.irc_names.specs.Fold.{key};
 ghost use Rattle.irc_names.specs.Tables.{row};
 ghost use Rattle.irc_line.specs.PartViews.{words_now};
-ghost use Rattle.irc_channels.specs.Bans.{IsBanList};
 ghost use Rattle.irc_channels.specs.Channels.{all_changed};
 ghost use Rattle.irc_channels.specs.Loops.ManyChanges.{setting_step};
 ghost use Rattle.irc_channels.specs.ModeViews.{all_asked, asked};
@@ -27,7 +26,7 @@ ghost use Rattle.irc_moderation.specs.Loops.Denied.{denied_one, is_change};
 ghost use Rattle.irc_moderation.specs.Loops.KeptChanges.{Follows};
 
 use crate::judging::judge;
-use crate::kept_changes::KeptChanges;
+use crate::kept_changes::{KeptChanges, know_bans_rise};
 use crate::modes_shown::{modes_shown, put_bans};
 use crate::verdict::Verdict;
 use irc_acts::refusals::{need_more_params, no_such_channel};
@@ -101,6 +100,7 @@ fn serve(
 ) -> Result<Vec<Act, Global>, AllocError>
     ensures { IfOk result (λ steps. steps.items ≡ in_one context.now.me.now channel.now (served context.now.room.now.room.users channel.now channel.now (all_asked items.now))) }
 {
+    know_bans_rise(channel);
     let mut steps = Vec::new(context.alloc);
     let mut kept = KeptChanges::none(context.alloc, channel);
     serve_each(context.room, channel, items, &mut kept, &mut steps)?;

@@ -2,6 +2,7 @@
 ghost use Rattle.std.specs.Prelude.{◌≡◌, ◌<◌, ◌-◌, ◌^◌, [], ◌∷◌, ◌++◌, find, fold, length, OnOk};
 ghost use Rattle.irc_names.specs.Fold.{key, same};
 ghost use Rattle.irc_names.specs.Tables.{row};
+ghost use Rattle.irc_channels.specs.Bans.{IsBanList};
 ghost use Rattle.irc_channels.specs.Channels.{ban_mask, mask_in};
 ghost use Rattle.std.specs.Option.{option_copied};
 ghost use Rattle.irc_channels.specs.Loops.ManyChanges.{setting_step};
@@ -72,6 +73,13 @@ fn set(settings: &mut Modes, change: &ModeChange) -> Result<(), AllocError>
         ModeLetter::Ban => Ok(()),
         _ => settings.change(slice::from_ref(change)),
     }
+}
+
+/// The bans of a channel stand in folded order.
+pub(crate) fn know_bans_rise(channel: &Channel)
+    ensures { IsBanList channel.now.modes.bans }
+{
+    channel.modes.bans.as_slice();
 }
 
 /// The flags of the user of a nickname in a channel behind some changes, if it is a member.

@@ -1,5 +1,5 @@
 -- What is asked of a channel behind the changes that are made so far: each of them makes of the answer before it what is said here.
-use Rattle.std.specs.Prelude.{◌≡◌, ℕ, ◌+◌, ◌-◌, Bool, true, false, Option, Some, None, List, [], length, find, fold, unwrap_or, if◌then◌else◌}
+use Rattle.std.specs.Prelude.{◌≡◌, ℕ, ◌+◌, ◌-◌, Bool, true, Option, Some, None, List, [], length, find, fold, unwrap_or, if◌then◌else◌}
 use Rattle.std.specs.Option.{option_map}
 use Rattle.irc_names.specs.Fold.{key, same}
 use Rattle.irc_names.specs.Tables.{row}
@@ -36,13 +36,12 @@ abbrev pub ban_by : List ℕ → Option (List ℕ) → ModeChange → Option (Li
 ban_by mask before change = ban_changed_to mask change.plus (ban_mask change.letter change.word) before
 
 -- how many bans there are, where each change of a ban adds one or takes one out
-abbrev pub count_changed : Bool → ModeLetter → ℕ → ℕ
-count_changed true letter.Ban before = before + 1
-count_changed false letter.Ban before = before - 1
-count_changed plus other before = before
+abbrev pub count_changed : ModeLetter → Bool → ℕ → ℕ
+count_changed letter.Ban plus before = if plus then before + 1 else before - 1
+count_changed other plus before = before
 
 abbrev pub count_by : ℕ → ModeChange → ℕ
-count_by before change = count_changed change.plus change.letter before
+count_by before change = count_changed change.letter change.plus before
 
 -- modes without their bans
 abbrev pub without_bans : Modes → Modes

@@ -1,5 +1,6 @@
-use Rattle.std.proofs.Common.{◌∙◌, sym, ap}
-use Rattle.irc_moderation.proofs.LimitWords.{one_zero, no_zero, not_so, so_then}
+use Rattle.std.proofs.Common.{◌∙◌, sym}
+use Rattle.std.proofs.lemmas.List.{take_rest}
+use Rattle.irc_moderation.proofs.LimitWords.{one_zero, no_zero}
 use Rattle.irc_moderation.proofs.judging.without_zeros.Goals as goal
 
 pub loop-i-preserved : goal.loop-i-preserved
@@ -8,4 +9,4 @@ loop-i-preserved c =
 
 pub returns-then-digit-ne48 : goal.returns-then-digit-ne48
 returns-then-digit-ne48 c =
-    sym (no_zero c.args.digits.now c.loop-i.i 0 c.loop-i-test.true c.if-digit-ne48.true) ∙ c.loop-i.invariant
+    take_rest c.args.digits.now c.loop-i.i ∙ sym (no_zero c.args.digits.now c.loop-i.i 0 c.loop-i-test.true c.if-digit-ne48.true) ∙ c.loop-i.invariant
