@@ -1,6 +1,7 @@
 //! MODE.
 ghost use Rattle.std.specs.Prelude.{◌≡◌, IfOk};
 ghost use Rattle.irc_line.specs.PartViews.{words_now};
+ghost use Rattle.irc_moderation.specs.Laws.ModeLaw.{ModeIsOwn};
 ghost use Rattle.irc_moderation.specs.Mode.{mode_steps, names_channel};
 
 use crate::{channel_mode, user_mode};
@@ -38,3 +39,8 @@ fn names_channel(target: &[u8]) -> bool
         None => false,
     }
 }
+
+/// A law: each effect of a MODE is its user's own.
+pub fn is_own()
+    ensures { ModeIsOwn }
+{}
