@@ -225,6 +225,10 @@ found_any p xs = some_test (nat_lt (position_or_len p xs) (length xs)) (position
 
 -- ---- what the edits of a list of bans make
 
+-- with a mask that is there the bans are what they were
+pub set_there : (mask : List ℕ) (bans : List (List ℕ)) → list_any (same mask) bans ≡ true → bans ≡ with_ban mask bans
+set_there mask bans there = rw (there) refl
+
 pub set_new : (mask : List ℕ) (bans : List (List ℕ)) → rises bans ≡ true → list_any (same mask) bans ≡ false
     → insert bans (place mask bans) mask ≡ with_ban mask bans
 set_new mask bans rising none = let put = places mask bans rising none in rw (none) (put.is_insert ∙ sym put.is_parts)

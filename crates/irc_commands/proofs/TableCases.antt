@@ -26,6 +26,8 @@ use Rattle.irc_membership.specs.Join.{leaves, join_steps}
 use Rattle.irc_membership.specs.Invite.{invite_steps}
 use Rattle.irc_membership.specs.Kick.{kick_steps}
 use Rattle.irc_membership.specs.Laws.InviteLaw.{invite_is_own}
+use Rattle.irc_moderation.specs.Mode.{mode_steps}
+use Rattle.irc_moderation.specs.Laws.ModeLaw.{mode_is_own}
 use Rattle.irc_membership.specs.Laws.JoinLaw.{join_is_own_or_leaves}
 use Rattle.irc_membership.specs.Laws.KickLaw.{kick_is_own}
 use Rattle.irc_membership.specs.Laws.PartLaw.{part_is_own}
@@ -101,6 +103,7 @@ by_row room place who me message Q so is (Some command.Topic) = so.own me (topic
 by_row room place who me message Q so is (Some command.Names) = so.own me (names_steps room me message.params) is (subst (EachInTurn (IsOwn me) room) (sym (names_only_answers room me message.params)) tt)
 by_row room place who me message Q so is (Some command.Kick) = so.own me (kick_steps room me message.params) is (kick_is_own me room message.params)
 by_row room place who me message Q so is (Some command.Invite) = so.own me (invite_steps room me message.params) is (invite_is_own me room message.params)
+by_row room place who me message Q so is (Some command.Mode) = so.own me (mode_steps room me message.params) is (mode_is_own me room message.params)
 by_row room place who me message Q so is None = so.own me _ is tt
 
 by_user : (room : Room) (place : Place) (who : List ℕ) (message : Parsed) (Q : Decided → Type 0) → IsSoDecided room who Q
@@ -180,6 +183,7 @@ pending_by_row room place pending Q so params (Some command.Topic) = so.answered
 pending_by_row room place pending Q so params (Some command.Names) = so.answered _ _
 pending_by_row room place pending Q so params (Some command.Kick) = so.answered _ _
 pending_by_row room place pending Q so params (Some command.Invite) = so.answered _ _
+pending_by_row room place pending Q so params (Some command.Mode) = so.answered _ _
 pending_by_row room place pending Q so params None = so.answered _ _
 
 pub registering_so : (room : Room) (place : Place) (pending : Pending) (message : Parsed) (Q : Registered → Type 0) → IsSoRegistering room place Q

@@ -16,6 +16,7 @@ use Rattle.irc_commands.specs.Decisions.{Decided, nothing, does}
 use Rattle.irc_commands.specs.Ping.{ping_steps}
 use Rattle.irc_commands.specs.Quit.{quit_decided}
 use Rattle.irc_membership.specs.Invite.{invite_steps}
+use Rattle.irc_moderation.specs.Mode.{mode_steps}
 use Rattle.irc_membership.specs.Join.{join_steps}
 use Rattle.irc_membership.specs.Kick.{kick_steps}
 use Rattle.irc_answers.specs.Names.{names_steps}
@@ -42,7 +43,8 @@ names =
     ∷ named (codes "QUIT") command.Quit ∷ named (codes "PING") command.Ping ∷ named (codes "PONG") command.Pong
     ∷ named (codes "MOTD") command.Motd ∷ named (codes "PRIVMSG") command.Privmsg ∷ named (codes "NOTICE") command.Notice
     ∷ named (codes "JOIN") command.Join ∷ named (codes "PART") command.Part ∷ named (codes "TOPIC") command.Topic
-    ∷ named (codes "NAMES") command.Names ∷ named (codes "KICK") command.Kick ∷ named (codes "INVITE") command.Invite ∷ []
+    ∷ named (codes "NAMES") command.Names ∷ named (codes "KICK") command.Kick ∷ named (codes "INVITE") command.Invite
+    ∷ named (codes "MODE") command.Mode ∷ []
 
 -- the first of these rows with this name
 abbrev pub found : List ℕ → List Named → Option Command
@@ -72,6 +74,7 @@ row_of room place me message (Some command.Topic) = does (topic_steps room me me
 row_of room place me message (Some command.Names) = does (names_steps room me message.params)
 row_of room place me message (Some command.Kick) = does (kick_steps room me message.params)
 row_of room place me message (Some command.Invite) = does (invite_steps room me message.params)
+row_of room place me message (Some command.Mode) = does (mode_steps room me message.params)
 row_of room place me message None = unknown message.command
 
 -- the row that a line fits

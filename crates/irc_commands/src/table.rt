@@ -15,6 +15,7 @@ use irc_acts::{Act, Context, only};
 use irc_answers::names;
 use irc_line::Message;
 use irc_membership::{invite, join, kick, part};
+use irc_moderation::mode;
 use irc_numerics::Reply;
 use std::alloc::{AllocError, Global};
 
@@ -51,10 +52,12 @@ pub enum Command {
     Kick,
     /// INVITE
     Invite,
+    /// MODE
+    Mode,
 }
 
 /// Each command by its name.
-const NAMES: [(&[u8], Command); 15] = [
+const NAMES: [(&[u8], Command); 16] = [
     (b"PASS", Command::Pass),
     (b"NICK", Command::Nick),
     (b"USER", Command::User),
@@ -70,6 +73,7 @@ const NAMES: [(&[u8], Command); 15] = [
     (b"NAMES", Command::Names),
     (b"KICK", Command::Kick),
     (b"INVITE", Command::Invite),
+    (b"MODE", Command::Mode),
 ];
 
 impl Command {
@@ -117,6 +121,7 @@ pub(crate) fn decide_for(
         Some(Command::Names) => stays(names::steps(context, params)),
         Some(Command::Kick) => stays(kick::steps(context, params)),
         Some(Command::Invite) => stays(invite::steps(context, params)),
+        Some(Command::Mode) => stays(mode::steps(context, params)),
         None => unknown(context.alloc, message.command),
     }
 }

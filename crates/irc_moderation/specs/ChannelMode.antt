@@ -1,12 +1,10 @@
 -- MODE of a channel (RFC 2812 section 3.2.3).
-use Rattle.std.specs.Prelude.{ℕ, Bool, false, Option, Some, None, List, [], ◌∷◌, ◌++◌, codes, if◌then◌else◌}
+use Rattle.std.specs.Prelude.{ℕ, Option, Some, None, List, [], ◌∷◌, ◌++◌, codes, if◌then◌else◌}
 use Rattle.std.specs.List.{flat_map}
-use Rattle.std.specs.Option.{option_map_or}
 use Rattle.irc_names.specs.Fold.{key}
 use Rattle.irc_names.specs.Tables.{Table, row}
 use Rattle.irc_users.specs.declared.user.User.{User}
 use Rattle.irc_channels.specs.declared.channel.Channel.{Channel}
-use Rattle.irc_channels.specs.declared.flags.Flags.{Flags}
 use Rattle.irc_channels.specs.declared.modes.ModeChange.{ModeChange}
 use Rattle.irc_channels.specs.Channels.{all_changed}
 use Rattle.irc_channels.specs.ModeWords.{Asked, change, list, no_word, unknown, modes_read}
@@ -16,6 +14,7 @@ use Rattle.irc_room.specs.declared.effect.Effect.TheVariants.{ChangeModes}
 use Rattle.irc_acts.specs.declared.act.Act.{Act}
 use Rattle.irc_acts.specs.declared.act.Act.TheVariants.{Answer, Do}
 use Rattle.irc_acts.specs.Acts.{client_words}
+use Rattle.irc_acts.specs.Standing.{is_operator}
 use Rattle.irc_moderation.specs.declared.verdict.Verdict.{Verdict}
 use Rattle.irc_moderation.specs.declared.verdict.Verdict.TheVariants.{Says, Keeps, Nothing}
 use Rattle.irc_moderation.specs.Judging.{judge}
@@ -71,12 +70,9 @@ changing me channel (first ∷ changes) = Do (ChangeModes (by.User me.nick) chan
 abbrev pub in_one : User → Channel → Outcome → List Act
 in_one me channel outcome = outcome.replies ++ changing me channel outcome.changes
 
-abbrev pub is_operator : User → Channel → Bool
-is_operator me channel = option_map_or (λ (flags : Flags). flags.op) (row channel.members (key me.nick)) false
-
 abbrev pub asked_of : Table User → User → Channel → List Asked → List Act
 asked_of users me channel items =
-    if is_operator me channel then in_one me channel (served users channel channel items) else denied channel items
+    if is_operator (row channel.members (key me.nick)) then in_one me channel (served users channel channel items) else denied channel items
 
 -- what the parameters behind the channel do
 abbrev pub in_channel : Table User → User → Channel → List (List ℕ) → List Act

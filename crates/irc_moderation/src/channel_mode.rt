@@ -14,12 +14,12 @@ ghost use Rattle.irc_moderation.specs.ChannelMode.{
   denied,
   in_channel,
   in_one,
-  is_operator,
   one_served,
   outcome_of,
   served,
   told,
 };
+ghost use Rattle.irc_acts.specs.Standing.{is_operator};
 ghost use Rattle.irc_acts.specs.declared.act.Act.TheVariants.{Answer};
 ghost use Rattle.irc_numerics.specs.declared.replies.Reply.TheVariants.{UnknownMode};
 ghost use Rattle.irc_moderation.specs.Loops.Denied.{denied_one, is_change};
@@ -30,6 +30,7 @@ use crate::kept_changes::{KeptChanges, know_bans_rise};
 use crate::modes_shown::{modes_shown, put_bans};
 use crate::verdict::Verdict;
 use irc_acts::refusals::{need_more_params, no_such_channel};
+use irc_acts::standing::is_operator;
 use irc_acts::{Act, Context, only, put};
 use irc_channels::{Channel, ModeItem, read_modes};
 use irc_numerics::Reply;
@@ -75,7 +76,7 @@ fn asked_of(
 ) -> Result<Vec<Act, Global>, AllocError>
     ensures { IfOk result (λ steps. steps.items ≡ asked_of context.now.room.now.room.users context.now.me.now channel.now (all_asked items.now)) }
 {
-    if is_operator(context.me, channel) {
+    if is_ruled_by(channel, context.me) {
         serve(context, channel, items)
     } else {
         deny(context.alloc, channel, items)
@@ -83,13 +84,10 @@ fn asked_of(
 }
 
 /// Whether a user is an operator of a channel.
-fn is_operator(me: &User, channel: &Channel) -> bool
-    ensures { result ≡ is_operator me.now channel.now }
+fn is_ruled_by(channel: &Channel, me: &User) -> bool
+    ensures { result ≡ is_operator (row channel.now.members (key me.now.nick)) }
 {
-    match channel.members.get(me.nick.as_bytes()) {
-        Some(flags) => flags.op,
-        None => false,
-    }
+    is_operator(channel.members.get(me.nick.as_bytes()).copied())
 }
 
 /// What the letters of an operator do: the replies, and then one effect of all changes that are made.

@@ -26,6 +26,11 @@ same-ties a b = texts_ties (key a) (key b)
 pub key-equal : (a b : List ℕ) → key a ≡ key b → name_cmp a b ≡ Equal
 key-equal a b keys = (Equal-is (name_cmp a b)).0 (sym (same-ties a b) ∙ (same-tells a b).1 keys)
 
+-- a fold is as long as its name
+pub key-length : (a : List ℕ) → length (key a) ≡ length a
+key-length [] = refl
+key-length (x ∷ xs) = ap suc (key-length xs)
+
 -- what a name feeds a hasher: its length, and then each byte of its fold
 abbrev pub folds_fed : List ℕ → List (List ℕ)
 folds_fed name = fed.slice fed.u8 (key name)

@@ -25,7 +25,8 @@ use Rattle.irc_moderation.specs.declared.verdict.Verdict.TheVariants.{Says, Keep
 use Rattle.irc_moderation.specs.Judging.{judge}
 use Rattle.irc_moderation.specs.ModesShown.{ban_shown}
 use Rattle.irc_moderation.specs.UserMode.{differs, is_unknown_flag, invisible_after, unknown_told, made_invisible, own_mode, user_mode}
-use Rattle.irc_moderation.specs.ChannelMode.{outcome_of, told, one_served, served, denied, changing, in_one, is_operator, asked_of, channel_mode}
+use Rattle.irc_acts.specs.Standing.{is_operator}
+use Rattle.irc_moderation.specs.ChannelMode.{outcome_of, told, one_served, served, denied, changing, in_one, asked_of, channel_mode}
 use Rattle.irc_moderation.specs.Mode.{names_channel, mode_steps}
 use Rattle.std.specs.List.{list_any}
 
@@ -80,7 +81,7 @@ quiet_so Q room acts quiet = subst (EachInTurn Q room) (sym quiet) tt
 
 -- an operator changes modes of a channel that was found under the name; a user makes its own mode another than it was
 pub record IsSoOfModes (Q : Room → Effect → Type 0) (me : User) (room : Room) (name : List ℕ) : Type 0 where
-  pub changes_it : (channel : Channel) (items : List Asked) → row room.channels (key name) ≡ Some channel → is_operator me channel ≡ true
+  pub changes_it : (channel : Channel) (items : List Asked) → row room.channels (key name) ≡ Some channel → is_operator (row channel.members (key me.nick)) ≡ true
       → Q room (ChangeModes (by.User me.nick) channel.name (served room.users channel channel items).changes)
   pub sets_own : (invisible : Bool) → differs me.invisible invisible ≡ true → Q room (UserMode me.nick invisible)
 
@@ -111,7 +112,7 @@ asked_so : (Q : Room → Effect → Type 0) (me : User) (room : Room) (name : Li
     → row room.channels (key name) ≡ Some channel → EachInTurn Q room (effects_among (asked_of room.users me channel items))
 asked_so Q me room name channel items so is =
     let outcome = served room.users channel channel items in
-    by_test (λ (acts : List Act). EachInTurn Q room (effects_among acts)) (is_operator me channel) (in_one me channel outcome) (denied channel items)
+    by_test (λ (acts : List Act). EachInTurn Q room (effects_among acts)) (is_operator (row channel.members (key me.nick))) (in_one me channel outcome) (denied channel items)
     (λ operator. quiet_first Q room outcome.replies (changing me channel outcome.changes) (served_quiet room.users channel channel items)
     (changing_so Q me room channel outcome.changes (so.changes_it channel items is operator)))
     (λ other. quiet_so Q room (denied channel items) (denied_quiet channel items))
