@@ -11,6 +11,8 @@ mod leaving_tests;
 #[cfg(test)]
 mod message_tests;
 #[cfg(test)]
+mod mode_tests;
+#[cfg(test)]
 mod nickname_tests;
 mod number;
 mod printing;
