@@ -40,7 +40,8 @@ in_turn_alike serve same keeps room other alike (entry ∷ entries) =
 
 -- one channel is changed in both
 altered_alike : (name : List ℕ) (change : Option Channel → Option Channel)
-    → ((one other : Option Channel) → option_map uninviting one ≡ option_map uninviting other → option_map uninviting (change one) ≡ option_map uninviting (change other))
+    → ((one other : Option Channel) → option_map uninviting one ≡ option_map uninviting other
+    → option_map uninviting (change one) ≡ option_map uninviting (change other))
     → (room other : Room) → AreAlike room other → AreAlike (alter_channel name change room) (alter_channel name change other)
 altered_alike name change keeps room other alike = record {
   users = alike.users;
@@ -56,7 +57,8 @@ altered_alike name change keeps room other alike = record {
     by_fold fold true = keeps (row room.channels (key name)) (row other.channels (key name)) (alike.channels (key name))
     by_fold fold false = alike.channels fold
 
-left_aside : (nick : List ℕ) (found : Option Channel) → option_map uninviting (option_and_then (left nick) found) ≡ option_and_then (left nick) (option_map uninviting found)
+left_aside : (nick : List ℕ) (found : Option Channel)
+    → option_map uninviting (option_and_then (left nick) found) ≡ option_and_then (left nick) (option_map uninviting found)
 left_aside nick None = refl
 left_aside nick (Some channel) = by_tests (has_member nick channel) (is_nil (keys (alter nick (λ _. None) channel.members)))
   where
@@ -64,7 +66,8 @@ left_aside nick (Some channel) = by_tests (has_member nick channel) (is_nil (key
     rest = record channel { members = alter nick (λ _. None) channel.members }
 
     by_tests : (member none : Bool)
-        → option_map uninviting (cond member (cond none None (Some rest)) (Some channel)) ≡ cond member (cond none None (Some (uninviting rest))) (Some (uninviting channel))
+        → option_map uninviting (cond member (cond none None (Some rest)) (Some channel))
+        ≡ cond member (cond none None (Some (uninviting rest))) (Some (uninviting channel))
     by_tests true true = refl
     by_tests true false = refl
     by_tests false none = refl

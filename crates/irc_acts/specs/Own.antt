@@ -22,7 +22,7 @@ pub data IsChannelName (room : Room) : List ℕ → Type 0 where
   of_found : (name : List ℕ) (channel : Channel) → row room.channels (key name) ≡ Some channel → IsChannelName room channel.name
   by_rule : (name : List ℕ) → is_channel name ≡ true → IsChannelName room name
 
--- the user does it, and what it names was found in the room, under some spelling
+-- the user does it, and what it names was found in the room, under some spelling; a channel that is joined, or that somebody is invited to, need not be there
 pub data IsOwn (me : User) (room : Room) : Effect → Type 0 where
   to_user : (name : List ℕ) (other : User) (notice : Bool) (words : List ℕ) → row room.users (key name) ≡ Some other
       → IsOwn me room (Say me.nick notice (target.User other.nick) (kept words))

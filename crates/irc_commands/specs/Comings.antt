@@ -43,7 +43,7 @@ abbrev pub OnlyItselfIsRenamed : Type 0
 OnlyItselfIsRenamed = (room : Room) (place : Place) (who : List ℕ) (message : Parsed) → IsWellFormed room
     → list_any (renames_other who) (decide room place who message).steps ≡ false
 
--- While the client stays, its user does, and nobody else comes or goes.
+-- While the client stays, its user does, and nobody else becomes a user or ceases to be one; whoever is kicked from a channel is a user still.
 abbrev pub WhoStaysIsUser : Type 0
 WhoStaysIsUser = (room : Room) (place : Place) (who : List ℕ) (message : Parsed)
     → (decide room place who message).close ≡ false → list_any adds_or_ends (decide room place who message).steps ≡ false

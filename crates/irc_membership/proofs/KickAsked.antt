@@ -24,7 +24,8 @@ pub each_asked : (channels nicks : List (List ℕ)) → (length channels ≡ 1 �
     → kicks_asked channels nicks ≡ Some (kicks_left false channels nicks)
 each_asked channels nicks many fit = by_channels channels many (sym (ap (nat_eq (length channels)) fit) ∙ nat_eq_equiv.refl (length channels))
   where
-    by_channels : (all : List (List ℕ)) → (length all ≡ 1 → ⊥) → nat_eq (length all) (length nicks) ≡ true → kicks_asked all nicks ≡ Some (kicks_left false all nicks)
+    by_channels : (all : List (List ℕ)) → (length all ≡ 1 → ⊥) → nat_eq (length all) (length nicks) ≡ true
+        → kicks_asked all nicks ≡ Some (kicks_left false all nicks)
     by_channels [] none fits = ap (λ b. if b then Some (paired [] nicks) else None) fits ∙ ap Some (each_its_own [] nicks)
     by_channels (channel ∷ []) none fits = absurd (none refl)
     by_channels (channel ∷ other ∷ more) none fits =

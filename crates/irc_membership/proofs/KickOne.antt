@@ -26,13 +26,14 @@ member_stored room before asked channel other well leaves is member known =
     let now = ahead room before in
     let at_first = sym (ap (λ users. row users (key asked.nick)) (moves_keep_users room before (leaves_are_moves room before leaves))) ∙ known in
     ap (λ nick. option_map_or (has_member nick) (row now.channels (key channel.name)) false) (well.users_named (key asked.nick) other at_first)
-    ∙ ap (λ fold. option_map_or (has_member (key asked.nick)) (row now.channels fold) false) (leaves_keep_names asked.channel room before well leaves channel is)
+    ∙ ap (λ fold. option_map_or (has_member (key asked.nick)) (row now.channels fold) false)
+    (leaves_keep_names asked.channel room before well leaves channel is)
     ∙ ap (λ o. option_map_or (has_member (key asked.nick)) o false) is
     ∙ member
 
 -- the steps so far, and those of one nickname more, let members leave and nothing else
-pub kicks_more : (me : User) (text : List ℕ) (room : Room) (before acts : List Act) (asked : Kicking) (new : List Act) → IsWellFormed room → AreLeaves room before
-    → kick_one me text (ahead room before) asked ≡ acts → new ≡ before ++ acts → AreLeaves room new
+pub kicks_more : (me : User) (text : List ℕ) (room : Room) (before acts : List Act) (asked : Kicking) (new : List Act)
+    → IsWellFormed room → AreLeaves room before → kick_one me text (ahead room before) asked ≡ acts → new ≡ before ++ acts → AreLeaves room new
 kicks_more me text room before acts asked new well leaves served new_is =
     let now = ahead room before in
     subst (AreLeaves room) (sym new_is)

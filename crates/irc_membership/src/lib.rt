@@ -1,4 +1,4 @@
-//! Commands by which users come to channels and leave them.
+//! Commands by which users come to channels, are invited to them, leave them and are made to.
 #![tactic(auto)]
 
 mod admission;

@@ -34,7 +34,8 @@ invite_is_possible me room params well there = own_are_possible me room (invite_
 pub invite_does : InviteDoes
 invite_does me room = all_so DoesSomething me room (record { invites_it = λ nick name other known named. refl })
 
-found_aside : (me other : User) (name : List ℕ) (found : Option Channel) → invites_found me other name found ≡ invites_found me other name (option_map uninviting found)
+found_aside : (me other : User) (name : List ℕ) (found : Option Channel)
+    → invites_found me other name found ≡ invites_found me other name (option_map uninviting found)
 found_aside me other name None = refl
 found_aside me other name (Some channel) = refl
 

@@ -64,7 +64,8 @@ one_does me text room asked = one_so DoesWhereWellFormed me text room asked (rec
   kicks_it = λ channel other is member known. kicks_member room me.nick text asked channel other is member known;
 })
 
-all_do : (me : User) (text : List ℕ) (room : Room) (asked : Option (List Kicking)) → EachInTurn DoesWhereWellFormed room (effects_among (kick_all me text room asked))
+all_do : (me : User) (text : List ℕ) (room : Room) (asked : Option (List Kicking))
+    → EachInTurn DoesWhereWellFormed room (effects_among (kick_all me text room asked))
 all_do me text room None = tt
 all_do me text room (Some asked) = each-in_turn DoesWhereWellFormed (kick_one me text) (one_does me text) room asked
 
@@ -97,7 +98,8 @@ one_keeps me text room asked = one_so IsKeeping me text room asked (record {
   kicks_it = λ channel other is member known. kick_keeps_alike me.nick channel.name other.nick text;
 })
 
-all_alike : (me : User) (text : List ℕ) (room other : Room) → AreAlike room other → (asked : Option (List Kicking)) → kick_all me text room asked ≡ kick_all me text other asked
+all_alike : (me : User) (text : List ℕ) (room other : Room) → AreAlike room other → (asked : Option (List Kicking))
+    → kick_all me text room asked ≡ kick_all me text other asked
 all_alike me text room other alike None = refl
 all_alike me text room other alike (Some asked) = in_turn_alike (kick_one me text) (one_alike me text) (one_keeps me text) room other alike asked
 
