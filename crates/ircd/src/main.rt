@@ -7,6 +7,10 @@ mod events;
 mod fault;
 mod laws;
 #[cfg(test)]
+mod invite_tests;
+#[cfg(test)]
+mod kick_tests;
+#[cfg(test)]
 mod leaving_tests;
 #[cfg(test)]
 mod message_tests;

@@ -3,7 +3,7 @@
 //!
 //! A text is a script and what it prints. A line behind `> ` is a line of the script, and below it stands what is printed there, in order;
 //! all that is printed is compared.
-//! `%` stands for 160 bytes `x`, which is the most of a topic and of the text of a PART or a QUIT.
+//! `%` stands for 160 bytes `x`, which is the most of a topic and of the text of a PART, a KICK or a QUIT.
 use crate::fault::SimFault;
 use crate::message_tests::LONG;
 use crate::program::run;
