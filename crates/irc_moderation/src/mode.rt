@@ -1,6 +1,7 @@
 //! MODE.
 ghost use Rattle.std.specs.Prelude.{◌≡◌, IfOk};
 ghost use Rattle.irc_line.specs.PartViews.{words_now};
+ghost use Rattle.irc_moderation.specs.Laws.InvitationsLaw.{ModeLooksAtNoInvitations};
 ghost use Rattle.irc_moderation.specs.Laws.ModeLaw.{ModeIsOwn};
 ghost use Rattle.irc_moderation.specs.Mode.{mode_steps, names_channel};
 
@@ -43,4 +44,9 @@ fn names_channel(target: &[u8]) -> bool
 /// A law: each effect of a MODE is its user's own.
 pub fn is_own()
     ensures { ModeIsOwn }
+{}
+
+/// A law: a MODE does the same in rooms that differ in invitations alone.
+pub fn looks_at_no_invitations()
+    ensures { ModeLooksAtNoInvitations }
 {}
