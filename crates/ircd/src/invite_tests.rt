@@ -47,3 +47,48 @@ const INVITING: &str = "\
 fn members_invite_outsiders(rt: HostRuntime) {
     assert!(rt; prints(rt.alloc(), 3, INVITING));
 }
+
+/// Under mode i only an operator invites. An invitation is used up by joining, and ends with its channel.
+const BY_INVITATION: &str = "\
+> say 1 JOIN #c
+1 :al!u@h JOIN #c
+1 :a.net 353 al = #c :@al
+1 :a.net 366 al #c :End of NAMES list
+> say 1 MODE #c +i
+1 :al!u@h MODE #c +i
+> say 1 INVITE bo #c
+1 :a.net 341 al #c bo
+2 :al!u@h INVITE bo #c
+> say 2 JOIN #c
+1 :bo!u@h JOIN #c
+2 :bo!u@h JOIN #c
+2 :a.net 353 bo = #c :@al bo
+2 :a.net 366 bo #c :End of NAMES list
+> say 2 INVITE CY #C
+2 :a.net 482 bo #c :You're not channel operator
+> say 2 PART #c
+1 :bo!u@h PART #c :bo
+2 :bo!u@h PART #c :bo
+> say 2 JOIN #c
+2 :a.net 473 bo #c :Cannot join channel (+i)
+> say 3 JOIN #c
+3 :a.net 473 cy #c :Cannot join channel (+i)
+> say 1 INVITE cy #C
+1 :a.net 341 al #c cy
+3 :al!u@h INVITE cy #c
+> say 1 PART #c
+1 :al!u@h PART #c :al
+> say 1 JOIN #c
+1 :al!u@h JOIN #c
+1 :a.net 353 al = #c :@al
+1 :a.net 366 al #c :End of NAMES list
+> say 1 MODE #c +i
+1 :al!u@h MODE #c +i
+> say 3 JOIN #c
+3 :a.net 473 cy #c :Cannot join channel (+i)
+";
+
+#[test]
+fn who_is_invited_joins_once(rt: HostRuntime) {
+    assert!(rt; prints(rt.alloc(), 3, BY_INVITATION));
+}
