@@ -1,5 +1,5 @@
 -- What is found among bans, and how many there are, behind one change of them.
-use Rattle.std.proofs.Common.{◌≡◌, ℕ, ◌+◌, ◌-◌, ◌<◌, Bool, true, false, cond, not, ◌||◌, Option, Some, None, List, [], ◌∷◌, length, find, filter, unwrap_or, is_some, suc, refl, sym, ◌∙◌, ap, subst, arith}
+use Rattle.std.proofs.Common.{◌≡◌, ℕ, ◌+◌, ◌-◌, Bool, true, false, cond, not, ◌||◌, Option, Some, None, List, [], ◌∷◌, length, find, unwrap_or, is_some, suc, refl, sym, ◌∙◌, ap, arith}
 use Rattle.std.specs.List.{list_any, position, remove}
 use Rattle.std.proofs.lemmas.List.Edits.{length-remove}
 use Rattle.irc_names.specs.Fold.{same}

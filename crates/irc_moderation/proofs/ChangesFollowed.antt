@@ -4,7 +4,7 @@ use Rattle.std.proofs.lemmas.List.Sums.{fold-append}
 use Rattle.irc_names.specs.Fold.{key, same}
 use Rattle.irc_names.specs.FoldLaws.{same-tells}
 use Rattle.irc_names.specs.Tables.{Table, row, alter}
-use Rattle.irc_names.specs.TableLaws.{same_fold, row-alter}
+use Rattle.irc_names.specs.TableLaws.{row-alter}
 use Rattle.irc_users.specs.declared.user.User.{User}
 use Rattle.irc_channels.specs.declared.channel.Channel.{Channel}
 use Rattle.irc_channels.specs.declared.flags.Flags.{Flags}
@@ -21,7 +21,7 @@ use Rattle.irc_moderation.specs.declared.verdict.Verdict.TheVariants.{Says, Keep
 use Rattle.irc_moderation.specs.ChannelMode.{outcome_of}
 use Rattle.irc_moderation.specs.Judging.{judge}
 use Rattle.irc_moderation.specs.Laws.JudgedWalk.{IsSo, judged_so}
-use Rattle.irc_moderation.specs.Loops.KeptChanges.{op_set, voice_set, flags_changed, flags_by, ban_changed_to, ban_by, count_by, without_bans, Follows}
+use Rattle.irc_moderation.specs.Loops.KeptChanges.{op_set, voice_set, flags_changed, flags_by, ban_by, count_by, without_bans, Follows}
 use Rattle.irc_moderation.proofs.BansBehind.{found_behind, rises_behind, one_more, one_less, by_mask, stored_is_mask}
 
 -- ---- one change, letter by letter

@@ -1,5 +1,5 @@
 -- What the letters that are left come to, once one more is served.
-use Rattle.std.proofs.Common.{◌≡◌, ℕ, ◌+◌, ◌<◌, Bool, true, false, ◌||◌, cond, List, [], ◌∷◌, ◌++◌, length, drop, get_or, refl, sym, ◌∙◌, ap, subst, append_assoc}
+use Rattle.std.proofs.Common.{◌≡◌, ℕ, ◌+◌, ◌<◌, Bool, true, false, ◌||◌, List, ◌∷◌, ◌++◌, length, drop, get_or, refl, sym, ◌∙◌, ap, append_assoc}
 use Rattle.std.proofs.lemmas.List.{drop_more}
 use Rattle.irc_names.specs.Tables.{Table}
 use Rattle.irc_users.specs.declared.user.User.{User}
@@ -10,7 +10,7 @@ use Rattle.irc_channels.specs.Channels.{all_changed}
 use Rattle.irc_channels.specs.ModeViews.{all_asked, asked}
 use Rattle.irc_channels.specs.ModeWords.{Asked, change, list, no_word, unknown}
 use Rattle.irc_acts.specs.declared.act.Act.{Act}
-use Rattle.irc_moderation.specs.ChannelMode.{one_served, served, told}
+use Rattle.irc_moderation.specs.ChannelMode.{one_served, served}
 use Rattle.irc_moderation.specs.Loops.Denied.{is_change, denied_one, denied_left}
 use Rattle.irc_moderation.proofs.ChangesFollowed.{all_changed-append}
 

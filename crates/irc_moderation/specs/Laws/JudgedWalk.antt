@@ -1,5 +1,5 @@
 -- What is so of each change that may be made is so of each change that is made: one walk over what comes of a letter.
-use Rattle.std.proofs.Common.{◌≡◌, ℕ, Bool, true, false, not, ◌&&◌, cond, is_some, nat_eq, nat_le, find, length, Option, Some, None, List, [], ◌∷◌, refl, sym, ◌∙◌, ap}
+use Rattle.std.proofs.Common.{◌≡◌, ℕ, Bool, true, false, not, ◌&&◌, cond, is_some, nat_eq, nat_le, find, length, Option, Some, None, List, refl}
 use Rattle.std.specs.Prelude.{⊤}
 use Rattle.std.specs.Option.{option_map_or}
 use Rattle.irc_names.specs.Fold.{key, same}
@@ -18,7 +18,7 @@ use Rattle.irc_acts.specs.ByTest.{by_test}
 use Rattle.irc_moderation.specs.declared.verdict.Verdict.{Verdict}
 use Rattle.irc_moderation.specs.declared.verdict.Verdict.TheVariants.{Says, Keeps, Nothing}
 use Rattle.irc_moderation.specs.UserMode.{differs}
-use Rattle.irc_moderation.specs.Judging.{made, kept_if, turned, turns_private, turns_secret, key_judged, without_zeros, limit_judged, setting_judged, ban_judged, mask_judged, flag_of, flag_judged, member_judged, word_judged, judge}
+use Rattle.irc_moderation.specs.Judging.{made, kept_if, turns_private, turns_secret, key_judged, without_zeros, limit_judged, ban_judged, mask_judged, flag_of, flag_judged, member_judged, word_judged, judge}
 
 abbrev pub IsSo : (ModeChange → Type 0) → Verdict → Type 0
 IsSo Q (Keeps change) = Q change
