@@ -1,1 +1,4 @@
+pub mod Info
+pub mod Known
+pub mod Limits
 pub mod Place
