@@ -2,8 +2,9 @@
 use Rattle.std.specs.Prelude.{ℕ, ◌≤◌, Option, List, [], ◌∷◌, length, nat_eq}
 use Rattle.std.specs.Cmp.Lexicographic.{pointwise}
 use Rattle.std.specs.List.{find}
-use Rattle.irc_names.specs.Limits.{max_info, max_created}
+use Rattle.irc_names.specs.Limits.{max_created}
 use Rattle.irc_names.specs.Names.{IsServer}
+use Rattle.irc_routes.specs.Info.{IsInfo}
 use Rattle.irc_routes.specs.declared.own.Own.{Own}
 
 -- a server of the same network: how it describes itself, and how many links away it is
@@ -37,5 +38,5 @@ server_named place name = find (λ server. pointwise nat_eq server.name name) pl
 -- the limits that a configuration keeps (our own choice)
 pub record KeepsLimits (own : Own) : Type 0 where
   pub name : IsServer own.name.items
-  pub info : length own.info.items ≤ max_info
+  pub info : IsInfo own.info.items
   pub created : length own.created.items ≤ max_created

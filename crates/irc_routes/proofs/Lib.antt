@@ -1,0 +1,7 @@
+pub mod DistinctLinks
+pub mod FullTold
+pub mod KeptRows
+pub mod Numbered
+pub mod RouteLaws
+pub mod SmallestFree
+pub mod TableRows

@@ -1,0 +1,5 @@
+use Rattle.irc_routes.proofs.RouteLaws.{smallest_is_free}
+use Rattle.irc_routes.proofs.laws.smallest_is_free.Goals as goal
+
+pub returns : goal.returns
+returns c = smallest_is_free
