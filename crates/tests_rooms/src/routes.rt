@@ -1,26 +1,129 @@
-//! A server that is joined to none.
-use irc_names::is_server;
-use irc_routes::{Own, Routes};
+//! The servers that a server knows, and the numbers that stand for them.
+use crate::script::{Row, Shown, Stage, append, append_word, script_holds, server};
+use arrayvec::ArrayVec;
+use irc_names::{MAX_SERVER, ServerName, is_server};
+use irc_routes::{Info, Own, Routes, RoutesFault};
+use itoa::Buffer;
+use std::alloc::Global;
+use std::process::Abort;
 use std::test::Fail;
 
-/// Whether a server knows itself alone.
-fn knows_itself_alone(routes: &Routes) -> bool {
-    let links = routes.links();
-    let servers = routes.servers();
-    match (&links, &servers) {
-        (Ok(links), Ok(servers)) => links.is_empty() && servers.len() == 1,
-        _ => false,
+/// `add LINK UPLINK NAME NUMBER` adds a server that is so many links away and has that number on its link, and `fill LINK COUNT` as many more. `out` shows our own
+/// number for a server, `in LINK NUMBER` the server of a number, `away` how far away a server is, `behind` the servers behind a link, `all` all.
+const SERVERS: &str = "\
+add 1 a.net b.net 1 =
+add 1 b.net c.net 2 =
+out b.net = 2
+out c.net = 3
+in 1 2 = c.net
+away c.net = 2
+behind 1 = b.net c.net
+add 1 a.net b.net 3 = known
+add 1 a.net nodot 3 = no name
+fill 2 253 =
+add 3 a.net more.net 1 = full
+lose 2 =
+all = a.net b.net c.net
+lose 1 =
+all = a.net
+add 1 a.net c.net 1 =
+out c.net = 2";
+
+fn show_number(number: Option<u32>, shown: &mut Shown) {
+    if let Some(number) = number {
+        append_word(shown, b"", Buffer::new().format(number).as_bytes());
+    }
+}
+
+fn show_name(name: Option<&ServerName>, shown: &mut Shown) {
+    if let Some(name) = name {
+        append_word(shown, b"", name.as_bytes());
+    }
+}
+
+fn show_names(names: &[&ServerName], shown: &mut Shown) {
+    for name in names {
+        append_word(shown, b"", name.as_bytes());
+    }
+}
+
+fn number_of(word: &str) -> u32 {
+    word.parse::<u32>().unwrap_or(0)
+}
+
+/// Adds a server, where its number is free on its link.
+fn add(
+    rt: &impl Abort,
+    routes: &mut Routes,
+    link: u64,
+    uplink: &str,
+    name: &[u8],
+    number: u32,
+) -> Result<(), RoutesFault> {
+    let info = Info::read(b"B").expect(rt, "a description");
+    match routes.token_in(link, number) {
+        Some(_) => Ok(()),
+        None => routes.add_server(link, &server(rt, uplink), name, number, number, &info),
+    }
+}
+
+fn show_fault(added: Result<(), RoutesFault>, shown: &mut Shown) {
+    match added {
+        Ok(()) => {}
+        Err(RoutesFault::Known) => append(shown, b" known"),
+        Err(RoutesFault::BadName) => append(shown, b" no name"),
+        Err(RoutesFault::Full) => append(shown, b" full"),
+        Err(RoutesFault::Memory) => append(shown, b" no memory"),
+    }
+}
+
+/// Adds as many servers as a row says, which are numbered.
+fn fill(rt: &impl Abort, routes: &mut Routes, link: u64, count: u32, shown: &mut Shown) {
+    for number in 0..count {
+        let mut name: ArrayVec<u8, MAX_SERVER> = ArrayVec::new();
+        let _ = name.try_extend_from_slice(b"s.");
+        let _ = name.try_extend_from_slice(Buffer::new().format(number).as_bytes());
+        show_fault(add(rt, routes, link, "a.net", &name, number), shown);
+    }
+}
+
+/// Does what a row that changes something says.
+fn change(rt: &impl Abort, routes: &mut Routes, row: Row<'_>, shown: &mut Shown) {
+    let link = u64::from(number_of(row.first));
+    match row.verb {
+        "add" => {
+            let (name, number) = row.text.split_once(' ').unwrap_or(("", ""));
+            let added = add(rt, routes, link, row.second, name.as_bytes(), number_of(number));
+            show_fault(added, shown);
+        }
+        "fill" => fill(rt, routes, link, number_of(row.second), shown),
+        _ => routes.lose(link),
+    }
+}
+
+impl Stage for Routes {
+    fn perform(&mut self, rt: &impl Abort, alloc: Global, row: Row<'_>, shown: &mut Shown) {
+        let link = u64::from(number_of(row.first));
+        match row.verb {
+            "out" => show_number(self.token_out(row.first.as_bytes()), shown),
+            "away" => show_number(self.distance(row.first.as_bytes()), shown),
+            "in" => show_name(self.token_in(link, number_of(row.second)), shown),
+            "behind" => show_names(&self.behind(link).unwrap_or(Vec::new(alloc)), shown),
+            "all" => show_names(&self.servers().unwrap_or(Vec::new(alloc)), shown),
+            _ => change(rt, self, row, shown),
+        }
     }
 }
 
 #[test]
-fn a_server_knows_itself_alone(rt: HostRuntime) -> Result<(), Fail> {
+fn servers_are_numbered_and_found(rt: HostRuntime) -> Result<(), Fail> {
     let own = Own {
         name: Vec::from_slice(rt.alloc(), b"a.net")?,
         info: Vec::new(rt.alloc()),
         created: Vec::new(rt.alloc()),
     };
     assert!(rt; is_server(&own.name));
-    assert!(rt; knows_itself_alone(&Routes::new(own)));
+    let mut routes = Routes::new(own);
+    assert!(rt; script_holds(&rt, rt.alloc(), &mut routes, SERVERS));
     Ok(())
 }
