@@ -1,6 +1,7 @@
 //! What a line of a registered user does.
 ghost use Rattle.std.specs.Prelude.{◌≡◌, IfOk};
 ghost use Rattle.irc_line.specs.MessageViews.{optional_now, parsed};
+ghost use Rattle.irc_routes.specs.Known.{place_of};
 ghost use Rattle.irc_commands.specs.CodeViews.{decided_of};
 ghost use Rattle.irc_commands.specs.Decide.{decide, is_from};
 
@@ -25,7 +26,7 @@ pub fn decide(
     who: &Nick,
     message: &Message<'_>,
 ) -> Result<Decision, AllocError>
-    ensures { IfOk result (λ d. decided_of d ≡ decide room.now.room routes.now who.now (parsed message.now)) }
+    ensures { IfOk result (λ d. decided_of d ≡ decide room.now.room (place_of routes.now) who.now (parsed message.now)) }
 {
     match room.user(who.as_bytes()) {
         Some(me) if is_own(message.prefix, Some(&me.nick)) => {

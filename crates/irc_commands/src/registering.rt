@@ -2,6 +2,7 @@
 ghost use Rattle.std.specs.Prelude.{◌≡◌, List, [], ◌∷◌, ◌++◌, IfOk, OnOk};
 ghost use Rattle.irc_line.specs.MessageViews.{parsed};
 ghost use Rattle.irc_line.specs.PartViews.{words_now};
+ghost use Rattle.irc_routes.specs.Known.{place_of};
 ghost use Rattle.irc_acts.specs.declared.act.Act.{Act};
 ghost use Rattle.irc_commands.specs.CodeViews.{registered_of};
 ghost use Rattle.irc_commands.specs.Register.{
@@ -73,7 +74,7 @@ fn answered(alloc: Global, pending: Pending, answer: Act) -> Result<Registration
 
 /// The steps of somebody who is a user now (RFC 2812 section 5.1).
 fn welcome(alloc: Global, routes: &Routes, user: User) -> Result<Vec<Act, Global>, AllocError>
-    ensures { IfOk result (λ steps. steps.items ≡ welcomed routes.now user) }
+    ensures { IfOk result (λ steps. steps.items ≡ welcomed (place_of routes.now) user) }
 {
     let told = Act::Answer(Reply::Welcome {
         nick: user.nick.copy(),
@@ -89,7 +90,7 @@ fn welcome(alloc: Global, routes: &Routes, user: User) -> Result<Vec<Act, Global
 
 /// Appends what a new user is told of the server.
 fn tell_of_server(steps: &mut Vec<Act, Global>, routes: &Routes) -> Result<(), AllocError>
-    ensures { OnOk result (steps.new.items ≡ steps.old.items ++ server_told routes.now) }
+    ensures { OnOk result (steps.new.items ≡ steps.old.items ++ server_told (place_of routes.now)) }
 {
     let server = routes.name();
     let your_host = Reply::YourHost {
@@ -115,7 +116,7 @@ fn complete(
     routes: &Routes,
     pending: Pending,
 ) -> Result<Registration, AllocError>
-    ensures { IfOk result (λ r. registered_of r ≡ complete room.now.room routes.now pending) }
+    ensures { IfOk result (λ r. registered_of r ≡ complete room.now.room (place_of routes.now) pending) }
 {
     let (Some(nick), Some(user)) = (&pending.nick, &pending.user) else {
         return Ok(ignored(alloc, pending));
@@ -153,7 +154,7 @@ fn choose_nick(
     pending: Pending,
     given: &[u8],
 ) -> Result<Registration, AllocError>
-    ensures { IfOk result (λ r. registered_of r ≡ nick_chosen room.now.room routes.now pending given.now) }
+    ensures { IfOk result (λ r. registered_of r ≡ nick_chosen room.now.room (place_of routes.now) pending given.now) }
 {
     let Some(nick) = Nick::read(given) else {
         let nick = client_words(given);
@@ -179,7 +180,7 @@ fn take_nick(
     pending: Pending,
     params: &[&[u8]],
 ) -> Result<Registration, AllocError>
-    ensures { IfOk result (λ r. registered_of r ≡ nick_row room.now.room routes.now pending (words_now params.now)) }
+    ensures { IfOk result (λ r. registered_of r ≡ nick_row room.now.room (place_of routes.now) pending (words_now params.now)) }
 {
     match params.first() {
         Some(given) if !given.is_empty() => choose_nick(alloc, room, routes, pending, given),
@@ -195,7 +196,7 @@ fn take_user(
     pending: Pending,
     params: &[&[u8]],
 ) -> Result<Registration, AllocError>
-    ensures { IfOk result (λ r. registered_of r ≡ user_row room.now.room routes.now pending (words_now params.now)) }
+    ensures { IfOk result (λ r. registered_of r ≡ user_row room.now.room (place_of routes.now) pending (words_now params.now)) }
 {
     if params.len() < USER_PARAMETERS {
         return answered(alloc, pending, need_more_params(b"USER"));
@@ -238,7 +239,7 @@ pub fn register(
     pending: &Pending,
     message: &Message<'_>,
 ) -> Result<Registration, AllocError>
-    ensures { IfOk result (λ r. registered_of r ≡ register room.now.room routes.now pending.now (parsed message.now)) }
+    ensures { IfOk result (λ r. registered_of r ≡ register room.now.room (place_of routes.now) pending.now (parsed message.now)) }
 {
     let now = pending.copy();
     if is_own(message.prefix, pending.nick.as_ref()) {
@@ -256,7 +257,7 @@ fn register_for(
     now: Pending,
     message: &Message<'_>,
 ) -> Result<Registration, AllocError>
-    ensures { IfOk result (λ r. registered_of r ≡ pending_row room.now.room routes.now now (parsed message.now)) }
+    ensures { IfOk result (λ r. registered_of r ≡ pending_row room.now.room (place_of routes.now) now (parsed message.now)) }
 {
     let params = message.params.as_slice();
     match Command::read(message.command) {

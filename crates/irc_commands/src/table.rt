@@ -1,6 +1,7 @@
 //! The command table.
 ghost use Rattle.std.specs.Prelude.{◌≡◌, List, [], ◌∷◌, IfOk};
 ghost use Rattle.irc_line.specs.MessageViews.{parsed};
+ghost use Rattle.irc_routes.specs.Known.{place_of};
 ghost use Rattle.irc_acts.specs.declared.act.Act.{Act};
 ghost use Rattle.irc_acts.specs.declared.act.Act.TheVariants.{Answer};
 ghost use Rattle.irc_commands.specs.CodeViews.{decided_of};
@@ -103,7 +104,7 @@ pub(crate) fn decide_for(
     context: &Context<'_>,
     message: &Message<'_>,
 ) -> Result<Decision, AllocError>
-    ensures { IfOk result (λ d. decided_of d ≡ row_for context.now.room.now.room context.now.routes.now context.now.me.now (parsed message.now)) }
+    ensures { IfOk result (λ d. decided_of d ≡ row_for context.now.room.now.room (place_of context.now.routes.now) context.now.me.now (parsed message.now)) }
 {
     let params = message.params.as_slice();
     match Command::read(message.command) {

@@ -48,9 +48,9 @@ shown_again (s ∷ showings) = ap (λ l. s ∷ l) (shown_again showings)
 
 -- What is handed out is what is shown to clients: a viewer that is a client is at home.
 
-module _ (view : View) (kept : Kept) (effect : Effect) (room_is : kept.room ≡ view.room) (own_is : kept.own ≡ view.place.name) (sound : IsSound kept)
+module _ (view : View) (kept : Kept) (effect : Effect) (room_is : kept.room ≡ view.room) (own_is : kept.own ≡ view.routes.name) (sound : IsSound kept)
     (at_home : (conn : ℕ) (nick : List ℕ) (user : User) → client_of view conn ≡ Some (Registered nick) → row view.room.users (key nick) ≡ Some user
-    → user.home ≡ view.place.name) where
+    → user.home ≡ view.routes.name) where
   -- one that is not at home is no client
   abroad : (fold : List ℕ) (user : User) → row kept.room.users fold ≡ Some user → (s : Showing) → shown_to kept.room effect user ≡ Some s → is_own kept s ≡ false
       → to_viewer view.clients s ≡ []
@@ -125,7 +125,7 @@ by_causes false true false a b c = cc c
 by_causes false true true a b c = refl
 
 -- an effect on the room, what it hands out, and the clients that follow it
-pub effect_applied : (view : View) (kept now : Kept) (effect : Effect) → kept.room ≡ view.room → kept.own ≡ view.place.name → IsSound kept → IsFit view effect
+pub effect_applied : (view : View) (kept now : Kept) (effect : Effect) → kept.room ≡ view.room → kept.own ≡ view.routes.name → IsSound kept → IsFit view effect
     → (clients : Clients) (shown : List (List ℕ × ArrayVec ℕ)) (out out_after : List Out) → now ≡ record kept { room = after kept.room effect }
     → shown ≡ shown_here kept effect → out_after ≡ out ++ all_shown view.clients shown → clients ≡ clients_after effect view.clients
     → record { view = record view { clients = clients; room = now.room }; out = out_after } ≡ with_effect effect (record { view = view; out = out })

@@ -12,6 +12,7 @@ use Rattle.irc_room.specs.declared.effect.Effect.TheVariants.{AddUser, Quit}
 use Rattle.irc_room.specs.Room.{Room, IsWellFormed}
 use Rattle.irc_room.specs.Effects.{IsPossible}
 use Rattle.irc_room.proofs.Rows.{same_some}
+use Rattle.irc_routes.specs.Known.{place_of}
 use Rattle.irc_acts.specs.declared.act.Act.{Act}
 use Rattle.irc_acts.specs.declared.act.Act.TheVariants.{Do}
 use Rattle.irc_acts.specs.Possible.{ArePossible}
@@ -33,14 +34,14 @@ use Rattle.irc_server.proofs.Matching.{fit_by, quiet_fit, quiet_steps, still_fit
 -- a line of a user
 
 pub decided_fit : DecidedIsPossible → WhoStaysIsUser → WhoIsClosedQuits → (view : View) → IsMatched view → IsWellFormed view.room
-    → (who : List ℕ) (message : Parsed) (acts : List Act) → acts ≡ (decide view.room view.place who message).steps → AreFit view acts
+    → (who : List ℕ) (message : Parsed) (acts : List Act) → acts ≡ (decide view.room (place_of view.routes) who message).steps → AreFit view acts
 decided_fit possible stays closes view matched well who message acts are =
-    subst (AreFit view) (sym are) (by (decide view.room view.place who message).close refl)
+    subst (AreFit view) (sym are) (by (decide view.room (place_of view.routes) who message).close refl)
   where
-    steps_possible : ArePossible view.room (decide view.room view.place who message).steps
-    steps_possible = possible view.room view.place who message well
+    steps_possible : ArePossible view.room (decide view.room (place_of view.routes) who message).steps
+    steps_possible = possible view.room (place_of view.routes) who message well
 
-    first_quits : QuitFirst view.room who (decide view.room view.place who message).steps → AreFit view (decide view.room view.place who message).steps
+    first_quits : QuitFirst view.room who (decide view.room (place_of view.routes) who message).steps → AreFit view (decide view.room (place_of view.routes) who message).steps
     first_quits quits =
         let all = subst (ArePossible view.room) quits.steps_are steps_possible in
         subst (AreFit view) (sym quits.steps_are) (record {
@@ -48,9 +49,9 @@ decided_fit possible stays closes view matched well who message acts are =
           later = still_fit (view_after view (Quit quits.me.nick quits.reason)) quits.behind quits.no_more;
         })
 
-    by : (b : Bool) → (decide view.room view.place who message).close ≡ b → AreFit view (decide view.room view.place who message).steps
-    by true is = first_quits (closes view.room view.place who message is)
-    by false is = quiet_fit view (decide view.room view.place who message).steps matched steps_possible (stays view.room view.place who message is)
+    by : (b : Bool) → (decide view.room (place_of view.routes) who message).close ≡ b → AreFit view (decide view.room (place_of view.routes) who message).steps
+    by true is = first_quits (closes view.room (place_of view.routes) who message is)
+    by false is = quiet_fit view (decide view.room (place_of view.routes) who message).steps matched steps_possible (stays view.room (place_of view.routes) who message is)
 
 -- the first step is a Quit of the client's own user, and the client is closed
 quit_first : (view : View) (conn : ℕ) (name : Option (List ℕ)) (nick who : List ℕ) (steps : List Act) → IsMatched view → IsWellFormed view.room
@@ -66,16 +67,16 @@ pub user_matched : DecidedIsPossible → WhoStaysIsUser → WhoIsClosedQuits →
     → (conn : ℕ) (nick : List ℕ) → client_of view conn ≡ Some (Registered nick) → (message : Parsed)
     → (o : Option User) → row view.room.users (key nick) ≡ o → IsMatched (user_decided view conn o message).view
 user_matched possible stays closes view matched well conn nick mine message None there = matched
-user_matched possible stays closes view matched well conn nick mine message (Some user) there = by (decide view.room view.place user.nick message).close refl
+user_matched possible stays closes view matched well conn nick mine message (Some user) there = by (decide view.room (place_of view.routes) user.nick message).close refl
   where
-    by : (b : Bool) → (decide view.room view.place user.nick message).close ≡ b
-        → IsMatched (closing b conn (all_stepped conn (Some user.nick) (decide view.room view.place user.nick message).steps (unchanged view))).view
+    by : (b : Bool) → (decide view.room (place_of view.routes) user.nick message).close ≡ b
+        → IsMatched (closing b conn (all_stepped conn (Some user.nick) (decide view.room (place_of view.routes) user.nick message).steps (unchanged view))).view
     by true is =
-        quit_first view conn (Some user.nick) nick user.nick (decide view.room view.place user.nick message).steps matched well mine (well.users_named (key nick) user there)
-        (closes view.room view.place user.nick message is)
+        quit_first view conn (Some user.nick) nick user.nick (decide view.room (place_of view.routes) user.nick message).steps matched well mine (well.users_named (key nick) user there)
+        (closes view.room (place_of view.routes) user.nick message is)
     by false is =
-        quiet_steps conn (Some user.nick) (decide view.room view.place user.nick message).steps (unchanged view) matched (possible view.room view.place user.nick message well)
-        (stays view.room view.place user.nick message is)
+        quiet_steps conn (Some user.nick) (decide view.room (place_of view.routes) user.nick message).steps (unchanged view) matched (possible view.room (place_of view.routes) user.nick message well)
+        (stays view.room (place_of view.routes) user.nick message is)
 
 -- a line before registration
 
@@ -88,13 +89,13 @@ registered given nick is nick_is =
     ap (client_after given) nick_is ∙ ap (λ b. if b then Registered nick else Registering given.pending) is
 
 module _ (view : View) (conn : ℕ) (given : Given) (matched : IsMatched view) (possible : ArePossible view.room given.steps)
-    (adds : given.registered ≡ true → AddsFirst view.place given.pending.nick given.steps) (still : given.registered ≡ false → list_any is_effect given.steps ≡ false)
+    (adds : given.registered ≡ true → AddsFirst (place_of view.routes) given.pending.nick given.steps) (still : given.registered ≡ false → list_any is_effect given.steps ≡ false)
     (stays : given.registered ≡ true → given.close ≡ false) where
   abbrev given_view : View
   given_view = with_client view conn (client_after given given.pending.nick)
 
   module _ (is : given.registered ≡ true) where
-    abbrev first : AddsFirst view.place given.pending.nick given.steps
+    abbrev first : AddsFirst (place_of view.routes) given.pending.nick given.steps
     first = adds is
 
     client_is : client_after given given.pending.nick ≡ Registered (first.user.nick)
@@ -201,7 +202,7 @@ gone_matched view conn matched well (Some (Registered name)) is = by_row (row vi
         → IsMatched (quits (option_map (λ (user : User). user.nick) o) (unchanged (without_client view conn))).view
     by_row None there =
         let here = matched.registered_is_user conn name is in
-        let nobody = ap (λ o. option_map_or (is_home view.place.name) o false) there in absurd cc
+        let nobody = ap (λ o. option_map_or (is_home view.routes.name) o false) there in absurd cc
     by_row (Some user) there = quit_matched view conn name user.nick lost_text matched is (well.users_named (key name) user there)
 
 -- whatever happens
@@ -219,8 +220,8 @@ stays_matched possible stays closes register_possible added unchanging kept view
     by : (o : Option Client) → client_of view conn ≡ o → IsMatched (said_by view conn o message).view
     by None is = matched
     by (Some (Registering pending)) is =
-        given_matched view conn (register view.room view.place pending message) matched (register_possible view.room view.place pending message well)
-        (added view.room view.place pending message) (unchanging view.room view.place pending message) (kept view.room view.place pending message)
+        given_matched view conn (register view.room (place_of view.routes) pending message) matched (register_possible view.room (place_of view.routes) pending message well)
+        (added view.room (place_of view.routes) pending message) (unchanging view.room (place_of view.routes) pending message) (kept view.room (place_of view.routes) pending message)
         (subst IsNoUser (sym is) tt)
     by (Some (Registered nick)) is =
         user_matched possible stays closes view matched well conn nick is message (row view.room.users (key nick)) refl
@@ -228,17 +229,17 @@ stays_matched possible stays closes register_possible added unchanging kept view
 -- the same of what the code has decided
 
 pub registering_fit : RegisteringIsPossible → RegisteredIsAdded → UnregisteredChangesNothing → RegisteredStays → (view : View) (conn : ℕ) (pending : Pending) (message : Parsed) (given : Given)
-    → given ≡ register view.room view.place pending message → IsMatched view → IsWellFormed view.room
+    → given ≡ register view.room (place_of view.routes) pending message → IsMatched view → IsWellFormed view.room
     → AreFit (with_client view conn (client_after given given.pending.nick)) given.steps
 registering_fit possible added unchanging kept view conn pending message given is matched well =
     subst (λ (g : Given). AreFit (with_client view conn (client_after g g.pending.nick)) g.steps) (sym is)
-    (given_fit view conn (register view.room view.place pending message) matched (possible view.room view.place pending message well)
-    (added view.room view.place pending message) (unchanging view.room view.place pending message) (kept view.room view.place pending message))
+    (given_fit view conn (register view.room (place_of view.routes) pending message) matched (possible view.room (place_of view.routes) pending message well)
+    (added view.room (place_of view.routes) pending message) (unchanging view.room (place_of view.routes) pending message) (kept view.room (place_of view.routes) pending message))
 
 pub registering_free : RegisteringIsPossible → RegisteredIsAdded → UnregisteredChangesNothing → RegisteredStays → (view : View) (conn : ℕ) (pending : Pending) (message : Parsed) (given : Given)
-    → given ≡ register view.room view.place pending message → IsMatched view → IsWellFormed view.room
+    → given ≡ register view.room (place_of view.routes) pending message → IsMatched view → IsWellFormed view.room
     → IsFreeOf (client_after given given.pending.nick) view.clients
 registering_free possible added unchanging kept view conn pending message given is matched well =
     subst (λ (g : Given). IsFreeOf (client_after g g.pending.nick) view.clients) (sym is)
-    (given_free view conn (register view.room view.place pending message) matched (possible view.room view.place pending message well)
-    (added view.room view.place pending message) (unchanging view.room view.place pending message) (kept view.room view.place pending message))
+    (given_free view conn (register view.room (place_of view.routes) pending message) matched (possible view.room (place_of view.routes) pending message well)
+    (added view.room (place_of view.routes) pending message) (unchanging view.room (place_of view.routes) pending message) (kept view.room (place_of view.routes) pending message))

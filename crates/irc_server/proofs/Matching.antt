@@ -106,15 +106,15 @@ has_to {A = A} clients fold has gives = any_gives (is_user_of fold) (entries cli
 here_row : (view : View) (nick : List ℕ) → is_user_here view nick ≡ true → is_some (row view.room.users (key nick)) ≡ true
 here_row view nick known = by (row view.room.users (key nick)) known
   where
-    by : (o : Option User) → option_map_or (is_home view.place.name) o false ≡ true → is_some o ≡ true
+    by : (o : Option User) → option_map_or (is_home view.routes.name) o false ≡ true → is_some o ≡ true
     by None known = cc known
     by (Some user) known = refl
 
 pub live : (view : View) → IsMatched view → (conn : ℕ) (nick : List ℕ) (user : User) → client_of view conn ≡ Some (Registered nick)
-    → row view.room.users (key nick) ≡ Some user → user.home ≡ view.place.name
+    → row view.room.users (key nick) ≡ Some user → user.home ≡ view.routes.name
 live view matched conn nick user is there =
-    (bytes_decides user.home view.place.name).0
-    (ap (λ o. option_map_or (is_home view.place.name) o false) (sym there) ∙ matched.registered_is_user conn nick is)
+    (bytes_decides user.home view.routes.name).0
+    (ap (λ o. option_map_or (is_home view.routes.name) o false) (sym there) ∙ matched.registered_is_user conn nick is)
 
 -- Any possible effect is fit where clients and users are matched.
 
@@ -186,10 +186,10 @@ module _ (view : View) (nick new : List ℕ) (matched : IsMatched view) (possibl
 
       took : (old : List ℕ) → get view.clients conn ≡ Some (Registered old) → key old ≡ key nick → new ≡ name → is_user_here renamed_view name ≡ true
       took old was same_old new_is =
-          ap (λ n. option_map_or (is_home view.place.name) (row (after view.room (Rename nick new)).users (key n)) false) (sym new_is)
-          ∙ ap (λ o. option_map_or (is_home view.place.name) o false)
+          ap (λ n. option_map_or (is_home view.routes.name) (row (after view.room (Rename nick new)).users (key n)) false) (sym new_is)
+          ∙ ap (λ o. option_map_or (is_home view.routes.name) o false)
           (answers (key new) ∙ ap (λ b. cond b (Some (with_nick new x)) (cond (same_fold (key new) (key nick)) None (row view.room.users (key new)))) (same_fold-refl (key new)))
-          ∙ ap (λ o. option_map_or (is_home view.place.name) o false) (sym there ∙ ap (row view.room.users) (sym same_old))
+          ∙ ap (λ o. option_map_or (is_home view.routes.name) o false) (sym there ∙ ap (row view.room.users) (sym same_old))
           ∙ matched.registered_is_user conn old was
 
       other : get view.clients conn ≡ Some (Registered name) → same name nick ≡ false → (b c : Bool) → same_fold (key name) (key new) ≡ b → same_fold (key name) (key nick) ≡ c
@@ -200,7 +200,7 @@ module _ (view : View) (nick new : List ℕ) (matched : IsMatched view) (possibl
 
       stayed : get view.clients conn ≡ Some (Registered name) → same name nick ≡ false → is_user_here renamed_view name ≡ true
       stayed was two =
-          ap (λ o. option_map_or (is_home view.place.name) o false)
+          ap (λ o. option_map_or (is_home view.routes.name) o false)
           (answers (key name) ∙ other was two (same_fold (key name) (key new)) (same_fold (key name) (key nick)) refl refl)
           ∙ matched.registered_is_user conn name was
 
@@ -216,7 +216,7 @@ module _ (view : View) (nick new : List ℕ) (matched : IsMatched view) (possibl
       (λ was_other two_other. matched.user_has_one conn other name second was was_other same_names))
 
   has_after : (x : User) → row view.room.users (key nick) ≡ Some x → (fold : List ℕ) (user : User) → row (after view.room (Rename nick new)).users fold ≡ Some user
-      → user.home ≡ view.place.name → has_client (clients_after (Rename nick new) view.clients) fold ≡ true
+      → user.home ≡ view.routes.name → has_client (clients_after (Rename nick new) view.clients) fold ≡ true
   unfolding after
   has_after x there fold user is home =
       by (same_fold fold (key new)) (same_fold fold (key nick)) refl refl (sym (row-moved (key nick) (key new) (with_nick new) view.room.users x there fold) ∙ is)
@@ -277,29 +277,29 @@ mode_matched view nick invisible matched = record {
       had fold user home (same_fold fold (key nick)) refl (sym (row-alter (key nick) (option_map (with_invisible invisible)) view.room.users fold) ∙ is);
 }
   where
-    was_there : (user : User) → user.home ≡ view.place.name → (o : Option User) → row view.room.users (key nick) ≡ o → option_map (with_invisible invisible) o ≡ Some user
+    was_there : (user : User) → user.home ≡ view.routes.name → (o : Option User) → row view.room.users (key nick) ≡ o → option_map (with_invisible invisible) o ≡ Some user
         → has_client view.clients (key nick) ≡ true
     was_there user home None there is = cc is
     was_there user home (Some x) there is =
         matched.user_has_client (key nick) x there (ap (λ (u : User). u.home) (same_some (with_invisible invisible x) user is) ∙ home)
 
-    had : (fold : List ℕ) (user : User) → user.home ≡ view.place.name → (b : Bool) → same_fold fold (key nick) ≡ b
+    had : (fold : List ℕ) (user : User) → user.home ≡ view.routes.name → (b : Bool) → same_fold fold (key nick) ≡ b
         → cond b (option_map (with_invisible invisible) (row view.room.users (key nick))) (row view.room.users fold) ≡ Some user → has_client view.clients fold ≡ true
     had fold user home true one is =
         ap (has_client view.clients) (one_fold fold (key nick) one) ∙ was_there user home (row view.room.users (key nick)) refl is
     had fold user home false two is = matched.user_has_client fold user is home
 
     by : (conn : ℕ) (name : List ℕ) → get view.clients conn ≡ Some (Registered name) → (b : Bool) → same_fold (key name) (key nick) ≡ b
-        → option_map_or (is_home view.place.name) (row (alter (key nick) (option_map (with_invisible invisible)) view.room.users) (key name)) false ≡ true
+        → option_map_or (is_home view.routes.name) (row (alter (key nick) (option_map (with_invisible invisible)) view.room.users) (key name)) false ≡ true
     by conn name is true one =
-        ap (λ o. option_map_or (is_home view.place.name) o false)
+        ap (λ o. option_map_or (is_home view.routes.name) o false)
         (row-alter (key nick) (option_map (with_invisible invisible)) view.room.users (key name)
         ∙ ap (λ b. cond b (option_map (with_invisible invisible) (row view.room.users (key nick))) (row view.room.users (key name))) one)
-        ∙ mode_here view.place.name invisible (row view.room.users (key nick))
-        ∙ ap (λ q. option_map_or (is_home view.place.name) (row view.room.users q) false) (sym (one_fold (key name) (key nick) one))
+        ∙ mode_here view.routes.name invisible (row view.room.users (key nick))
+        ∙ ap (λ q. option_map_or (is_home view.routes.name) (row view.room.users q) false) (sym (one_fold (key name) (key nick) one))
         ∙ matched.registered_is_user conn name is
     by conn name is false two =
-        ap (λ o. option_map_or (is_home view.place.name) o false)
+        ap (λ o. option_map_or (is_home view.routes.name) o false)
         (row-alter (key nick) (option_map (with_invisible invisible)) view.room.users (key name)
         ∙ ap (λ b. cond b (option_map (with_invisible invisible) (row view.room.users (key nick))) (row view.room.users (key name))) two)
         ∙ matched.registered_is_user conn name is
@@ -405,7 +405,7 @@ left_matched view conn was_none matched = record {
 }
 
 -- a user is added, and its connection is registered
-module _ (view : View) (conn : ℕ) (user : User) (matched : IsMatched view) (possible : IsPossible view.room (AddUser user)) (home : user.home ≡ view.place.name) where
+module _ (view : View) (conn : ℕ) (user : User) (matched : IsMatched view) (possible : IsPossible view.room (AddUser user)) (home : user.home ≡ view.routes.name) where
   abbrev seated : View
   seated = with_client view conn (Registered (user.nick))
 
@@ -451,7 +451,7 @@ module _ (view : View) (conn : ℕ) (user : User) (matched : IsMatched view) (po
         had was_none fold other home_is (same_fold fold (key user.nick)) refl (sym (row-alter (key user.nick) (λ _. Some user) view.room.users fold) ∙ is);
   }
     where
-      had : IsNoUser (client_of view conn) → (fold : List ℕ) (other : User) → other.home ≡ view.place.name → (b : Bool) → same_fold fold (key user.nick) ≡ b
+      had : IsNoUser (client_of view conn) → (fold : List ℕ) (other : User) → other.home ≡ view.routes.name → (b : Bool) → same_fold fold (key user.nick) ≡ b
           → cond b (Some user) (row view.room.users fold) ≡ Some other → has_client (insert view.clients conn (Registered (user.nick))) fold ≡ true
       had none fold other home_is true one is =
           has_from (insert view.clients conn (Registered (user.nick))) conn user.nick fold
@@ -462,18 +462,18 @@ module _ (view : View) (conn : ℕ) (user : User) (matched : IsMatched view) (po
           (λ q name was named. has_from (insert view.clients conn (Registered (user.nick))) q name fold
           (still_there view.clients conn q (Registered (user.nick)) name none was) named)
 
-      new_here : (name : List ℕ) → user.nick ≡ name → option_map_or (is_home view.place.name) (row (alter (key user.nick) (λ _. Some user) view.room.users) (key name)) false ≡ true
+      new_here : (name : List ℕ) → user.nick ≡ name → option_map_or (is_home view.routes.name) (row (alter (key user.nick) (λ _. Some user) view.room.users) (key name)) false ≡ true
       new_here name is =
-          ap (λ o. option_map_or (is_home view.place.name) o false)
+          ap (λ o. option_map_or (is_home view.routes.name) o false)
           (row-alter (key user.nick) (λ _. Some user) view.room.users (key name)
           ∙ ap (λ b. cond b (Some user) (row view.room.users (key name))) (ap (λ n. same_fold (key n) (key user.nick)) (sym is) ∙ same_fold-refl (key user.nick)))
-          ∙ (bytes_decides user.home view.place.name).1 home
+          ∙ (bytes_decides user.home view.routes.name).1 home
 
       old_here : (q : ℕ) (name : List ℕ) → get view.clients q ≡ Some (Registered name) → (b : Bool) → same_fold (key name) (key user.nick) ≡ b
-          → option_map_or (is_home view.place.name) (row (alter (key user.nick) (λ _. Some user) view.room.users) (key name)) false ≡ true
+          → option_map_or (is_home view.routes.name) (row (alter (key user.nick) (λ _. Some user) view.room.users) (key name)) false ≡ true
       old_here q name was true one = taken_by q name was (one_fold (key name) (key user.nick) one)
       old_here q name was false two =
-          ap (λ o. option_map_or (is_home view.place.name) o false)
+          ap (λ o. option_map_or (is_home view.routes.name) o false)
           (row-alter (key user.nick) (λ _. Some user) view.room.users (key name)
           ∙ ap (λ b. cond b (Some user) (row view.room.users (key name))) two)
           ∙ matched.registered_is_user q name was
@@ -498,7 +498,7 @@ quit_matched view conn nick who text matched mine who_is = record {
         let folds = ap (same_fold fold) (who_is ∙ ap key (sym one_name) ∙ named) ∙ same_fold-refl fold in cc
     another q name fold was named two false other = refl
 
-    had : (fold : List ℕ) (user : User) → user.home ≡ view.place.name → (b : Bool) → same_fold fold (key who) ≡ b → cond b None (row view.room.users fold) ≡ Some user
+    had : (fold : List ℕ) (user : User) → user.home ≡ view.routes.name → (b : Bool) → same_fold fold (key who) ≡ b → cond b None (row view.room.users fold) ≡ Some user
         → has_client (remove view.clients conn) fold ≡ true
     had fold user home true one is = cc is
     had fold user home false two is =
@@ -507,11 +507,11 @@ quit_matched view conn nick who text matched mine who_is = record {
         (still_left view.clients conn q name (another q name fold was named two (same_number q conn) refl) was) named)
 
     still_here : (q : ℕ) (name : List ℕ) → same_number q conn ≡ false → get view.clients q ≡ Some (Registered name) → (b : Bool) → same_fold (key name) (key who) ≡ b
-        → option_map_or (is_home view.place.name) (row (alter (key who) (λ _. None) view.room.users) (key name)) false ≡ true
+        → option_map_or (is_home view.routes.name) (row (alter (key who) (λ _. None) view.room.users) (key name)) false ≡ true
     still_here q name two was true one =
         let same_conn = same_number-is q conn (matched.user_has_one conn q nick name mine was (one_fold (key name) (key who) one ∙ who_is)) in cc
     still_here q name two was false other =
-        ap (λ o. option_map_or (is_home view.place.name) o false)
+        ap (λ o. option_map_or (is_home view.routes.name) o false)
         (row-alter (key who) (λ _. None) view.room.users (key name)
         ∙ ap (λ b. cond b None (row view.room.users (key name))) other)
         ∙ matched.registered_is_user q name was

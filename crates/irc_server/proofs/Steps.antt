@@ -22,7 +22,7 @@ put_behind : (view : View) (out before more : List Out) → record { view = view
 put_behind view out before more = ap (λ o. record { view = view; out = o }) (append_assoc out before more)
 
 step_behind : (out : List Out) (conn : ℕ) (name : Option (List ℕ)) (act : Act) (h : Handled) → stepped conn name act (behind out h) ≡ behind out (stepped conn name act h)
-step_behind out conn name (Answer reply) h = put_behind h.view out h.out (ToClient conn (kept (reply_text h.view.place.name name reply)) ∷ [])
+step_behind out conn name (Answer reply) h = put_behind h.view out h.out (ToClient conn (kept (reply_text h.view.routes.name name reply)) ∷ [])
 step_behind out conn name (Raw line) h = put_behind h.view out h.out (ToClient conn line ∷ [])
 step_behind out conn name (Do effect) h =
     put_behind (with_effect effect h).view out h.out (flat_map (to_viewer h.view.clients) (seen h.view.room effect))

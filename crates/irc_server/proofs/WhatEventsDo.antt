@@ -12,6 +12,7 @@ use Rattle.irc_channels.specs.Texts.{cut_words}
 use Rattle.irc_users.specs.declared.user.User.{User}
 use Rattle.irc_room.specs.Room.{IsWellFormed}
 use Rattle.irc_room.proofs.Rows.{same_some}
+use Rattle.irc_routes.specs.Known.{place_of}
 use Rattle.irc_acts.specs.declared.act.Act.{Act}
 use Rattle.irc_commands.specs.Decide.{decide}
 use Rattle.irc_server.specs.declared.clients.Client.{Client}
@@ -46,10 +47,10 @@ carried after conn name name' acts acts' close close' view view' out name_is act
     ∙ carried_behind out conn name' acts' close' view'
 
 pub decided_by_name : (view : View) (conn : ℕ) (o : Option User) (name : List ℕ) (message : Parsed) → option_map (λ (user : User). user.nick) o ≡ Some name
-    → decided view conn (Some name) (decide view.room view.place name message) ≡ user_decided view conn o message
+    → decided view conn (Some name) (decide view.room (place_of view.routes) name message) ≡ user_decided view conn o message
 decided_by_name view conn None name message is = cc is
 decided_by_name view conn (Some user) name message is =
-    ap (λ n. decided view conn (Some n) (decide view.room view.place n message)) (sym (same_some (user.nick) name is))
+    ap (λ n. decided view conn (Some n) (decide view.room (place_of view.routes) n message)) (sym (same_some (user.nick) name is))
 
 pub lost_is_whole : cut_words lost_text ≡ lost_text
 unfolding cut_words

@@ -4,21 +4,18 @@ use Rattle.std.specs.List.{list_any, list_all}
 use Rattle.std.specs.FinMap.{empty}
 use Rattle.std.specs.Char.{is_ascii_graphic}
 use Rattle.std.specs.Cmp.Lexicographic.{pointwise}
-use Rattle.irc_names.specs.Limits.{max_info, max_created}
-use Rattle.irc_names.specs.Names.{is_server, is_one_of, fits, starts_without_colon}
+use Rattle.irc_names.specs.Limits.{max_created}
+use Rattle.irc_names.specs.Names.{is_server, fits, starts_without_colon}
 use Rattle.irc_room.specs.Laws.{no_room}
 use Rattle.irc_routes.specs.declared.own.Own.{Own}
-use Rattle.irc_routes.specs.Place.{alone}
+use Rattle.irc_routes.specs.Info.{is_info, is_text_byte}
+use Rattle.irc_routes.specs.Known.{alone_known}
 use Rattle.irc_server.specs.Limits.{max_password}
 use Rattle.irc_server.specs.declared.config.Peer.{Peer}
 use Rattle.irc_server.specs.declared.config.Config.{Config}
 use Rattle.irc_server.specs.declared.config.ConfigFault.{ConfigFault}
 use Rattle.irc_server.specs.declared.config.ConfigFault.TheVariants.{BadName, DoubleName, Memory}
 use Rattle.irc_server.specs.View.{View, known_peer}
-
--- NUL, CR and LF are in no text
-abbrev pub is_text_byte : ℕ → Bool
-is_text_byte byte = not (is_one_of (0x00 ∷ 0x0D ∷ 0x0A ∷ []) byte)
 
 abbrev pub is_text : List ℕ → Bool
 is_text bytes = list_all is_text_byte bytes
@@ -30,7 +27,7 @@ is_some_text (first ∷ rest) = is_text (first ∷ rest)
 -- a server's name, how it describes itself, and when it was created
 abbrev pub is_own : Own → Bool
 is_own own =
-    is_server own.name.items && (is_text own.info.items && fits max_info own.info.items)
+    is_server own.name.items && is_info own.info.items
     && (is_some_text own.created.items && fits max_created own.created.items)
 
 -- bytes from 0x21 to 0x7E of which the first is no colon, so that a password can stand as a middle parameter
@@ -58,7 +55,7 @@ config_fault config =
 -- a server without clients, linked to none, in an empty room
 abbrev pub new_view : Config → View
 new_view config = record {
-  place = alone config.own.name.items config.own.info.items config.own.created.items;
+  routes = alone_known config.own.name.items config.own.info.items config.own.created.items;
   peers = map known_peer config.peers.items;
   clients = empty;
   room = no_room;

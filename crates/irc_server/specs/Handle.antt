@@ -14,6 +14,7 @@ use Rattle.irc_room.specs.declared.effect.Effect.TheVariants.{Quit, Rename}
 use Rattle.irc_room.specs.Room.{Room}
 use Rattle.irc_room.specs.After.{after}
 use Rattle.irc_room.specs.Seen.{Showing, seen}
+use Rattle.irc_routes.specs.Known.{place_of}
 use Rattle.irc_acts.specs.declared.act.Act.{Act}
 use Rattle.irc_acts.specs.declared.act.Act.TheVariants.{Answer, Raw, Do}
 use Rattle.irc_acts.specs.Acts.{kept}
@@ -72,7 +73,7 @@ with_effect effect before = record {
 -- One step: an answer and a line go to the client itself. Replies are sent to this name.
 abbrev pub stepped : ℕ → Option (List ℕ) → Act → Handled → Handled
 stepped conn name (Answer reply) before =
-    record before { out = before.out ++ ToClient conn (kept (reply_text before.view.place.name name reply)) ∷ [] }
+    record before { out = before.out ++ ToClient conn (kept (reply_text before.view.routes.name name reply)) ∷ [] }
 stepped conn name (Raw line) before = record before { out = before.out ++ ToClient conn line ∷ [] }
 stepped conn name (Do effect) before = with_effect effect before
 
@@ -107,11 +108,11 @@ pending_decided view conn registration =
 
 abbrev pub user_decided : View → ℕ → Option User → Parsed → Handled
 user_decided view conn None message = unchanged view
-user_decided view conn (Some user) message = decided view conn (Some user.nick) (decide view.room view.place user.nick message)
+user_decided view conn (Some user) message = decided view conn (Some user.nick) (decide view.room (place_of view.routes) user.nick message)
 
 abbrev pub said_by : View → ℕ → Option Client → Parsed → Handled
 said_by view conn None message = unchanged view
-said_by view conn (Some (Registering pending)) message = pending_decided view conn (register view.room view.place pending message)
+said_by view conn (Some (Registering pending)) message = pending_decided view conn (register view.room (place_of view.routes) pending message)
 said_by view conn (Some (Registered nick)) message = user_decided view conn (row view.room.users (key nick)) message
 
 -- an empty line, and a prefix alone, are ignored (our own choice)

@@ -16,7 +16,7 @@ use Rattle.irc_server.specs.Handle.{Happening, connects, handled}
 
 -- whether there is a user of this nickname in the room, whose home is this server
 abbrev pub is_user_here : View → List ℕ → Bool
-is_user_here view nick = option_map_or (is_home view.place.name) (row view.room.users (key nick)) false
+is_user_here view nick = option_map_or (is_home view.routes.name) (row view.room.users (key nick)) false
 
 -- whether a client is registered by a nickname with this fold
 abbrev pub is_user_of : List ℕ → Client → Bool
@@ -32,7 +32,7 @@ pub record IsMatched (view : View) : Type 0 where
   pub registered_is_user : (conn : ℕ) (nick : List ℕ) → client_of view conn ≡ Some (Registered nick) → is_user_here view nick ≡ true
   pub user_has_one : (conn other : ℕ) (nick name : List ℕ) → client_of view conn ≡ Some (Registered nick) → client_of view other ≡ Some (Registered name)
       → key name ≡ key nick → other ≡ conn
-  pub user_has_client : (fold : List ℕ) (user : User) → row view.room.users fold ≡ Some user → user.home ≡ view.place.name
+  pub user_has_client : (fold : List ℕ) (user : User) → row view.room.users fold ≡ Some user → user.home ≡ view.routes.name
       → has_client view.clients fold ≡ true
 
 -- a connection that connects is not there yet

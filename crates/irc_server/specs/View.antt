@@ -2,7 +2,7 @@
 use Rattle.std.specs.Prelude.{ℕ, Option, List, map}
 use Rattle.std.specs.Ordering.{nat_cmp}
 use Rattle.std.specs.FinMap.{FinMap, get, insert, remove, entries, from_entries}
-use Rattle.irc_routes.specs.Place.{Place}
+use Rattle.irc_routes.specs.Known.{Known}
 use Rattle.irc_room.specs.Room.{Room}
 use Rattle.irc_server.specs.declared.clients.Client.{Client}
 use Rattle.irc_server.specs.declared.config.Peer.{Peer}
@@ -20,7 +20,7 @@ abbrev pub known_peer : Peer → KnownPeer
 known_peer peer = record { name = peer.name.items; password = peer.password.items }
 
 pub record View : Type 0 where
-  pub place : Place
+  pub routes : Known
   pub peers : List KnownPeer
   pub clients : Clients
   pub room : Room

@@ -2,7 +2,8 @@
 ghost use Rattle.std.specs.Prelude.{◌≡◌};
 ghost use Rattle.std.specs.List.{list_all};
 ghost use Rattle.std.specs.Char.{is_ascii_graphic};
-ghost use Rattle.irc_server.specs.Configuring.{config_fault, has_double, is_among, is_own, is_password, is_peer, is_text_byte};
+ghost use Rattle.irc_routes.specs.Info.{is_text_byte};
+ghost use Rattle.irc_server.specs.Configuring.{config_fault, has_double, is_among, is_own, is_password, is_peer};
 
 use irc_names::{MAX_CREATED, MAX_INFO, is_server};
 use irc_routes::Own;

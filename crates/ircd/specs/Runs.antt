@@ -10,7 +10,7 @@ use Rattle.irc_server.specs.declared.event.ServerFault.{ServerFault}
 use Rattle.irc_server.specs.declared.event.ServerFault.TheVariants.{NoSuchConnection}
 use Rattle.irc_server.specs.View.{View}
 use Rattle.irc_server.specs.Happening.{IsHandled}
-use Rattle.irc_routes.specs.Place.{alone}
+use Rattle.irc_routes.specs.Known.{alone_known}
 use Rattle.irc_room.specs.Laws.{no_room}
 use Rattle.ircd.specs.declared.fault.SimFault.{SimFault}
 use Rattle.ircd.specs.declared.fault.SimFault.TheVariants.{BadScript, Failed, Device}
@@ -84,7 +84,7 @@ first_client = 1
 
 -- the server of a script: nobody is connected to it, and its room is empty
 abbrev pub first_view : List ℕ → View
-first_view name = record { place = alone name (codes "Test server") (codes "2024-01-01"); peers = []; clients = empty; room = no_room }
+first_view name = record { routes = alone_known name (codes "Test server") (codes "2024-01-01"); peers = []; clients = empty; room = no_room }
 
 -- where a script begins, with a server of this name or with none
 abbrev pub first_standing : Option (List ℕ) → Standing

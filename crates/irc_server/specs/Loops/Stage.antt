@@ -61,7 +61,7 @@ departed (Some (Registered nick)) by_nick = alter (key nick) (λ _. None) by_nic
 departed client by_nick = by_nick
 
 abbrev pub view_of : Stage → View
-view_of stage = record { place = stage.routes; peers = map known_peer stage.peers.items; clients = clients_of stage.clients; room = stage.room.room }
+view_of stage = record { routes = stage.routes; peers = map known_peer stage.peers.items; clients = clients_of stage.clients; room = stage.room.room }
 
 -- the server now, and what has been put out
 abbrev pub so_far : Stage → List Out → Handled
@@ -105,7 +105,7 @@ LeavesApart effect clients = ⊤
 pub record IsFit (view : View) (effect : Effect) : Type 0 where
   pub possible : IsPossible view.room effect
   pub at_home : (conn : ℕ) (nick : List ℕ) (user : User) → client_of view conn ≡ Some (Registered nick) → row view.room.users (key nick) ≡ Some user
-      → user.home ≡ view.place.name
+      → user.home ≡ view.routes.name
   pub apart : LeavesApart effect view.clients
 
 -- each effect of these steps is so in its turn
