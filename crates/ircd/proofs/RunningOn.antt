@@ -32,7 +32,8 @@ first_lives (Some name) = tt
 handled_lives : {old new : Option View} {e : Event} {outs : List Out} → IsHandled old e [] (Ok tt) new outs → Lives (Some new)
 handled_lives (takes_it owed does) = tt
 
-refused_lives : {old new : Option View} {e : Event} {number : ℕ} {fault : ServerFault} → refusal_number fault ≡ Some number → IsHandled old e [] (Err fault) new [] → Lives (Some new)
+refused_lives : {old new : Option View} {e : Event} {number : ℕ} {fault : ServerFault}
+    → refusal_number fault ≡ Some number → IsHandled old e [] (Err fault) new [] → Lives (Some new)
 refused_lives is (refuses_it owed) = tt
 refused_lives is (wants_memory none) = cc is
 refused_lives is has_failed = cc is
@@ -71,8 +72,13 @@ record Answered (old : Option (Option View)) (e : Event) : Type 0 where
   new : Option (Option View)
   at : AnswersAt old e answer new
 
-refusal : (view : View) (e : Event) (fault : ServerFault) (number : ℕ) → fault_of view e ≡ Some fault → refusal_number fault ≡ Some number → Answered (Some (Some view)) e
-refusal view e fault number owed is = record { answer = refuses number; new = Some (Some view); at = record { fault = fault; number_is = is; is_refused = refuses_it owed } }
+refusal : (view : View) (e : Event) (fault : ServerFault) (number : ℕ)
+    → fault_of view e ≡ Some fault → refusal_number fault ≡ Some number → Answered (Some (Some view)) e
+refusal view e fault number owed is = record {
+  answer = refuses number;
+  new = Some (Some view);
+  at = record { fault = fault; number_is = is; is_refused = refuses_it owed };
+}
 
 taken : (view : View) (e : Event) → fault_of view e ≡ None → Answered (Some (Some view)) e
 taken view e owed =

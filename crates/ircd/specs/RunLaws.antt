@@ -20,4 +20,5 @@ pub record SameRun (last other : Standing) (text more : List ℕ) : Type 0 where
 
 -- From one standing, what is asked for comes to one end and prints one text.
 abbrev pub RunsOneWay : Type 0
-RunsOneWay = (first last other : Standing) (requests : List Request) (text more : List ℕ) → Runs first requests last text → Runs first requests other more → SameRun last other text more
+RunsOneWay = (first last other : Standing) (requests : List Request) (text more : List ℕ)
+    → Runs first requests last text → Runs first requests other more → SameRun last other text more
