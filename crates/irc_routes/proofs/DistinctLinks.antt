@@ -32,7 +32,8 @@ abbrev set_of : List ℕ → FinMap nat_cmp (Unit {0})
 set_of xs = from_sorted {R = nat_cmp} (map link_key xs)
 
 keys_of_sorted : (xs : List ℕ) → IsStrictlySortedBy nat_cmp xs → keys (set_of xs) ≡ xs
-keys_of_sorted xs sorted = ap (map (λ (e : ℕ × Unit {0}). e.0)) (entries-from_sorted nat_cmp (map link_key xs) (held _ (marks_sorted xs sorted))) ∙ numbers_marked xs
+keys_of_sorted xs sorted = ap (map (λ (e : ℕ × Unit {0}). e.0)) (entries-from_sorted nat_cmp (map link_key xs) (held _ (marks_sorted xs sorted)))
+    ∙ numbers_marked xs
 
 pub both_so : (a b : Bool) → (a ≡ true → b ≡ true) → (b ≡ true → a ≡ true) → a ≡ b
 both_so true b there back = sym (there refl)
@@ -61,9 +62,11 @@ marked false c = refl
 
 find_marked : (xs : List ℕ) (q : ℕ) → find nat_cmp q (map link_key xs) ≡ mark_if (list_any (eq_by_cmp nat_cmp q) xs)
 find_marked [] q = refl
-find_marked (x ∷ xs) q = ap (λ (o : Option (Unit {0})). cond (eq_by_cmp nat_cmp q x) (mark_if true) o) (find_marked xs q) ∙ marked (eq_by_cmp nat_cmp q x) (list_any (eq_by_cmp nat_cmp q) xs)
+find_marked (x ∷ xs) q = ap (λ (o : Option (Unit {0})). cond (eq_by_cmp nat_cmp q x) (mark_if true) o) (find_marked xs q)
+    ∙ marked (eq_by_cmp nat_cmp q x) (list_any (eq_by_cmp nat_cmp q) xs)
 
-pub sorted_once : (all sorted : List ℕ) → IsPermutation all sorted → IsSorted nat_cmp sorted → dedup eqb sorted ≡ keys (from_entries {R = nat_cmp} (map link_key all))
+pub sorted_once : (all sorted : List ℕ) → IsPermutation all sorted → IsSorted nat_cmp sorted
+    → dedup eqb sorted ≡ keys (from_entries {R = nat_cmp} (map link_key all))
 sorted_once all sorted moved in_order =
     let xs = dedup eqb sorted in
     let strictly : IsStrictlySortedBy nat_cmp xs = IsStrictlySortedBy-dedup nat_cmp_total ties sorted in_order in

@@ -1,8 +1,8 @@
 -- Among one number more than there are servers there is one that stands for none of them.
-use Rattle.std.proofs.Common.{◌≡◌, ℕ, zero, suc, ◌+◌, ◌<◌, ◌≤◌, Bool, true, false, cond, not, ◌||◌, List, [], ◌∷◌, length, nat_eq, nat_le, refl, sym, ◌∙◌, ap, Option, Some, None, unwrap_or, arith, add-one}
-use Rattle.std.proofs.lemmas.Bool.{leb-true, le-leb, or_parts}
+use Rattle.std.proofs.Common.{◌≡◌, ℕ, zero, suc, ◌+◌, ◌<◌, ◌≤◌, Bool, true, false, cond, not, ◌||◌, List, [], ◌∷◌, length, nat_eq, nat_le, refl, sym, ◌∙◌, ap, Some, unwrap_or, arith, add-one}
+use Rattle.std.proofs.lemmas.Bool.{leb-true, le-leb}
 use Rattle.std.proofs.lemmas.Bool.Decides.{Decides-eqb}
-use Rattle.std.specs.List.{find, list_any, range_with_len}
+use Rattle.std.specs.List.{find, range_with_len}
 use Rattle.irc_routes.specs.Known.{ServerRow, is_used_in, smallest_free_in}
 use Rattle.irc_routes.specs.Limits.{own_token, first_token}
 
@@ -39,7 +39,8 @@ add_later a b x y first rest = omega arith
 
 reaching-le-length : (n : ℕ) (rows : List ServerRow) → reaching n rows ≤ length rows
 reaching-le-length n [] = omega arith
-reaching-le-length n (r ∷ rows) = let first = at_most_one (nat_le n r.ours) in let rest = reaching-le-length n rows in let both = add_le _ _ _ _ first rest in omega arith
+reaching-le-length n (r ∷ rows) = let first = at_most_one (nat_le n r.ours) in let rest = reaching-le-length n rows in let both = add_le _ _ _ _ first rest
+    in omega arith
 
 fewer_reach : (n : ℕ) (rows : List ServerRow) → reaching (suc n) rows ≤ reaching n rows
 fewer_reach n [] = omega arith
@@ -62,7 +63,8 @@ pub record IsLeastFree (rows : List ServerRow) (n x : ℕ) : Type 0 where
 abbrev is_free : List ServerRow → ℕ → Bool
 is_free rows n = not (is_used_in rows n)
 
-at_or_after : (rows : List ServerRow) (n x m : ℕ) → is_used_in rows n ≡ true → n ≤ m → ((k : ℕ) → n + 1 ≤ k → k < x → is_used_in rows k ≡ true) → m < x → is_used_in rows m ≡ true
+at_or_after : (rows : List ServerRow) (n x m : ℕ) → is_used_in rows n ≡ true → n ≤ m → ((k : ℕ) → n + 1 ≤ k → k < x → is_used_in rows k ≡ true) → m < x
+    → is_used_in rows m ≡ true
 at_or_after rows n x m used from after below =
     elim (nat_eq m n) as (λ b. nat_eq m n ≡ b → is_used_in rows m ≡ true) [
       | true ↦ λ same. ap (is_used_in rows) ((Decides-eqb m n).0 same) ∙ used
@@ -75,7 +77,8 @@ at_or_after rows n x m used from after below =
 least : (rows : List ServerRow) (d n k : ℕ) → reaching n rows < k → IsLeastFree rows n (unwrap_or (find (is_free rows) (range_with_len n k)) d)
 least rows d n zero few = absurd (omega arith)
 least rows d n (suc k) few =
-    elim (is_used_in rows n) as (λ b. is_used_in rows n ≡ b → IsLeastFree rows n (unwrap_or (cond (not b) (Some n) (find (is_free rows) (range_with_len (n + 1) k))) d)) [
+    elim (is_used_in rows n) as (λ b. is_used_in rows n ≡ b → IsLeastFree rows n (unwrap_or (cond (not b) (Some n) (find (is_free rows) (range_with_len
+    (n + 1) k))) d)) [
       | true ↦ λ used.
           let fewer = used_reaches n rows used in
           let rest = least rows d (n + 1) k (rw add-one (omega arith)) in
@@ -88,7 +91,8 @@ least rows d n (suc k) few =
 least_low : (rows : List ServerRow) (d n k : ℕ) → reaching n rows < k → unwrap_or (find (is_free rows) (range_with_len n k)) d ≤ n + reaching n rows
 least_low rows d n zero few = absurd (omega arith)
 least_low rows d n (suc k) few =
-    elim (is_used_in rows n) as (λ b. is_used_in rows n ≡ b → unwrap_or (cond (not b) (Some n) (find (is_free rows) (range_with_len (n + 1) k))) d ≤ n + reaching n rows) [
+    elim (is_used_in rows n) as (λ b. is_used_in rows n ≡ b → unwrap_or (cond (not b) (Some n) (find (is_free rows) (range_with_len
+    (n + 1) k))) d ≤ n + reaching n rows) [
       | true ↦ λ used.
           let fewer = used_reaches n rows used in
           let rest = least_low rows d (n + 1) k (rw add-one (omega arith)) in
@@ -114,8 +118,10 @@ least_is_one rows n x y one other =
     omega (arith, not_above, not_below)
 
 -- what the search through the numbers, from the first on, has found so far
-pub found_least : (rows : List ServerRow) (n : ℕ) → is_used_in rows n ≡ false → first_token ≤ n → ((m : ℕ) → first_token ≤ m → m < n → is_used_in rows m ≡ true) → n ≡ smallest_free_in rows
-found_least rows n free from below = least_is_one rows first_token n (smallest_free_in rows) (record { free = free; from = from; below = below }) (smallest_is_least rows)
+pub found_least : (rows : List ServerRow) (n : ℕ) → is_used_in rows n ≡ false → first_token ≤ n → ((m : ℕ) → first_token ≤ m → m < n
+    → is_used_in rows m ≡ true) → n ≡ smallest_free_in rows
+found_least rows n free from below = least_is_one rows first_token n (smallest_free_in rows) (record { free = free; from = from; below = below })
+    (smallest_is_least rows)
 
 pub one_more_used : (rows : List ServerRow) (n : ℕ) → is_used_in rows n ≡ true → ((m : ℕ) → first_token ≤ m → m < n → is_used_in rows m ≡ true)
     → (m : ℕ) → first_token ≤ m → m < n + 1 → is_used_in rows m ≡ true

@@ -1,7 +1,6 @@
 -- What the rows of a table say of it, whatever the rows are.
 use Rattle.std.specs.Prelude.{T}
-use Rattle.std.proofs.Common.{◌≡◌, ℕ, zero, suc, ◌≤◌, Bool, true, false, cond, not, ◌||◌, List, [], ◌∷◌, ◌++◌, map, filter, take, drop, length, refl, sym, ◌∙◌, ap, subst, Option, Some, None, Result, Ok, is_ok, Bor, arith, append_assoc}
-use Rattle.std.proofs.lemmas.Bool.{or_parts}
+use Rattle.std.proofs.Common.{◌≡◌, ℕ, zero, suc, ◌≤◌, Bool, true, false, cond, ◌||◌, List, [], ◌∷◌, ◌++◌, map, filter, take, drop, length, refl, sym, ◌∙◌, ap, subst, Option, Some, None, Result, Ok, is_ok, Bor, arith, append_assoc}
 use Rattle.std.proofs.lemmas.List.{length-map, map-append}
 use Rattle.std.proofs.lemmas.List.Sums.{length-filter, count_by-le-length}
 use Rattle.std.specs.List.{list_any, insert}
@@ -14,7 +13,7 @@ use Rattle.irc_names.specs.TableLaws.{same_fold, same_table, row-each}
 use Rattle.irc_tables.specs.FoldedRows.{table_of, IsInFoldedOrder}
 use Rattle.irc_tables.proofs.ChangedRows.{kept, sorted_kept, find_kept, Changes, retained, retained-sorted, retained-table}
 use Rattle.irc_tables.proofs.OrderedEntries.{find-there, sorted-below}
-use Rattle.irc_tables.proofs.RowsAsTable.{row-table_of, entries-table_of}
+use Rattle.irc_tables.proofs.RowsAsTable.{entries-table_of}
 
 pub held : (b : Bool) → b ≡ true → T b
 held b h = subst T (sym h) tt
@@ -31,7 +30,8 @@ length-values table = length-map (entries table) (λ e. e.1) ∙ sym (len-entrie
 some_value : {X : Type 0} (x y : X) → Some x ≡ Some y → x ≡ y
 some_value x y e = cc
 
-found_passes : {X : Type 0} (p : X → Bool) (x : X) (v : X) (rest : Option X) (b more : Bool) → cond b (Some v) rest ≡ Some x → p x ≡ true → (rest ≡ Some x → more ≡ true)
+found_passes : {X : Type 0} (p : X → Bool) (x : X) (v : X) (rest : Option X) (b more : Bool) → cond b (Some v) rest ≡ Some x → p x ≡ true → (rest ≡ Some x
+    → more ≡ true)
     → (p v || more) ≡ true
 found_passes p x v rest true more found passes later = ap (λ y. p y || more) (some_value v x found) ∙ ap (λ b. b || more) passes
 found_passes p x v rest false more found passes later = ap (λ m. p v || m) (later found) ∙ or_true (p v)
@@ -40,7 +40,8 @@ found_passes p x v rest false more found passes later = ap (λ m. p v || m) (lat
     or_true true = refl
     or_true false = refl
 
-find_passes : {X : Type 0} (p : X → Bool) (q : List ℕ) (x : X) (es : List (List ℕ × X)) → find fold_cmp q es ≡ Some x → p x ≡ true → list_any p (map (λ e. e.1) es) ≡ true
+find_passes : {X : Type 0} (p : X → Bool) (q : List ℕ) (x : X) (es : List (List ℕ × X)) → find fold_cmp q es ≡ Some x → p x ≡ true
+    → list_any p (map (λ e. e.1) es) ≡ true
 find_passes p q x [] found passes = cc
 find_passes p q x (e ∷ es) found passes =
     found_passes p x e.1 (find fold_cmp q es) (same_fold q e.0) (list_any p (map (λ e. e.1) es)) found passes (λ later. find_passes p q x es later passes)
@@ -56,7 +57,8 @@ pub record Stands {X : Type 0} (p : X → Bool) (table : Table X) : Type 0 where
   pub there : row table name ≡ Some value
   pub passes : p value ≡ true
 
-stands_behind : {X : Type 0} (p : X → Bool) (table : Table X) (front back : List (List ℕ × X)) → entries table ≡ front ++ back → list_any p (map (λ e. e.1) back) ≡ true → Stands p table
+stands_behind : {X : Type 0} (p : X → Bool) (table : Table X) (front back : List (List ℕ × X)) → entries table ≡ front ++ back
+    → list_any p (map (λ e. e.1) back) ≡ true → Stands p table
 stands_behind p table front [] is any = cc
 stands_behind p table front (e ∷ back) is any =
     elim (p e.1) as (λ b. p e.1 ≡ b → Stands p table) [
@@ -146,7 +148,8 @@ module _ {X : Type 0} (p : X → Bool) (g : X → Option X) (is : (x : X) → g 
   values_filtered [] = refl
   values_filtered (e ∷ es) = by (p e.1) ∙ ap (λ more. cond (p e.1) (e.1 ∷ more) more) (values_filtered es)
     where
-      by : (b : Bool) → map (λ e. e.1) (cond b (e ∷ filter stays es) (filter stays es)) ≡ cond b (e.1 ∷ map (λ e. e.1) (filter stays es)) (map (λ e. e.1) (filter stays es))
+      by : (b : Bool) → map (λ e. e.1) (cond b (e ∷ filter stays es) (filter stays es)) ≡ cond b (e.1 ∷ map (λ e. e.1) (filter stays es)) (map (λ e. e.1)
+          (filter stays es))
       by true = refl
       by false = refl
 
@@ -162,7 +165,8 @@ module _ {X : Type 0} (p : X → Bool) (g : X → Option X) (is : (x : X) → g 
 -- ---- a list into which an element is put
 
 pub map_insert : {X Y : Type 0} (f : X → Y) (xs : List X) (i : ℕ) (x : X) → map f (insert xs i x) ≡ insert (map f xs) i (f x)
-map_insert {X} {Y} f xs i x = map-append f (take i xs) (x ∷ drop i xs) ∙ ap (λ front. front ++ f x ∷ map f (drop i xs)) (map_take i xs) ∙ ap (λ back. take i (map f xs) ++ f x ∷ back) (map_drop i xs)
+map_insert {X} {Y} f xs i x = map-append f (take i xs) (x ∷ drop i xs) ∙ ap (λ front. front ++ f x ∷ map f (drop i xs)) (map_take i xs)
+    ∙ ap (λ back. take i (map f xs) ++ f x ∷ back) (map_drop i xs)
   where
     map_take : (i : ℕ) (xs : List X) → map {A = X} {B = Y} f (take i xs) ≡ take i (map f xs)
     map_take zero xs = refl
@@ -175,7 +179,8 @@ map_insert {X} {Y} f xs i x = map-append f (take i xs) (x ∷ drop i xs) ∙ ap 
     map_drop (suc i) (y ∷ xs) = map_drop i xs
 
 -- the names in a list of borrowed names, into which one was put
-pub put_told : {A E : Type 0} (names items : List (Bor (List ℕ))) (x : Bor (List ℕ)) (place : ℕ) (result : Result A E) (a : A) → items ≡ cond (is_ok result) (insert names place x) names
+pub put_told : {A E : Type 0} (names items : List (Bor (List ℕ))) (x : Bor (List ℕ)) (place : ℕ) (result : Result A E) (a : A)
+    → items ≡ cond (is_ok result) (insert names place x) names
     → result ≡ Ok a → map (λ (name : Bor (List ℕ)). name.now) items ≡ insert (map (λ (name : Bor (List ℕ)). name.now) names) place x.now
 put_told names items x place result a items_are done =
     ap (map (λ (name : Bor (List ℕ)). name.now)) (items_are ∙ ap (λ b. cond b (insert names place x) names) (ap is_ok done))

@@ -1,5 +1,5 @@
-//! What holds of the servers that a server knows. Each law is a function that does nothing, and its contract is the law: the check proves it, and a crate above may
-//! cite it.
+//! What holds of the servers that a server knows. Each law is a function that does nothing, and its contract is the law: the check
+//! proves it, and a crate above may cite it.
 ghost use Rattle.irc_routes.specs.Laws.{
   AddedGetsSmallest,
   AloneIsAlone,
@@ -46,8 +46,8 @@ pub fn alone_is_alone()
     ensures { AloneIsAlone }
 {}
 
-/// Whatever is added, forgotten or lost, no two servers have one of our numbers, nor one number of a neighbour on its link, and a server is not among those that
-/// it knows.
+/// Whatever is added, forgotten or lost, no two servers have one of our numbers, nor one number of a neighbour on its link, and a
+/// server is not among those that it knows.
 pub fn stays_numbered()
     ensures { StaysNumbered }
 {}

@@ -8,8 +8,9 @@ use std::alloc::Global;
 use std::process::Abort;
 use std::test::Fail;
 
-/// `add LINK UPLINK NAME NUMBER` adds a server that is so many links away and has that number on its link, and `fill LINK COUNT` as many more. `out` shows our own
-/// number for a server, `in LINK NUMBER` the server of a number, `away` how far away a server is, `behind` the servers behind a link, `all` all.
+/// `add LINK UPLINK NAME NUMBER` adds a server that is so many links away and has that number on its link, and `fill LINK COUNT` as
+/// many more; `lose LINK` loses those behind a link. `out` shows our own number for a server, `in LINK NUMBER` the server of a number,
+/// `away` how far away a server is, `behind` the servers behind a link, `all` all.
 const SERVERS: &str = "\
 add 1 a.net b.net 1 =
 add 1 b.net c.net 2 =
@@ -93,7 +94,14 @@ fn change(rt: &impl Abort, routes: &mut Routes, row: Row<'_>, shown: &mut Shown)
     match row.verb {
         "add" => {
             let (name, number) = row.text.split_once(' ').unwrap_or(("", ""));
-            let added = add(rt, routes, link, row.second, name.as_bytes(), number_of(number));
+            let added = add(
+                rt,
+                routes,
+                link,
+                row.second,
+                name.as_bytes(),
+                number_of(number),
+            );
             show_fault(added, shown);
         }
         "fill" => fill(rt, routes, link, number_of(row.second), shown),
