@@ -1,3 +1,4 @@
 pub mod EntriesFromTheFront
 pub mod CountedRows
 pub mod MovesAhead
+pub mod MappedRows

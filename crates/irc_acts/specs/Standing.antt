@@ -1,7 +1,7 @@
 -- How a user stands to a channel: what it is there, whether it is banned, and what it may know of it.
 use Rattle.std.specs.Prelude.{ℕ, Bool, true, false, not, ◌||◌, Option, Some, None, List, if◌then◌else◌}
 use Rattle.std.specs.List.{list_any}
-use Rattle.irc_names.specs.Fold.{key}
+use Rattle.irc_names.specs.Fold.{key, same}
 use Rattle.irc_names.specs.MaskLaws.{matches}
 use Rattle.irc_line.specs.Messages.{full_name}
 use Rattle.irc_users.specs.declared.user.User.{User}
@@ -14,6 +14,8 @@ use Rattle.irc_numerics.specs.declared.replies.Mark.{Mark}
 use Rattle.irc_numerics.specs.declared.replies.Mark.TheVariants as mark
 use Rattle.irc_numerics.specs.declared.replies.Visibility.{Visibility}
 use Rattle.irc_numerics.specs.declared.replies.Visibility.TheVariants as visibility
+use Rattle.irc_room.specs.Room.{Room}
+use Rattle.irc_acts.specs.Moves.{own_channels}
 
 -- nick!user@host, against which bans are held (RFC 2811 section 4.3)
 abbrev pub mask_of : User → List ℕ
@@ -52,3 +54,11 @@ is_listed user channel = has_member (key user.nick) channel || is_public channel
 -- It is known to its members, and to others where it is not secret.
 abbrev pub is_known : User → Channel → Bool
 is_known user channel = has_member (key user.nick) channel || not (is_secret channel.modes.privacy)
+
+-- whether one who is in these channels sees a user: itself, a user without mode i, and who is in one of them
+abbrev pub is_seen_from : List Channel → User → User → Bool
+is_seen_from own me user = same me.nick user.nick || (not user.invisible || list_any (has_member (key user.nick)) own)
+
+-- A user sees itself, users without mode i, and those that share a channel with it (RFC 2812 section 3.6.1; that it sees itself is our own choice).
+abbrev pub is_seen : Room → User → User → Bool
+is_seen room me user = is_seen_from (own_channels room me) me user

@@ -1,11 +1,11 @@
 //! How a user stands to a channel.
-ghost use Rattle.std.specs.Prelude.{◌≡◌};
-ghost use Rattle.irc_acts.specs.Standing.{is_banned, is_known, is_listed, is_operator, mark_of, mask_of, visibility_of};
+ghost use Rattle.irc_acts.specs.Standing.{map, ◌≡◌};
 
 use arrayvec::ArrayVec;
 use irc_channels::{Channel, Flags, Privacy};
-use irc_names::{MAX_HOST, MAX_NICK, MAX_USER_NAME};
+use irc_names::{MAX_HOST, MAX_NICK, MAX_USER_NAME, Nick};
 use irc_numerics::{Mark, Visibility};
+use irc_tables::Row;
 use irc_users::User;
 
 /// The bytes of `nick!user@host` that part its three names.
@@ -60,6 +60,27 @@ pub fn is_known(user: &User, channel: &Channel) -> bool
     ensures { result ≡ is_known user.now channel.now }
 {
     channel.has_member(&user.nick) || !matches!(channel.modes.privacy, Privacy::Secret)
+}
+
+/// Whether a user is seen by another, whose own channels are given: itself, a user without mode i, and one that is in one of these channels
+/// (RFC 2812 section 3.6.1).
+pub fn is_seen(me: &User, own: &[&Row<Channel>], user: &User) -> bool
+    ensures { result ≡ is_seen_from (map (λ row. row.now.value) own.now) me.now user.now }
+{
+    me.nick == user.nick || !user.invisible || is_in_one(own, user)
+}
+
+/// Whether a user is in one of some channels.
+fn is_in_one(channels: &[&Row<Channel>], user: &User) -> bool
+    ensures { result ≡ list_any (has_member (key user.now.nick)) (map (λ row. row.now.value) channels.now) }
+{
+    is_in_row(channels, &user.nick)
+}
+
+fn is_in_row(channels: &[&Row<Channel>], nick: &Nick) -> bool
+    ensures { result ≡ list_any (λ row. has_member (key nick.now) row.now.value) channels.now }
+{
+    channels.iter().any(|row| row.value.has_member(nick))
 }
 
 /// Whether a ban of a channel matches a user.
