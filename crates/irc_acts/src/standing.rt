@@ -1,5 +1,9 @@
 //! How a user stands to a channel.
-ghost use Rattle.irc_acts.specs.Standing.{map, ◌≡◌};
+ghost use Rattle.std.specs.Prelude.{◌≡◌, map};
+ghost use Rattle.std.specs.List.{list_any};
+ghost use Rattle.irc_names.specs.Fold.{key};
+ghost use Rattle.irc_channels.specs.Channels.{has_member};
+ghost use Rattle.irc_acts.specs.Standing.{is_banned, is_known, is_listed, is_operator, is_seen_from, mark_of, mask_of, visibility_of};
 
 use arrayvec::ArrayVec;
 use irc_channels::{Channel, Flags, Privacy};
