@@ -17,7 +17,7 @@ use Rattle.irc_acts.specs.declared.act.Act.TheVariants.{Answer, Raw, Do}
 use Rattle.irc_commands.specs.declared.table.Command.{Command}
 use Rattle.irc_commands.specs.declared.table.Command.TheVariants as command
 use Rattle.irc_commands.specs.Table.{command_of, row_of}
-use Rattle.irc_acts.specs.Acts.{client_words}
+use Rattle.irc_acts.specs.Acts.{client_words, effects_among}
 use Rattle.irc_commands.specs.Decisions.{Decided, nothing, does, Registered}
 use Rattle.irc_commands.specs.Decide.{is_from, decide_for, decide}
 use Rattle.irc_acts.specs.Moves.{own_channels}
@@ -33,6 +33,16 @@ use Rattle.irc_membership.specs.Laws.KickLaw.{kick_is_own}
 use Rattle.irc_membership.specs.Laws.PartLaw.{part_is_own}
 use Rattle.irc_answers.specs.Names.{names_steps}
 use Rattle.irc_answers.specs.Laws.NamesLaw.{names_only_answers}
+use Rattle.irc_queries.specs.Ison.{ison_steps}
+use Rattle.irc_queries.specs.Laws.IsonLaw.{ison_only_answers}
+use Rattle.irc_queries.specs.Lusers.{lusers_steps}
+use Rattle.irc_queries.specs.Laws.LusersLaw.{lusers_only_answers}
+use Rattle.irc_queries.specs.List.{list_steps}
+use Rattle.irc_queries.specs.Laws.ListLaw.{list_only_answers}
+use Rattle.irc_queries.specs.Whois.{whois_steps}
+use Rattle.irc_queries.specs.Laws.WhoisLaw.{whois_only_answers}
+use Rattle.irc_queries.specs.Who.{who_steps}
+use Rattle.irc_queries.specs.Laws.WhoLaw.{who_only_answers}
 use Rattle.irc_commands.specs.Nick.{is_anothers, nick_taken, nick_steps}
 use Rattle.irc_membership.specs.Part.{part_steps}
 use Rattle.irc_commands.specs.Ping.{ping_steps}
@@ -85,6 +95,10 @@ by_join : (room : Room) (who : List ℕ) (me : User) (Q : Decided → Type 0) �
 by_join room who me Q so is steps (inl own) = so.own me steps is own
 by_join room who me Q so is steps (inr all) = subst (λ (acts : List Act). Q (does acts)) (sym all) (so.leaves_all me is)
 
+-- steps without an effect are anybody's own
+answers_own : (me : User) (room : Room) (steps : List Act) → effects_among steps ≡ [] → AreOwn me room steps
+answers_own me room steps none = subst (EachInTurn (IsOwn me) room) (sym none) tt
+
 by_row : (room : Room) (place : Place) (who : List ℕ) (me : User) (message : Parsed) (Q : Decided → Type 0) → IsSoDecided room who Q → row room.users (key who) ≡ Some me
     → (which : Option Command) → Q (row_of room place me message which)
 unfolding row_of
@@ -100,10 +114,20 @@ by_row room place who me message Q so is (Some command.Nick) = by_nick room who 
 by_row room place who me message Q so is (Some command.Join) = by_join room who me Q so is (join_steps room me message.params) (join_is_own_or_leaves me room message.params)
 by_row room place who me message Q so is (Some command.Part) = so.own me (part_steps room me message.params) is (part_is_own me room message.params)
 by_row room place who me message Q so is (Some command.Topic) = so.own me (topic_steps room me message.params) is (topic_own me room message.params)
-by_row room place who me message Q so is (Some command.Names) = so.own me (names_steps room me message.params) is (subst (EachInTurn (IsOwn me) room) (sym (names_only_answers room me message.params)) tt)
+by_row room place who me message Q so is (Some command.Names) = so.own me (names_steps room me message.params) is (answers_own me room (names_steps room me message.params) (names_only_answers room me message.params))
 by_row room place who me message Q so is (Some command.Kick) = so.own me (kick_steps room me message.params) is (kick_is_own me room message.params)
 by_row room place who me message Q so is (Some command.Invite) = so.own me (invite_steps room me message.params) is (invite_is_own me room message.params)
 by_row room place who me message Q so is (Some command.Mode) = so.own me (mode_steps room me message.params) is (mode_is_own me room message.params)
+by_row room place who me message Q so is (Some command.Ison) =
+    so.own me (ison_steps room message.params) is (answers_own me room (ison_steps room message.params) (ison_only_answers room message.params))
+by_row room place who me message Q so is (Some command.Lusers) =
+    so.own me (lusers_steps room place) is (answers_own me room (lusers_steps room place) (lusers_only_answers room place))
+by_row room place who me message Q so is (Some command.List) =
+    so.own me (list_steps room me message.params) is (answers_own me room (list_steps room me message.params) (list_only_answers room me message.params))
+by_row room place who me message Q so is (Some command.Whois) =
+    so.own me (whois_steps room place me message.params) is (answers_own me room (whois_steps room place me message.params) (whois_only_answers room place me message.params))
+by_row room place who me message Q so is (Some command.Who) =
+    so.own me (who_steps room place me message.params) is (answers_own me room (who_steps room place me message.params) (who_only_answers room place me message.params))
 by_row room place who me message Q so is None = so.own me _ is tt
 
 by_user : (room : Room) (place : Place) (who : List ℕ) (message : Parsed) (Q : Decided → Type 0) → IsSoDecided room who Q
@@ -184,6 +208,11 @@ pending_by_row room place pending Q so params (Some command.Names) = so.answered
 pending_by_row room place pending Q so params (Some command.Kick) = so.answered _ _
 pending_by_row room place pending Q so params (Some command.Invite) = so.answered _ _
 pending_by_row room place pending Q so params (Some command.Mode) = so.answered _ _
+pending_by_row room place pending Q so params (Some command.Ison) = so.answered _ _
+pending_by_row room place pending Q so params (Some command.Lusers) = so.answered _ _
+pending_by_row room place pending Q so params (Some command.List) = so.answered _ _
+pending_by_row room place pending Q so params (Some command.Whois) = so.answered _ _
+pending_by_row room place pending Q so params (Some command.Who) = so.answered _ _
 pending_by_row room place pending Q so params None = so.answered _ _
 
 pub registering_so : (room : Room) (place : Place) (pending : Pending) (message : Parsed) (Q : Registered → Type 0) → IsSoRegistering room place Q

@@ -20,6 +20,11 @@ use Rattle.irc_moderation.specs.Mode.{mode_steps}
 use Rattle.irc_membership.specs.Join.{join_steps}
 use Rattle.irc_membership.specs.Kick.{kick_steps}
 use Rattle.irc_answers.specs.Names.{names_steps}
+use Rattle.irc_queries.specs.Ison.{ison_steps}
+use Rattle.irc_queries.specs.Lusers.{lusers_steps}
+use Rattle.irc_queries.specs.List.{list_steps}
+use Rattle.irc_queries.specs.Whois.{whois_steps}
+use Rattle.irc_queries.specs.Who.{who_steps}
 use Rattle.irc_commands.specs.Nick.{nick_steps}
 use Rattle.irc_membership.specs.Part.{part_steps}
 use Rattle.irc_commands.specs.Say.{say_steps}
@@ -44,7 +49,9 @@ names =
     ∷ named (codes "MOTD") command.Motd ∷ named (codes "PRIVMSG") command.Privmsg ∷ named (codes "NOTICE") command.Notice
     ∷ named (codes "JOIN") command.Join ∷ named (codes "PART") command.Part ∷ named (codes "TOPIC") command.Topic
     ∷ named (codes "NAMES") command.Names ∷ named (codes "KICK") command.Kick ∷ named (codes "INVITE") command.Invite
-    ∷ named (codes "MODE") command.Mode ∷ []
+    ∷ named (codes "MODE") command.Mode
+    ∷ named (codes "ISON") command.Ison ∷ named (codes "LUSERS") command.Lusers ∷ named (codes "LIST") command.List
+    ∷ named (codes "WHOIS") command.Whois ∷ named (codes "WHO") command.Who ∷ []
 
 -- the first of these rows with this name
 abbrev pub found : List ℕ → List Named → Option Command
@@ -75,6 +82,11 @@ row_of room place me message (Some command.Names) = does (names_steps room me me
 row_of room place me message (Some command.Kick) = does (kick_steps room me message.params)
 row_of room place me message (Some command.Invite) = does (invite_steps room me message.params)
 row_of room place me message (Some command.Mode) = does (mode_steps room me message.params)
+row_of room place me message (Some command.Ison) = does (ison_steps room message.params)
+row_of room place me message (Some command.Lusers) = does (lusers_steps room place)
+row_of room place me message (Some command.List) = does (list_steps room me message.params)
+row_of room place me message (Some command.Whois) = does (whois_steps room place me message.params)
+row_of room place me message (Some command.Who) = does (who_steps room place me message.params)
 row_of room place me message None = unknown message.command
 
 -- the row that a line fits

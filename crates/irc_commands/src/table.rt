@@ -18,6 +18,7 @@ use irc_line::Message;
 use irc_membership::{invite, join, kick, part};
 use irc_moderation::mode;
 use irc_numerics::Reply;
+use irc_queries::{ison, list, lusers, who, whois};
 use std::alloc::{AllocError, Global};
 
 /// A command that is built (RFC 2812 section 3).
@@ -55,10 +56,20 @@ pub enum Command {
     Invite,
     /// MODE
     Mode,
+    /// ISON
+    Ison,
+    /// LUSERS
+    Lusers,
+    /// LIST
+    List,
+    /// WHOIS
+    Whois,
+    /// WHO
+    Who,
 }
 
 /// Each command by its name.
-const NAMES: [(&[u8], Command); 16] = [
+const NAMES: [(&[u8], Command); 21] = [
     (b"PASS", Command::Pass),
     (b"NICK", Command::Nick),
     (b"USER", Command::User),
@@ -75,6 +86,11 @@ const NAMES: [(&[u8], Command); 16] = [
     (b"KICK", Command::Kick),
     (b"INVITE", Command::Invite),
     (b"MODE", Command::Mode),
+    (b"ISON", Command::Ison),
+    (b"LUSERS", Command::Lusers),
+    (b"LIST", Command::List),
+    (b"WHOIS", Command::Whois),
+    (b"WHO", Command::Who),
 ];
 
 impl Command {
@@ -123,6 +139,11 @@ pub(crate) fn decide_for(
         Some(Command::Kick) => stays(kick::steps(context, params)),
         Some(Command::Invite) => stays(invite::steps(context, params)),
         Some(Command::Mode) => stays(mode::steps(context, params)),
+        Some(Command::Ison) => stays(ison::steps(context, params)),
+        Some(Command::Lusers) => stays(lusers::steps(context)),
+        Some(Command::List) => stays(list::steps(context, params)),
+        Some(Command::Whois) => stays(whois::steps(context, params)),
+        Some(Command::Who) => stays(who::steps(context, params)),
         None => unknown(context.alloc, message.command),
     }
 }

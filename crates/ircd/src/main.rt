@@ -22,6 +22,8 @@ mod number;
 mod printing;
 mod program;
 #[cfg(test)]
+mod query_tests;
+#[cfg(test)]
 mod registration_tests;
 mod script;
 mod sim;

@@ -1,0 +1,5 @@
+pub mod CameChannels
+pub mod FoundRows
+pub mod MappedTwice
+pub mod NamedCount
+pub mod OwnRows

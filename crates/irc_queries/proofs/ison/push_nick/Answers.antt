@@ -1,0 +1,8 @@
+use Rattle.std.proofs.Common.{[], ◌∷◌}
+use Rattle.irc_line.specs.Bytes.{space}
+use Rattle.irc_line.proofs.CutLaws.{cut_two}
+use Rattle.irc_queries.proofs.ison.push_nick.Goals as goal
+
+pub returns-else-place-eq0-clause-later : goal.returns-else-place-eq0-clause-later
+returns-else-place-eq0-clause-later c behind =
+    cut_two c.args.text.now.items _ _ (space ∷ []) c.args.nick.now c.push-else-place-eq0.ensures c.push-else-place-eq0-2.ensures

@@ -1,0 +1,6 @@
+-- What holds of the steps of these commands: laws, with their proofs. No rule stands here.
+pub mod IsonLaw
+pub mod LusersLaw
+pub mod ListLaw
+pub mod WhoisLaw
+pub mod WhoLaw

@@ -1,0 +1,7 @@
+pub mod Ison
+pub mod Lusers
+pub mod List
+pub mod Whois
+pub mod Who
+pub mod Laws
+pub mod Loops

@@ -1,0 +1,2 @@
+-- What the code's own loops are at: no rule stands here.
+pub mod ChannelLines

@@ -1,0 +1,77 @@
+-- WHO.
+use Rattle.std.specs.Prelude.{ℕ, Bool, false, ◌&&◌, ◌||◌, Option, Some, None, List, [], ◌∷◌, ◌++◌, codes, map, filter, nat_eq, if◌then◌else◌}
+use Rattle.std.specs.Cmp.Lexicographic.{pointwise}
+use Rattle.std.specs.List.{filter_map}
+use Rattle.std.specs.Option.{option_and_then, option_map_or}
+use Rattle.std.specs.FinMap.{entries, values}
+use Rattle.irc_names.specs.Fold.{key}
+use Rattle.irc_names.specs.Tables.{row}
+use Rattle.irc_line.specs.Bytes.{begins}
+use Rattle.irc_users.specs.declared.user.User.{User}
+use Rattle.irc_users.specs.UserTable.{is_found_by}
+use Rattle.irc_channels.specs.declared.flags.Flags.{Flags}
+use Rattle.irc_channels.specs.declared.channel.Channel.{Channel}
+use Rattle.irc_numerics.specs.declared.replies.Mark.{Mark}
+use Rattle.irc_numerics.specs.declared.replies.Mark.TheVariants.{Plain}
+use Rattle.irc_numerics.specs.declared.replies.Reply.TheVariants.{WhoReply, EndOfWho}
+use Rattle.irc_room.specs.Room.{Room}
+use Rattle.irc_routes.specs.Place.{Place, server_named}
+use Rattle.irc_acts.specs.declared.act.Act.{Act}
+use Rattle.irc_acts.specs.declared.act.Act.TheVariants.{Answer}
+use Rattle.irc_acts.specs.Acts.{kept, client_words}
+use Rattle.irc_acts.specs.Marks.{asterisk, hash}
+use Rattle.irc_acts.specs.Moves.{own_channels}
+use Rattle.irc_acts.specs.Standing.{is_known, is_seen_from, mark_of}
+
+-- how many links away the server of a name is
+abbrev pub hops_to : Place → List ℕ → ℕ
+hops_to place home = option_map_or (λ server. server.distance) (server_named place home) 0
+
+-- a user, and what it is in the channel that was asked for, if one was
+abbrev pub user_line : Place → Option (List ℕ) → Mark → User → Act
+user_line place channel mark user =
+    Answer (WhoReply channel (kept user.user) user.host user.home user.nick mark (hops_to place user.home) (kept user.real))
+
+-- a member of a channel, where it is seen
+abbrev pub member_if_seen : Place → List Channel → User → Channel → Flags → User → Option Act
+member_if_seen place own me channel flags user = if is_seen_from own me user then Some (user_line place (Some channel.name) (mark_of flags) user) else None
+
+abbrev pub member_line : Room → Place → List Channel → User → Channel → List ℕ × Flags → Option Act
+member_line room place own me channel member = option_and_then (member_if_seen place own me channel member.1) (row room.users member.0)
+
+-- the members of a channel that is there and known, in folded order
+abbrev pub members_told : Room → Place → List Channel → User → Option Channel → List Act
+members_told room place own me None = []
+members_told room place own me (Some channel) = if is_known me channel then filter_map (member_line room place own me channel) (entries channel.members) else []
+
+-- all users, or those whose nickname, host, server or real name a mask matches
+abbrev pub is_asked_for : List ℕ → User → Bool
+is_asked_for mask user = pointwise nat_eq mask (codes "0") || is_found_by mask user
+
+-- those of some users that are asked for and seen
+abbrev pub users_told : Place → List Channel → User → List ℕ → List User → List Act
+users_told place own me mask users = map (user_line place None Plain) (filter (λ user. is_asked_for mask user && is_seen_from own me user) users)
+
+abbrev pub is_channel_asked : List ℕ → Bool
+is_channel_asked asked = begins (nat_eq hash) asked
+
+-- what is told to one who is in these channels
+abbrev pub told_from : Room → Place → List Channel → User → List ℕ → List Act
+told_from room place own me asked =
+    if is_channel_asked asked then members_told room place own me (row room.channels (key asked)) else users_told place own me asked (values room.users)
+
+abbrev pub told : Room → Place → User → List ℕ → List Act
+told room place me asked = told_from room place (own_channels room me) me asked
+
+-- whether operators of the network alone are asked for; there are none
+abbrev pub asks_for_operators : List (List ℕ) → Bool
+asks_for_operators [] = false
+asks_for_operators (word ∷ more) = pointwise nat_eq word (codes "o")
+
+abbrev pub end_of_who : List ℕ → Act
+end_of_who asked = Answer (EndOfWho (client_words asked))
+
+-- What a WHO does (RFC 2812 section 3.6.1): a 0, or no parameter, asks for all users.
+unfoldable pub who_steps : Room → Place → User → List (List ℕ) → List Act
+who_steps room place me [] = told room place me (codes "0") ++ end_of_who (asterisk ∷ []) ∷ []
+who_steps room place me (asked ∷ more) = (if asks_for_operators more then [] else told room place me asked) ++ end_of_who asked ∷ []

@@ -1,0 +1,9 @@
+//! Commands that ask who and what there is.
+#![tactic(auto)]
+
+pub mod ison;
+pub mod list;
+pub mod lusers;
+mod own_rows;
+pub mod who;
+pub mod whois;

@@ -1,0 +1,87 @@
+//! LUSERS.
+ghost use Rattle.std.specs.Prelude.{◌≡◌, ◌++◌, filter, length, map, IfOk, OnOk};
+ghost use Rattle.irc_users.specs.UserTable.{is_home};
+ghost use Rattle.irc_queries.specs.Lusers.{channels_formed, lusers_steps};
+ghost use Rattle.irc_queries.specs.Laws.LusersLaw.{LusersOnlyAnswers};
+
+use irc_acts::{Act, Context, put};
+use irc_names::ServerName;
+use irc_numerics::Reply;
+use irc_routes::Routes;
+use irc_users::User;
+use std::alloc::{AllocError, Global};
+
+/// What a LUSERS does (RFC 2812 section 3.4.2).
+///
+/// # Errors
+/// Where memory runs out.
+#[tactic(auto, unfolding(crate::specs::Lusers::lusers_steps))]
+pub fn steps(context: &Context<'_>) -> Result<Vec<Act, Global>, AllocError>
+    ensures { IfOk result (λ steps. steps.items ≡ lusers_steps context.now.room.now.room context.now.routes.now) }
+{
+    let found = context.room.users()?;
+    let users = found.as_slice();
+    let servers = server_count(context.routes)?;
+    let links = link_count(context.routes)?;
+    let clients = client_count(users, context.routes.name());
+    let mut steps = Vec::new(context.alloc);
+    let counted = Reply::LuserClient {
+        users: users.len(),
+        servers,
+    };
+    put(&mut steps, Act::Answer(counted))?;
+    put_channels(&mut steps, context.room.channels().len())?;
+    put(&mut steps, Act::Answer(Reply::LuserMe { clients, links }))?;
+    Ok(steps)
+}
+
+/// Appends how many channels there are, if there is one.
+fn put_channels(steps: &mut Vec<Act, Global>, channels: usize) -> Result<(), AllocError>
+    ensures { OnOk result (steps.new.items ≡ steps.old.items ++ channels_formed channels) }
+{
+    if channels == 0 {
+        return Ok(());
+    }
+    put(steps, Act::Answer(Reply::LuserChannels { channels }))
+}
+
+/// How many servers are joined to each other, the own one too.
+fn server_count(routes: &Routes) -> Result<usize, AllocError>
+    ensures { IfOk result (λ count. count ≡ length routes.now.servers) }
+{
+    let servers = routes.servers()?;
+    Ok(servers.as_slice().len())
+}
+
+/// How many links the server has.
+fn link_count(routes: &Routes) -> Result<usize, AllocError>
+    ensures { IfOk result (λ count. count ≡ routes.now.links) }
+{
+    let links = routes.links()?;
+    Ok(links.as_slice().len())
+}
+
+/// How many of some users are connected to a server.
+fn client_count(users: &[&User], server: &ServerName) -> usize
+    ensures { result ≡ length (filter (is_home server.now) (map (λ user. user.now) users.now)) }
+{
+    homed_count(users, server)
+}
+
+fn homed_count(users: &[&User], server: &ServerName) -> usize
+    ensures { result ≡ length (filter (λ user. is_home server.now user.now) users.now) }
+{
+    users.iter().filter(|user| is_home(user, server)).count()
+}
+
+/// Whether a user is connected to a server.
+fn is_home(user: &User, server: &ServerName) -> bool
+    ensures { result ≡ is_home server.now user.now }
+{
+    user.home.as_bytes() == server.as_bytes()
+}
+
+/// A law: a LUSERS has no effect, whatever the room is.
+pub fn only_answers()
+    ensures { LusersOnlyAnswers }
+{}

@@ -1,0 +1,20 @@
+//! The channels of one user.
+ghost use Rattle.std.specs.Prelude.{◌≡◌, map, IfOk};
+ghost use Rattle.irc_acts.specs.Moves.{own_channels};
+
+use irc_channels::Channel;
+use irc_room::Room;
+use irc_tables::Row;
+use irc_users::User;
+use std::alloc::{AllocError, Global};
+
+/// The channels that a user is in, in folded order. No other channel is looked at.
+pub(crate) fn own_rows<'a>(
+    room: &'a Room,
+    user: &User,
+) -> Result<Vec<&'a Row<Channel>, Global>, AllocError>
+    ensures { IfOk result (λ rows. map (λ row. row.now.value) rows.items ≡ own_channels room.now.room user.now) }
+{
+    let rows = room.channels_of(user.nick.as_bytes())?;
+    Ok(rows)
+}

@@ -1,0 +1,242 @@
+//! WHOIS.
+ghost use Rattle.std.specs.Prelude.{◌≡◌, [], ◌∷◌, ◌++◌, map, IfOk, OnOk};
+ghost use Rattle.std.specs.List.{filter_map, flat_map};
+ghost use Rattle.irc_line.specs.PartViews.{words_now};
+ghost use Rattle.irc_numerics.specs.Limits.{max_whois_channels};
+ghost use Rattle.irc_numerics.specs.declared.replies.Reply.TheVariants.{NoSuchNick, WhoisServer, WhoisUser};
+ghost use Rattle.irc_acts.specs.declared.act.Act.TheVariants.{Answer};
+ghost use Rattle.irc_acts.specs.Acts.{client_words, kept};
+ghost use Rattle.irc_acts.specs.CommaLists.{entries};
+ghost use Rattle.irc_answers.specs.Names.{in_lines};
+ghost use Rattle.irc_queries.specs.Whois.{channels_line, info_of, place_in, places, told_of, told_of_list, told_of_one, whois_steps};
+ghost use Rattle.irc_queries.specs.Loops.ChannelLines.{Came};
+ghost use Rattle.irc_queries.specs.Laws.WhoisLaw.{WhoisOnlyAnswers};
+
+use crate::own_rows::own_rows;
+use arrayvec::ArrayVec;
+use irc_acts::comma_lists::next_entry;
+use irc_acts::standing::{is_listed, mark_of};
+use irc_acts::words::client_words;
+use irc_acts::{Act, Context, only, put};
+use irc_channels::Channel;
+use irc_names::{ServerName, copied};
+use irc_numerics::limits::MAX_WHOIS_CHANNELS;
+use irc_numerics::{Info, OnChannel, Reply};
+use irc_routes::Routes;
+use irc_tables::Row;
+use irc_users::User;
+use std::alloc::{AllocError, Global};
+
+/// The channels of the line that is being filled.
+type Held = ArrayVec<OnChannel, MAX_WHOIS_CHANNELS>;
+
+/// What a WHOIS does (RFC 2812 section 3.6.2).
+///
+/// # Errors
+/// Where memory runs out.
+#[tactic(auto, unfolding(crate::specs::Whois::whois_steps))]
+pub fn steps(context: &Context<'_>, params: &[&[u8]]) -> Result<Vec<Act, Global>, AllocError>
+    ensures { IfOk result (λ steps. steps.items ≡ whois_steps context.now.room.now.room context.now.routes.now context.now.me.now (words_now params.now)) }
+{
+    match params {
+        [] => only(context.alloc, Act::Answer(Reply::NoNicknameGiven)),
+        [list] => told_of_list(context, list),
+        [_, list, ..] => told_of_list(context, list),
+    }
+}
+
+/// What is told of the users of a comma list, and one end behind all.
+fn told_of_list(context: &Context<'_>, list: &[u8]) -> Result<Vec<Act, Global>, AllocError>
+    ensures { IfOk result (λ steps. steps.items ≡ told_of_list context.now.room.now.room context.now.routes.now context.now.me.now list.now) }
+{
+    let mut steps = Vec::new(context.alloc);
+    put_list(&mut steps, context, list)?;
+    let nick = client_words(list);
+    put(&mut steps, Act::Answer(Reply::EndOfWhois { nick }))?;
+    Ok(steps)
+}
+
+/// Appends what is told of the users of a comma list.
+fn put_list(
+    steps: &mut Vec<Act, Global>,
+    context: &Context<'_>,
+    list: &[u8],
+) -> Result<(), AllocError>
+    ensures { OnOk result (steps.new.items ≡ steps.old.items ++ flat_map (told_of_one context.now.room.now.room context.now.routes.now context.now.me.now) (entries list.now)) }
+{
+    let mut rest = list;
+    while let Some((nick, behind)) = next_entry(rest) {
+        put_one(steps, context, nick)?;
+        rest = behind;
+    }
+    Ok(())
+}
+
+/// Appends what is told of the user of a nickname, or that there is none.
+fn put_one(
+    steps: &mut Vec<Act, Global>,
+    context: &Context<'_>,
+    nick: &[u8],
+) -> Result<(), AllocError>
+    ensures { OnOk result (steps.new.items ≡ steps.old.items ++ told_of_one context.now.room.now.room context.now.routes.now context.now.me.now nick.now) }
+{
+    match context.room.user(nick) {
+        Some(user) => put_told(steps, context, user),
+        None => put(steps, no_such_nick(nick)),
+    }
+}
+
+/// A user that is not there is named as it was given.
+fn no_such_nick(nick: &[u8]) -> Act
+    ensures { result ≡ Answer (NoSuchNick (client_words nick.now)) }
+{
+    Act::Answer(Reply::NoSuchNick {
+        name: client_words(nick),
+    })
+}
+
+/// Appends what is told of a user.
+fn put_told(
+    steps: &mut Vec<Act, Global>,
+    context: &Context<'_>,
+    user: &User,
+) -> Result<(), AllocError>
+    ensures { OnOk result (steps.new.items ≡ steps.old.items ++ told_of context.now.room.now.room context.now.routes.now context.now.me.now user.now) }
+{
+    put(steps, user_line(user))?;
+    put(steps, server_line(context.routes, user))?;
+    put_channels(steps, context, user)
+}
+
+/// What a user says of itself.
+fn user_line(user: &User) -> Act
+    ensures { result ≡ Answer (WhoisUser user.now.nick (kept user.now.user) user.now.host (kept user.now.real)) }
+{
+    Act::Answer(Reply::WhoisUser {
+        nick: user.nick.copy(),
+        user: copied(user.user.as_bytes()),
+        host: user.host.copy(),
+        real: copied(user.real.as_bytes()),
+    })
+}
+
+/// The server of a user, and how it describes itself.
+fn server_line(routes: &Routes, user: &User) -> Act
+    ensures { result ≡ Answer (WhoisServer user.now.nick user.now.home (kept (info_of routes.now user.now.home))) }
+{
+    Act::Answer(Reply::WhoisServer {
+        nick: user.nick.copy(),
+        server: user.home.copy(),
+        info: info_of(routes, &user.home),
+    })
+}
+
+/// How the server of a name describes itself.
+fn info_of(routes: &Routes, home: &ServerName) -> Info
+    ensures { result.items ≡ info_of routes.now home.now }
+{
+    match routes.info(home.as_bytes()) {
+        Some(info) => copied(info),
+        None => ArrayVec::new(),
+    }
+}
+
+/// Appends the channels of a user that are listed for the asker. No other channel is looked at.
+fn put_channels(
+    steps: &mut Vec<Act, Global>,
+    context: &Context<'_>,
+    user: &User,
+) -> Result<(), AllocError>
+    ensures { OnOk result (steps.new.items ≡ steps.old.items ++ map (channels_line user.now) (in_lines max_whois_channels (places context.now.room.now.room context.now.me.now user.now))) }
+{
+    let rows = own_rows(context.room, user)?;
+    let mut held = ArrayVec::new();
+    add_channels(steps, &mut held, context.me, user, rows.as_slice())?;
+    finish(steps, held, user)
+}
+
+/// Adds those of some channels of a user that are listed for the asker.
+fn add_channels(
+    steps: &mut Vec<Act, Global>,
+    held: &mut Held,
+    me: &User,
+    user: &User,
+    rows: &[&Row<Channel>],
+) -> Result<(), AllocError>
+    ensures { OnOk result (Came user.now steps.old.items held.old.items (filter_map (place_in me.now user.now) (map (λ row. row.now.value) rows.now)) steps.new.items held.new.items) }
+{
+    for row in rows {
+        add_channel(steps, held, me, user, &row.value)?;
+    }
+    Ok(())
+}
+
+/// Adds a channel of a user, if it is listed for the asker.
+fn add_channel(
+    steps: &mut Vec<Act, Global>,
+    held: &mut Held,
+    me: &User,
+    user: &User,
+    channel: &Channel,
+) -> Result<(), AllocError>
+    ensures { OnOk result (Came user.now steps.old.items held.old.items (filter_map (place_in me.now user.now) (channel.now ∷ [])) steps.new.items held.new.items) }
+{
+    match place_in(me, user, channel) {
+        Some(place) => add_place(steps, held, user, place),
+        None => Ok(()),
+    }
+}
+
+/// What a user is in a channel, where that is listed for the asker.
+fn place_in(me: &User, user: &User, channel: &Channel) -> Option<OnChannel>
+    ensures { result ≡ place_in me.now user.now channel.now }
+{
+    match channel.members.get(user.nick.as_bytes()) {
+        Some(flags) if is_listed(me, channel) => Some(OnChannel {
+            mark: mark_of(*flags),
+            channel: channel.name.copy(),
+        }),
+        _ => None,
+    }
+}
+
+/// Adds a channel to the line; one that is full is sent before.
+fn add_place(
+    steps: &mut Vec<Act, Global>,
+    held: &mut Held,
+    user: &User,
+    place: OnChannel,
+) -> Result<(), AllocError>
+    ensures { OnOk result (Came user.now steps.old.items held.old.items (place ∷ []) steps.new.items held.new.items) }
+{
+    if held.is_full() {
+        put(steps, channels_line(user, held.take()))?;
+    }
+    held.push(place);
+    Ok(())
+}
+
+/// Sends the last line, if there is a channel for it.
+fn finish(steps: &mut Vec<Act, Global>, held: Held, user: &User) -> Result<(), AllocError>
+    ensures { OnOk result (steps.new.items ≡ steps.old.items ++ map (channels_line user.now) (in_lines max_whois_channels held.items)) }
+{
+    if held.as_slice().is_empty() {
+        return Ok(());
+    }
+    put(steps, channels_line(user, held))
+}
+
+/// A line of channels.
+fn channels_line(user: &User, channels: Held) -> Act
+    ensures { result ≡ channels_line user.now channels.items }
+{
+    Act::Answer(Reply::WhoisChannels {
+        nick: user.nick.copy(),
+        channels,
+    })
+}
+
+/// A law: a WHOIS has no effect, whatever the room is.
+pub fn only_answers()
+    ensures { WhoisOnlyAnswers }
+{}
