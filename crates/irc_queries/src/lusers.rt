@@ -1,6 +1,7 @@
 //! LUSERS.
 ghost use Rattle.std.specs.Prelude.{◌≡◌, ◌++◌, filter, length, map, IfOk, OnOk};
 ghost use Rattle.irc_users.specs.UserTable.{is_home};
+ghost use Rattle.irc_routes.specs.Known.{place_of};
 ghost use Rattle.irc_queries.specs.Lusers.{channels_formed, lusers_steps};
 ghost use Rattle.irc_queries.specs.Laws.LusersLaw.{LusersOnlyAnswers};
 
@@ -17,7 +18,7 @@ use std::alloc::{AllocError, Global};
 /// Where memory runs out.
 #[tactic(auto, unfolding(crate::specs::Lusers::lusers_steps))]
 pub fn steps(context: &Context<'_>) -> Result<Vec<Act, Global>, AllocError>
-    ensures { IfOk result (λ steps. steps.items ≡ lusers_steps context.now.room.now.room context.now.routes.now) }
+    ensures { IfOk result (λ steps. steps.items ≡ lusers_steps context.now.room.now.room (place_of context.now.routes.now)) }
 {
     let found = context.room.users()?;
     let users = found.as_slice();
@@ -47,7 +48,7 @@ fn put_channels(steps: &mut Vec<Act, Global>, channels: usize) -> Result<(), All
 
 /// How many servers are joined to each other, the own one too.
 fn server_count(routes: &Routes) -> Result<usize, AllocError>
-    ensures { IfOk result (λ count. count ≡ length routes.now.servers) }
+    ensures { IfOk result (λ count. count ≡ length (place_of routes.now).servers) }
 {
     let servers = routes.servers()?;
     Ok(servers.as_slice().len())
@@ -55,7 +56,7 @@ fn server_count(routes: &Routes) -> Result<usize, AllocError>
 
 /// How many links the server has.
 fn link_count(routes: &Routes) -> Result<usize, AllocError>
-    ensures { IfOk result (λ count. count ≡ routes.now.links) }
+    ensures { IfOk result (λ count. count ≡ (place_of routes.now).links) }
 {
     let links = routes.links()?;
     Ok(links.as_slice().len())

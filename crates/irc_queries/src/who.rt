@@ -9,6 +9,7 @@ ghost use Rattle.irc_line.specs.PartViews.{words_now};
 ghost use Rattle.irc_tables.specs.RowViews.{row_entry};
 ghost use Rattle.irc_users.specs.UserTable.{is_found_by};
 ghost use Rattle.irc_numerics.specs.declared.replies.Mark.TheVariants.{Plain};
+ghost use Rattle.irc_routes.specs.Known.{place_of};
 ghost use Rattle.irc_queries.specs.Who.{asks_for_operators, end_of_who, hops_to, is_asked_for, is_channel_asked, member_line, members_told, told, told_from, user_line, users_told, who_steps};
 ghost use Rattle.irc_queries.specs.Laws.WhoLaw.{WhoOnlyAnswers};
 
@@ -19,7 +20,7 @@ use irc_acts::{Act, Context, only, put};
 use irc_channels::{Channel, Flags};
 use irc_names::{ChannelName, ServerName, copied, mask_matches};
 use irc_numerics::{Mark, Reply};
-use irc_routes::Routes;
+use irc_routes::{Routes, laws};
 use irc_tables::Row;
 use irc_users::User;
 use std::alloc::{AllocError, Global};
@@ -36,7 +37,7 @@ const OPERATORS: &[u8] = b"o";
 /// Where memory runs out.
 #[tactic(auto, unfolding(crate::specs::Who::who_steps))]
 pub fn steps(context: &Context<'_>, params: &[&[u8]]) -> Result<Vec<Act, Global>, AllocError>
-    ensures { IfOk result (λ steps. steps.items ≡ who_steps context.now.room.now.room context.now.routes.now context.now.me.now (words_now params.now)) }
+    ensures { IfOk result (λ steps. steps.items ≡ who_steps context.now.room.now.room (place_of context.now.routes.now) context.now.me.now (words_now params.now)) }
 {
     let Some((asked, more)) = params.split_first() else {
         return told_to_the_end(context, ALL, b"*");
@@ -64,7 +65,7 @@ fn told_to_the_end(
     asked: &[u8],
     given: &[u8],
 ) -> Result<Vec<Act, Global>, AllocError>
-    ensures { IfOk result (λ steps. steps.items ≡ told context.now.room.now.room context.now.routes.now context.now.me.now asked.now ++ end_of_who given.now ∷ []) }
+    ensures { IfOk result (λ steps. steps.items ≡ told context.now.room.now.room (place_of context.now.routes.now) context.now.me.now asked.now ++ end_of_who given.now ∷ []) }
 {
     let own = own_rows(context.room, context.me)?;
     let mut steps = Vec::new(context.alloc);
@@ -89,7 +90,7 @@ fn put_told(
     own: &[&Row<Channel>],
     asked: &[u8],
 ) -> Result<(), AllocError>
-    ensures { OnOk result (steps.new.items ≡ steps.old.items ++ told_from context.now.room.now.room context.now.routes.now (map (λ row. row.now.value) own.now) context.now.me.now asked.now) }
+    ensures { OnOk result (steps.new.items ≡ steps.old.items ++ told_from context.now.room.now.room (place_of context.now.routes.now) (map (λ row. row.now.value) own.now) context.now.me.now asked.now) }
 {
     if is_channel_asked(asked) {
         put_channel(steps, context, own, asked)
@@ -115,7 +116,7 @@ fn put_channel(
     own: &[&Row<Channel>],
     asked: &[u8],
 ) -> Result<(), AllocError>
-    ensures { OnOk result (steps.new.items ≡ steps.old.items ++ members_told context.now.room.now.room context.now.routes.now (map (λ row. row.now.value) own.now) context.now.me.now (row context.now.room.now.room.channels (key asked.now))) }
+    ensures { OnOk result (steps.new.items ≡ steps.old.items ++ members_told context.now.room.now.room (place_of context.now.routes.now) (map (λ row. row.now.value) own.now) context.now.me.now (row context.now.room.now.room.channels (key asked.now))) }
 {
     match context.room.channel(asked) {
         Some(channel) if is_known(context.me, channel) => put_members(steps, context, own, channel),
@@ -130,7 +131,7 @@ fn put_members(
     own: &[&Row<Channel>],
     channel: &Channel,
 ) -> Result<(), AllocError>
-    ensures { OnOk result (steps.new.items ≡ steps.old.items ++ filter_map (member_line context.now.room.now.room context.now.routes.now (map (λ row. row.now.value) own.now) context.now.me.now channel.now) (entries channel.now.members)) }
+    ensures { OnOk result (steps.new.items ≡ steps.old.items ++ filter_map (member_line context.now.room.now.room (place_of context.now.routes.now) (map (λ row. row.now.value) own.now) context.now.me.now channel.now) (entries channel.now.members)) }
 {
     for row in channel.members.as_slice() {
         put_member(steps, context, own, channel, row)?;
@@ -146,7 +147,7 @@ fn put_member(
     channel: &Channel,
     member: &Row<Flags>,
 ) -> Result<(), AllocError>
-    ensures { OnOk result (steps.new.items ≡ steps.old.items ++ filter_map (member_line context.now.room.now.room context.now.routes.now (map (λ row. row.now.value) own.now) context.now.me.now channel.now) (row_entry member.now ∷ [])) }
+    ensures { OnOk result (steps.new.items ≡ steps.old.items ++ filter_map (member_line context.now.room.now.room (place_of context.now.routes.now) (map (λ row. row.now.value) own.now) context.now.me.now channel.now) (row_entry member.now ∷ [])) }
 {
     match context.room.user(member.name.as_slice()) {
         Some(user) if is_seen(context.me, own, user) => put(
@@ -169,7 +170,7 @@ fn put_users(
     own: &[&Row<Channel>],
     mask: &[u8],
 ) -> Result<(), AllocError>
-    ensures { OnOk result (steps.new.items ≡ steps.old.items ++ users_told context.now.routes.now (map (λ row. row.now.value) own.now) context.now.me.now mask.now (values context.now.room.now.room.users)) }
+    ensures { OnOk result (steps.new.items ≡ steps.old.items ++ users_told (place_of context.now.routes.now) (map (λ row. row.now.value) own.now) context.now.me.now mask.now (values context.now.room.now.room.users)) }
 {
     let users = context.room.users()?;
     for user in users.as_slice() {
@@ -186,7 +187,7 @@ fn put_user(
     mask: &[u8],
     user: &User,
 ) -> Result<(), AllocError>
-    ensures { OnOk result (steps.new.items ≡ steps.old.items ++ users_told context.now.routes.now (map (λ row. row.now.value) own.now) context.now.me.now mask.now (user.now ∷ [])) }
+    ensures { OnOk result (steps.new.items ≡ steps.old.items ++ users_told (place_of context.now.routes.now) (map (λ row. row.now.value) own.now) context.now.me.now mask.now (user.now ∷ [])) }
 {
     if is_asked_for(mask, user) && is_seen(context.me, own, user) {
         put(steps, user_line(context.routes, None, Mark::Plain, user))
@@ -214,7 +215,7 @@ fn is_found_by(user: &User, mask: &[u8]) -> bool
 
 /// A user, and what it is in the channel that was asked for, if one was.
 fn user_line(routes: &Routes, channel: Option<ChannelName>, mark: Mark, user: &User) -> Act
-    ensures { result ≡ user_line routes.now channel mark user.now }
+    ensures { result ≡ user_line (place_of routes.now) channel mark user.now }
 {
     Act::Answer(Reply::WhoReply {
         channel,
@@ -230,8 +231,10 @@ fn user_line(routes: &Routes, channel: Option<ChannelName>, mark: Mark, user: &U
 
 /// How many links away the server of a name is.
 fn hops_to(routes: &Routes, home: &ServerName) -> u32
-    ensures { result ≡ hops_to routes.now home.now }
+    ensures { result ≡ hops_to (place_of routes.now) home.now }
 {
+    laws::place_tells();
+    routes.is_numbered();
     routes.distance(home.as_bytes()).unwrap_or(0)
 }
 

@@ -4,6 +4,7 @@ ghost use Rattle.std.specs.List.{filter_map, flat_map};
 ghost use Rattle.irc_line.specs.PartViews.{words_now};
 ghost use Rattle.irc_numerics.specs.Limits.{max_whois_channels};
 ghost use Rattle.irc_numerics.specs.declared.replies.Reply.TheVariants.{NoSuchNick, WhoisServer, WhoisUser};
+ghost use Rattle.irc_routes.specs.Known.{place_of};
 ghost use Rattle.irc_acts.specs.declared.act.Act.TheVariants.{Answer};
 ghost use Rattle.irc_acts.specs.Acts.{client_words, kept};
 ghost use Rattle.irc_acts.specs.CommaLists.{entries};
@@ -22,7 +23,7 @@ use irc_channels::Channel;
 use irc_names::{ServerName, copied};
 use irc_numerics::limits::MAX_WHOIS_CHANNELS;
 use irc_numerics::{Info, OnChannel, Reply};
-use irc_routes::Routes;
+use irc_routes::{Routes, laws};
 use irc_tables::Row;
 use irc_users::User;
 use std::alloc::{AllocError, Global};
@@ -36,7 +37,7 @@ type Held = ArrayVec<OnChannel, MAX_WHOIS_CHANNELS>;
 /// Where memory runs out.
 #[tactic(auto, unfolding(crate::specs::Whois::whois_steps))]
 pub fn steps(context: &Context<'_>, params: &[&[u8]]) -> Result<Vec<Act, Global>, AllocError>
-    ensures { IfOk result (λ steps. steps.items ≡ whois_steps context.now.room.now.room context.now.routes.now context.now.me.now (words_now params.now)) }
+    ensures { IfOk result (λ steps. steps.items ≡ whois_steps context.now.room.now.room (place_of context.now.routes.now) context.now.me.now (words_now params.now)) }
 {
     match params {
         [] => only(context.alloc, Act::Answer(Reply::NoNicknameGiven)),
@@ -47,7 +48,7 @@ pub fn steps(context: &Context<'_>, params: &[&[u8]]) -> Result<Vec<Act, Global>
 
 /// What is told of the users of a comma list, and one end behind all.
 fn told_of_list(context: &Context<'_>, list: &[u8]) -> Result<Vec<Act, Global>, AllocError>
-    ensures { IfOk result (λ steps. steps.items ≡ told_of_list context.now.room.now.room context.now.routes.now context.now.me.now list.now) }
+    ensures { IfOk result (λ steps. steps.items ≡ told_of_list context.now.room.now.room (place_of context.now.routes.now) context.now.me.now list.now) }
 {
     let mut steps = Vec::new(context.alloc);
     put_list(&mut steps, context, list)?;
@@ -62,7 +63,7 @@ fn put_list(
     context: &Context<'_>,
     list: &[u8],
 ) -> Result<(), AllocError>
-    ensures { OnOk result (steps.new.items ≡ steps.old.items ++ flat_map (told_of_one context.now.room.now.room context.now.routes.now context.now.me.now) (entries list.now)) }
+    ensures { OnOk result (steps.new.items ≡ steps.old.items ++ flat_map (told_of_one context.now.room.now.room (place_of context.now.routes.now) context.now.me.now) (entries list.now)) }
 {
     let mut rest = list;
     while let Some((nick, behind)) = next_entry(rest) {
@@ -78,7 +79,7 @@ fn put_one(
     context: &Context<'_>,
     nick: &[u8],
 ) -> Result<(), AllocError>
-    ensures { OnOk result (steps.new.items ≡ steps.old.items ++ told_of_one context.now.room.now.room context.now.routes.now context.now.me.now nick.now) }
+    ensures { OnOk result (steps.new.items ≡ steps.old.items ++ told_of_one context.now.room.now.room (place_of context.now.routes.now) context.now.me.now nick.now) }
 {
     match context.room.user(nick) {
         Some(user) => put_told(steps, context, user),
@@ -101,7 +102,7 @@ fn put_told(
     context: &Context<'_>,
     user: &User,
 ) -> Result<(), AllocError>
-    ensures { OnOk result (steps.new.items ≡ steps.old.items ++ told_of context.now.room.now.room context.now.routes.now context.now.me.now user.now) }
+    ensures { OnOk result (steps.new.items ≡ steps.old.items ++ told_of context.now.room.now.room (place_of context.now.routes.now) context.now.me.now user.now) }
 {
     put(steps, user_line(user))?;
     put(steps, server_line(context.routes, user))?;
@@ -122,7 +123,7 @@ fn user_line(user: &User) -> Act
 
 /// The server of a user, and how it describes itself.
 fn server_line(routes: &Routes, user: &User) -> Act
-    ensures { result ≡ Answer (WhoisServer user.now.nick user.now.home (kept (info_of routes.now user.now.home))) }
+    ensures { result ≡ Answer (WhoisServer user.now.nick user.now.home (kept (info_of (place_of routes.now) user.now.home))) }
 {
     Act::Answer(Reply::WhoisServer {
         nick: user.nick.copy(),
@@ -133,10 +134,12 @@ fn server_line(routes: &Routes, user: &User) -> Act
 
 /// How the server of a name describes itself.
 fn info_of(routes: &Routes, home: &ServerName) -> Info
-    ensures { result.items ≡ info_of routes.now home.now }
+    ensures { result.items ≡ info_of (place_of routes.now) home.now }
 {
+    laws::place_tells();
+    routes.is_numbered();
     match routes.info(home.as_bytes()) {
-        Some(info) => copied(info),
+        Some(info) => copied(info.as_bytes()),
         None => ArrayVec::new(),
     }
 }

@@ -1,3 +1,4 @@
+use Rattle.irc_routes.specs.Known.{place_of}
 use Rattle.std.proofs.Common.{map}
 use Rattle.std.specs.Borrow.{Bor}
 use Rattle.irc_tables.specs.declared.table.Row.{Row}
@@ -10,5 +11,5 @@ pub loop-row-preserved : goal.loop-row-preserved
 loop-row-preserved c =
     let own = map (λ (row : Bor (Row Channel)). row.now.value) c.args.own.now in
     let context = c.args.context.now in
-    found_more (member_line context.room.now.room context.routes.now own context.me.now c.args.channel.now) c.as_slice-row-items.result.now c.loop-row.row-index
+    found_more (member_line context.room.now.room (place_of context.routes.now) own context.me.now c.args.channel.now) c.as_slice-row-items.result.now c.loop-row.row-index
     c.row-item.result c.loop-row-test.true c.row-item.is c.args.steps.now.items c.loop-row.steps.items c.put_member.new.steps.items c.loop-row.invariant c.in_ok-put_member.ensures
