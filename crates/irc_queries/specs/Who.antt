@@ -20,8 +20,7 @@ use Rattle.irc_acts.specs.declared.act.Act.{Act}
 use Rattle.irc_acts.specs.declared.act.Act.TheVariants.{Answer}
 use Rattle.irc_acts.specs.Acts.{kept, client_words}
 use Rattle.irc_acts.specs.Marks.{asterisk, hash}
-use Rattle.irc_acts.specs.Moves.{own_channels}
-use Rattle.irc_acts.specs.Standing.{is_known, is_seen_from, mark_of}
+use Rattle.irc_acts.specs.Standing.{is_known, is_seen, mark_of}
 
 -- how many links away the server of a name is
 abbrev pub hops_to : Place → List ℕ → ℕ
@@ -33,35 +32,35 @@ user_line place channel mark user =
     Answer (WhoReply channel (kept user.user) user.host user.home user.nick mark (hops_to place user.home) (kept user.real))
 
 -- a member of a channel, where it is seen
-abbrev pub member_if_seen : Place → List Channel → User → Channel → Flags → User → Option Act
-member_if_seen place own me channel flags user = if is_seen_from own me user then Some (user_line place (Some channel.name) (mark_of flags) user) else None
+abbrev pub member_if_seen : Place → (User → Bool) → Channel → Flags → User → Option Act
+member_if_seen place seen channel flags user = if seen user then Some (user_line place (Some channel.name) (mark_of flags) user) else None
 
-abbrev pub member_line : Room → Place → List Channel → User → Channel → List ℕ × Flags → Option Act
-member_line room place own me channel member = option_and_then (member_if_seen place own me channel member.1) (row room.users member.0)
+abbrev pub member_line : Room → Place → (User → Bool) → Channel → List ℕ × Flags → Option Act
+member_line room place seen channel member = option_and_then (member_if_seen place seen channel member.1) (row room.users member.0)
 
 -- the members of a channel that is there and known, in folded order
-abbrev pub members_told : Room → Place → List Channel → User → Option Channel → List Act
-members_told room place own me None = []
-members_told room place own me (Some channel) = if is_known me channel then filter_map (member_line room place own me channel) (entries channel.members) else []
+abbrev pub members_told : Room → Place → (User → Bool) → User → Option Channel → List Act
+members_told room place seen me None = []
+members_told room place seen me (Some channel) = if is_known me channel then filter_map (member_line room place seen channel) (entries channel.members) else []
 
 -- all users, or those whose nickname, host, server or real name a mask matches
 abbrev pub is_asked_for : List ℕ → User → Bool
 is_asked_for mask user = pointwise nat_eq mask (codes "0") || is_found_by mask user
 
 -- those of some users that are asked for and seen
-abbrev pub users_told : Place → List Channel → User → List ℕ → List User → List Act
-users_told place own me mask users = map (user_line place None Plain) (filter (λ user. is_asked_for mask user && is_seen_from own me user) users)
+abbrev pub users_told : Place → (User → Bool) → List ℕ → List User → List Act
+users_told place seen mask users = map (user_line place None Plain) (filter (λ user. is_asked_for mask user && seen user) users)
 
 abbrev pub is_channel_asked : List ℕ → Bool
 is_channel_asked asked = begins (nat_eq hash) asked
 
--- what is told to one who is in these channels
-abbrev pub told_from : Room → Place → List Channel → User → List ℕ → List Act
-told_from room place own me asked =
-    if is_channel_asked asked then members_told room place own me (row room.channels (key asked)) else users_told place own me asked (values room.users)
+-- what is told to one who sees these users
+abbrev pub told_of_seen : Room → Place → (User → Bool) → User → List ℕ → List Act
+told_of_seen room place seen me asked =
+    if is_channel_asked asked then members_told room place seen me (row room.channels (key asked)) else users_told place seen asked (values room.users)
 
 abbrev pub told : Room → Place → User → List ℕ → List Act
-told room place me asked = told_from room place (own_channels room me) me asked
+told room place me asked = told_of_seen room place (λ user. is_seen room me user) me asked
 
 -- whether operators of the network alone are asked for; there are none
 abbrev pub asks_for_operators : List (List ℕ) → Bool

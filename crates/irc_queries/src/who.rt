@@ -10,7 +10,8 @@ ghost use Rattle.irc_tables.specs.RowViews.{row_entry};
 ghost use Rattle.irc_users.specs.UserTable.{is_found_by};
 ghost use Rattle.irc_numerics.specs.declared.replies.Mark.TheVariants.{Plain};
 ghost use Rattle.irc_routes.specs.Known.{place_of};
-ghost use Rattle.irc_queries.specs.Who.{asks_for_operators, end_of_who, hops_to, is_asked_for, is_channel_asked, member_line, members_told, told, told_from, user_line, users_told, who_steps};
+ghost use Rattle.irc_acts.specs.Standing.{is_seen_from};
+ghost use Rattle.irc_queries.specs.Who.{asks_for_operators, end_of_who, hops_to, is_asked_for, is_channel_asked, member_line, members_told, told, told_of_seen, user_line, users_told, who_steps};
 ghost use Rattle.irc_queries.specs.Laws.WhoLaw.{WhoOnlyAnswers};
 
 use crate::own_rows::own_rows;
@@ -90,7 +91,7 @@ fn put_told(
     own: &[&Row<Channel>],
     asked: &[u8],
 ) -> Result<(), AllocError>
-    ensures { OnOk result (steps.new.items ≡ steps.old.items ++ told_from context.now.room.now.room (place_of context.now.routes.now) (map (λ row. row.now.value) own.now) context.now.me.now asked.now) }
+    ensures { OnOk result (steps.new.items ≡ steps.old.items ++ told_of_seen context.now.room.now.room (place_of context.now.routes.now) (λ user. is_seen_from (map (λ row. row.now.value) own.now) context.now.me.now user) context.now.me.now asked.now) }
 {
     if is_channel_asked(asked) {
         put_channel(steps, context, own, asked)
@@ -116,7 +117,7 @@ fn put_channel(
     own: &[&Row<Channel>],
     asked: &[u8],
 ) -> Result<(), AllocError>
-    ensures { OnOk result (steps.new.items ≡ steps.old.items ++ members_told context.now.room.now.room (place_of context.now.routes.now) (map (λ row. row.now.value) own.now) context.now.me.now (row context.now.room.now.room.channels (key asked.now))) }
+    ensures { OnOk result (steps.new.items ≡ steps.old.items ++ members_told context.now.room.now.room (place_of context.now.routes.now) (λ user. is_seen_from (map (λ row. row.now.value) own.now) context.now.me.now user) context.now.me.now (row context.now.room.now.room.channels (key asked.now))) }
 {
     match context.room.channel(asked) {
         Some(channel) if is_known(context.me, channel) => put_members(steps, context, own, channel),
@@ -131,7 +132,7 @@ fn put_members(
     own: &[&Row<Channel>],
     channel: &Channel,
 ) -> Result<(), AllocError>
-    ensures { OnOk result (steps.new.items ≡ steps.old.items ++ filter_map (member_line context.now.room.now.room (place_of context.now.routes.now) (map (λ row. row.now.value) own.now) context.now.me.now channel.now) (entries channel.now.members)) }
+    ensures { OnOk result (steps.new.items ≡ steps.old.items ++ filter_map (member_line context.now.room.now.room (place_of context.now.routes.now) (λ user. is_seen_from (map (λ row. row.now.value) own.now) context.now.me.now user) channel.now) (entries channel.now.members)) }
 {
     for row in channel.members.as_slice() {
         put_member(steps, context, own, channel, row)?;
@@ -147,7 +148,7 @@ fn put_member(
     channel: &Channel,
     member: &Row<Flags>,
 ) -> Result<(), AllocError>
-    ensures { OnOk result (steps.new.items ≡ steps.old.items ++ filter_map (member_line context.now.room.now.room (place_of context.now.routes.now) (map (λ row. row.now.value) own.now) context.now.me.now channel.now) (row_entry member.now ∷ [])) }
+    ensures { OnOk result (steps.new.items ≡ steps.old.items ++ filter_map (member_line context.now.room.now.room (place_of context.now.routes.now) (λ user. is_seen_from (map (λ row. row.now.value) own.now) context.now.me.now user) channel.now) (row_entry member.now ∷ [])) }
 {
     match context.room.user(member.name.as_slice()) {
         Some(user) if is_seen(context.me, own, user) => put(
@@ -170,7 +171,7 @@ fn put_users(
     own: &[&Row<Channel>],
     mask: &[u8],
 ) -> Result<(), AllocError>
-    ensures { OnOk result (steps.new.items ≡ steps.old.items ++ users_told (place_of context.now.routes.now) (map (λ row. row.now.value) own.now) context.now.me.now mask.now (values context.now.room.now.room.users)) }
+    ensures { OnOk result (steps.new.items ≡ steps.old.items ++ users_told (place_of context.now.routes.now) (λ user. is_seen_from (map (λ row. row.now.value) own.now) context.now.me.now user) mask.now (values context.now.room.now.room.users)) }
 {
     let users = context.room.users()?;
     for user in users.as_slice() {
@@ -187,7 +188,7 @@ fn put_user(
     mask: &[u8],
     user: &User,
 ) -> Result<(), AllocError>
-    ensures { OnOk result (steps.new.items ≡ steps.old.items ++ users_told (place_of context.now.routes.now) (map (λ row. row.now.value) own.now) context.now.me.now mask.now (user.now ∷ [])) }
+    ensures { OnOk result (steps.new.items ≡ steps.old.items ++ users_told (place_of context.now.routes.now) (λ user. is_seen_from (map (λ row. row.now.value) own.now) context.now.me.now user) mask.now (user.now ∷ [])) }
 {
     if is_asked_for(mask, user) && is_seen(context.me, own, user) {
         put(steps, user_line(context.routes, None, Mark::Plain, user))
@@ -234,7 +235,7 @@ fn hops_to(routes: &Routes, home: &ServerName) -> u32
     ensures { result ≡ hops_to (place_of routes.now) home.now }
 {
     laws::place_tells();
-    routes.is_numbered();
+    routes.created();
     routes.distance(home.as_bytes()).unwrap_or(0)
 }
 

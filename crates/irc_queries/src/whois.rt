@@ -137,7 +137,7 @@ fn info_of(routes: &Routes, home: &ServerName) -> Info
     ensures { result.items ≡ info_of (place_of routes.now) home.now }
 {
     laws::place_tells();
-    routes.is_numbered();
+    routes.created();
     match routes.info(home.as_bytes()) {
         Some(info) => copied(info.as_bytes()),
         None => ArrayVec::new(),

@@ -15,8 +15,7 @@ use Rattle.irc_acts.specs.declared.act.Act.{Act}
 use Rattle.irc_acts.specs.Acts.{effects_among}
 use Rattle.irc_acts.specs.AheadLaws.{none-both}
 use Rattle.irc_acts.specs.Marks.{asterisk}
-use Rattle.irc_acts.specs.Moves.{own_channels}
-use Rattle.irc_acts.specs.Standing.{is_known, is_seen_from, mark_of}
+use Rattle.irc_acts.specs.Standing.{is_known, is_seen, mark_of}
 use Rattle.irc_queries.specs.Who.{user_line, member_if_seen, member_line, members_told, users_told, is_asked_for, is_channel_asked, told, asks_for_operators, end_of_who, who_steps}
 
 -- a WHO changes nothing and says nothing to others
@@ -32,10 +31,10 @@ lines_answer : (place : Place) (users : List User) → effects_among (map (user_
 lines_answer place [] = refl
 lines_answer place (user ∷ users) = lines_answer place users
 
-first_answers : (room : Room) (place : Place) (own : List Channel) (me : User) (channel : Channel) (flags : Flags) (found : Option User) (acts : List Act)
-    → effects_among acts ≡ [] → effects_among (cons_option (option_and_then (member_if_seen place own me channel flags) found) acts) ≡ []
-first_answers room place own me channel flags None acts none = none
-first_answers room place own me channel flags (Some user) acts none = by_test (is_seen_from own me user)
+first_answers : (room : Room) (place : Place) (seen : User → Bool) (channel : Channel) (flags : Flags) (found : Option User) (acts : List Act)
+    → effects_among acts ≡ [] → effects_among (cons_option (option_and_then (member_if_seen place seen channel flags) found) acts) ≡ []
+first_answers room place seen channel flags None acts none = none
+first_answers room place seen channel flags (Some user) acts none = by_test (seen user)
   where
     line : Act
     line = user_line place (Some channel.name) (mark_of flags) user
@@ -44,24 +43,24 @@ first_answers room place own me channel flags (Some user) acts none = by_test (i
     by_test true = none
     by_test false = none
 
-members_answer : (room : Room) (place : Place) (own : List Channel) (me : User) (channel : Channel) (members : List (List ℕ × Flags))
-    → effects_among (filter_map (member_line room place own me channel) members) ≡ []
-members_answer room place own me channel [] = refl
-members_answer room place own me channel (member ∷ members) =
-    first_answers room place own me channel member.1 (row room.users member.0) (filter_map (member_line room place own me channel) members)
-    (members_answer room place own me channel members)
+members_answer : (room : Room) (place : Place) (seen : User → Bool) (channel : Channel) (members : List (List ℕ × Flags))
+    → effects_among (filter_map (member_line room place seen channel) members) ≡ []
+members_answer room place seen channel [] = refl
+members_answer room place seen channel (member ∷ members) =
+    first_answers room place seen channel member.1 (row room.users member.0) (filter_map (member_line room place seen channel) members)
+    (members_answer room place seen channel members)
 
-channel_answers : (room : Room) (place : Place) (own : List Channel) (me : User) (found : Option Channel) → effects_among (members_told room place own me found) ≡ []
-channel_answers room place own me None = refl
-channel_answers room place own me (Some channel) =
-    either (is_known me channel) (filter_map (member_line room place own me channel) (entries channel.members)) [] (members_answer room place own me channel (entries channel.members)) refl
+channel_answers : (room : Room) (place : Place) (seen : User → Bool) (me : User) (found : Option Channel) → effects_among (members_told room place seen me found) ≡ []
+channel_answers room place seen me None = refl
+channel_answers room place seen me (Some channel) =
+    either (is_known me channel) (filter_map (member_line room place seen channel) (entries channel.members)) [] (members_answer room place seen channel (entries channel.members)) refl
 
 told_answers : (room : Room) (place : Place) (me : User) (asked : List ℕ) → effects_among (told room place me asked) ≡ []
 told_answers room place me asked =
-    let own = own_channels room me in
-    either (is_channel_asked asked) (members_told room place own me (row room.channels (key asked))) (users_told place own me asked (values room.users))
-    (channel_answers room place own me (row room.channels (key asked)))
-    (lines_answer place (filter (λ user. is_asked_for asked user && is_seen_from own me user) (values room.users)))
+    let seen = λ (user : User). is_seen room me user in
+    either (is_channel_asked asked) (members_told room place seen me (row room.channels (key asked))) (users_told place seen asked (values room.users))
+    (channel_answers room place seen me (row room.channels (key asked)))
+    (lines_answer place (filter (λ user. is_asked_for asked user && seen user) (values room.users)))
 
 pub who_only_answers : WhoOnlyAnswers
 unfolding who_steps

@@ -1,9 +1,10 @@
 use Rattle.irc_routes.specs.Known.{place_of}
 use Rattle.std.proofs.Common.{◌≡◌, ◌++◌, map, take}
+use Rattle.irc_acts.specs.Standing.{is_seen_from}
 use Rattle.irc_queries.specs.Who.{users_told}
 use Rattle.irc_queries.proofs.who.put_users.Given as goal
 
 abbrev pub invariant-loop-user : goal.invariant-loop-user
 invariant-loop-user l =
     l.steps.items
-    ≡ l.fn.steps.items ++ users_told (place_of l.context.routes.now) (map (λ row. row.now.value) l.own) l.context.me.now l.mask (map (λ user. user.now) (take l.user-index l.user-items))
+    ≡ l.fn.steps.items ++ users_told (place_of l.context.routes.now) (λ user. is_seen_from (map (λ row. row.now.value) l.own) l.context.me.now user) l.mask (map (λ user. user.now) (take l.user-index l.user-items))
