@@ -10,33 +10,10 @@ use Rattle.irc_channels.specs.Channels.{ban_changed, bans_by_word, mask_in, with
 use Rattle.irc_channels.specs.Loops.ManyChanges.{bans_by_mask}
 use Rattle.irc_channels.proofs.BanPlaces.{placed, places, is_placed, set_there, rises-filter, found_any, taken_out}
 use Rattle.irc_moderation.specs.Loops.KeptChanges.{ban_changed_to}
-use Rattle.irc_moderation.proofs.MasksByFold.{same_is_mask}
+use Rattle.irc_moderation.specs.Laws.BansFound.{find_any, find_passes, any_alike}
 
 never : {A : Type 0} → true ≡ false → A
 never e = cc
-
--- ---- what a search finds
-
-find_any : {X : Type 0} (p : X → Bool) (xs : List X) → is_some (find p xs) ≡ list_any p xs
-find_any p [] = refl
-find_any p (x ∷ xs) = by (p x) (find_any p xs)
-  where
-    by : (test : Bool) → is_some (find p xs) ≡ list_any p xs → is_some (cond test (Some x) (find p xs)) ≡ (test || list_any p xs)
-    by true rest = refl
-    by false rest = rest
-
-find_passes : {X : Type 0} (p : X → Bool) (xs : List X) (x : X) → find p xs ≡ Some x → p x ≡ true
-find_passes p [] x is = cc
-find_passes p (y ∷ xs) x is = by (p y) refl is (λ found. find_passes p xs x found)
-  where
-    by : (test : Bool) → p y ≡ test → cond test (Some y) (find p xs) ≡ Some x → (find p xs ≡ Some x → p x ≡ true) → p x ≡ true
-    by true passes found later = ap p (sym (ap (λ o. unwrap_or o y) found)) ∙ passes
-    by false fails found later = later found
-
-any_alike : (x m : List ℕ) → same x m ≡ true → (bans : List (List ℕ)) → list_any (same x) bans ≡ list_any (same m) bans
-any_alike x m is [] = refl
-any_alike x m is (ban ∷ bans) =
-    ap (λ b. b || list_any (same x) bans) (same-equivalence.congr x m ban is) ∙ ap (λ b. same m ban || b) (any_alike x m is bans)
 
 -- ---- what is found with a mask
 
@@ -180,7 +157,3 @@ by_mask plus (Some word) bans = by (is_ban_mask word)
     by : (test : Bool) → cond test (ban_changed plus word bans) bans ≡ bans_by_mask plus (cond test (Some word) None) bans
     by true = refl
     by false = refl
-
--- a ban that was found by a mask of a ban is one
-pub stored_is_mask : (mask there : List ℕ) (bans : List (List ℕ)) → is_ban_mask mask ≡ true → find (same mask) bans ≡ Some there → is_ban_mask there ≡ true
-stored_is_mask mask there bans is found = same_is_mask mask there (find_passes (same mask) bans there found) is

@@ -6,14 +6,7 @@ use Rattle.irc_channels.proofs.DigitSteps.{limit-few}
 use Rattle.irc_channels.specs.Channels.{is_limit}
 use Rattle.irc_channels.specs.Limits.{max_mode_word}
 use Rattle.irc_moderation.specs.Judging.{without_zeros}
-
-shorter : (digits : List ℕ) → length (without_zeros digits) ≤ length digits
-shorter [] = omega arith
-shorter (digit ∷ digits) = by (nat_eq digit 0x30) (shorter digits)
-  where
-    by : (test : Bool) → length (without_zeros digits) ≤ length digits → length (cond test (without_zeros digits) (digit ∷ digits)) ≤ suc (length digits)
-    by true rest = omega (arith, rest)
-    by false rest = omega arith
+use Rattle.irc_moderation.specs.Laws.LimitsWritten.{shorter}
 
 within_word : (n : ℕ) → n ≤ 5 → n ≤ 90
 within_word n few = omega (arith, few)

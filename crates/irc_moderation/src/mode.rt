@@ -1,6 +1,7 @@
 //! MODE.
 ghost use Rattle.std.specs.Prelude.{◌≡◌, IfOk};
 ghost use Rattle.irc_line.specs.PartViews.{words_now};
+ghost use Rattle.irc_moderation.specs.Laws.ChangesLaw.{ModeDoesSomething};
 ghost use Rattle.irc_moderation.specs.Laws.InvitationsLaw.{ModeLooksAtNoInvitations};
 ghost use Rattle.irc_moderation.specs.Laws.ModeLaw.{ModeIsOwn};
 ghost use Rattle.irc_moderation.specs.Mode.{mode_steps, names_channel};
@@ -49,4 +50,9 @@ pub fn is_own()
 /// A law: a MODE does the same in rooms that differ in invitations alone.
 pub fn looks_at_no_invitations()
     ensures { ModeLooksAtNoInvitations }
+{}
+
+/// A law: each change that a MODE makes leaves another channel than those before it have left, and a user's own mode is made another.
+pub fn does_something()
+    ensures { ModeDoesSomething }
 {}
