@@ -21,7 +21,7 @@ use Rattle.irc_moderation.specs.declared.verdict.Verdict.TheVariants.{Says, Keep
 use Rattle.irc_moderation.specs.ChannelMode.{outcome_of}
 use Rattle.irc_moderation.specs.Judging.{judge}
 use Rattle.irc_moderation.specs.Laws.JudgedWalk.{IsSo, judged_so}
-use Rattle.irc_moderation.specs.Loops.KeptChanges.{op_set, voice_set, flags_changed, flags_by, ban_changed_to, ban_by, count_by, without_bans, Follows}
+use Rattle.irc_moderation.specs.Loops.KeptChanges.{op_set, voice_set, flags_changed, flags_by, ban_by, count_by, without_bans, Follows}
 use Rattle.irc_moderation.specs.Laws.BansFound.{stored_is_mask}
 use Rattle.irc_moderation.proofs.BansBehind.{found_behind, rises_behind, one_more, one_less, by_mask}
 

@@ -1,6 +1,5 @@
 //! MODE of a channel.
-ghost use Rattle.std.specs.Prelude.{◌≡◌, ◌&&◌, not, [], ◌++◌, true, IfOk, OnOk, if◌then◌else◌};
-ghost use Rattle.std.specs.Prelude.{fold};
+ghost use Rattle.std.specs.Prelude.{◌≡◌, [], ◌++◌, fold, IfOk, OnOk};
 ghost use Rattle.irc_names.specs.Fold.{key};
 ghost use Rattle.irc_names.specs.Tables.{row};
 ghost use Rattle.irc_line.specs.PartViews.{words_now};

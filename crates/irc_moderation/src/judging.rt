@@ -1,7 +1,7 @@
 //! What comes of a change of a channel's modes that an operator asks for.
-ghost use Rattle.std.specs.Prelude.{◌≡◌, ◌&&◌, not, true, false, Some, None, length, nat_eq, IsTrue};
+ghost use Rattle.std.specs.Prelude.{◌≡◌, true, false, Some, nat_eq};
 ghost use Rattle.std.specs.Option.{option_copied, option_map_or};
-ghost use Rattle.irc_channels.specs.Channels.{all_changed, is_limit, mask_in, number_of};
+ghost use Rattle.irc_channels.specs.Channels.{all_changed, mask_in};
 ghost use Rattle.irc_channels.specs.Texts.{IsModeWord};
 ghost use Rattle.irc_channels.specs.declared.modes.ModeLetter.TheVariants.{Ban as BanLetter};
 ghost use Rattle.irc_moderation.specs.declared.verdict.Verdict.TheVariants.{Keeps};

@@ -1,5 +1,5 @@
 -- What a search among bans finds.
-use Rattle.std.proofs.Common.{◌≡◌, ℕ, Bool, true, false, cond, ◌||◌, Option, Some, None, List, [], ◌∷◌, find, unwrap_or, is_some, refl, sym, ◌∙◌, ap}
+use Rattle.std.proofs.Common.{◌≡◌, ℕ, Bool, true, false, cond, ◌||◌, Some, List, [], ◌∷◌, find, unwrap_or, is_some, refl, sym, ◌∙◌, ap}
 use Rattle.std.specs.List.{list_any}
 use Rattle.irc_names.specs.Fold.{same}
 use Rattle.irc_names.specs.FoldLaws.{same-equivalence}
