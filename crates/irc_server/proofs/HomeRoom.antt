@@ -21,8 +21,8 @@ use Rattle.irc_room.specs.Seen.{Showing, seen, shown_to}
 use Rattle.irc_room.proofs.ViewerLaws.{both_true, below_none, own_showing}
 use Rattle.irc_server.specs.declared.clients.Client.TheVariants.{Registered}
 use Rattle.irc_server.specs.declared.event.Out.{Out}
-use Rattle.irc_server.specs.View.{Clients, View, client_of}
-use Rattle.irc_server.specs.Handle.{to_viewer, clients_after, view_after, with_effect}
+use Rattle.irc_server.specs.RoomMachine.{Clients, RoomMachine, client_of}
+use Rattle.irc_server.specs.Handle.{to_viewer, clients_after, machine_after, with_effect}
 use Rattle.irc_server.specs.Loops.Stage.{shown_of, all_shown, IsFit, IsSound}
 use Rattle.irc_server.proofs.Showings.{shown_to_none}
 use Rattle.irc_server.proofs.Index.{differs}
@@ -48,18 +48,19 @@ shown_again (s ∷ showings) = ap (λ l. s ∷ l) (shown_again showings)
 
 -- What is handed out is what is shown to clients: a viewer that is a client is at home.
 
-module _ (view : View) (kept : Kept) (effect : Effect) (room_is : kept.room ≡ view.room) (own_is : kept.own ≡ view.routes.name) (sound : IsSound kept)
-    (at_home : (conn : ℕ) (nick : List ℕ) (user : User) → client_of view conn ≡ Some (Registered nick) → row view.room.users (key nick) ≡ Some user
-    → user.home ≡ view.routes.name) where
+module _ (machine : RoomMachine) (kept : Kept) (effect : Effect) (room_is : kept.room ≡ machine.room) (own_is : kept.own ≡ machine.place.name)
+    (sound : IsSound kept)
+    (at_home : (conn : ℕ) (nick : List ℕ) (user : User) → client_of machine conn ≡ Some (Registered nick) → row machine.room.users (key nick) ≡ Some user
+    → user.home ≡ machine.place.name) where
   -- one that is not at home is no client
   abroad : (fold : List ℕ) (user : User) → row kept.room.users fold ≡ Some user → (s : Showing) → shown_to kept.room effect user ≡ Some s → is_own kept s ≡ false
-      → to_viewer view.clients s ≡ []
-  abroad fold user is s shown not_own = shown_to_none view.clients s (λ conn name client. differs name s.viewer (λ one. never conn name client one))
+      → to_viewer machine.clients s ≡ []
+  abroad fold user is s shown not_own = shown_to_none machine.clients s (λ conn name client. differs name s.viewer (λ one. never conn name client one))
     where
       viewer_fold : key s.viewer ≡ fold
       viewer_fold = ap key ((own_showing kept.room effect).viewer user s shown) ∙ sound.well_formed.users_named fold user is
 
-      there : (name : List ℕ) → key name ≡ key s.viewer → row view.room.users (key name) ≡ Some user
+      there : (name : List ℕ) → key name ≡ key s.viewer → row machine.room.users (key name) ≡ Some user
       there name one = ap (λ (r : Room). row r.users (key name)) (sym room_is) ∙ ap (row kept.room.users) (one ∙ viewer_fold) ∙ is
 
       own_it : user.home ≡ kept.own → is_own kept s ≡ true
@@ -68,19 +69,19 @@ module _ (view : View) (kept : Kept) (effect : Effect) (room_is : kept.room ≡ 
           ∙ ap (λ o. option_map_or (is_home kept.own) o false) is
           ∙ (bytes_decides user.home kept.own).1 home
 
-      never : (conn : ℕ) (name : List ℕ) → client_of view conn ≡ Some (Registered name) → key name ≡ key s.viewer → ⊥
+      never : (conn : ℕ) (name : List ℕ) → client_of machine conn ≡ Some (Registered name) → key name ≡ key s.viewer → ⊥
       never conn name client one =
           let own = own_it (at_home conn name user client (there name one) ∙ sym own_is) in cc
 
-  one_shown : (s : Showing) (b : Bool) (rest : List Showing) → is_own kept s ≡ b → (b ≡ false → to_viewer view.clients s ≡ [])
-      → flat_map (to_viewer view.clients) (cond b (s ∷ rest) rest) ≡ to_viewer view.clients s ++ flat_map (to_viewer view.clients) rest
+  one_shown : (s : Showing) (b : Bool) (rest : List Showing) → is_own kept s ≡ b → (b ≡ false → to_viewer machine.clients s ≡ [])
+      → flat_map (to_viewer machine.clients) (cond b (s ∷ rest) rest) ≡ to_viewer machine.clients s ++ flat_map (to_viewer machine.clients) rest
   one_shown s true rest own none = refl
-  one_shown s false rest own none = ap (λ l. l ++ flat_map (to_viewer view.clients) rest) (sym (none refl))
+  one_shown s false rest own none = ap (λ l. l ++ flat_map (to_viewer machine.clients) rest) (sym (none refl))
 
   filter_shown : (es : List (List ℕ × User))
-      → AllByRecursion (λ (e : List ℕ × User). (s : Showing) → shown_to kept.room effect e.1 ≡ Some s → is_own kept s ≡ false → to_viewer view.clients s ≡ []) es
-      → flat_map (to_viewer view.clients) (filter (is_own kept) (filter_map (shown_to kept.room effect) (map (λ e. e.1) es)))
-      ≡ flat_map (to_viewer view.clients) (filter_map (shown_to kept.room effect) (map (λ e. e.1) es))
+      → AllByRecursion (λ (e : List ℕ × User). (s : Showing) → shown_to kept.room effect e.1 ≡ Some s → is_own kept s ≡ false → to_viewer machine.clients s ≡ []) es
+      → flat_map (to_viewer machine.clients) (filter (is_own kept) (filter_map (shown_to kept.room effect) (map (λ e. e.1) es)))
+      ≡ flat_map (to_viewer machine.clients) (filter_map (shown_to kept.room effect) (map (λ e. e.1) es))
   filter_shown [] all = refl
   filter_shown (e ∷ es) all = by_shown (shown_to kept.room effect e.1) refl (filter_shown es all.1)
     where
@@ -88,34 +89,35 @@ module _ (view : View) (kept : Kept) (effect : Effect) (room_is : kept.room ≡ 
       rest = filter_map (shown_to kept.room effect) (map (λ e. e.1) es)
 
       by_shown : (o : Option Showing) → shown_to kept.room effect e.1 ≡ o
-          → flat_map (to_viewer view.clients) (filter (is_own kept) (filter_map (shown_to kept.room effect) (map (λ e. e.1) es)))
-          ≡ flat_map (to_viewer view.clients) (filter_map (shown_to kept.room effect) (map (λ e. e.1) es))
-          → flat_map (to_viewer view.clients) (filter (is_own kept) (cons_option o (filter_map (shown_to kept.room effect) (map (λ e. e.1) es))))
-          ≡ flat_map (to_viewer view.clients) (cons_option o (filter_map (shown_to kept.room effect) (map (λ e. e.1) es)))
+          → flat_map (to_viewer machine.clients) (filter (is_own kept) (filter_map (shown_to kept.room effect) (map (λ e. e.1) es)))
+          ≡ flat_map (to_viewer machine.clients) (filter_map (shown_to kept.room effect) (map (λ e. e.1) es))
+          → flat_map (to_viewer machine.clients) (filter (is_own kept) (cons_option o (filter_map (shown_to kept.room effect) (map (λ e. e.1) es))))
+          ≡ flat_map (to_viewer machine.clients) (cons_option o (filter_map (shown_to kept.room effect) (map (λ e. e.1) es)))
       by_shown None is later = later
       by_shown (Some s) is later =
           one_shown s (is_own kept s) (filter (is_own kept) (filter_map (shown_to kept.room effect) (map (λ e. e.1) es))) refl (all.0 s is)
-          ∙ ap (λ l. to_viewer view.clients s ++ l) later
+          ∙ ap (λ l. to_viewer machine.clients s ++ l) later
 
-  all_handed : flat_map (to_viewer view.clients) (filter (is_own kept) (seen kept.room effect)) ≡ flat_map (to_viewer view.clients) (seen kept.room effect)
+  all_handed : flat_map (to_viewer machine.clients) (filter (is_own kept) (seen kept.room effect)) ≡ flat_map (to_viewer machine.clients)
+      (seen kept.room effect)
   unfolding seen
   all_handed = by_idle (is_idle kept.room effect)
     where
-      by_idle : (b : Bool) → flat_map (to_viewer view.clients) (filter (is_own kept) (if b then [] else filter_map (shown_to kept.room effect) (values kept.room.users)))
-          ≡ flat_map (to_viewer view.clients) (if b then [] else filter_map (shown_to kept.room effect) (values kept.room.users))
+      by_idle : (b : Bool) → flat_map (to_viewer machine.clients) (filter (is_own kept) (if b then [] else filter_map (shown_to kept.room effect) (values kept.room.users)))
+          ≡ flat_map (to_viewer machine.clients) (if b then [] else filter_map (shown_to kept.room effect) (values kept.room.users))
       by_idle true = refl
       by_idle false =
           filter_shown (entries kept.room.users)
-          (each_entry (λ q user. (s : Showing) → shown_to kept.room effect user ≡ Some s → is_own kept s ≡ false → to_viewer view.clients s ≡ [])
+          (each_entry (λ q user. (s : Showing) → shown_to kept.room effect user ≡ Some s → is_own kept s ≡ false → to_viewer machine.clients s ≡ [])
           (entries kept.room.users) (entries_sorted kept.room.users)
           (λ q user is. abroad q user (get-entries kept.room.users q ∙ is)))
 
   -- what the room hands out is all that clients are shown
-  pub all_handed_out : all_shown view.clients (shown_here kept effect) ≡ flat_map (to_viewer view.clients) (seen view.room effect)
+  pub all_handed_out : all_shown machine.clients (shown_here kept effect) ≡ flat_map (to_viewer machine.clients) (seen machine.room effect)
   all_handed_out =
-      ap (flat_map (to_viewer view.clients)) (shown_again (filter (is_own kept) (seen kept.room effect)))
+      ap (flat_map (to_viewer machine.clients)) (shown_again (filter (is_own kept) (seen kept.room effect)))
       ∙ all_handed
-      ∙ ap (λ (r : Room). flat_map (to_viewer view.clients) (seen r effect)) room_is
+      ∙ ap (λ (r : Room). flat_map (to_viewer machine.clients) (seen r effect)) room_is
 
 by_causes : (failed there known : Bool) → failed ≡ false → there ≡ true → known ≡ true
     → cond failed (Some Failed) (cond (not there) (Some NoSuchUser) (cond (not known) (Some NoSuchChannel) None)) ≡ None
@@ -125,14 +127,15 @@ by_causes false true false a b c = cc c
 by_causes false true true a b c = refl
 
 -- an effect on the room, what it hands out, and the clients that follow it
-pub effect_applied : (view : View) (kept now : Kept) (effect : Effect) → kept.room ≡ view.room → kept.own ≡ view.routes.name → IsSound kept → IsFit view effect
+pub effect_applied : (machine : RoomMachine) (kept now : Kept) (effect : Effect) → kept.room ≡ machine.room → kept.own ≡ machine.place.name → IsSound kept
+    → IsFit machine effect
     → (clients : Clients) (shown : List (List ℕ × ArrayVec ℕ)) (out out_after : List Out) → now ≡ record kept { room = after kept.room effect }
-    → shown ≡ shown_here kept effect → out_after ≡ out ++ all_shown view.clients shown → clients ≡ clients_after effect view.clients
-    → record { view = record view { clients = clients; room = now.room }; out = out_after } ≡ with_effect effect (record { view = view; out = out })
-effect_applied view kept now effect room_is own_is sound fit clients shown out out_after now_is shown_is out_is clients_are =
-    ap (λ (k : Kept). record { view = record view { clients = clients; room = k.room }; out = out_after }) now_is
-    ∙ ap (λ (r : Room). record { view = record view { clients = clients; room = after r effect }; out = out_after }) room_is
-    ∙ ap (λ cs. record { view = record view { clients = cs; room = after view.room effect }; out = out_after }) clients_are
-    ∙ ap (λ o. record { view = view_after view effect; out = o })
-    (out_is ∙ ap (λ l. out ++ all_shown view.clients l) shown_is
-    ∙ ap (λ l. out ++ l) (all_handed_out view kept effect room_is own_is sound fit.at_home))
+    → shown ≡ shown_here kept effect → out_after ≡ out ++ all_shown machine.clients shown → clients ≡ clients_after effect machine.clients
+    → record { machine = record machine { clients = clients; room = now.room }; out = out_after } ≡ with_effect effect (record { machine = machine; out = out })
+effect_applied machine kept now effect room_is own_is sound fit clients shown out out_after now_is shown_is out_is clients_are =
+    ap (λ (k : Kept). record { machine = record machine { clients = clients; room = k.room }; out = out_after }) now_is
+    ∙ ap (λ (r : Room). record { machine = record machine { clients = clients; room = after r effect }; out = out_after }) room_is
+    ∙ ap (λ cs. record { machine = record machine { clients = cs; room = after machine.room effect }; out = out_after }) clients_are
+    ∙ ap (λ o. record { machine = machine_after machine effect; out = o })
+    (out_is ∙ ap (λ l. out ++ all_shown machine.clients l) shown_is
+    ∙ ap (λ l. out ++ l) (all_handed_out machine kept effect room_is own_is sound fit.at_home))

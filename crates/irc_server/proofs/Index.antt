@@ -8,7 +8,7 @@ use Rattle.irc_names.specs.TableLaws.{same_fold, same_fold-refl, one_fold, row-a
 use Rattle.irc_room.proofs.Rows.{same_some}
 use Rattle.irc_server.specs.declared.clients.Client.{Client}
 use Rattle.irc_server.specs.declared.clients.Client.TheVariants.{Registering, Registered}
-use Rattle.irc_server.specs.View.{Clients, each_client}
+use Rattle.irc_server.specs.RoomMachine.{Clients, each_client}
 use Rattle.irc_server.specs.Handle.{renamed_in}
 use Rattle.irc_server.specs.Loops.Stage.{entered, departed, IsIndex, IsNamed, IsNoUser, IsFreeFor, IsFreeOf}
 use Rattle.irc_server.proofs.Numbers.{same_number, one_number, same_number-refl, same_clients, get-with, get-without, get-each}

@@ -6,6 +6,7 @@ pub mod Growing
 pub mod Showings
 pub mod HomeRoom
 pub mod Steps
+pub mod OneMachine
 pub mod WhatEventsDo
 pub mod NewServer
 pub mod Receiving

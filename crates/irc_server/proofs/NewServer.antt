@@ -10,7 +10,7 @@ use Rattle.irc_room.specs.Laws.{no_room}
 use Rattle.irc_room.proofs.WellFormedLaw.{no_room_is_well_formed}
 use Rattle.irc_server.specs.declared.clients.Client.{Client}
 use Rattle.irc_server.specs.declared.stage.Stage.{Stage}
-use Rattle.irc_server.specs.View.{View}
+use Rattle.irc_server.specs.RoomMachine.{RoomMachine}
 use Rattle.irc_server.specs.Matched.{IsMatched}
 use Rattle.irc_server.specs.Loops.Stage.{IsIndexed, IsReady, IsSound}
 
@@ -25,8 +25,8 @@ is_ready stage own own_is room_is indexed = record {
   indexed = indexed;
 }
 
-pub is_matched : (view : View) → view.clients ≡ empty → view.room ≡ no_room → IsMatched view
-is_matched view none empty_room = record {
+pub is_matched : (machine : RoomMachine) → machine.clients ≡ empty → machine.room ≡ no_room → IsMatched machine
+is_matched machine none empty_room = record {
   registered_is_user = λ conn nick is. let nobody = get-empty {X = Client} nat_cmp conn in let same = ap (λ cs. get cs conn) none in cc;
   user_has_one = λ conn other nick name is is_other same_names. let nobody = get-empty {X = Client} nat_cmp conn in let same = ap (λ cs. get cs conn) none in cc;
   user_has_client = λ fold user is home. let nobody = get-empty {X = User} fold_cmp fold in let same = ap (λ (r : Room). row r.users fold) empty_room in cc;

@@ -8,7 +8,7 @@ use Rattle.std.specs.FinMap.Entries.{below_all}
 use Rattle.irc_tables.proofs.OrderedEntries.{above-is, find-above}
 use Rattle.std.specs.FinMap.{get, insert, remove, entries, find, get-from_entries, get-entries, get-insert, get-remove, same_map, nat_cmp-IsAntisymmetric}
 use Rattle.irc_server.specs.declared.clients.Client.{Client}
-use Rattle.irc_server.specs.View.{Clients, each_client}
+use Rattle.irc_server.specs.RoomMachine.{Clients, each_client}
 use Rattle.irc_server.specs.Loops.Stage.{numbered}
 
 -- whether two numbers are one

@@ -4,24 +4,29 @@ use Rattle.std.proofs.lemmas.List.Elements.{filter_map-append}
 use Rattle.irc_server.specs.declared.event.Event.{Event}
 use Rattle.irc_server.specs.declared.event.Out.{Out}
 use Rattle.irc_server.specs.declared.event.ServerFault.{ServerFault}
-use Rattle.irc_server.specs.View.{View}
+use Rattle.irc_server.specs.RoomMachine.{RoomMachine}
+use Rattle.irc_server.specs.View.{View, machine_of}
 use Rattle.irc_server.specs.Handle.{handled}
 use Rattle.irc_server.specs.Happening.{happening_of, Does, IsHandled, takes_it, AreHandled}
+use Rattle.irc_server.proofs.OneMachine.{one_machine, same_out}
 use Rattle.irc_server.specs.Owed.{line_to, lines_to, after_all, owed, happenings_of, Receives}
 
 receives_more : (view after : View) (event : Event) (events : List Event) (out out_between : List Out) (new : Option View) (out_after : List Out)
     → Does view event out after out_between → Receives after events out_between new out_after → Receives view (event ∷ events) out new out_after
 receives_more view after event events out out_between new out_after does later =
-    let put = (handled view (happening_of event)).out in
+    let happening = happening_of event in
+    let put = (handled (machine_of view) happening).out in
     let left = happenings_of events in
+    let after_is : machine_of after ≡ (handled (machine_of view) happening).machine = ap machine_of does.view_is ∙ one_machine view happening in
+    let out_is : out_between ≡ out ++ put = does.out_is ∙ ap (λ l. out ++ l) (same_out view happening) in
     record {
       view_is = later.view_is ∙ ap (λ (v : View). Some (after_all v left)) does.view_is;
       received = λ conn.
           later.received conn
-          ∙ ap (λ l. lines_to conn l ++ owed conn after left) does.out_is
-          ∙ ap (λ l. l ++ owed conn after left) (filter_map-append (line_to conn) out put)
-          ∙ append_assoc (lines_to conn out) (lines_to conn put) (owed conn after left)
-          ∙ ap (λ (v : View). lines_to conn out ++ (lines_to conn put ++ owed conn v left)) does.view_is;
+          ∙ ap (λ l. lines_to conn l ++ owed conn (machine_of after) left) out_is
+          ∙ ap (λ l. l ++ owed conn (machine_of after) left) (filter_map-append (line_to conn) out put)
+          ∙ append_assoc (lines_to conn out) (lines_to conn put) (owed conn (machine_of after) left)
+          ∙ ap (λ (m : RoomMachine). lines_to conn out ++ (lines_to conn put ++ owed conn m left)) after_is;
     }
 
 -- the first event is handled, and those behind it

@@ -16,7 +16,7 @@ use Rattle.irc_server.specs.declared.clients.Client.{Client}
 use Rattle.irc_server.specs.declared.clients.Client.TheVariants.{Registering, Registered}
 use Rattle.irc_server.specs.declared.event.Out.{Out}
 use Rattle.irc_server.specs.declared.event.Out.TheVariants.{ToClient}
-use Rattle.irc_server.specs.View.{Clients}
+use Rattle.irc_server.specs.RoomMachine.{Clients}
 use Rattle.irc_server.specs.Handle.{is_client, to_viewer}
 use Rattle.irc_server.specs.Loops.Stage.{all_shown, shown_of, IsIndex}
 use Rattle.irc_server.proofs.Numbers.{here, later, none_behind, same_number}

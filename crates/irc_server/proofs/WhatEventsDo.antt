@@ -1,7 +1,8 @@
 -- What each event does, from what the functions below do.
-use Rattle.std.proofs.Common.{◌≡◌, ℕ, Bool, Option, Some, None, Result, Ok, Err, List, length, take, refl, sym, ◌∙◌, ap, subst, append-nil, option_map}
+use Rattle.std.proofs.Common.{◌≡◌, ℕ, Bool, Option, Some, None, Result, Ok, Err, List, map, length, take, refl, sym, ◌∙◌, ap, subst, option_map}
 use Rattle.std.proofs.Math.Seq.{take-append_seam}
 use Rattle.std.specs.Borrow.{Bor}
+use Rattle.std.specs.Global.{Vec}
 use Rattle.std.specs.Option.{option_copied}
 use Rattle.arrayvec.specs.ArrayVec.{ArrayVec}
 use Rattle.irc_line.specs.declared.reading.LineFault.{LineFault}
@@ -12,7 +13,6 @@ use Rattle.irc_channels.specs.Texts.{cut_words}
 use Rattle.irc_users.specs.declared.user.User.{User}
 use Rattle.irc_room.specs.Room.{IsWellFormed}
 use Rattle.irc_room.proofs.Rows.{same_some}
-use Rattle.irc_routes.specs.Known.{place_of}
 use Rattle.irc_acts.specs.declared.act.Act.{Act}
 use Rattle.irc_commands.specs.Decide.{decide}
 use Rattle.irc_server.specs.declared.clients.Client.{Client}
@@ -21,64 +21,82 @@ use Rattle.irc_server.specs.declared.event.Event.TheVariants.{Connect, Line, Gon
 use Rattle.irc_server.specs.declared.event.Out.{Out}
 use Rattle.irc_server.specs.declared.event.ServerFault.{ServerFault}
 use Rattle.irc_server.specs.declared.event.ServerFault.TheVariants.{Memory, Failed}
-use Rattle.irc_server.specs.View.{View, client_of, with_client}
-use Rattle.irc_server.specs.Handle.{Handled, handled, fault_of, there, fresh, gone, read_as, unchanged, closing, all_stepped, decided, user_decided, lost_text}
+use Rattle.irc_server.specs.declared.config.Peer.{Peer}
+use Rattle.irc_server.specs.declared.stage.Stage.{Stage}
+use Rattle.irc_server.specs.RoomMachine.{RoomMachine, client_of, with_client}
+use Rattle.irc_server.specs.View.{View, known_peer, machine_of}
+use Rattle.irc_server.specs.Handle.{Handled, handled, fresh, gone, read_as, unchanged, closing, all_stepped, decided, user_decided, lost_text}
 use Rattle.irc_server.specs.Happening.{happening_of, Does, IsHandled, takes_it, refuses_it, wants_memory, has_failed}
-use Rattle.irc_server.specs.Matched.{IsDue, IsMatched, StaysMatched}
+use Rattle.irc_server.specs.Matched.{IsDue}
+use Rattle.irc_server.specs.Served.{put_back, served, there, fault_of, AreMatched, ServedStaysMatched}
 use Rattle.irc_server.specs.Loops.Grown.{Grew}
-use Rattle.irc_server.specs.Loops.Stage.{behind}
-use Rattle.irc_server.proofs.Steps.{carried_behind}
+use Rattle.irc_server.specs.Loops.Stage.{behind, so_far, view_of, machine_at, Keeps}
+use Rattle.irc_server.proofs.Steps.{carried_behind, nothing_behind}
 
 pub copied_now : (o : Option (Bor (List ℕ))) → optional_now o ≡ option_copied o
 copied_now None = refl
 copied_now (Some bytes) = refl
 
 -- a decision that is carried out
-pub carried : (after : Handled) (conn : ℕ) (name name' : Option (List ℕ)) (acts acts' : List Act) (close close' : Bool) (view view' : View) (out : List Out)
-    → name ≡ name' → acts ≡ acts' → close ≡ close' → view ≡ view'
-    → after ≡ closing close conn (all_stepped conn name acts (record { view = view; out = out }))
-    → after ≡ behind out (closing close' conn (all_stepped conn name' acts' (unchanged view')))
-carried after conn name name' acts acts' close close' view view' out name_is acts_are close_is view_is is =
+pub carried : (after : Handled) (conn : ℕ) (name name' : Option (List ℕ)) (acts acts' : List Act) (close close' : Bool) (machine machine' : RoomMachine)
+    (out : List Out)
+    → name ≡ name' → acts ≡ acts' → close ≡ close' → machine ≡ machine'
+    → after ≡ closing close conn (all_stepped conn name acts (record { machine = machine; out = out }))
+    → after ≡ behind out (closing close' conn (all_stepped conn name' acts' (unchanged machine')))
+carried after conn name name' acts acts' close close' machine machine' out name_is acts_are close_is view_is is =
     is
-    ∙ ap (λ n. closing close conn (all_stepped conn n acts (record { view = view; out = out }))) name_is
-    ∙ ap (λ a. closing close conn (all_stepped conn name' a (record { view = view; out = out }))) acts_are
-    ∙ ap (λ b. closing b conn (all_stepped conn name' acts' (record { view = view; out = out }))) close_is
-    ∙ ap (λ (v : View). closing close' conn (all_stepped conn name' acts' (record { view = v; out = out }))) view_is
-    ∙ carried_behind out conn name' acts' close' view'
+    ∙ ap (λ n. closing close conn (all_stepped conn n acts (record { machine = machine; out = out }))) name_is
+    ∙ ap (λ a. closing close conn (all_stepped conn name' a (record { machine = machine; out = out }))) acts_are
+    ∙ ap (λ b. closing b conn (all_stepped conn name' acts' (record { machine = machine; out = out }))) close_is
+    ∙ ap (λ (v : RoomMachine). closing close' conn (all_stepped conn name' acts' (record { machine = v; out = out }))) view_is
+    ∙ carried_behind out conn name' acts' close' machine'
 
-pub decided_by_name : (view : View) (conn : ℕ) (o : Option User) (name : List ℕ) (message : Parsed) → option_map (λ (user : User). user.nick) o ≡ Some name
-    → decided view conn (Some name) (decide view.room (place_of view.routes) name message) ≡ user_decided view conn o message
-decided_by_name view conn None name message is = cc is
-decided_by_name view conn (Some user) name message is =
-    ap (λ n. decided view conn (Some n) (decide view.room (place_of view.routes) n message)) (sym (same_some (user.nick) name is))
+pub decided_by_name : (machine : RoomMachine) (conn : ℕ) (o : Option User) (name : List ℕ) (message : Parsed)
+    → option_map (λ (user : User). user.nick) o ≡ Some name
+    → decided machine conn (Some name) (decide machine.room machine.place name message) ≡ user_decided machine conn o message
+decided_by_name machine conn None name message is = cc is
+decided_by_name machine conn (Some user) name message is =
+    ap (λ n. decided machine conn (Some n) (decide machine.room machine.place n message)) (sym (same_some (user.nick) name is))
 
 pub lost_is_whole : cut_words lost_text ≡ lost_text
 unfolding cut_words
 lost_is_whole = refl
 
--- what each kind of event does
+-- what each kind of event does to the machine
 
-pub connected_does : (old new : View) (event : Event) (out : List Out) (conn : ℕ) (host : List ℕ) → event ≡ Connect conn host
-    → new ≡ with_client old conn (fresh host) → Does old event out new out
+pub connected_is : (old new : RoomMachine) (event : Event) (out : List Out) (conn : ℕ) (host : List ℕ) → event ≡ Connect conn host
+    → new ≡ with_client old conn (fresh host) → record { machine = new; out = out } ≡ behind out (handled old (happening_of event))
 unfolding handled
-connected_does old new event out conn host event_is new_is =
-    subst (λ (e : Event). Does old e out new out) (sym event_is) (record { view_is = new_is; out_is = sym (append-nil out) })
+connected_is old new event out conn host event_is new_is =
+    subst (λ (e : Event). record { machine = new; out = out } ≡ behind out (handled old (happening_of e))) (sym event_is)
+    (ap (λ (m : RoomMachine). record { machine = m; out = out }) new_is ∙ nothing_behind (with_client old conn (fresh host)) out)
 
-pub gone_does : (old new : View) (event : Event) (out out_after : List Out) (conn : ℕ) → event ≡ Gone conn
-    → record { view = new; out = out_after } ≡ behind out (gone old conn (client_of old conn)) → Does old event out new out_after
+pub gone_is : (old : RoomMachine) (event : Event) (out : List Out) (after : Handled) (conn : ℕ) → event ≡ Gone conn
+    → after ≡ behind out (gone old conn (client_of old conn)) → after ≡ behind out (handled old (happening_of event))
 unfolding handled
-gone_does old new event out out_after conn event_is is =
-    subst (λ (e : Event). Does old e out new out_after) (sym event_is)
-    (record { view_is = ap (λ (h : Handled). h.view) is; out_is = ap (λ (h : Handled). h.out) is })
+gone_is old event out after conn event_is is = subst (λ (e : Event). after ≡ behind out (handled old (happening_of e))) (sym event_is) is
 
-pub said_does : (old new : View) (event : Event) (out out_after : List Out) (conn : ℕ) (line : ArrayVec ℕ) (bytes : List ℕ) (read : Result Parsed LineFault)
+pub said_is : (old : RoomMachine) (event : Event) (out : List Out) (after : Handled) (conn : ℕ) (line : ArrayVec ℕ) (bytes : List ℕ)
+    (read : Result Parsed LineFault)
     → event ≡ Line conn line → bytes ≡ line.items → read ≡ read_of bytes
-    → record { view = new; out = out_after } ≡ behind out (read_as old conn read) → Does old event out new out_after
+    → after ≡ behind out (read_as old conn read) → after ≡ behind out (handled old (happening_of event))
 unfolding handled
-said_does old new event out out_after conn line bytes read event_is bytes_are read_is is =
-    let all = is ∙ ap (λ r. behind out (read_as old conn r)) (read_is ∙ ap read_of bytes_are) in
-    subst (λ (e : Event). Does old e out new out_after) (sym event_is)
-    (record { view_is = ap (λ (h : Handled). h.view) all; out_is = ap (λ (h : Handled). h.out) all })
+said_is old event out after conn line bytes read event_is bytes_are read_is is =
+    subst (λ (e : Event). after ≡ behind out (handled old (happening_of e))) (sym event_is)
+    (is ∙ ap (λ r. behind out (read_as old conn r)) (read_is ∙ ap read_of bytes_are))
+
+-- and so to the server
+
+pub does : (old new : Stage) (event : Event) (out out_after : List Out) → Keeps old new → so_far new out_after ≡ behind out (handled (machine_at old) (happening_of event))
+    → Does (view_of old) event out (view_of new) out_after
+unfolding served
+does old new event out out_after keeps is = record {
+  view_is =
+      ap (λ routes. record (view_of new) { routes = routes }) keeps.routes
+      ∙ ap (λ (peers : Vec Peer). record (view_of new) { routes = old.routes; peers = map known_peer peers.items }) keeps.peers
+      ∙ ap (λ (h : Handled). (put_back (view_of old) h).view) is;
+  out_is = ap (λ (h : Handled). h.out) is;
+}
 
 -- what comes of each way out of `handle`
 
@@ -109,16 +127,16 @@ nobody_there : (client : Option Client) → there client ≡ None → client ≡
 nobody_there None is = refl
 nobody_there (Some client) is = cc is
 
-pub absent : (view : View) (event : Event) (conn : ℕ) (host : List ℕ) → event ≡ Connect conn host → fault_of view event ≡ None → client_of view conn ≡ None
-absent view event conn host is owed = nobody_there (client_of view conn) (sym (ap (fault_of view) is) ∙ owed)
+pub absent : (view : View) (event : Event) (conn : ℕ) (host : List ℕ) → event ≡ Connect conn host → fault_of view event ≡ None → client_of (machine_of view) conn ≡ None
+absent view event conn host is owed = nobody_there (client_of (machine_of view) conn) (sym (ap (fault_of view) is) ∙ owed)
 
 -- where no fault is owed what happens is due
-due_by : (view : View) (event : Event) → fault_of view event ≡ None → IsDue view (happening_of event)
-due_by view (Connect conn host) owed = nobody_there (client_of view conn) owed
+due_by : (view : View) (event : Event) → fault_of view event ≡ None → IsDue (machine_of view) (happening_of event)
+due_by view (Connect conn host) owed = nobody_there (client_of (machine_of view) conn) owed
 due_by view (Line conn line) owed = tt
 due_by view (Gone conn) owed = tt
 
-pub matched_after : StaysMatched → (old new : View) (event : Event) (out out_after : List Out) → IsMatched old → IsWellFormed old.room → fault_of old event ≡ None
-    → Does old event out new out_after → IsMatched new
+pub matched_after : ServedStaysMatched → (old new : View) (event : Event) (out out_after : List Out) → AreMatched old → IsWellFormed old.room → fault_of old event ≡ None
+    → Does old event out new out_after → AreMatched new
 matched_after stays old new event out out_after matched well owed does =
-    subst IsMatched (sym does.view_is) (stays old matched well (happening_of event) (due_by old event owed))
+    subst AreMatched (sym does.view_is) (stays old matched well (happening_of event) (due_by old event owed))

@@ -57,6 +57,7 @@ abbrev pub new_view : Config → View
 new_view config = record {
   routes = alone_known config.own.name.items config.own.info.items config.own.created.items;
   peers = map known_peer config.peers.items;
+  ends = [];
   clients = empty;
   room = no_room;
 }

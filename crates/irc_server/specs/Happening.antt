@@ -7,7 +7,8 @@ use Rattle.irc_server.specs.declared.event.Out.{Out}
 use Rattle.irc_server.specs.declared.event.ServerFault.{ServerFault}
 use Rattle.irc_server.specs.declared.event.ServerFault.TheVariants.{Memory, Failed}
 use Rattle.irc_server.specs.View.{View}
-use Rattle.irc_server.specs.Handle.{Happening, connects, says, goes, handled, fault_of}
+use Rattle.irc_server.specs.Handle.{Happening, connects, says, goes}
+use Rattle.irc_server.specs.Served.{served, fault_of}
 
 -- what happens by an event; of a line, what it is read as
 abbrev pub happening_of : Event → Happening
@@ -17,8 +18,8 @@ happening_of (Gone conn) = goes conn
 
 -- an event is handled: the server is the one after it, and what it puts out is appended
 pub record Does (old : View) (event : Event) (out : List Out) (new : View) (out_after : List Out) : Type 0 where
-  pub view_is : new ≡ (handled old (happening_of event)).view
-  pub out_is : out_after ≡ out ++ (handled old (happening_of event)).out
+  pub view_is : new ≡ (served old (happening_of event)).view
+  pub out_is : out_after ≡ out ++ (served old (happening_of event)).out
 
 -- What comes of asking a server for an event: it is handled, it is refused and nothing changes, memory runs out, or memory ran out before.
 -- A server for which memory ran out is no view: it has failed for good.

@@ -11,12 +11,12 @@ use Rattle.irc_users.specs.UserTable.{is_home}
 use Rattle.irc_room.specs.Room.{IsWellFormed}
 use Rattle.irc_server.specs.declared.clients.Client.{Client}
 use Rattle.irc_server.specs.declared.clients.Client.TheVariants.{Registering, Registered}
-use Rattle.irc_server.specs.View.{Clients, View, client_of}
+use Rattle.irc_server.specs.RoomMachine.{Clients, RoomMachine, client_of}
 use Rattle.irc_server.specs.Handle.{Happening, connects, handled}
 
 -- whether there is a user of this nickname in the room, whose home is this server
-abbrev pub is_user_here : View → List ℕ → Bool
-is_user_here view nick = option_map_or (is_home view.routes.name) (row view.room.users (key nick)) false
+abbrev pub is_user_here : RoomMachine → List ℕ → Bool
+is_user_here machine nick = option_map_or (is_home machine.place.name) (row machine.room.users (key nick)) false
 
 -- whether a client is registered by a nickname with this fold
 abbrev pub is_user_of : List ℕ → Client → Bool
@@ -28,18 +28,18 @@ has_client clients fold = list_any (λ (c : ℕ × Client). is_user_of fold c.1)
 
 -- Each registered client is a user of the room whose home is this server, and each such user is one client's. That each connection
 -- number stands once is what a finite map says.
-pub record IsMatched (view : View) : Type 0 where
-  pub registered_is_user : (conn : ℕ) (nick : List ℕ) → client_of view conn ≡ Some (Registered nick) → is_user_here view nick ≡ true
-  pub user_has_one : (conn other : ℕ) (nick name : List ℕ) → client_of view conn ≡ Some (Registered nick) → client_of view other ≡ Some (Registered name)
+pub record IsMatched (machine : RoomMachine) : Type 0 where
+  pub registered_is_user : (conn : ℕ) (nick : List ℕ) → client_of machine conn ≡ Some (Registered nick) → is_user_here machine nick ≡ true
+  pub user_has_one : (conn other : ℕ) (nick name : List ℕ) → client_of machine conn ≡ Some (Registered nick) → client_of machine other ≡ Some (Registered name)
       → key name ≡ key nick → other ≡ conn
-  pub user_has_client : (fold : List ℕ) (user : User) → row view.room.users fold ≡ Some user → user.home ≡ view.routes.name
-      → has_client view.clients fold ≡ true
+  pub user_has_client : (fold : List ℕ) (user : User) → row machine.room.users fold ≡ Some user → user.home ≡ machine.place.name
+      → has_client machine.clients fold ≡ true
 
 -- a connection that connects is not there yet
-abbrev pub IsDue : View → Happening → Type 0
-IsDue view (connects conn host) = client_of view conn ≡ None
-IsDue view happening = ⊤
+abbrev pub IsDue : RoomMachine → Happening → Type 0
+IsDue machine (connects conn host) = client_of machine conn ≡ None
+IsDue machine happening = ⊤
 
 -- Whatever happens, clients and users stay matched.
 abbrev pub StaysMatched : Type 0
-StaysMatched = (view : View) → IsMatched view → IsWellFormed view.room → (happening : Happening) → IsDue view happening → IsMatched (handled view happening).view
+StaysMatched = (machine : RoomMachine) → IsMatched machine → IsWellFormed machine.room → (happening : Happening) → IsDue machine happening → IsMatched (handled machine happening).machine

@@ -4,8 +4,10 @@ use Rattle.std.specs.List.{filter_map}
 use Rattle.irc_server.specs.declared.event.Event.{Event}
 use Rattle.irc_server.specs.declared.event.Out.{Out}
 use Rattle.irc_server.specs.declared.event.Out.TheVariants.{ToClient, CloseClient}
-use Rattle.irc_server.specs.View.{View}
+use Rattle.irc_server.specs.RoomMachine.{RoomMachine}
+use Rattle.irc_server.specs.View.{View, machine_of}
 use Rattle.irc_server.specs.Handle.{Happening, handled}
+use Rattle.irc_server.specs.Served.{served}
 use Rattle.irc_server.specs.Happening.{happening_of}
 
 -- a line, where it is one to this connection
@@ -20,18 +22,18 @@ lines_to conn out = filter_map (line_to conn) out
 -- the server after these happenings
 abbrev pub after_all : View → List Happening → View
 after_all view [] = view
-after_all view (happening ∷ happenings) = after_all (handled view happening).view happenings
+after_all view (happening ∷ happenings) = after_all (served view happening).view happenings
 
 -- what a connection is owed by them
-abbrev pub owed : ℕ → View → List Happening → List (List ℕ)
-owed conn view [] = []
-owed conn view (happening ∷ happenings) = lines_to conn (handled view happening).out ++ owed conn (handled view happening).view happenings
+abbrev pub owed : ℕ → RoomMachine → List Happening → List (List ℕ)
+owed conn machine [] = []
+owed conn machine (happening ∷ happenings) = lines_to conn (handled machine happening).out ++ owed conn (handled machine happening).machine happenings
 
 -- what happens by these events
 abbrev pub happenings_of : List Event → List Happening
 happenings_of events = map happening_of events
 
--- From one view of a server to another by these events, each connection has received what it is owed.
+-- From one view of a server to another by these events, each connection has received what the room machine that the server was to it owes it.
 pub record Receives (old : View) (events : List Event) (out : List Out) (new : Option View) (out_after : List Out) : Type 0 where
   pub view_is : new ≡ Some (after_all old (happenings_of events))
-  pub received : (conn : ℕ) → lines_to conn out_after ≡ lines_to conn out ++ owed conn old (happenings_of events)
+  pub received : (conn : ℕ) → lines_to conn out_after ≡ lines_to conn out ++ owed conn (machine_of old) (happenings_of events)

@@ -1,15 +1,9 @@
--- What a server is, to those above: its configuration, its clients, its room. No index, queue or link is in it.
-use Rattle.std.specs.Prelude.{ℕ, Option, List, map}
-use Rattle.std.specs.Ordering.{nat_cmp}
-use Rattle.std.specs.FinMap.{FinMap, get, insert, remove, entries, from_entries}
-use Rattle.irc_routes.specs.Known.{Known}
+-- What a server is, to those above: what it knows of others, its configuration, its links, its clients, its room. No index or queue is in it.
+use Rattle.std.specs.Prelude.{◌≡◌, ℕ, Option, List, []}
+use Rattle.irc_routes.specs.Known.{Known, others, place_of}
 use Rattle.irc_room.specs.Room.{Room}
-use Rattle.irc_server.specs.declared.clients.Client.{Client}
 use Rattle.irc_server.specs.declared.config.Peer.{Peer}
-
--- the clients, each under the number of its connection
-abbrev pub Clients : Type 0
-Clients = FinMap nat_cmp Client
+use Rattle.irc_server.specs.RoomMachine.{Clients, RoomMachine}
 
 -- a server that may be linked to, and the password that both give each other
 pub record KnownPeer : Type 0 where
@@ -19,21 +13,26 @@ pub record KnownPeer : Type 0 where
 abbrev pub known_peer : Peer → KnownPeer
 known_peer peer = record { name = peer.name.items; password = peer.password.items }
 
+-- the end of an open link: its number; the name that it was opened to, where it is the end that starts; the password that it was given; the name of
+-- the server behind it, once that has told it
+pub record End : Type 0 where
+  pub link : ℕ
+  pub starts : Option (List ℕ)
+  pub password : Option (List ℕ)
+  pub far : Option (List ℕ)
+
 pub record View : Type 0 where
   pub routes : Known
   pub peers : List KnownPeer
+  pub ends : List End
   pub clients : Clients
   pub room : Room
 
-abbrev pub client_of : View → ℕ → Option Client
-client_of view conn = get view.clients conn
+-- the room machine that a server is to its clients
+abbrev pub machine_of : View → RoomMachine
+machine_of view = record { place = place_of view.routes; clients = view.clients; room = view.room }
 
-abbrev pub with_client : View → ℕ → Client → View
-with_client view conn client = record view { clients = insert view.clients conn client }
-
-abbrev pub without_client : View → ℕ → View
-without_client view conn = record view { clients = remove view.clients conn }
-
--- each client changed
-abbrev pub each_client : (Client → Client) → Clients → Clients
-each_client change clients = from_entries (map (λ (e : ℕ × Client). (e.0, change e.1)) (entries clients))
+-- no link of the server is open, and it knows no other server
+pub record IsAlone (view : View) : Type 0 where
+  pub no_ends : view.ends ≡ []
+  pub no_others : others view.routes ≡ []

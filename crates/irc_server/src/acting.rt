@@ -6,12 +6,13 @@ ghost use Rattle.irc_line.specs.MessageViews.{parsed};
 ghost use Rattle.irc_names.specs.Fold.{key};
 ghost use Rattle.irc_names.specs.Tables.{row};
 ghost use Rattle.irc_commands.specs.CodeViews.{registered_of};
-ghost use Rattle.irc_server.specs.Handle.{client_after, fault_of, fresh, gone, lost_text, pending_decided, said_by, user_decided, user_of};
+ghost use Rattle.irc_server.specs.Handle.{client_after, fresh, gone, lost_text, pending_decided, said_by, user_decided, user_of};
 ghost use Rattle.irc_server.specs.Happening.{Does};
 ghost use Rattle.irc_server.specs.Matched.{IsMatched};
-ghost use Rattle.irc_server.specs.View.{client_of, with_client, without_client};
+ghost use Rattle.irc_server.specs.Served.{fault_of};
+ghost use Rattle.irc_server.specs.RoomMachine.{client_of, with_client, without_client};
 ghost use Rattle.irc_server.specs.Loops.Grown.{Grew};
-ghost use Rattle.irc_server.specs.Loops.Stage.{behind, so_far, view_of, AreFit, IsFreeOf, IsNoUser, IsReady};
+ghost use Rattle.irc_server.specs.Loops.Stage.{behind, machine_at, so_far, view_of, AreFit, IsFreeOf, IsNoUser, IsReady, Keeps};
 
 use crate::clients::{Client, client_of, seat, take_out};
 use crate::event::{Event, Out};
@@ -29,9 +30,10 @@ const LOST: &[u8] = b"Connection closed";
 /// A client connects, and has given nothing.
 fn connect(stage: &mut Stage, conn: u64, host: Host) -> Result<(), AllocError>
     requires ready { IsReady stage.old }
-    requires absent { client_of (view_of stage.old) conn ≡ None }
-    ensures ok { OnOk result (view_of stage.new ≡ with_client (view_of stage.old) conn (fresh host)) }
+    requires absent { client_of (machine_at stage.old) conn ≡ None }
+    ensures ok { OnOk result (machine_at stage.new ≡ with_client (machine_at stage.old) conn (fresh host)) }
     ensures ready { OnOk result (IsReady stage.new) }
+    ensures keeps { Keeps stage.old stage.new }
 {
     let client = Client::Registering(Pending::new(host));
     seat(&mut stage.clients, conn, client)
@@ -55,11 +57,12 @@ fn settle(
     out: &mut Vec<Out, Global>,
 ) -> Result<(), AllocError>
     requires ready { IsReady stage.old }
-    requires no_user { IsNoUser (client_of (view_of stage.old) conn) }
-    requires free { IsFreeOf (client_after (registered_of given.now) given.now.pending.nick) (view_of stage.old).clients }
-    requires fit { AreFit (with_client (view_of stage.old) conn (client_after (registered_of given.now) given.now.pending.nick)) given.now.steps.items }
-    ensures ok { OnOk result (so_far stage.new out.new.items ≡ behind out.old.items (pending_decided (view_of stage.old) conn (registered_of given.now))) }
+    requires no_user { IsNoUser (client_of (machine_at stage.old) conn) }
+    requires free { IsFreeOf (client_after (registered_of given.now) given.now.pending.nick) (machine_at stage.old).clients }
+    requires fit { AreFit (with_client (machine_at stage.old) conn (client_after (registered_of given.now) given.now.pending.nick)) given.now.steps.items }
+    ensures ok { OnOk result (so_far stage.new out.new.items ≡ behind out.old.items (pending_decided (machine_at stage.old) conn (registered_of given.now))) }
     ensures ready { OnOk result (IsReady stage.new) }
+    ensures keeps { Keeps stage.old stage.new }
     ensures grew { Grew out.old.items out.new.items }
 {
     seat(&mut stage.clients, conn, client_after(given))?;
@@ -76,9 +79,10 @@ fn obey(
     out: &mut Vec<Out, Global>,
 ) -> Result<(), AllocError>
     requires ready { IsReady stage.old }
-    requires matched { IsMatched (view_of stage.old) }
-    ensures ok { OnOk result (so_far stage.new out.new.items ≡ behind out.old.items (user_decided (view_of stage.old) conn (row stage.old.room.room.users (key nick.now)) (parsed message.now))) }
+    requires matched { IsMatched (machine_at stage.old) }
+    ensures ok { OnOk result (so_far stage.new out.new.items ≡ behind out.old.items (user_decided (machine_at stage.old) conn (row stage.old.room.room.users (key nick.now)) (parsed message.now))) }
     ensures ready { OnOk result (IsReady stage.new) }
+    ensures keeps { Keeps stage.old stage.new }
     ensures grew { Grew out.old.items out.new.items }
 {
     laws::decided_is_possible();
@@ -116,9 +120,10 @@ fn hear(
     out: &mut Vec<Out, Global>,
 ) -> Result<(), AllocError>
     requires ready { IsReady stage.old }
-    requires matched { IsMatched (view_of stage.old) }
-    ensures ok { OnOk result (so_far stage.new out.new.items ≡ behind out.old.items (said_by (view_of stage.old) conn (client_of (view_of stage.old) conn) (parsed message.now))) }
+    requires matched { IsMatched (machine_at stage.old) }
+    ensures ok { OnOk result (so_far stage.new out.new.items ≡ behind out.old.items (said_by (machine_at stage.old) conn (client_of (machine_at stage.old) conn) (parsed message.now))) }
     ensures ready { OnOk result (IsReady stage.new) }
+    ensures keeps { Keeps stage.old stage.new }
     ensures grew { Grew out.old.items out.new.items }
 {
     laws::registering_is_possible();
@@ -140,7 +145,7 @@ fn hear(
 
 /// The user that a client is, as its nickname is spelled.
 fn user_of(stage: &Stage, conn: u64) -> Option<Nick>
-    ensures { result ≡ user_of stage.now.room.room (client_of (view_of stage.now) conn) }
+    ensures { result ≡ user_of stage.now.room.room (client_of (machine_at stage.now) conn) }
 {
     match client_of(&stage.clients, conn) {
         Some(Client::Registered(nick)) => stored_nick(stage, nick),
@@ -151,9 +156,10 @@ fn user_of(stage: &Stage, conn: u64) -> Option<Nick>
 /// A client is gone: its user quits, and it is told nothing.
 fn go(stage: &mut Stage, conn: u64, out: &mut Vec<Out, Global>) -> Result<(), AllocError>
     requires ready { IsReady stage.old }
-    requires matched { IsMatched (view_of stage.old) }
-    ensures ok { OnOk result (so_far stage.new out.new.items ≡ behind out.old.items (gone (view_of stage.old) conn (client_of (view_of stage.old) conn))) }
+    requires matched { IsMatched (machine_at stage.old) }
+    ensures ok { OnOk result (so_far stage.new out.new.items ≡ behind out.old.items (gone (machine_at stage.old) conn (client_of (machine_at stage.old) conn))) }
     ensures ready { OnOk result (IsReady stage.new) }
+    ensures keeps { Keeps stage.old stage.new }
     ensures grew { Grew out.old.items out.new.items }
 {
     let user = user_of(stage, conn);
@@ -172,10 +178,11 @@ pub(crate) fn act(
     out: &mut Vec<Out, Global>,
 ) -> Result<(), AllocError>
     requires ready { IsReady stage.old }
-    requires matched { IsMatched (view_of stage.old) }
+    requires matched { IsMatched (machine_at stage.old) }
     requires owed { fault_of (view_of stage.old) event ≡ None }
     ensures ok { OnOk result (Does (view_of stage.old) event out.old.items (view_of stage.new) out.new.items) }
     ensures ready { OnOk result (IsReady stage.new) }
+    ensures keeps { Keeps stage.old stage.new }
     ensures grew { Grew out.old.items out.new.items }
 {
     match event {

@@ -4,7 +4,7 @@ ghost use Rattle.std.specs.FinMap.{empty, get, insert, remove};
 ghost use Rattle.std.specs.Option.{option_copied};
 ghost use Rattle.irc_names.specs.Fold.{key};
 ghost use Rattle.irc_names.specs.Tables.{row};
-ghost use Rattle.irc_server.specs.View.{each_client};
+ghost use Rattle.irc_server.specs.RoomMachine.{each_client};
 ghost use Rattle.irc_server.specs.Handle.{renamed_in, to_viewer};
 ghost use Rattle.irc_server.specs.Loops.Stage.{all_shown, clients_of, departed, entered, numbered, IsFreeFor, IsFreeOf, IsIndexed, IsNoUser};
 ghost use Rattle.irc_server.specs.Loops.Grown.{Grew};

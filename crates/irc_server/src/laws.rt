@@ -1,10 +1,12 @@
 //! What holds of a server, whatever happens. Each law is a function that does nothing, and its contract is the law: the check proves it,
 //! and a crate above may cite it.
 ghost use Rattle.irc_server.specs.Matched.{StaysMatched};
+ghost use Rattle.irc_server.specs.Served.{LoneServerIsOneRoom, ServedStaysMatched};
 
 /// Whatever happens, each registered client is a user of the room whose home is this server, and no two clients are one user.
 pub fn stays_matched()
-    ensures { StaysMatched }
+    ensures machine { StaysMatched }
+    ensures server { ServedStaysMatched }
 {
     irc_commands::laws::decided_is_possible();
     irc_commands::laws::who_stays_is_user();
@@ -14,3 +16,9 @@ pub fn stays_matched()
     irc_commands::laws::unregistered_changes_nothing();
     irc_commands::laws::registered_stays();
 }
+
+/// A server without links and the room machine that it is to its clients say the same: put back, what the machine has after a happening is
+/// what the server has, and the same is put out.
+pub fn lone_server_is_one_room()
+    ensures { LoneServerIsOneRoom }
+{}

@@ -1,7 +1,7 @@
 //! One server.
 ghost use Rattle.std.specs.Prelude.{◌≡◌, Some, OnOk};
 ghost use Rattle.irc_server.specs.Configuring.{IsMade};
-ghost use Rattle.irc_server.specs.Handle.{fault_of};
+ghost use Rattle.irc_server.specs.Served.{fault_of};
 ghost use Rattle.irc_server.specs.Happening.{AreHandled, IsHandled};
 ghost use Rattle.irc_server.specs.Owed.{Receives};
 ghost use Rattle.irc_server.specs.Loops.Stage.{view_of};
@@ -39,13 +39,13 @@ impl Model for Server {
     ghost use Rattle.irc_routes.specs.contracts.routes.Routes.{the_row as routes_row};
     ghost use Rattle.irc_server.specs.contracts.clients.Client.{the_row as client_row};
     ghost use Rattle.irc_server.specs.Loops.Stage.{view_of, IsReady};
-    ghost use Rattle.irc_server.specs.Matched.{IsMatched};
+    ghost use Rattle.irc_server.specs.Served.{AreMatched};
 
     ghost coded = { coded_option (view_code routes_row.coded client_row.coded users_row.coded channel_row.coded) };
 
     ghost view = { λ s. if s.failed then None else Some (view_of s.stage) };
 
-    ghost invariant = { λ s. s.failed ≡ false → IsReady s.stage × IsMatched (view_of s.stage) };
+    ghost invariant = { λ s. s.failed ≡ false → IsReady s.stage × AreMatched (view_of s.stage) };
 }
 
 impl Server {

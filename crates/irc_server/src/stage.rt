@@ -6,7 +6,7 @@ ghost use Rattle.irc_room.specs.Applying.{shown_here};
 ghost use Rattle.irc_room.specs.Effects.{IsPossible};
 ghost use Rattle.irc_server.specs.Handle.{all_stepped, clients_after, closing, stepped, with_effect};
 ghost use Rattle.irc_server.specs.Loops.Grown.{Grew};
-ghost use Rattle.irc_server.specs.Loops.Stage.{clients_of, so_far, view_of, AreFit, IsFit, IsIndexed, IsReady, IsSound, LeavesApart};
+ghost use Rattle.irc_server.specs.Loops.Stage.{clients_of, machine_at, so_far, AreFit, IsFit, IsIndexed, IsReady, IsSound, Keeps, LeavesApart};
 
 use crate::clients::{ClientTable, rename, show_all, take_out};
 use crate::config::Peer;
@@ -75,9 +75,10 @@ pub(crate) fn apply(
     out: &mut Vec<Out, Global>,
 ) -> Result<(), AllocError>
     requires ready { IsReady stage.old }
-    requires fit { IsFit (view_of stage.old) effect.now }
+    requires fit { IsFit (machine_at stage.old) effect.now }
     ensures ok { OnOk result (so_far stage.new out.new.items ≡ with_effect effect.now (so_far stage.old out.old.items)) }
     ensures ready { OnOk result (IsReady stage.new) }
+    ensures keeps { Keeps stage.old stage.new }
     ensures grew { Grew out.old.items out.new.items }
 {
     let shown = happen(stage.alloc, &mut stage.room, effect)?;
@@ -94,9 +95,10 @@ fn step(
     out: &mut Vec<Out, Global>,
 ) -> Result<(), AllocError>
     requires ready { IsReady stage.old }
-    requires fit { AreFit (view_of stage.old) (act.now ∷ []) }
+    requires fit { AreFit (machine_at stage.old) (act.now ∷ []) }
     ensures ok { OnOk result (so_far stage.new out.new.items ≡ stepped conn (optional_now name.entry) act.now (so_far stage.old out.old.items)) }
     ensures ready { OnOk result (IsReady stage.new) }
+    ensures keeps { Keeps stage.old stage.new }
     ensures grew { Grew out.old.items out.new.items }
 {
     match act {
@@ -122,9 +124,10 @@ fn take_steps(
     out: &mut Vec<Out, Global>,
 ) -> Result<(), AllocError>
     requires ready { IsReady stage.old }
-    requires fit { AreFit (view_of stage.old) steps.now }
+    requires fit { AreFit (machine_at stage.old) steps.now }
     ensures ok { OnOk result (so_far stage.new out.new.items ≡ all_stepped conn (optional_now name.entry) steps.now (so_far stage.old out.old.items)) }
     ensures ready { OnOk result (IsReady stage.new) }
+    ensures keeps { Keeps stage.old stage.new }
     ensures grew { Grew out.old.items out.new.items }
 {
     for act in steps {
@@ -143,9 +146,10 @@ pub(crate) fn carry_out(
     out: &mut Vec<Out, Global>,
 ) -> Result<(), AllocError>
     requires ready { IsReady stage.old }
-    requires fit { AreFit (view_of stage.old) steps.now }
+    requires fit { AreFit (machine_at stage.old) steps.now }
     ensures ok { OnOk result (so_far stage.new out.new.items ≡ closing close conn (all_stepped conn (optional_now name.entry) steps.now (so_far stage.old out.old.items))) }
     ensures ready { OnOk result (IsReady stage.new) }
+    ensures keeps { Keeps stage.old stage.new }
     ensures grew { Grew out.old.items out.new.items }
 {
     take_steps(stage, conn, name, steps, out)?;

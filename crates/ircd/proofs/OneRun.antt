@@ -4,7 +4,6 @@ use Rattle.irc_server.specs.declared.event.Event.{Event}
 use Rattle.irc_server.specs.declared.event.Out.{Out}
 use Rattle.irc_server.specs.declared.event.ServerFault.{ServerFault}
 use Rattle.irc_server.specs.View.{View}
-use Rattle.irc_server.specs.Handle.{handled}
 use Rattle.irc_server.specs.Happening.{IsHandled, takes_it, refuses_it, wants_memory, has_failed}
 use Rattle.ircd.specs.Printing.{refusal_number}
 use Rattle.ircd.specs.RunLaws.{SameRun}

@@ -7,8 +7,9 @@ use Rattle.irc_server.specs.declared.event.Out.{Out}
 use Rattle.irc_server.specs.declared.event.ServerFault.{ServerFault}
 use Rattle.irc_server.specs.declared.event.ServerFault.TheVariants.{NoSuchConnection, ConnectionThere}
 use Rattle.irc_server.specs.declared.clients.Client.{Client}
-use Rattle.irc_server.specs.View.{View, client_of}
-use Rattle.irc_server.specs.Handle.{handled, fault_of, there, not_there}
+use Rattle.irc_server.specs.RoomMachine.{client_of}
+use Rattle.irc_server.specs.View.{View, machine_of}
+use Rattle.irc_server.specs.Served.{served, fault_of, there, not_there}
 use Rattle.irc_server.specs.Happening.{happening_of, IsHandled, takes_it, refuses_it, wants_memory, has_failed}
 use Rattle.ircd.specs.Events.{events_of}
 use Rattle.ircd.specs.Printing.{refusal_number}
@@ -63,9 +64,9 @@ refused_not_there None fault is = cc is
 refused_not_there (Some client) fault is = cc is
 
 refused_by : (view : View) (e : Event) (fault : ServerFault) → fault_of view e ≡ Some fault → (fault ≡ ConnectionThere) ⊎ (fault ≡ NoSuchConnection)
-refused_by view (Connect conn host) fault is = inl (refused_there (client_of view conn) fault is)
-refused_by view (Line conn line) fault is = inr (refused_not_there (client_of view conn) fault is)
-refused_by view (Gone conn) fault is = inr (refused_not_there (client_of view conn) fault is)
+refused_by view (Connect conn host) fault is = inl (refused_there (client_of (machine_of view) conn) fault is)
+refused_by view (Line conn line) fault is = inr (refused_not_there (client_of (machine_of view) conn) fault is)
+refused_by view (Gone conn) fault is = inr (refused_not_there (client_of (machine_of view) conn) fault is)
 
 record Answered (old : Option (Option View)) (e : Event) : Type 0 where
   answer : Answer
@@ -82,7 +83,7 @@ refusal view e fault number owed is = record {
 
 taken : (view : View) (e : Event) → fault_of view e ≡ None → Answered (Some (Some view)) e
 taken view e owed =
-    let after = handled view (happening_of e) in
+    let after = served view (happening_of e) in
     record {
       answer = puts_out after.out;
       new = Some (Some after.view);

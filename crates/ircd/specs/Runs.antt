@@ -84,7 +84,7 @@ first_client = 1
 
 -- the server of a script: nobody is connected to it, and its room is empty
 abbrev pub first_view : List ℕ → View
-first_view name = record { routes = alone_known name (codes "Test server") (codes "2024-01-01"); peers = []; clients = empty; room = no_room }
+first_view name = record { routes = alone_known name (codes "Test server") (codes "2024-01-01"); peers = []; ends = []; clients = empty; room = no_room }
 
 -- where a script begins, with a server of this name or with none
 abbrev pub first_standing : Option (List ℕ) → Standing

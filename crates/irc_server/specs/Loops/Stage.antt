@@ -21,8 +21,9 @@ use Rattle.irc_server.specs.declared.clients.Client.TheVariants.{Registered}
 use Rattle.irc_server.specs.declared.clients.ClientTable.{ClientTable}
 use Rattle.irc_server.specs.declared.event.Out.{Out}
 use Rattle.irc_server.specs.declared.stage.Stage.{Stage}
-use Rattle.irc_server.specs.View.{Clients, View, client_of, known_peer}
-use Rattle.irc_server.specs.Handle.{Handled, to_viewer, view_after}
+use Rattle.irc_server.specs.RoomMachine.{Clients, RoomMachine, client_of}
+use Rattle.irc_server.specs.View.{View, known_peer, machine_of}
+use Rattle.irc_server.specs.Handle.{Handled, to_viewer, machine_after}
 
 -- what a room hands out, as it is shown
 abbrev pub shown_of : List ℕ × ArrayVec ℕ → Showing
@@ -60,16 +61,32 @@ abbrev pub departed : Option Client → Table ℕ → Table ℕ
 departed (Some (Registered nick)) by_nick = alter (key nick) (λ _. None) by_nick
 departed client by_nick = by_nick
 
+-- No link can be opened yet, so none is open.
 abbrev pub view_of : Stage → View
-view_of stage = record { routes = stage.routes; peers = map known_peer stage.peers.items; clients = clients_of stage.clients; room = stage.room.room }
+view_of stage = record {
+  routes = stage.routes;
+  peers = map known_peer stage.peers.items;
+  ends = [];
+  clients = clients_of stage.clients;
+  room = stage.room.room;
+}
+
+-- the room machine that it is to its clients
+abbrev pub machine_at : Stage → RoomMachine
+machine_at stage = machine_of (view_of stage)
+
+-- what no client's event changes: what is known of other servers, and the configuration
+pub record Keeps (old new : Stage) : Type 0 where
+  pub routes : new.routes ≡ old.routes
+  pub peers : new.peers ≡ old.peers
 
 -- the server now, and what has been put out
 abbrev pub so_far : Stage → List Out → Handled
-so_far stage out = record { view = view_of stage; out = out }
+so_far stage out = record { machine = machine_at stage; out = out }
 
 -- what was put out before stands in front
 abbrev pub behind : List Out → Handled → Handled
-behind out h = record { view = h.view; out = out ++ h.out }
+behind out h = record { machine = h.machine; out = out ++ h.out }
 
 -- a room that serves
 pub record IsSound (kept : Kept) : Type 0 where
@@ -102,14 +119,14 @@ LeavesApart (Rename nick new) clients = IsFreeFor nick new clients
 LeavesApart effect clients = ⊤
 
 -- An effect is possible; each client that is a user is at home here, and no two will be one user.
-pub record IsFit (view : View) (effect : Effect) : Type 0 where
-  pub possible : IsPossible view.room effect
-  pub at_home : (conn : ℕ) (nick : List ℕ) (user : User) → client_of view conn ≡ Some (Registered nick) → row view.room.users (key nick) ≡ Some user
-      → user.home ≡ view.routes.name
-  pub apart : LeavesApart effect view.clients
+pub record IsFit (machine : RoomMachine) (effect : Effect) : Type 0 where
+  pub possible : IsPossible machine.room effect
+  pub at_home : (conn : ℕ) (nick : List ℕ) (user : User) → client_of machine conn ≡ Some (Registered nick) → row machine.room.users (key nick) ≡ Some user
+      → user.home ≡ machine.place.name
+  pub apart : LeavesApart effect machine.clients
 
 -- each effect of these steps is so in its turn
-abbrev pub AreFit : View → List Act → Type 0
-AreFit view [] = ⊤
-AreFit view (Do effect ∷ acts) = IsSoFirst (IsFit view effect) (AreFit (view_after view effect) acts)
-AreFit view (act ∷ acts) = AreFit view acts
+abbrev pub AreFit : RoomMachine → List Act → Type 0
+AreFit machine [] = ⊤
+AreFit machine (Do effect ∷ acts) = IsSoFirst (IsFit machine effect) (AreFit (machine_after machine effect) acts)
+AreFit machine (act ∷ acts) = AreFit machine acts

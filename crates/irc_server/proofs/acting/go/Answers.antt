@@ -1,8 +1,8 @@
 use Rattle.std.proofs.Common.{ap, ◌∙◌, sym, subst}
 use Rattle.irc_room.specs.declared.effect.Effect.TheVariants.{Quit}
-use Rattle.irc_server.specs.View.{without_client}
+use Rattle.irc_server.specs.RoomMachine.{without_client}
 use Rattle.irc_server.specs.Handle.{quits, unchanged, with_effect}
-use Rattle.irc_server.specs.Loops.Stage.{behind, view_of, IsFit}
+use Rattle.irc_server.specs.Loops.Stage.{behind, machine_at, IsFit}
 use Rattle.irc_server.proofs.Steps.{nothing_behind}
 use Rattle.irc_server.proofs.MatchedEvents.{gone_fit}
 use Rattle.irc_server.proofs.Growing.{on_ok}
@@ -11,25 +11,25 @@ use Rattle.irc_server.proofs.acting.go.Goals as goal
 
 pub returns-in_default-clause-ok : goal.returns-in_default-clause-ok
 returns-in_default-clause-ok c =
-    let view = view_of c.args.stage.now in
+    let machine = machine_at c.args.stage.now in
     let out = c.args.out.now.items in
-    ap (λ cs. record { view = record (view_of c.args.stage.now) { clients = cs }; out = out }) c.take_out.ensures.out
-    ∙ nothing_behind (without_client view c.args.conn) out
-    ∙ ap (λ u. behind out (quits u (unchanged (without_client view c.args.conn)))) (sym c.in_default.is ∙ c.user_of-user.ensures)
+    ap (λ cs. record { machine = record (machine_at c.args.stage.now) { clients = cs }; out = out }) c.take_out.ensures.out
+    ∙ nothing_behind (without_client machine c.args.conn) out
+    ∙ ap (λ u. behind out (quits u (unchanged (without_client machine c.args.conn)))) (sym c.in_default.is ∙ c.user_of-user.ensures)
 
 pub apply-requires-clause-fit : goal.apply-requires-clause-fit
 apply-requires-clause-fit c =
-    subst (λ cs. IsFit (record (view_of c.args.stage.now) { clients = cs }) (Quit c.in-Some.nick c.cut-text.result)) (sym c.take_out.ensures.out)
-    (gone_fit (view_of c.args.stage.now) c.args.conn c.in-Some.nick c.cut-text.result c.requires.matched c.requires.ready.sound.well_formed
+    subst (λ cs. IsFit (record (machine_at c.args.stage.now) { clients = cs }) (Quit c.in-Some.nick c.cut-text.result)) (sym c.take_out.ensures.out)
+    (gone_fit (machine_at c.args.stage.now) c.args.conn c.in-Some.nick c.cut-text.result c.requires.matched c.requires.ready.sound.well_formed
     (sym c.user_of-user.ensures ∙ c.in-Some.is))
 
 pub returns-clause-ok : goal.returns-clause-ok
 returns-clause-ok c =
-    let view = view_of c.args.stage.now in
+    let machine = machine_at c.args.stage.now in
     let out = c.args.out.now.items in
     on_ok c.apply.result _ _
     (λ is. is
-    ∙ ap (λ cs. with_effect (Quit c.in-Some.nick c.cut-text.result) (record { view = record (view_of c.args.stage.now) { clients = cs }; out = out })) c.take_out.ensures.out
-    ∙ ap (λ text. behind out (with_effect (Quit c.in-Some.nick text) (unchanged (without_client view c.args.conn)))) (c.cut-text.ensures ∙ lost_is_whole)
-    ∙ ap (λ u. behind out (quits u (unchanged (without_client view c.args.conn)))) (sym c.in-Some.is ∙ c.user_of-user.ensures))
+    ∙ ap (λ cs. with_effect (Quit c.in-Some.nick c.cut-text.result) (record { machine = record (machine_at c.args.stage.now) { clients = cs }; out = out })) c.take_out.ensures.out
+    ∙ ap (λ text. behind out (with_effect (Quit c.in-Some.nick text) (unchanged (without_client machine c.args.conn)))) (c.cut-text.ensures ∙ lost_is_whole)
+    ∙ ap (λ u. behind out (quits u (unchanged (without_client machine c.args.conn)))) (sym c.in-Some.is ∙ c.user_of-user.ensures))
     c.apply.ensures.ok

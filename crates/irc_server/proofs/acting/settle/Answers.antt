@@ -1,6 +1,6 @@
 use Rattle.std.proofs.Common.{ap, ◌∙◌, refl, sym, subst}
 use Rattle.std.specs.FinMap.{insert}
-use Rattle.irc_server.specs.Loops.Stage.{clients_of, view_of, AreFit, IsFreeOf}
+use Rattle.irc_server.specs.Loops.Stage.{clients_of, machine_at, AreFit, IsFreeOf}
 use Rattle.irc_server.proofs.Growing.{on_ok}
 use Rattle.irc_server.proofs.WhatEventsDo.{carried, copied_now}
 use Rattle.irc_server.proofs.acting.settle.Goals as goal
@@ -9,7 +9,7 @@ pub returns-clause-ok : goal.returns-clause-ok
 returns-clause-ok c =
     on_ok c.carry_out.result _ _
     (carried _ c.args.conn _ _ _ _ _ _ _ _ c.args.out.now.items (copied_now _ ∙ c.as_ref-name.ensures.value) c.deref.ensures.value refl
-    (ap (λ cs. record (view_of c.args.stage.now) { clients = cs })
+    (ap (λ cs. record (machine_at c.args.stage.now) { clients = cs })
     (c.in_ok-seat.ensures.ok ∙ ap (insert (clients_of c.args.stage.now.clients) c.args.conn) c.client_after.ensures)))
     c.carry_out.ensures.ok
 
@@ -19,5 +19,5 @@ seat-requires-clause-free c = subst (λ client. IsFreeOf client (clients_of c.ar
 pub carry_out-requires-clause-fit : goal.carry_out-requires-clause-fit
 carry_out-requires-clause-fit c =
     subst (AreFit _) (sym c.deref.ensures.value)
-    (subst (λ cs. AreFit (record (view_of c.args.stage.now) { clients = cs }) c.args.given.now.steps.items)
+    (subst (λ cs. AreFit (record (machine_at c.args.stage.now) { clients = cs }) c.args.given.now.steps.items)
     (sym (c.in_ok-seat.ensures.ok ∙ ap (insert (clients_of c.args.stage.now.clients) c.args.conn) c.client_after.ensures)) c.requires.fit)

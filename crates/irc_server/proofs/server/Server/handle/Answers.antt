@@ -28,7 +28,7 @@ act-requires-clause-owed c = sym c.fault_of.ensures ∙ c.in_default.is
 pub invariant_of-self : goal.invariant_of-self
 invariant_of-self c = λ serves. (
   c.in-Ok.ensures.ready,
-  matched_after c.stays_matched.ensures (view_of c.self.inside.stage) (view_of c.act.new.stage) c.args.event c.args.out.now.items c.act.new.out.items
+  matched_after c.stays_matched.ensures.server (view_of c.self.inside.stage) (view_of c.act.new.stage) c.args.event c.args.out.now.items c.act.new.out.items
       (c.self.invariant c.if-self.false).1 (c.self.invariant c.if-self.false).0.sound.well_formed
       (sym c.fault_of.ensures ∙ c.in_default.is) c.in-Ok.ensures.ok,
 )
