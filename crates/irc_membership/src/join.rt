@@ -82,7 +82,11 @@ fn leave_each(context: &Context<'_>) -> Result<Vec<Act, Global>, AllocError>
 }
 
 /// A Part of each of these channels.
-fn leave_all(alloc: Global, me: &User, rows: &[&Row<Channel>]) -> Result<Vec<Act, Global>, AllocError>
+fn leave_all(
+    alloc: Global,
+    me: &User,
+    rows: &[&Row<Channel>],
+) -> Result<Vec<Act, Global>, AllocError>
     ensures { IfOk result (λ steps. steps.items ≡ map (λ row. leaves me.now row.now.value) rows.now) }
 {
     rows.iter().map(|row| leave(me, &row.value)).collect(alloc)

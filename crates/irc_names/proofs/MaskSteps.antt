@@ -96,7 +96,6 @@ seeks_more {mask} {text} {rest} {more} {byte} split differs so_far = record {
 
 -- ---- what a walk tells
 
-
 -- what holds of a whole text at the first place where the mask can be followed
 pub tells_first : {mask text rest : List ℕ} (walk : Walk) → walk ≢ Differs → Seeks mask text rest → Tells walk (Matches mask rest) → IsFirst walk mask rest
     → Tells walk (Somewhere mask text)

@@ -5,11 +5,11 @@
 mod channel_tests;
 mod events;
 mod fault;
-mod laws;
 #[cfg(test)]
 mod invite_tests;
 #[cfg(test)]
 mod kick_tests;
+mod laws;
 #[cfg(test)]
 mod leaving_tests;
 #[cfg(test)]

@@ -36,6 +36,6 @@ returns-clause-sure g c =
     let x = c.index_mut.result.now in
     let there = ap (λ r. key r.name.items) c.index_mut.ensures.value ∙ c.requires.at.named _ in
     let stands =
-        row-present row_entry c.args.rows.now.items fold c.args.place x x.value c.requires.ordered c.requires.at.within c.index_mut.ensures.value
-        (ap (λ k. (k, x.value)) there) in
+    row-present row_entry c.args.rows.now.items fold c.args.place x x.value c.requires.ordered c.requires.at.within c.index_mut.ensures.value
+    (ap (λ k. (k, x.value)) there) in
     λ sure. c.attempt.ensures.sure (subst IsTrue (ap (λ o. option_map_or (g.C.RowAttempt.surely c.args.change.now) o false) stands) sure)
