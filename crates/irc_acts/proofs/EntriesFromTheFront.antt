@@ -4,7 +4,7 @@ use Rattle.std.specs.List.{list_any, slice_split, onto_first}
 use Rattle.std.proofs.lemmas.Bool.{eqb-true}
 use Rattle.std.proofs.lemmas.List.{drop_more, take_all, take_rest}
 use Rattle.irc_line.specs.Bytes.{begins}
-use Rattle.irc_channels.specs.Channels.{is_nil}
+use Rattle.irc_modes.specs.Modes.{is_nil}
 use Rattle.irc_acts.specs.CommaLists.{is_comma, pieces, entries}
 
 -- a comma in front makes no difference

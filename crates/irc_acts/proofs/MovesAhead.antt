@@ -15,7 +15,8 @@ use Rattle.irc_channels.specs.declared.flags.Flags.{Flags}
 use Rattle.irc_channels.specs.ChannelTable as listed
 use Rattle.irc_tables.specs.declared.table.Row.{Row}
 use Rattle.irc_tables.specs.RowViews.{row_entry}
-use Rattle.irc_channels.specs.Channels.{has_member, is_nil, joined, left, while_members, new_channel}
+use Rattle.irc_channels.specs.Channels.{has_member, joined, left, while_members, new_channel}
+use Rattle.irc_modes.specs.Modes.{is_nil}
 use Rattle.arrayvec.specs.ArrayVec.{ArrayVec}
 use Rattle.irc_numerics.specs.declared.replies.Reply.{Reply}
 use Rattle.irc_room.specs.declared.effect.Effect.{Effect}

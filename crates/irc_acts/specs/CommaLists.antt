@@ -1,7 +1,7 @@
 -- Lists whose entries are parted by commas (RFC 2812 section 2.3.1).
 use Rattle.std.specs.Prelude.{ℕ, suc, Bool, not, Option, Some, None, List, [], filter, length, nat_eq}
 use Rattle.std.specs.List.{slice_split}
-use Rattle.irc_channels.specs.Channels.{is_nil}
+use Rattle.irc_modes.specs.Modes.{is_nil}
 use Rattle.irc_acts.specs.Marks.{comma}
 
 abbrev pub is_comma : ℕ → Bool

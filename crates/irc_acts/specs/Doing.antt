@@ -1,7 +1,7 @@
 -- What is decided does something: no effect is idle when its turn comes.
 use Rattle.std.specs.Prelude.{◌≡◌, false, List}
 use Rattle.irc_room.specs.declared.effect.Effect.{Effect}
-use Rattle.irc_room.specs.Room.{Room, IsWellFormed}
+use Rattle.irc_room.specs.Room.{Room}
 use Rattle.irc_room.specs.Effects.{is_idle}
 use Rattle.irc_room.specs.InTurn.{EachInTurn}
 use Rattle.irc_acts.specs.declared.act.Act.{Act}
@@ -13,7 +13,3 @@ DoesSomething room effect = is_idle room effect ≡ false
 -- each effect of these steps does something in the room that those before it have left
 abbrev pub AreDoing : Room → List Act → Type 0
 AreDoing room acts = EachInTurn DoesSomething room (effects_among acts)
-
--- so does it where that room is well formed
-abbrev pub DoesWhereWellFormed : Room → Effect → Type 0
-DoesWhereWellFormed room effect = IsWellFormed room → DoesSomething room effect

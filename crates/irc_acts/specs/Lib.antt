@@ -13,7 +13,12 @@ pub mod Loops
 pub mod Possible
 pub mod Own
 pub mod OwnLaws
+pub mod Sendable
+pub mod SendableLaws
+pub mod CarriedWords
 pub mod Doing
 pub mod DoingLaws
 pub mod OtherInvitations
 pub mod OtherInvitationsLaws
+pub mod AlikeRows
+pub mod AlikeChannels

@@ -1,21 +1,18 @@
--- Rooms that are alike but for who is invited. What is decided without a look at invitations is the same in both.
+-- Rooms that are alike but for who is invited. What is decided without a look at invitations is the same in both, and what is decided by those of one user
+-- is where they are the same.
 use Rattle.std.specs.Prelude.{◌≡◌, ℕ, List}
-use Rattle.std.specs.Option.{option_map}
-use Rattle.std.specs.FinMap.{empty}
-use Rattle.irc_names.specs.Tables.{row}
-use Rattle.irc_channels.specs.declared.channel.Channel.{Channel}
+use Rattle.irc_names.specs.Fold.{key}
 use Rattle.irc_room.specs.declared.effect.Effect.{Effect}
 use Rattle.irc_room.specs.Room.{Room}
+use Rattle.irc_room.specs.Readers.{is_invited_at}
 use Rattle.irc_room.specs.After.{after}
+pub use Rattle.irc_room.specs.OtherInvitations.{uninviting, AreAlike}
 
--- a channel as it is but for its invitations
-abbrev pub uninviting : Channel → Channel
-uninviting channel = record channel { invited = empty }
+-- but for the invitations of others than the user of this nickname, who is invited to the same channels in both
+pub record AreAlikeFor (nick : List ℕ) (room other : Room) : Type 0 where
+  pub alike : AreAlike room other
+  pub invited : (fold : List ℕ) → is_invited_at room (key nick) fold ≡ is_invited_at other (key nick) fold
 
-pub record AreAlike (room other : Room) : Type 0 where
-  pub users : room.users ≡ other.users
-  pub channels : (fold : List ℕ) → option_map uninviting (row room.channels fold) ≡ option_map uninviting (row other.channels fold)
-
--- whatever an effect makes of two such rooms, they are alike then
-abbrev pub KeepsAlike : Effect → Type 0
-KeepsAlike effect = (room other : Room) → AreAlike room other → AreAlike (after room effect) (after other effect)
+-- whatever an effect makes of two rooms that are so to each other, they are so then
+abbrev pub Keeps : (Room → Room → Type 0) → Effect → Type 0
+Keeps R effect = (room other : Room) → R room other → R (after room effect) (after other effect)

@@ -1,13 +1,13 @@
 -- The effects by which a user does something under its own name and stays a user: texts, channels that it joins or leaves, kicks, invitations, topics, and
 -- modes.
-use Rattle.std.specs.Prelude.{◌≡◌, ℕ, Bool, true, Some, List}
+use Rattle.std.specs.Prelude.{◌≡◌, ℕ, Bool, true, false, Some, None, List}
 use Rattle.irc_names.specs.Fold.{key}
 use Rattle.irc_names.specs.Names.{is_channel}
 use Rattle.irc_names.specs.Tables.{row}
 use Rattle.irc_users.specs.declared.user.User.{User}
 use Rattle.irc_channels.specs.declared.channel.Channel.{Channel}
 use Rattle.irc_channels.specs.Channels.{has_member}
-use Rattle.irc_channels.specs.declared.modes.ModeChange.{ModeChange}
+use Rattle.irc_modes.specs.declared.modes.ModeChange.{ModeChange}
 use Rattle.irc_room.specs.declared.effect.By.TheVariants as by
 use Rattle.irc_room.specs.declared.effect.Target.TheVariants as target
 use Rattle.irc_room.specs.declared.effect.Effect.{Effect}
@@ -17,19 +17,23 @@ use Rattle.irc_room.specs.InTurn.{EachInTurn}
 use Rattle.irc_acts.specs.declared.act.Act.{Act}
 use Rattle.irc_acts.specs.Acts.{kept, effects_among}
 
--- a channel's name: of one that was found under some spelling, or by the rule for names
+-- a channel's name: of one that was found under some spelling, or by the rule for names where none was
 pub data IsChannelName (room : Room) : List ℕ → Type 0 where
   of_found : (name : List ℕ) (channel : Channel) → row room.channels (key name) ≡ Some channel → IsChannelName room channel.name
-  by_rule : (name : List ℕ) → is_channel name ≡ true → IsChannelName room name
+  by_rule : (name : List ℕ) → is_channel name ≡ true → row room.channels (key name) ≡ None → IsChannelName room name
 
--- the user does it, and what it names was found in the room, under some spelling; a channel that is joined, or that somebody is invited to, need not be there
+-- The user does it, and what it names was found in the room, under some spelling; a channel that the user makes by joining it, or that somebody is invited to,
+-- need not be there. Who joins is no member yet, and who leaves or is kicked is one.
 pub data IsOwn (me : User) (room : Room) : Effect → Type 0 where
   to_user : (name : List ℕ) (other : User) (notice : Bool) (words : List ℕ) → row room.users (key name) ≡ Some other
       → IsOwn me room (Say me.nick notice (target.User other.nick) (kept words))
   to_channel : (name : List ℕ) (channel : Channel) (notice : Bool) (words : List ℕ) → row room.channels (key name) ≡ Some channel
       → IsOwn me room (Say me.nick notice (target.Channel channel.name) (kept words))
-  joins : (name : List ℕ) (op : Bool) → IsOwn me room (Join me.nick name op)
-  parts : (name text : List ℕ) (channel : Channel) → row room.channels (key name) ≡ Some channel → IsOwn me room (Part me.nick channel.name text)
+  makes : (name : List ℕ) → is_channel name ≡ true → row room.channels (key name) ≡ None → IsOwn me room (Join me.nick name true)
+  enters : (name : List ℕ) (channel : Channel) → row room.channels (key name) ≡ Some channel → has_member (key me.nick) channel ≡ false
+      → IsOwn me room (Join me.nick channel.name false)
+  parts : (name text : List ℕ) (channel : Channel) → row room.channels (key name) ≡ Some channel → has_member (key me.nick) channel ≡ true
+      → IsOwn me room (Part me.nick channel.name text)
   sets_topic : (name text : List ℕ) (channel : Channel) → row room.channels (key name) ≡ Some channel
       → IsOwn me room (SetTopic (by.User me.nick) channel.name text)
   kicks : (name nick text : List ℕ) (channel : Channel) (other : User) → row room.channels (key name) ≡ Some channel

@@ -18,7 +18,7 @@ use Rattle.irc_acts.specs.declared.act.Act.{Act}
 use Rattle.irc_acts.specs.declared.act.Act.TheVariants.{Answer, Raw, Do}
 use Rattle.irc_acts.specs.Acts.{effects_among}
 use Rattle.irc_acts.specs.Possible.{ArePossible}
-use Rattle.irc_acts.specs.Own.{IsOwn, to_user, to_channel, joins, parts, sets_topic, kicks, invites, changes_modes, sets_user_mode, AreOwn}
+use Rattle.irc_acts.specs.Own.{IsOwn, to_user, to_channel, makes, enters, parts, sets_topic, kicks, invites, changes_modes, sets_user_mode, AreOwn}
 
 -- an answer, a line, or a text: it leaves the room as it is
 pub record LeavesRoom (me : User) (room : Room) (effect : Effect) : Type 0 where
@@ -53,7 +53,7 @@ one_there room nick there = ap (λ b. b && true) there
 two_there : (room : Room) (nick other : List ℕ) → has_user room nick ≡ true → has_user room other ≡ true → list_all (has_user room) (nick ∷ other ∷ []) ≡ true
 two_there room nick other there other_there = ap (λ b. b && (has_user room other && true)) there ∙ one_there room other other_there
 
-own_possible : (me : User) (room : Room) (effect : Effect) → IsWellFormed room → has_user room me.nick ≡ true → IsOwn me room effect → IsPossible room effect
+pub own_possible : (me : User) (room : Room) (effect : Effect) → IsWellFormed room → has_user room me.nick ≡ true → IsOwn me room effect → IsPossible room effect
 own_possible me room effect well there (to_user name other notice words is) = record {
   users_there = two_there room me.nick other.nick there (stored_there room well (key name) other is);
   channel_there = refl;
@@ -64,8 +64,10 @@ own_possible me room effect well there (to_channel name channel notice words is)
   channel_there = channel_there room well (key name) channel is;
   nick_free = refl;
 }
-own_possible me room effect well there (joins name op) = record { users_there = one_there room me.nick there; channel_there = refl; nick_free = refl }
-own_possible me room effect well there (parts name text channel is) = record {
+own_possible me room effect well there (makes name named none) = record { users_there = one_there room me.nick there; channel_there = refl; nick_free = refl }
+own_possible me room effect well there (enters name channel is outside) =
+    record { users_there = one_there room me.nick there; channel_there = refl; nick_free = refl }
+own_possible me room effect well there (parts name text channel is member) = record {
   users_there = one_there room me.nick there;
   channel_there = channel_there room well (key name) channel is;
   nick_free = refl;
@@ -98,25 +100,27 @@ own_stays : (me : User) (room : Room) (effect : Effect) → IsOwn me room effect
 unfolding after
 own_stays me room effect (to_user name other notice words is) fold = refl
 own_stays me room effect (to_channel name channel notice words is) fold = refl
-own_stays me room effect (joins name op) fold = refl
-own_stays me room effect (parts name text channel is) fold = refl
+own_stays me room effect (makes name named none) fold = refl
+own_stays me room effect (enters name channel is outside) fold = refl
+own_stays me room effect (parts name text channel is member) fold = refl
 own_stays me room effect (sets_topic name text channel is) fold = refl
 own_stays me room effect (kicks name nick text channel other is member known) fold = refl
 own_stays me room effect (invites nick name other is named) fold = refl
 own_stays me room effect (changes_modes name changes channel is) fold = refl
 own_stays me room effect (sets_user_mode invisible) fold = same_rows (key me.nick) (with_invisible invisible) room.users fold
 
-own_are_so : (me : User) (room : Room) (effects : List Effect) → IsWellFormed room → has_user room me.nick ≡ true → EachInTurn (IsOwn me) room effects
-    → EachInTurn IsPossible room effects
-own_are_so me room [] well there own = tt
-own_are_so me room (effect ∷ effects) well there own =
-    let possible = own_possible me room effect well there own.now in
-    record {
-      now = possible;
-      later = own_are_so me (after room effect) effects (after_is_well_formed room effect well possible)
-          (own_stays me room effect own.now (key me.nick) ∙ there) own.later;
-    }
+-- What own effects are in any well-formed room in which the user is there, each of some is in its turn.
+pub own_in_turn : (me : User) (Q : Room → Effect → Type 0)
+    → ((room : Room) (effect : Effect) → IsWellFormed room → has_user room me.nick ≡ true → IsOwn me room effect → Q room effect)
+    → (room : Room) (effects : List Effect) → IsWellFormed room → has_user room me.nick ≡ true → EachInTurn (IsOwn me) room effects → EachInTurn Q room effects
+own_in_turn me Q so room [] well there own = tt
+own_in_turn me Q so room (effect ∷ effects) well there own = record {
+  now = so room effect well there own.now;
+  later = own_in_turn me Q so (after room effect) effects
+      (after_is_well_formed room effect well (own_possible me room effect well there own.now))
+      (own_stays me room effect own.now (key me.nick) ∙ there) own.later;
+}
 
 pub own_are_possible : (me : User) (room : Room) (acts : List Act) → IsWellFormed room → has_user room me.nick ≡ true → AreOwn me room acts
     → ArePossible room acts
-own_are_possible me room acts = own_are_so me room (effects_among acts)
+own_are_possible me room acts = own_in_turn me IsPossible (own_possible me) room (effects_among acts)

@@ -6,8 +6,8 @@ use Rattle.irc_names.specs.MaskLaws.{matches}
 use Rattle.irc_line.specs.Messages.{full_name}
 use Rattle.irc_users.specs.declared.user.User.{User}
 use Rattle.irc_channels.specs.declared.flags.Flags.{Flags}
-use Rattle.irc_channels.specs.declared.modes.Privacy.{Privacy}
-use Rattle.irc_channels.specs.declared.modes.Privacy.TheVariants as privacy
+use Rattle.irc_modes.specs.declared.modes.Privacy.{Privacy}
+use Rattle.irc_modes.specs.declared.modes.Privacy.TheVariants as privacy
 use Rattle.irc_channels.specs.declared.channel.Channel.{Channel}
 use Rattle.irc_channels.specs.Channels.{has_member}
 use Rattle.irc_numerics.specs.declared.replies.Mark.{Mark}

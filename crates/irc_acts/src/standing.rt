@@ -6,7 +6,8 @@ ghost use Rattle.irc_channels.specs.Channels.{has_member};
 ghost use Rattle.irc_acts.specs.Standing.{is_banned, is_known, is_listed, is_operator, is_seen_from, mark_of, mask_of, visibility_of};
 
 use arrayvec::ArrayVec;
-use irc_channels::{Channel, Flags, Privacy};
+use irc_channels::{Channel, Flags};
+use irc_modes::Privacy;
 use irc_names::{MAX_HOST, MAX_NICK, MAX_USER_NAME, Nick};
 use irc_numerics::{Mark, Visibility};
 use irc_tables::Row;

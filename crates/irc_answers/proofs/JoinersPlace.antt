@@ -21,11 +21,13 @@ use Rattle.irc_users.specs.declared.user.User.{User}
 use Rattle.irc_channels.specs.declared.flags.Flags.{Flags}
 use Rattle.irc_channels.specs.declared.channel.Channel.{Channel}
 use Rattle.irc_channels.specs.Channels.{has_member, joined}
+use Rattle.irc_numerics.specs.Limits.{max_names}
 use Rattle.irc_numerics.specs.declared.replies.Listed.{Listed}
 use Rattle.irc_acts.specs.declared.act.Act.{Act}
-use Rattle.irc_answers.specs.Names.{listed, name_lines, names_of}
-use Rattle.irc_answers.specs.Loops.NameLines.{is_shown, Came}
-use Rattle.irc_answers.proofs.CameNames.{more_came, all_came}
+use Rattle.irc_answers.specs.Names.{listed, name_line, name_lines, names_of}
+use Rattle.irc_answers.specs.Loops.FilledLines.{Came}
+use Rattle.irc_answers.specs.Loops.NameLines.{is_shown}
+use Rattle.irc_answers.proofs.CameLines.{more_came, all_came}
 
 told : (b : Bool) → T b → b ≡ true
 told true h = refl
@@ -83,16 +85,16 @@ joiner_among users me op channel front back outside parted =
 pub joiner_came : (users : Table User) (me : User) (op : Bool) (channel : Channel) (front back : List (List ℕ × Flags)) → has_member (key me.nick) channel ≡ false
     → ((flags : Flags) → entries (alter (key me.nick) (λ _. Some flags) channel.members) ≡ front ++ (key me.nick, flags) ∷ back)
     → (nick : List ℕ) (before first second third done : List Act) (none one two three : List Listed) → nick ≡ me.nick → none ≡ []
-    → Came channel before none (filter_map (listed users (is_shown true)) front) first one
-    → Came channel first one (filter_map (listed users (is_shown true)) ((key nick, new_flags op) ∷ [])) second two
-    → Came channel second two (filter_map (listed users (is_shown true)) back) third three
+    → Came max_names (name_line channel) before none (filter_map (listed users (is_shown true)) front) first one
+    → Came max_names (name_line channel) first one (filter_map (listed users (is_shown true)) ((key nick, new_flags op) ∷ [])) second two
+    → Came max_names (name_line channel) second two (filter_map (listed users (is_shown true)) back) third three
     → done ≡ third ++ name_lines channel three → done ≡ before ++ names_of users me (joined (key me.nick) op channel)
 joiner_came users me op channel front back outside parted nick before first second third done none one two three nick_is empty came_first came_joiner came_behind sent =
     let shown = listed users (is_shown true) in
     let own = (key nick, new_flags op) ∷ [] in
-    all_came channel before third done none (filter_map shown front ++ (filter_map shown own ++ filter_map shown back)) three empty
-    (more_came channel before first third none one three (filter_map shown front) (filter_map shown own ++ filter_map shown back) came_first
-    (more_came channel first second third one two three (filter_map shown own) (filter_map shown back) came_joiner came_behind)) sent
+    all_came max_names (name_line channel) before third done none (filter_map shown front ++ (filter_map shown own ++ filter_map shown back)) three empty
+    (more_came max_names (name_line channel) before first third none one three (filter_map shown front) (filter_map shown own ++ filter_map shown back) came_first
+    (more_came max_names (name_line channel) first second third one two three (filter_map shown own) (filter_map shown back) came_joiner came_behind)) sent
     ∙ ap (λ names. before ++ name_lines channel (filter_map shown front ++ names)) (sym (filter_map-append shown own back))
     ∙ ap (λ names. before ++ name_lines channel names) (sym (filter_map-append shown front (own ++ back)))
     ∙ ap (λ n. before ++ name_lines channel (filter_map shown (front ++ (key n, new_flags op) ∷ back))) nick_is

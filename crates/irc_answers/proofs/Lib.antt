@@ -1,3 +1,3 @@
 pub mod NameChunks
-pub mod CameNames
+pub mod CameLines
 pub mod JoinersPlace

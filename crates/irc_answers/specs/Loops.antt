@@ -1,2 +1,3 @@
 -- What the code's own loops are at: no rule stands here.
+pub mod FilledLines
 pub mod NameLines

@@ -8,8 +8,10 @@ ghost use Rattle.irc_tables.specs.FoldedRows.{IsInFoldedOrder, IsPlaceOf};
 ghost use Rattle.irc_tables.specs.RowViews.{row_entry};
 ghost use Rattle.irc_channels.specs.declared.flags.Flags.{Flags};
 ghost use Rattle.irc_channels.specs.Channels.{has_member};
+ghost use Rattle.irc_numerics.specs.Limits.{max_names};
 ghost use Rattle.irc_answers.specs.Names.{listed, name_line, name_lines};
-ghost use Rattle.irc_answers.specs.Loops.NameLines.{is_shown, Came};
+ghost use Rattle.irc_answers.specs.Loops.FilledLines.{Came};
+ghost use Rattle.irc_answers.specs.Loops.NameLines.{is_shown};
 
 use arrayvec::ArrayVec;
 use irc_acts::standing::{mark_of, visibility_of};
@@ -43,7 +45,7 @@ fn add_name(
     channel: &Channel,
     name: Listed,
 ) -> Result<(), AllocError>
-    ensures { OnOk result (Came channel.now steps.old.items held.old.items (name ∷ []) steps.new.items held.new.items) }
+    ensures { OnOk result (Came max_names (name_line channel.now) steps.old.items held.old.items (name ∷ []) steps.new.items held.new.items) }
 {
     if held.is_full() {
         put(steps, name_line(channel, held.take()))?;
@@ -89,7 +91,7 @@ pub(crate) fn add_member(
     name: &[u8],
     flags: Flags,
 ) -> Result<(), AllocError>
-    ensures { OnOk result (Came channel.now steps.old.items held.old.items (filter_map (listed room.now.room.users (is_shown all)) ((key name.now, flags) ∷ [])) steps.new.items held.new.items) }
+    ensures { OnOk result (Came max_names (name_line channel.now) steps.old.items held.old.items (filter_map (listed room.now.room.users (is_shown all)) ((key name.now, flags) ∷ [])) steps.new.items held.new.items) }
 {
     match listed(room, all, name, flags) {
         Some(name) => add_name(steps, held, channel, name),
@@ -106,7 +108,7 @@ pub(crate) fn add_members(
     channel: &Channel,
     rows: &[Row<Flags>],
 ) -> Result<(), AllocError>
-    ensures { OnOk result (Came channel.now steps.old.items held.old.items (filter_map (listed room.now.room.users (is_shown all)) (map row_entry rows.now)) steps.new.items held.new.items) }
+    ensures { OnOk result (Came max_names (name_line channel.now) steps.old.items held.old.items (filter_map (listed room.now.room.users (is_shown all)) (map row_entry rows.now)) steps.new.items held.new.items) }
 {
     for row in rows {
         let name = row.name.as_slice();

@@ -1,5 +1,2 @@
-pub mod BanPlaces
-pub mod BanRoom
 pub mod ChangesParted
-pub mod DigitSteps
-pub mod ModeSteps
+pub mod LimitsKept

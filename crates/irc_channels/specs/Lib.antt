@@ -1,9 +1,5 @@
-pub mod Limits
 pub mod Texts
-pub mod Bans
 pub mod Channels
 pub mod ChannelTable
-pub mod Letters
-pub mod ModeWords
-pub mod ModeViews
+pub mod ModeLaws
 pub mod Loops

@@ -1,2 +1,1 @@
 pub mod ManyChanges
-pub mod ModeLimits

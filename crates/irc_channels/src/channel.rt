@@ -3,12 +3,13 @@ ghost use Rattle.std.specs.Prelude.{◌≡◌, false, not, Some, None, IsOk, IsT
 ghost use Rattle.std.specs.List.{list_any};
 ghost use Rattle.std.specs.FinMap.{keys};
 ghost use Rattle.irc_names.specs.Fold.{key};
-ghost use Rattle.irc_channels.specs.Channels.{adds_ban, new_channel, has_member, is_nil, joined, left, without_user, renamed, invited_too, is_invited, uninvited, with_topic, all_changed};
+ghost use Rattle.irc_modes.specs.Modes.{adds_ban, is_nil};
+ghost use Rattle.irc_channels.specs.Channels.{new_channel, has_member, joined, left, without_user, renamed, invited_too, is_invited, uninvited, with_topic, all_changed};
 
 use crate::flags::Flags;
 use crate::member_changing::change_members;
-use crate::modes::{ModeChange, Modes};
 use crate::words::Words;
+use irc_modes::{ModeChange, Modes};
 use irc_names::{ChannelName, Nick};
 use irc_tables::NameTable;
 use std::alloc::{AllocError, Global};

@@ -12,11 +12,11 @@ ghost use Rattle.irc_channels.specs.ChannelTable.{members_in, channel_fault, lea
 use crate::channel::Channel;
 use crate::fault::ChannelsFault;
 use crate::flags::Flags;
-use crate::modes::ModeChange;
 use crate::row_changes::{
     Changing, Forgetting, Inviting, Joining, Leaving, Renaming, TopicSetting, Uninviting,
 };
 use crate::words::Words;
+use irc_modes::ModeChange;
 use irc_names::{ChannelName, Nick};
 use irc_tables::{NameTable, Row};
 use std::alloc::{AllocError, Global};

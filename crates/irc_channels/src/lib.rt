@@ -1,45 +1,17 @@
-//! The channels of a room: their modes, members and invitations.
+//! The channels of a room: their topics, members and invitations.
 #![tactic(auto)]
 
-mod ban_changing;
-mod bans;
 mod channel;
 mod channels;
 mod fault;
 mod flags;
-mod key;
-mod limit;
+pub mod laws;
 mod member_changing;
-mod mode_changing;
-mod mode_word;
-mod mode_words;
-mod modes;
 mod row_changes;
 mod words;
 
-pub use bans::BanList;
 pub use channel::Channel;
 pub use channels::Channels;
 pub use fault::ChannelsFault;
 pub use flags::Flags;
-pub use key::Key;
-pub use limit::read_limit;
-pub use mode_word::ModeWord;
-pub use mode_words::{ModeItem, read_modes};
-pub use modes::{AskedChange, ModeChange, ModeLetter, Modes, Privacy};
 pub use words::Words;
-
-/// The most bans that a client's MODE may set on a channel (our own choice). A change that is applied knows no such limit.
-pub const MAX_BANS: usize = 30;
-
-/// How many letters of one MODE count that take a parameter (RFC 2812 section 3.2.3).
-pub const MAX_MODE_PARAMETERS: usize = 3;
-
-/// The longest parameter that any mode takes: the mask of a ban.
-pub const MAX_MODE_WORD: usize = irc_names::MAX_BAN_MASK;
-
-/// The greatest limit of members that a channel can have (our own choice).
-pub const MAX_LIMIT: u16 = 65_535;
-
-/// The most digits of a limit (our own choice: as many as [`MAX_LIMIT`] has).
-pub const MAX_LIMIT_DIGITS: usize = 5;

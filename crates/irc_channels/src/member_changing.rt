@@ -3,7 +3,7 @@ ghost use Rattle.std.specs.Prelude.{◌≡◌, Some, if◌then◌else◌};
 ghost use Rattle.irc_channels.specs.Loops.ManyChanges.{flag_changed, members_step, members_after};
 
 use crate::flags::Flags;
-use crate::modes::{ModeChange, ModeLetter};
+use irc_modes::{ModeChange, ModeLetter};
 use irc_tables::{NameTable, RowChange};
 
 /// A flag that is set or cleared.

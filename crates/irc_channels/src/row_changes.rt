@@ -4,8 +4,8 @@ ghost use Rattle.irc_names.specs.Fold.{key};
 ghost use Rattle.irc_channels.specs.Channels.{adds_none, has_member, is_invited, joined, left, without_user, renamed, invited_too, uninvited, with_topic, all_changed};
 
 use crate::channel::Channel;
-use crate::modes::ModeChange;
 use crate::words::Words;
+use irc_modes::ModeChange;
 use irc_names::Nick;
 use irc_tables::{RowAttempt, RowChange};
 use std::alloc::AllocError;

@@ -18,40 +18,40 @@ pub decided_adds_nobody : DecidedAddsNobody
 decided_adds_nobody room place who message =
     decided_so room place who message (λ d. list_any adds_user d.steps ≡ false) (record {
       silent = refl;
-      own = λ me steps is own. never_own me adds_user (own_adds_nobody me) room steps own;
-      renamed = λ me nickname is free. refl;
+      own = λ me steps is own carries. never_own me adds_user (own_adds_nobody me) room steps own;
+      renamed = λ me nickname is named free. refl;
       leaves_all = λ me is. none_leaving me adds_user (own_channels room me) (λ channel. refl);
-      quits = λ me reason line is. refl;
+      quits = λ me reason line is reason_is. refl;
     })
 
 pub only_itself_is_renamed : OnlyItselfIsRenamed
 only_itself_is_renamed room place who message well =
     decided_so room place who message (λ d. list_any (renames_other who) d.steps ≡ false) (record {
       silent = refl;
-      own = λ me steps is own. never_own me (renames_other who) (own_renames_nobody me who) room steps own;
-      renamed = λ me nickname is free. ap (λ b. not b || false) ((same-tells me.nick who).1 (well.users_named (key who) me is));
+      own = λ me steps is own carries. never_own me (renames_other who) (own_renames_nobody me who) room steps own;
+      renamed = λ me nickname is named free. ap (λ b. not b || false) ((same-tells me.nick who).1 (well.users_named (key who) me is));
       leaves_all = λ me is. none_leaving me (renames_other who) (own_channels room me) (λ channel. refl);
-      quits = λ me reason line is. refl;
+      quits = λ me reason line is reason_is. refl;
     })
 
 pub who_stays_is_user : WhoStaysIsUser
 who_stays_is_user room place who message =
     decided_so room place who message (λ d. d.close ≡ false → list_any adds_or_ends d.steps ≡ false) (record {
       silent = λ stays. refl;
-      own = λ me steps is own stays. never_own me adds_or_ends (own_ends_nobody me) room steps own;
-      renamed = λ me nickname is free stays. refl;
+      own = λ me steps is own carries stays. never_own me adds_or_ends (own_ends_nobody me) room steps own;
+      renamed = λ me nickname is named free stays. refl;
       leaves_all = λ me is stays. none_leaving me adds_or_ends (own_channels room me) (λ channel. refl);
-      quits = λ me reason line is stays. never_not stays;
+      quits = λ me reason line is reason_is stays. never_not stays;
     })
 
 pub who_is_closed_quits : WhoIsClosedQuits
 who_is_closed_quits room place who message =
     decided_so room place who message (λ d. d.close ≡ true → QuitFirst room who d.steps) (record {
       silent = λ closed. never closed;
-      own = λ me steps is own closed. never closed;
-      renamed = λ me nickname is free closed. never closed;
+      own = λ me steps is own carries closed. never closed;
+      renamed = λ me nickname is named free closed. never closed;
       leaves_all = λ me is closed. never closed;
-      quits = λ me reason line is closed. record { me = me; reason = reason; behind = _; is_user = is; steps_are = refl; no_more = refl };
+      quits = λ me reason line is reason_is closed. record { me = me; reason = reason; behind = _; is_user = is; steps_are = refl; no_more = refl };
     })
 
 pub registered_is_added : RegisteredIsAdded

@@ -4,7 +4,14 @@ pub mod RegisterRows
 pub mod SayTargets
 pub mod SayWalk
 pub mod OwnCommands
+pub mod SaidLines
+pub mod CarriedCommands
 pub mod NeverOwn
 pub mod TableCases
 pub mod PossibleLaws
+pub mod DoingLaws
+pub mod SendableLaws
+pub mod PendingWithin
+pub mod QueriesAlike
+pub mod CommandsAlike
 pub mod ComingLaws

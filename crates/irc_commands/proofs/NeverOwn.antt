@@ -10,7 +10,7 @@ use Rattle.irc_room.specs.Room.{Room}
 use Rattle.irc_room.specs.After.{after}
 use Rattle.irc_acts.specs.declared.act.Act.{Act}
 use Rattle.irc_acts.specs.declared.act.Act.TheVariants.{Answer, Raw, Do}
-use Rattle.irc_acts.specs.Own.{IsOwn, to_user, to_channel, joins, parts, sets_topic, kicks, invites, changes_modes, sets_user_mode, AreOwn}
+use Rattle.irc_acts.specs.Own.{IsOwn, to_user, to_channel, makes, enters, parts, sets_topic, kicks, invites, changes_modes, sets_user_mode, AreOwn}
 use Rattle.irc_membership.specs.Join.{leaves}
 use Rattle.irc_commands.specs.Comings.{adds_user, adds_or_ends, renames_other}
 
@@ -35,8 +35,9 @@ own_adds_nobody me = record { of_answers = λ reply. refl; of_lines = λ line. r
     by_effect : (room : Room) (effect : Effect) → IsOwn me room effect → adds_user (Do effect) ≡ false
     by_effect room effect (to_user name other notice words is) = refl
     by_effect room effect (to_channel name channel notice words is) = refl
-    by_effect room effect (joins name op) = refl
-    by_effect room effect (parts name text channel is) = refl
+    by_effect room effect (makes name named none) = refl
+    by_effect room effect (enters name channel is outside) = refl
+    by_effect room effect (parts name text channel is member) = refl
     by_effect room effect (sets_topic name text channel is) = refl
     by_effect room effect (kicks name nick text channel other is member known) = refl
     by_effect room effect (invites nick name other is named) = refl
@@ -49,8 +50,9 @@ own_ends_nobody me = record { of_answers = λ reply. refl; of_lines = λ line. r
     by_effect : (room : Room) (effect : Effect) → IsOwn me room effect → adds_or_ends (Do effect) ≡ false
     by_effect room effect (to_user name other notice words is) = refl
     by_effect room effect (to_channel name channel notice words is) = refl
-    by_effect room effect (joins name op) = refl
-    by_effect room effect (parts name text channel is) = refl
+    by_effect room effect (makes name named none) = refl
+    by_effect room effect (enters name channel is outside) = refl
+    by_effect room effect (parts name text channel is member) = refl
     by_effect room effect (sets_topic name text channel is) = refl
     by_effect room effect (kicks name nick text channel other is member known) = refl
     by_effect room effect (invites nick name other is named) = refl
@@ -63,8 +65,9 @@ own_renames_nobody me who = record { of_answers = λ reply. refl; of_lines = λ 
     by_effect : (room : Room) (effect : Effect) → IsOwn me room effect → renames_other who (Do effect) ≡ false
     by_effect room effect (to_user name other notice words is) = refl
     by_effect room effect (to_channel name channel notice words is) = refl
-    by_effect room effect (joins name op) = refl
-    by_effect room effect (parts name text channel is) = refl
+    by_effect room effect (makes name named none) = refl
+    by_effect room effect (enters name channel is outside) = refl
+    by_effect room effect (parts name text channel is member) = refl
     by_effect room effect (sets_topic name text channel is) = refl
     by_effect room effect (kicks name nick text channel other is member known) = refl
     by_effect room effect (invites nick name other is named) = refl

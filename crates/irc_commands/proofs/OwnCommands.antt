@@ -20,22 +20,23 @@ use Rattle.irc_acts.specs.Own.{AreOwn}
 use Rattle.irc_acts.specs.OwnLaws.{IsSaid, said_own}
 use Rattle.irc_acts.specs.Standing.{is_known}
 use Rattle.irc_commands.specs.declared.say.Verb.{Verb}
-use Rattle.irc_commands.specs.Say.{say_steps}
+use Rattle.irc_commands.specs.Say.{is_notice, said_text, say_steps}
 use Rattle.irc_commands.specs.Topic.{topic_told, topic_set, topic_known, topic_of, topic_steps}
 use Rattle.irc_commands.proofs.SayWalk.{IsSoWhereSaid, said_all}
 
 -- PRIVMSG and NOTICE
 
-texts_said : (me : User) (room : Room) → IsSoWhereSaid room me (IsSaid me room)
+texts_said : (me : User) (room : Room) (which : Verb) (words : List ℕ) → IsSoWhereSaid room me which words (IsSaid me room)
 unfolding after
-texts_said me room = record {
+texts_said me room which words = record {
   answers = λ reply. tt;
-  to_users = λ name other notice words is. record { own = own.to_user name other notice words is; same = refl };
-  to_channels = λ name channel notice words is. record { own = own.to_channel name channel notice words is; same = refl };
+  to_users = λ name other is. record { own = own.to_user name other (is_notice which) (said_text me which other.nick words) is; same = refl };
+  to_channels = λ name channel is. record { own = own.to_channel name channel (is_notice which) (said_text me which channel.name words) is; same = refl };
 }
 
 pub say_own : (me : User) (room : Room) (which : Verb) (params : List (List ℕ)) → AreOwn me room (say_steps room me which params)
-say_own me room which params = said_own me room (say_steps room me which params) (said_all room me (IsSaid me room) (texts_said me room) which params)
+say_own me room which params = said_own me room (say_steps room me which params) (said_all room me (IsSaid me room) (λ reply. tt) which params
+    (λ targets words more given. texts_said me room which words))
 
 -- TOPIC: a single step
 

@@ -28,8 +28,8 @@ pub decided_is_possible : DecidedIsPossible
 decided_is_possible room place who message well =
     decided_so room place who message (λ d. ArePossible room d.steps) (record {
       silent = tt;
-      own = λ me steps is own. own_are_possible me room steps well (stored_there room well (key who) me is) own;
-      renamed = λ me nickname is free. record {
+      own = λ me steps is own carries. own_are_possible me room steps well (stored_there room well (key who) me is) own;
+      renamed = λ me nickname is named free. record {
         now = record {
           users_there = one_there room me.nick (stored_there room well (key who) me is);
           channel_there = refl;
@@ -38,7 +38,7 @@ decided_is_possible room place who message well =
         later = tt;
       };
       leaves_all = λ me is. own_are_possible me room (map (leaves me) (own_channels room me)) well (stored_there room well (key who) me is) (leaving_all_is_own me room well);
-      quits = λ me reason line is. record {
+      quits = λ me reason line is reason_is. record {
         now = record { users_there = one_there room me.nick (stored_there room well (key who) me is); channel_there = refl; nick_free = refl };
         later = tt;
       };

@@ -18,15 +18,15 @@ use Rattle.irc_acts.specs.ByTest.{by_test}
 use Rattle.irc_acts.specs.CommaLists.{entries}
 use Rattle.irc_commands.specs.declared.say.Verb.{Verb}
 use Rattle.irc_commands.specs.declared.say.Verb.TheVariants as verb
-use Rattle.irc_commands.specs.Say.{is_notice, may_speak, is_channel_target, says, to_channel, to_user, to_one, too_many, unless_notice, say_to, say_steps}
+use Rattle.irc_commands.specs.Say.{is_notice, said_text, may_speak, is_channel_target, says, to_channel, to_user, to_one, too_many, unless_notice, say_to, say_steps}
 
--- so it is of an answer, and of a text to a user or a channel that is there
-pub record IsSoWhereSaid (room : Room) (me : User) (P : Act → Type 0) : Type 0 where
+-- so it is of an answer, and of a text to a user or a channel that is there, as much of the words as its line has room for
+pub record IsSoWhereSaid (room : Room) (me : User) (which : Verb) (words : List ℕ) (P : Act → Type 0) : Type 0 where
   pub answers : (reply : Reply) → P (Answer reply)
-  pub to_users : (name : List ℕ) (other : User) (notice : Bool) (words : List ℕ) → row room.users (key name) ≡ Some other
-      → P (Do (Say me.nick notice (target.User other.nick) (kept words)))
-  pub to_channels : (name : List ℕ) (channel : Channel) (notice : Bool) (words : List ℕ) → row room.channels (key name) ≡ Some channel
-      → P (Do (Say me.nick notice (target.Channel channel.name) (kept words)))
+  pub to_users : (name : List ℕ) (other : User) → row room.users (key name) ≡ Some other
+      → P (Do (Say me.nick (is_notice which) (target.User other.nick) (kept (said_text me which other.nick words))))
+  pub to_channels : (name : List ℕ) (channel : Channel) → row room.channels (key name) ≡ Some channel
+      → P (Do (Say me.nick (is_notice which) (target.Channel channel.name) (kept (said_text me which channel.name words))))
 
 pub all_appended : (P : Act → Type 0) (a b : List Act) → AllByRecursion P a → AllByRecursion P b → AllByRecursion P (a ++ b)
 all_appended P [] b all more = more
@@ -47,41 +47,47 @@ unless_all : (P : Act → Type 0) (which : Verb) (acts : List Act) → AllByRecu
 unless_all P verb.Notice acts all = all_kept P _ acts all
 unless_all P verb.Privmsg acts all = all
 
-channel_all : (room : Room) (me : User) (P : Act → Type 0) → IsSoWhereSaid room me P → (which : Verb) (words name : List ℕ) (found : Option Channel)
+channel_all : (room : Room) (me : User) (P : Act → Type 0) (which : Verb) (words : List ℕ) → IsSoWhereSaid room me which words P → (name : List ℕ) (found : Option Channel)
     → row room.channels (key name) ≡ found → AllByRecursion P (to_channel me which name words found)
-channel_all room me P so which words name None is = (so.answers _, tt)
-channel_all room me P so which words name (Some channel) is =
+channel_all room me P which words so name None is = (so.answers _, tt)
+channel_all room me P which words so name (Some channel) is =
     by_test (AllByRecursion P) (may_speak me channel) (says me which (target.Channel channel.name) channel.name words) (Answer (CannotSendToChan channel.name) ∷ [])
-    (λ may. (so.to_channels name channel (is_notice which) _ is, tt)) (λ may_not. (so.answers _, tt))
+    (λ may. (so.to_channels name channel is, tt)) (λ may_not. (so.answers _, tt))
 
-user_all : (room : Room) (me : User) (P : Act → Type 0) → IsSoWhereSaid room me P → (which : Verb) (words name : List ℕ) (found : Option User)
+user_all : (room : Room) (me : User) (P : Act → Type 0) (which : Verb) (words : List ℕ) → IsSoWhereSaid room me which words P → (name : List ℕ) (found : Option User)
     → row room.users (key name) ≡ found → AllByRecursion P (to_user me which name words found)
-user_all room me P so which words name None is = (so.answers _, tt)
-user_all room me P so which words name (Some other) is = (so.to_users name other (is_notice which) _ is, tt)
+user_all room me P which words so name None is = (so.answers _, tt)
+user_all room me P which words so name (Some other) is = (so.to_users name other is, tt)
 
-one_all : (room : Room) (me : User) (P : Act → Type 0) → IsSoWhereSaid room me P → (which : Verb) (words name : List ℕ) → AllByRecursion P (to_one room me which words name)
-one_all room me P so which words name =
+one_all : (room : Room) (me : User) (P : Act → Type 0) (which : Verb) (words : List ℕ) → IsSoWhereSaid room me which words P → (name : List ℕ)
+    → AllByRecursion P (to_one room me which words name)
+one_all room me P which words so name =
     by_test (AllByRecursion P) (is_channel_target name)
     (to_channel me which name words (row room.channels (key name))) (to_user me which name words (row room.users (key name)))
-    (λ is. channel_all room me P so which words name (row room.channels (key name)) refl)
-    (λ is_not. user_all room me P so which words name (row room.users (key name)) refl)
+    (λ is. channel_all room me P which words so name (row room.channels (key name)) refl)
+    (λ is_not. user_all room me P which words so name (row room.users (key name)) refl)
 
-too_many_all : (room : Room) (me : User) (P : Act → Type 0) → IsSoWhereSaid room me P → (names : List (List ℕ)) → AllByRecursion P (too_many names)
-too_many_all room me P so [] = tt
-too_many_all room me P so (name ∷ names) = (so.answers _, tt)
+too_many_all : (P : Act → Type 0) → ((reply : Reply) → P (Answer reply)) → (names : List (List ℕ)) → AllByRecursion P (too_many names)
+too_many_all P answers [] = tt
+too_many_all P answers (name ∷ names) = (answers _, tt)
 
-say_to_all : (room : Room) (me : User) (P : Act → Type 0) → IsSoWhereSaid room me P → (which : Verb) (targets words : List ℕ) → AllByRecursion P (say_to room me which targets words)
-say_to_all room me P so which targets words =
+say_to_all : (room : Room) (me : User) (P : Act → Type 0) (which : Verb) (targets words : List ℕ) → IsSoWhereSaid room me which words P
+    → AllByRecursion P (say_to room me which targets words)
+say_to_all room me P which targets words so =
     all_appended P (flat_map (to_one room me which words) (take MAX_TARGETS (entries targets))) (too_many (drop MAX_TARGETS (entries targets)))
-    (all_flat P (to_one room me which words) (take MAX_TARGETS (entries targets)) (one_all room me P so which words))
-    (too_many_all room me P so (drop MAX_TARGETS (entries targets)))
+    (all_flat P (to_one room me which words) (take MAX_TARGETS (entries targets)) (one_all room me P which words so))
+    (too_many_all P so.answers (drop MAX_TARGETS (entries targets)))
 
-one_answer : (room : Room) (me : User) (P : Act → Type 0) → IsSoWhereSaid room me P → (which : Verb) (reply : Reply) → AllByRecursion P (unless_notice which (Answer reply ∷ []))
-one_answer room me P so which reply = unless_all P which (Answer reply ∷ []) (so.answers reply, tt)
+one_answer : (P : Act → Type 0) → ((reply : Reply) → P (Answer reply)) → (which : Verb) (reply : Reply) → AllByRecursion P (unless_notice which (Answer reply ∷ []))
+one_answer P answers which reply = unless_all P which (Answer reply ∷ []) (answers reply, tt)
 
-pub said_all : (room : Room) (me : User) (P : Act → Type 0) → IsSoWhereSaid room me P → (which : Verb) (params : List (List ℕ)) → AllByRecursion P (say_steps room me which params)
+-- the words are the second parameter
+pub said_all : (room : Room) (me : User) (P : Act → Type 0) → ((reply : Reply) → P (Answer reply)) → (which : Verb) (params : List (List ℕ))
+    → ((targets words : List ℕ) (more : List (List ℕ)) → params ≡ targets ∷ words ∷ more → IsSoWhereSaid room me which words P)
+    → AllByRecursion P (say_steps room me which params)
 unfolding say_steps
-said_all room me P so which [] = one_answer room me P so which _
-said_all room me P so which (targets ∷ []) = one_answer room me P so which _
-said_all room me P so which (targets ∷ [] ∷ more) = one_answer room me P so which _
-said_all room me P so which (targets ∷ (b ∷ bytes) ∷ more) = unless_all P which (say_to room me which targets (b ∷ bytes)) (say_to_all room me P so which targets (b ∷ bytes))
+said_all room me P answers which [] so = one_answer P answers which _
+said_all room me P answers which (targets ∷ []) so = one_answer P answers which _
+said_all room me P answers which (targets ∷ [] ∷ more) so = one_answer P answers which _
+said_all room me P answers which (targets ∷ (b ∷ bytes) ∷ more) so =
+    unless_all P which (say_to room me which targets (b ∷ bytes)) (say_to_all room me P which targets (b ∷ bytes) (so targets (b ∷ bytes) more refl))

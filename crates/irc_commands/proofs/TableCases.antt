@@ -1,5 +1,5 @@
 -- What can come of a line, case by case: of a user, and of a connection that is not registered. A case for each row of the command table.
-use Rattle.std.proofs.Common.{if◌then◌else◌, map, sym, subst, ◌⊎◌, inl, inr, nat_eq, ◌≡◌, ℕ, true, false, not, Option, Some, None, List, [], ◌∷◌, refl, cond}
+use Rattle.std.proofs.Common.{Bool, if◌then◌else◌, map, sym, subst, ◌⊎◌, inl, inr, nat_eq, ◌≡◌, ℕ, true, false, not, Option, Some, None, List, [], ◌∷◌, refl, cond}
 use Rattle.arrayvec.specs.ArrayVec.{ArrayVec}
 use Rattle.std.specs.Cmp.Lexicographic.{pointwise}
 use Rattle.irc_names.specs.Fold.{key}
@@ -22,6 +22,8 @@ use Rattle.irc_commands.specs.Decisions.{Decided, nothing, does, Registered}
 use Rattle.irc_commands.specs.Decide.{is_from, decide_for, decide}
 use Rattle.irc_acts.specs.Moves.{own_channels}
 use Rattle.irc_acts.specs.Own.{IsOwn, AreOwn}
+use Rattle.irc_acts.specs.Sendable.{CarriesSendable}
+use Rattle.irc_acts.specs.Words.{reason_given}
 use Rattle.irc_membership.specs.Join.{leaves, join_steps}
 use Rattle.irc_membership.specs.Invite.{invite_steps}
 use Rattle.irc_membership.specs.Kick.{kick_steps}
@@ -51,6 +53,7 @@ use Rattle.irc_commands.specs.Topic.{topic_steps}
 use Rattle.irc_acts.specs.ByTest.{by_test}
 use Rattle.irc_commands.specs.declared.say.Verb.TheVariants as verb
 use Rattle.irc_commands.proofs.OwnCommands.{say_own, topic_own}
+use Rattle.irc_commands.proofs.CarriedCommands.{CarryGiven, say_carries, join_given, part_given, topic_given, kick_given, invite_given, mode_given}
 use Rattle.irc_users.specs.Users.{clean_user, cut_real}
 use Rattle.irc_numerics.specs.declared.replies.Reply.{Reply}
 use Rattle.irc_room.specs.Effects.{has_user}
@@ -58,86 +61,108 @@ use Rattle.irc_commands.specs.declared.pending.Pending.{Pending}
 use Rattle.irc_commands.specs.Register.{replies, user_of, welcomed, completed, complete, nick_chosen, nick_row, user_row, pending_row_of, register}
 
 -- so it is in each case
-pub record IsSoDecided (room : Room) (who : List ℕ) (Q : Decided → Type 0) : Type 0 where
+pub record IsSoDecided (room : Room) (who : List ℕ) (message : Parsed) (Q : Decided → Type 0) : Type 0 where
   pub silent : Q nothing
-  pub own : (me : User) (steps : List Act) → row room.users (key who) ≡ Some me → AreOwn me room steps → Q (does steps)
-  pub renamed : (me : User) (nickname : List ℕ) → row room.users (key who) ≡ Some me → is_anothers room me nickname ≡ false
+  pub own : (me : User) (steps : List Act) → row room.users (key who) ≡ Some me → AreOwn me room steps → CarryGiven me room message.params steps → Q (does steps)
+  pub renamed : (me : User) (nickname : List ℕ) → row room.users (key who) ≡ Some me → is_nick nickname ≡ true → is_anothers room me nickname ≡ false
       → Q (does (Do (Rename me.nick nickname) ∷ []))
   pub leaves_all : (me : User) → row room.users (key who) ≡ Some me → Q (does (map (leaves me) (own_channels room me)))
-  pub quits : (me : User) (reason : List ℕ) (line : ArrayVec ℕ) → row room.users (key who) ≡ Some me
+  pub quits : (me : User) (reason : List ℕ) (line : ArrayVec ℕ) → row room.users (key who) ≡ Some me → reason ≡ reason_given message.params me.nick
       → Q (record { steps = Do (Quit me.nick reason) ∷ Raw line ∷ []; close = true })
 
-pinged : (me : User) (room : Room) (place : Place) (params : List (List ℕ)) → AreOwn me room (ping_steps place params)
+pinged : (place : Place) (params : List (List ℕ)) → effects_among (ping_steps place params) ≡ []
 unfolding ping_steps
-pinged me room place [] = tt
-pinged me room place (word ∷ more) = tt
+pinged place [] = refl
+pinged place (word ∷ more) = refl
 
-nick_taken_so : (room : Room) (who : List ℕ) (me : User) (Q : Decided → Type 0) → IsSoDecided room who Q → row room.users (key who) ≡ Some me
-    → (nickname : List ℕ) → Q (does (nick_taken room me nickname))
-nick_taken_so room who me Q so is nickname =
-    let S = λ (steps : List Act). Q (does steps) in
-    let renames : List Act = if pointwise nat_eq nickname me.nick then [] else Do (Rename me.nick nickname) ∷ [] in
-    let free : List Act = if is_anothers room me nickname then Answer (NicknameInUse nickname) ∷ [] else renames in
-    by_test S (not (is_nick nickname)) (Answer (ErroneousNickname (client_words nickname)) ∷ []) free (λ erroneous. so.own me _ is tt)
-    (λ fine. by_test S (is_anothers room me nickname) (Answer (NicknameInUse nickname) ∷ []) renames (λ taken. so.own me _ is tt)
-    (λ not_taken. by_test S (pointwise nat_eq nickname me.nick) [] (Do (Rename me.nick nickname) ∷ []) (λ same. so.own me _ is tt)
-    (λ other. so.renamed me nickname is not_taken)))
+not_so : (b : Bool) → not b ≡ false → b ≡ true
+not_so true e = refl
+not_so false e = cc
 
-by_nick : (room : Room) (who : List ℕ) (me : User) (Q : Decided → Type 0) → IsSoDecided room who Q → row room.users (key who) ≡ Some me
-    → (params : List (List ℕ)) → Q (does (nick_steps room me params))
-unfolding nick_steps
-by_nick room who me Q so is [] = so.own me _ is tt
-by_nick room who me Q so is ([] ∷ more) = so.own me _ is tt
-by_nick room who me Q so is ((b ∷ bytes) ∷ more) = nick_taken_so room who me Q so is (b ∷ bytes)
+-- steps without an effect carry nothing
+quiet_steps : (me : User) (room : Room) (params : List (List ℕ)) (steps : List Act) → effects_among steps ≡ [] → CarryGiven me room params steps
+quiet_steps me room params steps none well within mine carried = subst (EachInTurn CarriesSendable room) (sym none) tt
 
-by_join : (room : Room) (who : List ℕ) (me : User) (Q : Decided → Type 0) → IsSoDecided room who Q → row room.users (key who) ≡ Some me
-    → (steps : List Act) → AreOwn me room steps ⊎ (steps ≡ map (leaves me) (own_channels room me)) → Q (does steps)
-by_join room who me Q so is steps (inl own) = so.own me steps is own
-by_join room who me Q so is steps (inr all) = subst (λ (acts : List Act). Q (does acts)) (sym all) (so.leaves_all me is)
-
--- steps without an effect are anybody's own
+-- and are anybody's own
 answers_own : (me : User) (room : Room) (steps : List Act) → effects_among steps ≡ [] → AreOwn me room steps
 answers_own me room steps none = subst (EachInTurn (IsOwn me) room) (sym none) tt
 
-by_row : (room : Room) (place : Place) (who : List ℕ) (me : User) (message : Parsed) (Q : Decided → Type 0) → IsSoDecided room who Q → row room.users (key who) ≡ Some me
-    → (which : Option Command) → Q (row_of room place me message which)
-unfolding row_of
-by_row room place who me message Q so is (Some command.Pass) = so.own me _ is tt
-by_row room place who me message Q so is (Some command.User) = so.own me _ is tt
-by_row room place who me message Q so is (Some command.Pong) = so.silent
-by_row room place who me message Q so is (Some command.Motd) = so.own me _ is tt
-by_row room place who me message Q so is (Some command.Ping) = so.own me (ping_steps place message.params) is (pinged me room place message.params)
-by_row room place who me message Q so is (Some command.Quit) = so.quits me _ _ is
-by_row room place who me message Q so is (Some command.Privmsg) = so.own me (say_steps room me verb.Privmsg message.params) is (say_own me room verb.Privmsg message.params)
-by_row room place who me message Q so is (Some command.Notice) = so.own me (say_steps room me verb.Notice message.params) is (say_own me room verb.Notice message.params)
-by_row room place who me message Q so is (Some command.Nick) = by_nick room who me Q so is message.params
-by_row room place who me message Q so is (Some command.Join) = by_join room who me Q so is (join_steps room me message.params) (join_is_own_or_leaves me room message.params)
-by_row room place who me message Q so is (Some command.Part) = so.own me (part_steps room me message.params) is (part_is_own me room message.params)
-by_row room place who me message Q so is (Some command.Topic) = so.own me (topic_steps room me message.params) is (topic_own me room message.params)
-by_row room place who me message Q so is (Some command.Names) = so.own me (names_steps room me message.params) is (answers_own me room (names_steps room me message.params) (names_only_answers room me message.params))
-by_row room place who me message Q so is (Some command.Kick) = so.own me (kick_steps room me message.params) is (kick_is_own me room message.params)
-by_row room place who me message Q so is (Some command.Invite) = so.own me (invite_steps room me message.params) is (invite_is_own me room message.params)
-by_row room place who me message Q so is (Some command.Mode) = so.own me (mode_steps room me message.params) is (mode_is_own me room message.params)
-by_row room place who me message Q so is (Some command.Ison) =
-    so.own me (ison_steps room message.params) is (answers_own me room (ison_steps room message.params) (ison_only_answers room message.params))
-by_row room place who me message Q so is (Some command.Lusers) =
-    so.own me (lusers_steps room place) is (answers_own me room (lusers_steps room place) (lusers_only_answers room place))
-by_row room place who me message Q so is (Some command.List) =
-    so.own me (list_steps room me message.params) is (answers_own me room (list_steps room me message.params) (list_only_answers room me message.params))
-by_row room place who me message Q so is (Some command.Whois) =
-    so.own me (whois_steps room place me message.params) is (answers_own me room (whois_steps room place me message.params) (whois_only_answers room place me message.params))
-by_row room place who me message Q so is (Some command.Who) =
-    so.own me (who_steps room place me message.params) is (answers_own me room (who_steps room place me message.params) (who_only_answers room place me message.params))
-by_row room place who me message Q so is None = so.own me _ is tt
+by_answers : (room : Room) (who : List ℕ) (message : Parsed) (me : User) (Q : Decided → Type 0) → IsSoDecided room who message Q → row room.users (key who) ≡ Some me
+    → (steps : List Act) → effects_among steps ≡ [] → Q (does steps)
+by_answers room who message me Q so is steps none =
+    so.own me steps is (answers_own me room steps none) (quiet_steps me room message.params steps none)
 
-by_user : (room : Room) (place : Place) (who : List ℕ) (message : Parsed) (Q : Decided → Type 0) → IsSoDecided room who Q
+nick_taken_so : (room : Room) (who : List ℕ) (message : Parsed) (me : User) (Q : Decided → Type 0) → IsSoDecided room who message Q → row room.users (key who) ≡ Some me
+    → (nickname : List ℕ) → Q (does (nick_taken room me nickname))
+nick_taken_so room who message me Q so is nickname =
+    let S = λ (steps : List Act). Q (does steps) in
+    let renames : List Act = if pointwise nat_eq nickname me.nick then [] else Do (Rename me.nick nickname) ∷ [] in
+    let free : List Act = if is_anothers room me nickname then Answer (NicknameInUse nickname) ∷ [] else renames in
+    by_test S (not (is_nick nickname)) (Answer (ErroneousNickname (client_words nickname)) ∷ []) free (λ erroneous. by_answers room who message me Q so is _ refl)
+    (λ fine. by_test S (is_anothers room me nickname) (Answer (NicknameInUse nickname) ∷ []) renames (λ taken. by_answers room who message me Q so is _ refl)
+    (λ not_taken. by_test S (pointwise nat_eq nickname me.nick) [] (Do (Rename me.nick nickname) ∷ []) (λ same. by_answers room who message me Q so is _ refl)
+    (λ other. so.renamed me nickname is (not_so (is_nick nickname) fine) not_taken)))
+
+by_nick : (room : Room) (who : List ℕ) (message : Parsed) (me : User) (Q : Decided → Type 0) → IsSoDecided room who message Q → row room.users (key who) ≡ Some me
+    → (params : List (List ℕ)) → Q (does (nick_steps room me params))
+unfolding nick_steps
+by_nick room who message me Q so is [] = by_answers room who message me Q so is _ refl
+by_nick room who message me Q so is ([] ∷ more) = by_answers room who message me Q so is _ refl
+by_nick room who message me Q so is ((b ∷ bytes) ∷ more) = nick_taken_so room who message me Q so is (b ∷ bytes)
+
+by_join : (room : Room) (who : List ℕ) (message : Parsed) (me : User) (Q : Decided → Type 0) → IsSoDecided room who message Q → row room.users (key who) ≡ Some me
+    → (steps : List Act) → CarryGiven me room message.params steps
+    → AreOwn me room steps ⊎ (steps ≡ map (leaves me) (own_channels room me)) → Q (does steps)
+by_join room who message me Q so is steps carries (inl own) = so.own me steps is own carries
+by_join room who message me Q so is steps carries (inr all) = subst (λ (acts : List Act). Q (does acts)) (sym all) (so.leaves_all me is)
+
+by_row : (room : Room) (place : Place) (who : List ℕ) (me : User) (message : Parsed) (Q : Decided → Type 0) → IsSoDecided room who message Q
+    → row room.users (key who) ≡ Some me → (which : Option Command) → Q (row_of room place me message which)
+unfolding row_of
+by_row room place who me message Q so is (Some command.Pass) = by_answers room who message me Q so is _ refl
+by_row room place who me message Q so is (Some command.User) = by_answers room who message me Q so is _ refl
+by_row room place who me message Q so is (Some command.Pong) = so.silent
+by_row room place who me message Q so is (Some command.Motd) = by_answers room who message me Q so is _ refl
+by_row room place who me message Q so is (Some command.Ping) = by_answers room who message me Q so is (ping_steps place message.params) (pinged place message.params)
+by_row room place who me message Q so is (Some command.Quit) = so.quits me _ _ is refl
+by_row room place who me message Q so is (Some command.Privmsg) =
+    so.own me (say_steps room me verb.Privmsg message.params) is (say_own me room verb.Privmsg message.params) (say_carries me room verb.Privmsg message.params)
+by_row room place who me message Q so is (Some command.Notice) =
+    so.own me (say_steps room me verb.Notice message.params) is (say_own me room verb.Notice message.params) (say_carries me room verb.Notice message.params)
+by_row room place who me message Q so is (Some command.Nick) = by_nick room who message me Q so is message.params
+by_row room place who me message Q so is (Some command.Join) =
+    by_join room who message me Q so is (join_steps room me message.params) (join_given me room message.params) (join_is_own_or_leaves me room message.params)
+by_row room place who me message Q so is (Some command.Part) =
+    so.own me (part_steps room me message.params) is (part_is_own me room message.params) (part_given me room message.params)
+by_row room place who me message Q so is (Some command.Topic) =
+    so.own me (topic_steps room me message.params) is (topic_own me room message.params) (topic_given me room message.params)
+by_row room place who me message Q so is (Some command.Names) =
+    by_answers room who message me Q so is (names_steps room me message.params) (names_only_answers room me message.params)
+by_row room place who me message Q so is (Some command.Kick) =
+    so.own me (kick_steps room me message.params) is (kick_is_own me room message.params) (kick_given me room message.params)
+by_row room place who me message Q so is (Some command.Invite) =
+    so.own me (invite_steps room me message.params) is (invite_is_own me room message.params) (invite_given me room message.params)
+by_row room place who me message Q so is (Some command.Mode) =
+    so.own me (mode_steps room me message.params) is (mode_is_own me room message.params) (mode_given me room message.params)
+by_row room place who me message Q so is (Some command.Ison) =
+    by_answers room who message me Q so is (ison_steps room message.params) (ison_only_answers room message.params)
+by_row room place who me message Q so is (Some command.Lusers) = by_answers room who message me Q so is (lusers_steps room place) (lusers_only_answers room place)
+by_row room place who me message Q so is (Some command.List) =
+    by_answers room who message me Q so is (list_steps room me message.params) (list_only_answers room me message.params)
+by_row room place who me message Q so is (Some command.Whois) =
+    by_answers room who message me Q so is (whois_steps room place me message.params) (whois_only_answers room place me message.params)
+by_row room place who me message Q so is (Some command.Who) =
+    by_answers room who message me Q so is (who_steps room place me message.params) (who_only_answers room place me message.params)
+by_row room place who me message Q so is None = by_answers room who message me Q so is _ refl
+
+by_user : (room : Room) (place : Place) (who : List ℕ) (message : Parsed) (Q : Decided → Type 0) → IsSoDecided room who message Q
     → (found : Option User) → row room.users (key who) ≡ found → Q (decide_for room place message found)
 by_user room place who message Q so None is = so.silent
 by_user room place who message Q so (Some me) is =
     by_test Q (is_from message.prefix (Some me.nick)) (row_of room place me message (command_of message.command)) nothing
     (λ own. by_row room place who me message Q so is (command_of message.command)) (λ foreign. so.silent)
 
-pub decided_so : (room : Room) (place : Place) (who : List ℕ) (message : Parsed) (Q : Decided → Type 0) → IsSoDecided room who Q → Q (decide room place who message)
+pub decided_so : (room : Room) (place : Place) (who : List ℕ) (message : Parsed) (Q : Decided → Type 0) → IsSoDecided room who message Q → Q (decide room place who message)
 unfolding decide
 decided_so room place who message Q so = by_user room place who message Q so (row room.users (key who)) refl
 

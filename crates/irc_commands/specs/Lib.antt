@@ -10,4 +10,7 @@ pub mod Decide
 pub mod Register
 pub mod CodeViews
 pub mod Possible
+pub mod Doing
+pub mod OwnInvitations
+pub mod Sendable
 pub mod Comings

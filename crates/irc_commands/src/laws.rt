@@ -1,6 +1,9 @@
 //! What holds of all that is decided. Each law is a function that does nothing, and its contract is the law: the check proves it, and
 //! a crate above may cite it.
 ghost use Rattle.irc_commands.specs.Possible.{DecidedIsPossible, RegisteringIsPossible};
+ghost use Rattle.irc_commands.specs.Doing.{DecidedDoes, RegisteringDoes};
+ghost use Rattle.irc_commands.specs.OwnInvitations.{DecidedByOwnInvitations};
+ghost use Rattle.irc_commands.specs.Sendable.{DecidedIsSendable, RegisteringIsSendable};
 ghost use Rattle.irc_commands.specs.Comings.{
   DecidedAddsNobody,
   OnlyItselfIsRenamed,
@@ -20,6 +23,34 @@ pub fn decided_is_possible()
 /// The same of a line of a connection that is not registered: the nickname of a user that is added is free.
 pub fn registering_is_possible()
     ensures { RegisteringIsPossible }
+{}
+
+/// Each effect that a user's line is decided to have does something when its turn comes: nobody joins who is a member, and nobody leaves
+/// or is kicked who is none.
+pub fn decided_does()
+    ensures { DecidedDoes }
+{}
+
+/// The same of a line of a connection that is not registered.
+pub fn registering_does()
+    ensures { RegisteringDoes }
+{}
+
+/// A user's line does the same whoever else is invited to channels.
+pub fn decided_by_own_invitations()
+    ensures { DecidedByOwnInvitations }
+{}
+
+/// Each effect that a user's line is decided to have can be sent when its turn comes, in a well-formed room within limits: a server that
+/// reads the line that tells of it gets just this effect.
+pub fn decided_is_sendable()
+    ensures { DecidedIsSendable }
+{}
+
+/// What a connection that is not registered gives keeps to the limits, line by line, where what it has given did; and the user that it
+/// becomes is one that another server can be told of.
+pub fn registering_is_sendable()
+    ensures { RegisteringIsSendable }
 {}
 
 /// No line of a user makes somebody a user.

@@ -6,7 +6,7 @@ use Rattle.irc_names.specs.Tables.{alter}
 use Rattle.irc_line.specs.Messages.{Parsed}
 use Rattle.irc_users.specs.declared.user.User.{User}
 use Rattle.irc_channels.specs.declared.channel.Channel.{Channel}
-use Rattle.irc_channels.specs.Channels.{no_modes}
+use Rattle.irc_modes.specs.Modes.{no_modes}
 use Rattle.irc_numerics.specs.declared.replies.Reply.TheVariants.{NoSuchNick, CannotSendToChan, TooManyTargets, UnknownCommand, NotRegistered, NicknameInUse}
 use Rattle.irc_room.specs.declared.effect.Target.TheVariants as target
 use Rattle.irc_room.specs.declared.effect.Effect.TheVariants.{Quit, Say}

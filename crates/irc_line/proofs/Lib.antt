@@ -7,3 +7,5 @@ pub mod ReadingLaws
 pub mod RoundTrip
 pub mod ReadingSteps
 pub mod LinesRead
+pub mod LineWords
+pub mod Lengths

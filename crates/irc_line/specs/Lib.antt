@@ -5,6 +5,7 @@ pub mod Framed
 pub mod Messages
 pub mod Grammar
 pub mod Reading
+pub mod Carried
 pub mod MessageViews
 pub mod PartViews
 pub mod Loops

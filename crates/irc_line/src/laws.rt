@@ -1,7 +1,7 @@
 //! What holds of reading and writing together. Each law is a function that does nothing, and its contract is the law: the
 //! check proves it, and a crate above may cite it.
 ghost use Rattle.std.specs.Prelude.{◌≡◌};
-ghost use Rattle.irc_line.specs.Laws.{WrittenIsRead, EveryLineIsRead, IsReadSoAlone};
+ghost use Rattle.irc_line.specs.Laws.{WrittenIsRead, EveryLineIsRead, IsReadSoAlone, LinesAreCarried, WordsAreOfTheLine};
 ghost use Rattle.irc_line.specs.Limits.{max_line, max_text, max_parameters};
 
 use crate::limits::{MAX_LINE, MAX_PARAMETERS, MAX_TEXT};
@@ -18,6 +18,13 @@ pub fn written_is_read()
 pub fn every_line_is_read()
     ensures so { EveryLineIsRead }
     ensures alone { IsReadSoAlone }
+{}
+
+/// What is known of a message that was read from a line: each of its words is one of the line, no longer than the line and without a NUL,
+/// CR or LF; the prefix and the command have no space; and only the last parameter may be empty, have spaces or begin with a colon.
+pub fn words_are_of_the_line()
+    ensures lines { LinesAreCarried }
+    ensures words { WordsAreOfTheLine }
 {}
 
 /// The constants of [`limits`](crate::limits) are the numbers that the definitions name.

@@ -3,7 +3,7 @@ use Rattle.std.proofs.Common.{◌≡◌, ℕ, Bool, true, false, not, Option, So
 use Rattle.std.specs.Borrow.{Bor}
 use Rattle.irc_line.specs.PartViews.{words_now}
 use Rattle.irc_users.specs.declared.user.User.{User}
-use Rattle.irc_channels.specs.Channels.{is_nil}
+use Rattle.irc_modes.specs.Modes.{is_nil}
 use Rattle.irc_room.specs.Room.{Room}
 use Rattle.irc_acts.specs.declared.act.Act.{Act}
 use Rattle.irc_acts.specs.Ahead.{ahead, in_turn}

@@ -8,41 +8,21 @@ use Rattle.irc_names.specs.Names.{is_channel}
 use Rattle.irc_names.specs.Tables.{fold_cmp, row}
 use Rattle.irc_users.specs.declared.user.User.{User}
 use Rattle.irc_channels.specs.declared.channel.Channel.{Channel}
-use Rattle.irc_channels.specs.Channels.{has_member, joined, new_channel}
+use Rattle.irc_channels.specs.Channels.{has_member, new_channel}
 use Rattle.irc_numerics.specs.declared.replies.Reply.TheVariants.{NoSuchChannel, TooManyChannels}
-use Rattle.irc_room.specs.declared.effect.Effect.TheVariants.{Join}
 use Rattle.irc_room.specs.Room.{Room, IsWellFormed}
 use Rattle.irc_room.specs.Effects.{is_member}
 use Rattle.irc_room.specs.Readers.{flags_at}
 use Rattle.irc_acts.specs.declared.act.Act.{Act}
-use Rattle.irc_acts.specs.declared.act.Act.TheVariants.{Answer, Do}
+use Rattle.irc_acts.specs.declared.act.Act.TheVariants.{Answer}
 use Rattle.irc_acts.specs.Acts.{client_words}
 use Rattle.irc_acts.specs.Ahead.{ahead}
 use Rattle.irc_acts.specs.AheadLaws.{each-both}
 use Rattle.irc_acts.specs.Moves.{IsOwnJoin, AreOwnJoins, own_channels}
 use Rattle.irc_acts.specs.MoveLaws.{joined_as_it_was, joins_keep_users}
-use Rattle.irc_answers.specs.Names.{names_of, end_of_names}
 use Rattle.irc_membership.specs.declared.TheConstants.{MAX_JOINED}
-use Rattle.irc_membership.specs.Join.{Asked, kept_out, topic_for_joiner, joins, admitted, joins_found, join_one}
-use Rattle.irc_membership.specs.Laws.JoinWalk.{one_so}
-
--- ---- what it does looks at the users alone, and at the row of the channel
-
-joins_alike : (room now : Room) (me : User) (name : List ℕ) (op : Bool) (channel : Channel) → now.users ≡ room.users
-    → joins now me name op channel ≡ joins room me name op channel
-joins_alike room now me name op channel same =
-    let after_join = joined (key me.nick) op channel in
-    ap (λ users. Do (Join me.nick channel.name op) ∷ topic_for_joiner after_join.name after_join.topic ++ names_of users me after_join ++ end_of_names name ∷ []) same
-
-admitted_alike : (room now : Room) (me : User) (name : List ℕ) (channel : Channel) (refusal : Option Act) → now.users ≡ room.users
-    → admitted now me name channel refusal ≡ admitted room me name channel refusal
-admitted_alike room now me name channel None same = joins_alike room now me name false channel same
-admitted_alike room now me name channel (Some refusal) same = refl
-
-found_alike : (room now : Room) (me : User) (asked : Asked) (found : Option Channel) → now.users ≡ room.users
-    → joins_found now me asked found ≡ joins_found room me asked found
-found_alike room now me asked None same = joins_alike room now me asked.channel true (new_channel asked.channel) same
-found_alike room now me asked (Some channel) same = admitted_alike room now me asked.channel channel (kept_out me asked.key channel) same
+use Rattle.irc_membership.specs.Join.{Asked, joins_found, join_one}
+use Rattle.irc_membership.specs.Laws.JoinWalk.{found_by_users, one_so}
 
 -- ---- one channel, case by case
 
@@ -102,7 +82,7 @@ pub served_as : (me : User) (room : Room) (acts : List Act) (name given : List �
     → join_one me (ahead room acts) (record { channel = name; key = given }) ≡ joins_found room me (record { channel = name; key = given }) (row room.channels (key name))
 served_as me room acts name given all fine out fewer =
     one_more me (ahead room acts) name given fine out fewer
-    ∙ found_alike room (ahead room acts) me (record { channel = name; key = given }) (row (ahead room acts).channels (key name)) (joins_keep_users me.nick room acts all)
+    ∙ found_by_users room (ahead room acts) me (record { channel = name; key = given }) (row (ahead room acts).channels (key name)) (joins_keep_users me.nick room acts all)
     ∙ ap (joins_found room me (record { channel = name; key = given })) (joined_as_it_was me.nick name room acts all out)
 
 -- so are all the steps, once it is served
@@ -113,7 +93,7 @@ joins_more me room acts new asked well all new_is =
     subst (AreOwnJoins me.nick room) (sym new_is)
     (each-both (IsOwnJoin me.nick) room acts (join_one me now asked) all
     (one_so (IsOwnJoin me.nick) me now asked (record {
-      makes = λ out. (refl, out);
+      makes = λ out named none. (refl, out);
       enters = λ out channel is.
           let named = (well.channels_sound (key asked.channel) channel (sym (joined_as_it_was me.nick asked.channel room acts all out) ∙ is)).named in
           (refl, ap (λ fold. option_map_or (has_member (key me.nick)) (row now.channels fold) false) named ∙ out);

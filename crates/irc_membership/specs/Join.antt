@@ -7,7 +7,8 @@ use Rattle.irc_names.specs.Names.{is_channel}
 use Rattle.irc_names.specs.Tables.{row}
 use Rattle.irc_users.specs.declared.user.User.{User}
 use Rattle.irc_channels.specs.declared.channel.Channel.{Channel}
-use Rattle.irc_channels.specs.Channels.{is_invited, is_nil, joined, new_channel}
+use Rattle.irc_channels.specs.Channels.{is_invited, joined, new_channel}
+use Rattle.irc_modes.specs.Modes.{is_nil}
 use Rattle.irc_channels.specs.Texts.{cut_words}
 use Rattle.irc_numerics.specs.declared.replies.Reply.TheVariants.{NeedMoreParams, NoSuchChannel, TooManyChannels, InviteOnlyChan, BannedFromChan, BadChannelKey, ChannelIsFull, Topic}
 use Rattle.irc_room.specs.declared.effect.Effect.TheVariants.{Join, Part}

@@ -5,7 +5,8 @@ ghost use Rattle.std.specs.Option.{option_copied};
 
 use irc_acts::Act;
 use irc_acts::standing::is_banned;
-use irc_channels::{Channel, Key};
+use irc_channels::Channel;
+use irc_modes::Key;
 use irc_numerics::Reply;
 use irc_users::User;
 

@@ -7,6 +7,7 @@ ghost use Rattle.irc_room.specs.declared.effect.Effect.TheVariants.{Invite};
 ghost use Rattle.irc_acts.specs.Refusing.{first_refusal, unless_refused};
 ghost use Rattle.irc_membership.specs.Invite.{invite_refusals, invite_steps, invites, invites_found, invites_user};
 ghost use Rattle.irc_membership.specs.Laws.InviteDoes.{InviteDoes, InviteIsPossible, InviteLooksAtNoInvitation};
+ghost use Rattle.irc_membership.specs.Laws.InviteSendable.{InviteIsSendable};
 ghost use Rattle.irc_membership.specs.Laws.InviteLaw.{InviteIsOwn};
 
 use irc_acts::refusals::{need_more_params, no_such_channel};
@@ -152,4 +153,9 @@ pub fn does_something()
 /// A law: an INVITE does the same whoever is invited to channels.
 pub fn looks_at_no_invitation()
     ensures { InviteLooksAtNoInvitation }
+{}
+
+/// A law: each effect of an INVITE can be sent.
+pub fn is_sendable()
+    ensures { InviteIsSendable }
 {}

@@ -21,6 +21,7 @@ ghost use Rattle.irc_membership.specs.Join.{
   topic_for_joiner,
 };
 ghost use Rattle.irc_membership.specs.Laws.JoinLaw.{JoinIsOwnOrLeaves, LeavingAllIsOwn};
+ghost use Rattle.irc_membership.specs.Laws.JoinDoes.{JoinDoes, JoinLooksAtOwnInvitations};
 ghost use Rattle.irc_membership.specs.Loops.JoinList.{IsNextKey};
 
 use crate::MAX_JOINED;
@@ -257,4 +258,14 @@ pub fn is_own_or_leaves()
 /// A law: in a well-formed room each effect of leaving all channels is its user's own too.
 pub fn leaving_all_is_own()
     ensures { LeavingAllIsOwn }
+{}
+
+/// A law: each effect of a JOIN does something.
+pub fn does_something()
+    ensures { JoinDoes }
+{}
+
+/// A law: a JOIN does the same whoever else is invited to channels.
+pub fn looks_at_own_invitations()
+    ensures { JoinLooksAtOwnInvitations }
 {}

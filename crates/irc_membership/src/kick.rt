@@ -11,6 +11,7 @@ ghost use Rattle.irc_acts.specs.Moves.{AreLeaves};
 ghost use Rattle.irc_acts.specs.Refusing.{first_refusal};
 ghost use Rattle.irc_membership.specs.Kick.{kick_all, kick_one, kick_refusals, kick_steps, kicking, kicks, kicks_asked};
 ghost use Rattle.irc_membership.specs.Laws.KickDoes.{KickDoes, KickIsPossible, KickLooksAtNoInvitation};
+ghost use Rattle.irc_membership.specs.Laws.KickSendable.{KickIsSendable};
 ghost use Rattle.irc_membership.specs.Laws.KickLaw.{KickIsOwn};
 ghost use Rattle.irc_membership.specs.Loops.KickList.{kicks_left, member_at};
 
@@ -196,4 +197,9 @@ pub fn does_something()
 /// A law: a KICK does the same whoever is invited to channels.
 pub fn looks_at_no_invitation()
     ensures { KickLooksAtNoInvitation }
+{}
+
+/// A law: in a room within limits each effect of a KICK can be sent.
+pub fn is_sendable()
+    ensures { KickIsSendable }
 {}

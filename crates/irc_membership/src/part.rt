@@ -6,6 +6,7 @@ ghost use Rattle.irc_acts.specs.CommaLists.{entries};
 ghost use Rattle.irc_acts.specs.Moves.{AreLeaves};
 ghost use Rattle.irc_membership.specs.Part.{part_one, part_steps};
 ghost use Rattle.irc_membership.specs.Laws.PartLaw.{PartIsOwn};
+ghost use Rattle.irc_membership.specs.Laws.PartDoes.{PartDoes, PartLooksAtNoInvitation};
 
 use irc_acts::ahead::{self, know_well_formed};
 use irc_acts::comma_lists::next_entry;
@@ -72,4 +73,14 @@ fn part_one(context: &Context<'_>, text: &Words, steps: &[Act], name: &[u8]) -> 
 /// A law: each effect of a PART is its user's own, in the room that those before it have left.
 pub fn is_own()
     ensures { PartIsOwn }
+{}
+
+/// A law: each effect of a PART does something.
+pub fn does_something()
+    ensures { PartDoes }
+{}
+
+/// A law: a PART does the same whoever is invited to channels.
+pub fn looks_at_no_invitation()
+    ensures { PartLooksAtNoInvitation }
 {}

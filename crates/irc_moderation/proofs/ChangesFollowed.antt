@@ -8,13 +8,14 @@ use Rattle.irc_names.specs.TableLaws.{row-alter}
 use Rattle.irc_users.specs.declared.user.User.{User}
 use Rattle.irc_channels.specs.declared.channel.Channel.{Channel}
 use Rattle.irc_channels.specs.declared.flags.Flags.{Flags}
-use Rattle.irc_channels.specs.declared.modes.Modes.{Modes}
-use Rattle.irc_channels.specs.declared.modes.ModeChange.{ModeChange}
-use Rattle.irc_channels.specs.declared.modes.ModeLetter.{ModeLetter}
-use Rattle.irc_channels.specs.declared.modes.ModeLetter.TheVariants as letter
-use Rattle.irc_channels.specs.Bans.{rises}
-use Rattle.irc_channels.specs.Channels.{ban_mask, with_ban, without_ban, letter_changed, changed, all_changed}
-use Rattle.irc_channels.specs.Loops.ManyChanges.{bans_by_mask, setting_changed, setting_step}
+use Rattle.irc_modes.specs.declared.modes.Modes.{Modes}
+use Rattle.irc_modes.specs.declared.modes.ModeChange.{ModeChange}
+use Rattle.irc_modes.specs.declared.modes.ModeLetter.{ModeLetter}
+use Rattle.irc_modes.specs.declared.modes.ModeLetter.TheVariants as letter
+use Rattle.irc_modes.specs.Bans.{rises}
+use Rattle.irc_modes.specs.Modes.{ban_mask, with_ban, without_ban}
+use Rattle.irc_channels.specs.Channels.{letter_changed, changed, all_changed}
+use Rattle.irc_modes.specs.Loops.ManyChanges.{bans_by_mask, setting_changed, setting_step}
 use Rattle.irc_acts.specs.MoveLaws.{same_is_fold}
 use Rattle.irc_moderation.specs.declared.verdict.Verdict.{Verdict}
 use Rattle.irc_moderation.specs.declared.verdict.Verdict.TheVariants.{Says, Keeps, Nothing}
@@ -146,25 +147,25 @@ follows_one start changes behind change so counted =
 -- each change that is made of a ban is counted
 made_counted : (users : Table User) (now : Channel) → rises now.modes.bans ≡ true → (plus : Bool) (which : ModeLetter) (word : Option (List ℕ))
     → IsSo (IsCounted now) (judge users now plus which word)
-made_counted users now rising = judged_so (IsCounted now) users now (record {
-  invite_only = λ plus differs. refl;
-  moderated = λ plus differs. refl;
-  no_outside = λ plus differs. refl;
-  topic_locked = λ plus differs. refl;
-  private = λ plus turns. refl;
-  secret = λ plus turns. refl;
-  key_set = λ word is none. refl;
-  key_cleared = λ word is. refl;
-  limit_set = λ word is other. refl;
+made_counted users now rising plus which word = judged_so (IsCounted now) users now plus which word (record {
+  invite_only = λ sign differs. refl;
+  moderated = λ sign differs. refl;
+  no_outside = λ sign differs. refl;
+  topic_locked = λ sign differs. refl;
+  private = λ sign turns. refl;
+  secret = λ sign turns. refl;
+  key_set = λ key is none. refl;
+  key_cleared = λ key is. refl;
+  limit_set = λ digits is other. refl;
   limit_cleared = λ there. refl;
-  ban_set = λ mask is none.
+  ban_set = λ mask given is none.
       one_more mask now.modes.bans rising none
       ∙ ap (λ b. length (cond b (with_ban mask now.modes.bans) now.modes.bans)) (sym is);
   ban_taken = λ mask there is found.
       one_less mask there now.modes.bans rising found
       ∙ ap (λ b. length (cond b (without_ban there now.modes.bans) now.modes.bans)) (sym (stored_is_mask mask there now.modes.bans is found));
-  operator = λ plus word user flags is at differs. refl;
-  voice = λ plus word user flags is at differs. refl;
+  operator = λ sign name user flags is at differs. refl;
+  voice = λ sign name user flags is at differs. refl;
 })
 
 -- what came of a letter is followed

@@ -8,14 +8,14 @@ use Rattle.irc_names.specs.Tables.{Table, row}
 use Rattle.irc_users.specs.declared.user.User.{User}
 use Rattle.irc_channels.specs.declared.channel.Channel.{Channel}
 use Rattle.irc_channels.specs.declared.flags.Flags.{Flags}
-use Rattle.irc_channels.specs.declared.modes.Modes.{Modes}
-use Rattle.irc_channels.specs.declared.modes.ModeChange.{ModeChange}
-use Rattle.irc_channels.specs.declared.modes.ModeLetter.{ModeLetter}
-use Rattle.irc_channels.specs.declared.modes.ModeLetter.TheVariants as letter
-use Rattle.irc_channels.specs.declared.modes.Privacy.{Privacy}
-use Rattle.irc_channels.specs.declared.modes.Privacy.TheVariants.{Public, Private, Secret}
-use Rattle.irc_channels.specs.Channels.{is_limit, number_of, mask_in}
-use Rattle.irc_channels.specs.Limits.{max_bans}
+use Rattle.irc_modes.specs.declared.modes.Modes.{Modes}
+use Rattle.irc_modes.specs.declared.modes.ModeChange.{ModeChange}
+use Rattle.irc_modes.specs.declared.modes.ModeLetter.{ModeLetter}
+use Rattle.irc_modes.specs.declared.modes.ModeLetter.TheVariants as letter
+use Rattle.irc_modes.specs.declared.modes.Privacy.{Privacy}
+use Rattle.irc_modes.specs.declared.modes.Privacy.TheVariants.{Public, Private, Secret}
+use Rattle.irc_modes.specs.Modes.{is_limit, number_of, mask_in}
+use Rattle.irc_modes.specs.Limits.{max_bans}
 use Rattle.irc_numerics.specs.declared.replies.Reply.TheVariants.{NoSuchNick, UserNotInChannel, KeySet, BanListFull}
 use Rattle.irc_acts.specs.Acts.{kept, client_words}
 use Rattle.irc_moderation.specs.declared.verdict.Verdict.{Verdict}

@@ -4,5 +4,7 @@ pub mod MasksByFold
 pub mod BansFound
 pub mod JudgedWalk
 pub mod ModeLaw
+pub mod WordsCarried
+pub mod ModeSendable
 pub mod InvitationsLaw
 pub mod ChangesLaw

@@ -5,13 +5,13 @@ use Rattle.arrayvec.specs.ArrayVec.{ArrayVec}
 use Rattle.irc_names.specs.Fold.{key}
 use Rattle.irc_users.specs.declared.user.User.{User}
 use Rattle.irc_channels.specs.declared.channel.Channel.{Channel}
-use Rattle.irc_channels.specs.declared.modes.Modes.{Modes}
-use Rattle.irc_channels.specs.declared.modes.ModeLetter.{ModeLetter}
-use Rattle.irc_channels.specs.declared.modes.ModeLetter.TheVariants as letter
-use Rattle.irc_channels.specs.declared.modes.Privacy.{Privacy}
-use Rattle.irc_channels.specs.declared.modes.Privacy.TheVariants.{Public, Private, Secret}
+use Rattle.irc_modes.specs.declared.modes.Modes.{Modes}
+use Rattle.irc_modes.specs.declared.modes.ModeLetter.{ModeLetter}
+use Rattle.irc_modes.specs.declared.modes.ModeLetter.TheVariants as letter
+use Rattle.irc_modes.specs.declared.modes.Privacy.{Privacy}
+use Rattle.irc_modes.specs.declared.modes.Privacy.TheVariants.{Public, Private, Secret}
 use Rattle.irc_channels.specs.Channels.{has_member}
-use Rattle.irc_channels.specs.Letters.{letter_byte, plus_byte}
+use Rattle.irc_modes.specs.Letters.{letter_byte, plus_byte}
 use Rattle.irc_numerics.specs.declared.replies.Reply.TheVariants.{ChannelModeIs, BanList, EndOfBanList}
 use Rattle.irc_acts.specs.declared.act.Act.{Act}
 use Rattle.irc_acts.specs.declared.act.Act.TheVariants.{Answer}

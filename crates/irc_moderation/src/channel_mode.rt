@@ -4,8 +4,8 @@ ghost use Rattle.irc_names.specs.Fold.{key};
 ghost use Rattle.irc_names.specs.Tables.{row};
 ghost use Rattle.irc_line.specs.PartViews.{words_now};
 ghost use Rattle.irc_channels.specs.Channels.{all_changed};
-ghost use Rattle.irc_channels.specs.Loops.ManyChanges.{setting_step};
-ghost use Rattle.irc_channels.specs.ModeViews.{all_asked, asked};
+ghost use Rattle.irc_modes.specs.Loops.ManyChanges.{setting_step};
+ghost use Rattle.irc_modes.specs.ModeViews.{all_asked, asked};
 ghost use Rattle.irc_moderation.specs.ChannelMode.{
   asked_of,
   changing,
@@ -31,7 +31,8 @@ use crate::verdict::Verdict;
 use irc_acts::refusals::{need_more_params, no_such_channel};
 use irc_acts::standing::is_operator;
 use irc_acts::{Act, Context, only, put};
-use irc_channels::{Channel, ModeItem, read_modes};
+use irc_channels::Channel;
+use irc_modes::{ModeItem, read_modes};
 use irc_numerics::Reply;
 use irc_room::{By, Effect, ModeChanges, Room};
 use irc_users::User;

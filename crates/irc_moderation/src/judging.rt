@@ -1,9 +1,10 @@
 //! What comes of a change of a channel's modes that an operator asks for.
 ghost use Rattle.std.specs.Prelude.{◌≡◌, true, false, Some, nat_eq};
 ghost use Rattle.std.specs.Option.{option_copied, option_map_or};
-ghost use Rattle.irc_channels.specs.Channels.{all_changed, mask_in};
-ghost use Rattle.irc_channels.specs.Texts.{IsModeWord};
-ghost use Rattle.irc_channels.specs.declared.modes.ModeLetter.TheVariants.{Ban as BanLetter};
+ghost use Rattle.irc_channels.specs.Channels.{all_changed};
+ghost use Rattle.irc_modes.specs.Modes.{mask_in};
+ghost use Rattle.irc_modes.specs.Texts.{IsModeWord};
+ghost use Rattle.irc_modes.specs.declared.modes.ModeLetter.TheVariants.{Ban as BanLetter};
 ghost use Rattle.irc_moderation.specs.declared.verdict.Verdict.TheVariants.{Keeps};
 ghost use Rattle.irc_moderation.specs.Judging.{
   ban_judged,
@@ -27,9 +28,9 @@ ghost use Rattle.irc_moderation.specs.Loops.KeptChanges.{Follows};
 use crate::kept_changes::{KeptChanges, ban, count, flags, mask_in};
 use crate::verdict::Verdict;
 use irc_acts::words::client_words;
-use irc_channels::{
-    AskedChange, Channel, Flags, Key, MAX_BANS, ModeChange, ModeLetter, ModeWord, Modes, Privacy,
-    read_limit,
+use irc_channels::{Channel, Flags};
+use irc_modes::{
+    AskedChange, Key, MAX_BANS, ModeChange, ModeLetter, ModeWord, Modes, Privacy, read_limit,
 };
 use irc_names::{BanMask, ChannelName, Nick, copied};
 use irc_numerics::Reply;

@@ -2,13 +2,14 @@
 ghost use Rattle.std.specs.Prelude.{◌≡◌, ◌<◌, ◌-◌, ◌^◌, [], ◌∷◌, ◌++◌, find, fold, length, OnOk};
 ghost use Rattle.irc_names.specs.Fold.{key, same};
 ghost use Rattle.irc_names.specs.Tables.{row};
-ghost use Rattle.irc_channels.specs.Bans.{IsBanList};
-ghost use Rattle.irc_channels.specs.Channels.{ban_mask, mask_in};
+ghost use Rattle.irc_modes.specs.Bans.{IsBanList};
+ghost use Rattle.irc_modes.specs.Modes.{ban_mask, mask_in};
 ghost use Rattle.std.specs.Option.{option_copied};
-ghost use Rattle.irc_channels.specs.Loops.ManyChanges.{setting_step};
+ghost use Rattle.irc_modes.specs.Loops.ManyChanges.{setting_step};
 ghost use Rattle.irc_moderation.specs.Loops.KeptChanges.{ban_by, count_by, flags_by, op_set, voice_set, without_bans};
 
-use irc_channels::{BanList, Channel, Flags, ModeChange, ModeLetter, Modes};
+use irc_channels::{Channel, Flags};
+use irc_modes::{BanList, ModeChange, ModeLetter, Modes};
 use irc_names::{BanMask, same};
 use std::alloc::{AllocError, Global};
 use std::slice;

@@ -4,6 +4,7 @@ ghost use Rattle.irc_line.specs.PartViews.{words_now};
 ghost use Rattle.irc_moderation.specs.Laws.ChangesLaw.{ModeDoesSomething};
 ghost use Rattle.irc_moderation.specs.Laws.InvitationsLaw.{ModeLooksAtNoInvitations};
 ghost use Rattle.irc_moderation.specs.Laws.ModeLaw.{ModeIsOwn};
+ghost use Rattle.irc_moderation.specs.Laws.ModeSendable.{ModeIsSendable};
 ghost use Rattle.irc_moderation.specs.Mode.{mode_steps, names_channel};
 
 use crate::{channel_mode, user_mode};
@@ -55,4 +56,9 @@ pub fn looks_at_no_invitations()
 /// A law: each change that a MODE makes leaves another channel than those before it have left, and a user's own mode is made another.
 pub fn does_something()
     ensures { ModeDoesSomething }
+{}
+
+/// A law: in a room within limits what a MODE changes can be sent.
+pub fn is_sendable()
+    ensures { ModeIsSendable }
 {}

@@ -6,7 +6,8 @@ ghost use Rattle.irc_moderation.specs.ModesShown.{ban_shown, bans_shown, key_sho
 
 use arrayvec::ArrayVec;
 use irc_acts::{Act, put};
-use irc_channels::{Channel, Key, Modes, Privacy};
+use irc_channels::Channel;
+use irc_modes::{Key, Modes, Privacy};
 use irc_names::{BanMask, MAX_KEY, copied};
 use irc_numerics::limits::MAX_MODE_LETTERS;
 use irc_numerics::{ModeLetters, Reply};

@@ -1,5 +1,5 @@
 //! What comes of a change that is asked for.
-use irc_channels::ModeChange;
+use irc_modes::ModeChange;
 use irc_numerics::Reply;
 
 /// What comes of a change of a mode that an operator asks for.

@@ -1,5 +1,5 @@
 -- Tables by name: finite maps whose keys are folds. Three words make every table from others: `alter` changes one row, `each`
--- changes every row, `both` joins two tables row by row.
+-- changes every row, `both` joins two tables row by row. Beside them `retain_keys` of std leaves the rows at some folds alone.
 use Rattle.std.specs.Prelude.{ℕ, Option, Some, None, List, [], ◌∷◌, ◌++◌}
 use Rattle.std.specs.declared.cmp.Ordering.{Ordering}
 use Rattle.std.specs.Ordering.{nat_cmp}

@@ -1,12 +1,11 @@
 -- What is found of some members, a member at a time.
 use Rattle.std.proofs.Common.{◌≡◌, ℕ, ◌+◌, ◌<◌, Option, List, [], ◌∷◌, ◌++◌, length, map, take, get_or, sym, ◌∙◌, ap, append_assoc}
-use Rattle.std.proofs.lemmas.List.{map_more}
-use Rattle.std.proofs.lemmas.List.Elements.{filter_map-append}
 use Rattle.std.specs.List.{filter_map}
 use Rattle.irc_tables.specs.declared.table.Row.{Row}
 use Rattle.irc_tables.specs.RowViews.{row_entry}
 use Rattle.irc_channels.specs.declared.flags.Flags.{Flags}
 use Rattle.irc_acts.specs.declared.act.Act.{Act}
+use Rattle.irc_answers.proofs.CameLines.{rows_more}
 
 -- the steps of some rows, and that of the next
 pub found_more : (find : List ℕ × Flags → Option Act) (rows : List (Row Flags)) (i : ℕ) (row : Row Flags) → i < length rows → row ≡ get_or rows i row
@@ -14,9 +13,8 @@ pub found_more : (find : List ℕ × Flags → Option Act) (rows : List (Row Fla
     → after ≡ before ++ filter_map find (map row_entry (take (i + 1) rows))
 found_more find rows i row within is before so_far after first then =
     let now = filter_map find (map row_entry (take i rows)) in
+    let next = filter_map find (row_entry row ∷ []) in
     then
-    ∙ ap (λ acts. acts ++ filter_map find (row_entry row ∷ [])) first
-    ∙ append_assoc before now (filter_map find (row_entry row ∷ []))
-    ∙ ap (λ (r : Row Flags). before ++ (now ++ filter_map find (row_entry r ∷ []))) is
-    ∙ ap (λ acts. before ++ acts) (sym (filter_map-append find (map row_entry (take i rows)) (row_entry (get_or rows i row) ∷ [])))
-    ∙ ap (λ es. before ++ filter_map find es) (sym (map_more row_entry rows i row within))
+    ∙ ap (λ acts. acts ++ next) first
+    ∙ append_assoc before now next
+    ∙ ap (λ acts. before ++ acts) (sym (rows_more find row_entry rows i row within is))

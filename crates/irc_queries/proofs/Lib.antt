@@ -1,4 +1,3 @@
-pub mod CameChannels
 pub mod FoundRows
 pub mod MappedTwice
 pub mod NamedCount

@@ -1,5 +1,5 @@
 -- How many are found, row by row.
-use Rattle.std.proofs.Common.{◌≡◌, suc, Bool, true, false, cond, is_some, Option, Some, None, List, [], ◌∷◌, map, filter, length, refl, ap}
+use Rattle.std.proofs.Common.{◌≡◌, suc, cond, is_some, Option, Some, None, List, [], ◌∷◌, map, filter, length, refl, ap}
 use Rattle.std.specs.List.{cons_option, filter_map}
 
 -- as many rows pass the test as give something
@@ -13,13 +13,3 @@ count_found {A = A} {B = B} {C = C} give entry (row ∷ rows) = by_gift (give (e
         ≡ length (cons_option gift (filter_map give (map entry rows)))
     by_gift None later = later
     by_gift (Some c) later = ap (λ n. suc n) later
-
--- a list that was mapped is filtered as it would be before
-pub length-filter_map : {A B : Type 0} (p : B → Bool) (f : A → B) (xs : List A) → length (filter (λ x. p (f x)) xs) ≡ length (filter p (map f xs))
-length-filter_map p f [] = refl
-length-filter_map {A = A} {B = B} p f (x ∷ xs) = by_test (p (f x)) (length-filter_map p f xs)
-  where
-    by_test : (b : Bool) → length (filter (λ y. p (f y)) xs) ≡ length (filter p (map f xs))
-        → length (cond b (x ∷ filter (λ y. p (f y)) xs) (filter (λ y. p (f y)) xs)) ≡ length (cond b (f x ∷ filter p (map f xs)) (filter p (map f xs)))
-    by_test true later = ap (λ n. suc n) later
-    by_test false later = later

@@ -4,4 +4,3 @@ pub mod List
 pub mod Whois
 pub mod Who
 pub mod Laws
-pub mod Loops

@@ -1,15 +1,12 @@
 //! LUSERS.
-ghost use Rattle.std.specs.Prelude.{◌≡◌, ◌++◌, filter, length, map, IfOk, OnOk};
-ghost use Rattle.irc_users.specs.UserTable.{is_home};
+ghost use Rattle.std.specs.Prelude.{◌≡◌, ◌++◌, IfOk, OnOk};
 ghost use Rattle.irc_routes.specs.Known.{place_of};
 ghost use Rattle.irc_queries.specs.Lusers.{channels_formed, lusers_steps};
 ghost use Rattle.irc_queries.specs.Laws.LusersLaw.{LusersOnlyAnswers};
 
 use irc_acts::{Act, Context, put};
-use irc_names::ServerName;
 use irc_numerics::Reply;
 use irc_routes::Routes;
-use irc_users::User;
 use std::alloc::{AllocError, Global};
 
 /// What a LUSERS does (RFC 2812 section 3.4.2).
@@ -20,15 +17,12 @@ use std::alloc::{AllocError, Global};
 pub fn steps(context: &Context<'_>) -> Result<Vec<Act, Global>, AllocError>
     ensures { IfOk result (λ steps. steps.items ≡ lusers_steps context.now.room.now.room (place_of context.now.routes.now)) }
 {
-    let found = context.room.users()?;
-    let users = found.as_slice();
-    let servers = server_count(context.routes)?;
     let links = link_count(context.routes)?;
-    let clients = client_count(users, context.routes.name());
+    let clients = context.room.home_count(context.routes.name());
     let mut steps = Vec::new(context.alloc);
     let counted = Reply::LuserClient {
-        users: users.len(),
-        servers,
+        users: context.room.user_count(),
+        servers: context.routes.server_count(),
     };
     put(&mut steps, Act::Answer(counted))?;
     put_channels(&mut steps, context.room.channels().len())?;
@@ -46,40 +40,12 @@ fn put_channels(steps: &mut Vec<Act, Global>, channels: usize) -> Result<(), All
     put(steps, Act::Answer(Reply::LuserChannels { channels }))
 }
 
-/// How many servers are joined to each other, the own one too.
-fn server_count(routes: &Routes) -> Result<usize, AllocError>
-    ensures { IfOk result (λ count. count ≡ length (place_of routes.now).servers) }
-{
-    let servers = routes.servers()?;
-    Ok(servers.as_slice().len())
-}
-
 /// How many links the server has.
 fn link_count(routes: &Routes) -> Result<usize, AllocError>
     ensures { IfOk result (λ count. count ≡ (place_of routes.now).links) }
 {
     let links = routes.links()?;
     Ok(links.as_slice().len())
-}
-
-/// How many of some users are connected to a server.
-fn client_count(users: &[&User], server: &ServerName) -> usize
-    ensures { result ≡ length (filter (is_home server.now) (map (λ user. user.now) users.now)) }
-{
-    homed_count(users, server)
-}
-
-fn homed_count(users: &[&User], server: &ServerName) -> usize
-    ensures { result ≡ length (filter (λ user. is_home server.now user.now) users.now) }
-{
-    users.iter().filter(|user| is_home(user, server)).count()
-}
-
-/// Whether a user is connected to a server.
-fn is_home(user: &User, server: &ServerName) -> bool
-    ensures { result ≡ is_home server.now user.now }
-{
-    user.home.as_bytes() == server.as_bytes()
 }
 
 /// A law: a LUSERS has no effect, whatever the room is.

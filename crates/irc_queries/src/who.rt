@@ -7,7 +7,6 @@ ghost use Rattle.irc_names.specs.Fold.{key};
 ghost use Rattle.irc_names.specs.Tables.{row};
 ghost use Rattle.irc_line.specs.PartViews.{words_now};
 ghost use Rattle.irc_tables.specs.RowViews.{row_entry};
-ghost use Rattle.irc_users.specs.UserTable.{is_found_by};
 ghost use Rattle.irc_numerics.specs.declared.replies.Mark.TheVariants.{Plain};
 ghost use Rattle.irc_routes.specs.Known.{place_of};
 ghost use Rattle.irc_acts.specs.Standing.{is_seen_from};
@@ -19,7 +18,7 @@ use irc_acts::standing::{is_known, is_seen, mark_of};
 use irc_acts::words::client_words;
 use irc_acts::{Act, Context, only, put};
 use irc_channels::{Channel, Flags};
-use irc_names::{ChannelName, ServerName, copied, mask_matches};
+use irc_names::{ChannelName, ServerName, copied};
 use irc_numerics::{Mark, Reply};
 use irc_routes::{Routes, laws};
 use irc_tables::Row;
@@ -201,17 +200,7 @@ fn put_user(
 fn is_asked_for(mask: &[u8], user: &User) -> bool
     ensures { result ≡ is_asked_for mask.now user.now }
 {
-    mask == ALL || is_found_by(user, mask)
-}
-
-/// Whether a mask matches the nickname, the host, the server or the real name of a user.
-fn is_found_by(user: &User, mask: &[u8]) -> bool
-    ensures { result ≡ is_found_by mask.now user.now }
-{
-    mask_matches(mask, user.nick.as_bytes())
-        || mask_matches(mask, user.host.as_bytes())
-        || mask_matches(mask, user.home.as_bytes())
-        || mask_matches(mask, user.real.as_bytes())
+    mask == ALL || user.is_found_by(mask)
 }
 
 /// A user, and what it is in the channel that was asked for, if one was.

@@ -8,9 +8,9 @@ ghost use Rattle.irc_routes.specs.Known.{place_of};
 ghost use Rattle.irc_acts.specs.declared.act.Act.TheVariants.{Answer};
 ghost use Rattle.irc_acts.specs.Acts.{client_words, kept};
 ghost use Rattle.irc_acts.specs.CommaLists.{entries};
+ghost use Rattle.irc_answers.specs.Loops.FilledLines.{Came};
 ghost use Rattle.irc_answers.specs.Names.{in_lines};
 ghost use Rattle.irc_queries.specs.Whois.{channels_line, info_of, place_in, places, told_of, told_of_list, told_of_one, whois_steps};
-ghost use Rattle.irc_queries.specs.Loops.ChannelLines.{Came};
 ghost use Rattle.irc_queries.specs.Laws.WhoisLaw.{WhoisOnlyAnswers};
 
 use crate::own_rows::own_rows;
@@ -166,7 +166,7 @@ fn add_channels(
     user: &User,
     rows: &[&Row<Channel>],
 ) -> Result<(), AllocError>
-    ensures { OnOk result (Came user.now steps.old.items held.old.items (filter_map (place_in me.now user.now) (map (λ row. row.now.value) rows.now)) steps.new.items held.new.items) }
+    ensures { OnOk result (Came max_whois_channels (channels_line user.now) steps.old.items held.old.items (filter_map (place_in me.now user.now) (map (λ row. row.now.value) rows.now)) steps.new.items held.new.items) }
 {
     for row in rows {
         add_channel(steps, held, me, user, &row.value)?;
@@ -182,7 +182,7 @@ fn add_channel(
     user: &User,
     channel: &Channel,
 ) -> Result<(), AllocError>
-    ensures { OnOk result (Came user.now steps.old.items held.old.items (filter_map (place_in me.now user.now) (channel.now ∷ [])) steps.new.items held.new.items) }
+    ensures { OnOk result (Came max_whois_channels (channels_line user.now) steps.old.items held.old.items (filter_map (place_in me.now user.now) (channel.now ∷ [])) steps.new.items held.new.items) }
 {
     match place_in(me, user, channel) {
         Some(place) => add_place(steps, held, user, place),
@@ -210,7 +210,7 @@ fn add_place(
     user: &User,
     place: OnChannel,
 ) -> Result<(), AllocError>
-    ensures { OnOk result (Came user.now steps.old.items held.old.items (place ∷ []) steps.new.items held.new.items) }
+    ensures { OnOk result (Came max_whois_channels (channels_line user.now) steps.old.items held.old.items (place ∷ []) steps.new.items held.new.items) }
 {
     if held.is_full() {
         put(steps, channels_line(user, held.take()))?;

@@ -1,5 +1,5 @@
 -- The example's deliveries are deliveries, and keep what they keep.
-use Rattle.std.proofs.Common.{◌≡◌, ◌≢◌, ℕ, ◌<◌, ◌==◌, Bool, true, false, cond, List, [], ◌∷◌, ◌++◌, inl, inr, length, map, filter, get_or, slice_set, refl, sym, ap, subst, ◌∙◌, get_or-set_same, get_or-set_other}
+use Rattle.std.proofs.Common.{◌≡◌, Result, Ok, Err, OnOk, ◌≢◌, ℕ, ◌<◌, ◌==◌, Bool, true, false, cond, List, [], ◌∷◌, ◌++◌, inl, inr, length, map, filter, get_or, slice_set, refl, sym, ap, subst, ◌∙◌, get_or-set_same, get_or-set_other}
 use Rattle.std.proofs.lemmas.Bool.Decides.{eqb_tells}
 use Rattle.std.proofs.lemmas.List.{append-nil, map-append}
 use Rattle.std.proofs.lemmas.List.Elements.{filter-append}
@@ -20,20 +20,25 @@ use Rattle.irc_relay.proofs.Running.{delivery_away}
 use Rattle.irc_relay.proofs.Queueing.{sent_is_behind}
 use Rattle.irc_relay.proofs.RelayingNews.{on_other, on_back, on_linked}
 
-latest_other : (latest : List ℕ) (to item : ℕ) (u : Name) → u ≢ name to → latest_of (slice_set latest to item) u ≡ latest_of latest u
+-- what follows from the contract of a call that went well
+pub on_ok : {T E : Type 0} (P Q : Type 0) (r : Result T E) → (P → Q) → OnOk r P → OnOk r Q
+on_ok P Q (Ok x) f h = f h
+on_ok P Q (Err e) f h = tt
+
+pub latest_other : (latest : List ℕ) (to item : ℕ) (u : Name) → u ≢ name to → latest_of (slice_set latest to item) u ≡ latest_of latest u
 latest_other latest to item [] n = refl
 latest_other latest to item (k ∷ []) n = get_or-set_other latest to k item 0 (λ e. n (ap name e))
 latest_other latest to item (k ∷ j ∷ rest) n = refl
 
-shown_more : (shown : List Shown) (at item : ℕ) (u : Name) → items_at (shown ++ record { at = at; item = item } ∷ []) u ≡ items_at shown u ++ items_at (record { at = at; item = item } ∷ []) u
+pub shown_more : (shown : List Shown) (at item : ℕ) (u : Name) → items_at (shown ++ record { at = at; item = item } ∷ []) u ≡ items_at shown u ++ items_at (record { at = at; item = item } ∷ []) u
 shown_more shown at item u =
     ap (map (λ (s : Shown). s.item)) (filter-append (λ (s : Shown). same (name s.at) u) shown (record { at = at; item = item } ∷ []))
     ∙ map-append (λ (s : Shown). s.item) (filter (λ (s : Shown). same (name s.at) u) shown) (filter (λ (s : Shown). same (name s.at) u) (record { at = at; item = item } ∷ []))
 
-shown_there : (at item : ℕ) → items_at (record { at = at; item = item } ∷ []) (name at) ≡ item ∷ []
+pub shown_there : (at item : ℕ) → items_at (record { at = at; item = item } ∷ []) (name at) ≡ item ∷ []
 shown_there at item = ap (λ b. map (λ (s : Shown). s.item) (cond b (record { at = at; item = item } ∷ []) [])) (same_when (name at) (name at) refl)
 
-shown_elsewhere : (at item : ℕ) (u : Name) → u ≢ name at → items_at (record { at = at; item = item } ∷ []) u ≡ []
+pub shown_elsewhere : (at item : ℕ) (u : Name) → u ≢ name at → items_at (record { at = at; item = item } ∷ []) u ≡ []
 shown_elsewhere at item u n = ap (λ b. map (λ (s : Shown). s.item) (cond b (record { at = at; item = item } ∷ []) [])) (same_unless (name at) u (λ e. n (sym e)))
 
 -- an item that is new to the taker

@@ -9,6 +9,10 @@ pub mod Adding
 pub mod Returning
 pub mod Running
 pub mod Counting
+pub mod GoingWell
+pub mod TellingOn
+pub mod FollowingNews
+pub mod AnnouncingNews
 pub mod Queueing
 pub mod RelayingNews
 pub mod DeliveringNews

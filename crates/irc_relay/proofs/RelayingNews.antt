@@ -103,7 +103,7 @@ over_back at from item e = elim (over at from item e) [
 ]
 
 -- what goes to another server goes over a link
-over_linked : (at from item : ℕ) (e : Edge) (u : Name) (l : ℕ) (ls : List ℕ) → queue_of reading (sent_over at from item e) (name at) u ≡ l ∷ ls → HasEnds (link_of e) (name at) u
+pub over_linked : (at from item : ℕ) (e : Edge) (u : Name) (l : ℕ) (ls : List ℕ) → queue_of reading (sent_over at from item e) (name at) u ≡ l ∷ ls → HasEnds (link_of e) (name at) u
 over_linked at from item e u l ls h = elim (over at from item e) [
   | none f ↦ (let g = sym (ap (λ sent. queue_of reading sent (name at) u) f) ∙ h in cc)
   | one to k o f ↦ subst (λ v. HasEnds (link_of e) (name at) v) (single_yes (record { from = at; to = to; item = item }) (name at) u l ls (sym (ap (λ sent. queue_of reading sent (name at) u) f) ∙ h)) k

@@ -1,5 +1,6 @@
 pub mod Links
 pub mod Relay
+pub mod Following
 pub mod Queue
 pub mod Laws
 pub mod NewsNet

@@ -1,8 +1,9 @@
 -- The example: servers with one-byte names, in a tree, that relay news. A server shows a news item and passes it on to its
 -- other neighbours, unless it is the one that it showed last.
-use Rattle.std.specs.Prelude.{◌≡◌, ℕ, ◌&&◌, not, ◌==◌, if◌then◌else◌, List, [], ◌∷◌, map, filter, flat_map, slice_index}
-use Rattle.irc_relay.specs.Links.{Name, same, Link, IsForest}
+use Rattle.std.specs.Prelude.{◌≡◌, ◌≢◌, ℕ, false, ◌++◌, ◌&&◌, not, ◌==◌, if◌then◌else◌, List, [], ◌∷◌, map, filter, flat_map, slice_index}
+use Rattle.irc_relay.specs.Links.{Name, same, Link, AreJoined, IsForest}
 use Rattle.irc_relay.specs.Relay.{Machine, Net, Streams, streams_from, from_one, IsAtRest, GoesAway, SameOutcome, Delivers, final, told}
+use Rattle.irc_relay.specs.Following.{Play, Terms}
 use Rattle.irc_relay.specs.Queue.{Reading, queue_of}
 use Rattle.irc_relay.specs.declared.news.Edge.{Edge}
 use Rattle.irc_relay.specs.declared.news.Sent.{Sent}
@@ -98,3 +99,38 @@ pub record HasSettled (source : ℕ) (old new : News) : Type 0 where
   pub rest : IsAtRest (net_of new)
   pub state : (u : Name) → (net_of new).state u ≡ final (relaying old.edges.items) (streams_of old source) (net_of old) u
   pub shown : (u : Name) → (net_of new).shown u ≡ told (relaying old.edges.items) (streams_of old source) (net_of old) u
+
+-- ---- what they follow: the item that all servers of a part showed last
+
+-- a new item becomes the last one, and each server shows it; the last one again is nothing new
+abbrev pub news_play : Play ℕ ℕ ℕ
+news_play = record {
+  done = λ latest item. item;
+  seen = λ t latest item. if item == latest then [] else item ∷ [];
+}
+
+abbrev pub news_terms : Terms ℕ ℕ ℕ ℕ
+news_terms = record {
+  fits = λ t latest shown_last. shown_last ≡ latest;
+  meet = λ t u one other. Unit;
+  says = λ p t latest shown_last item line. (line ≡ item) × ((item == latest) ≡ false);
+  aside = λ p t latest shown_last line. line ≡ latest;
+  passes = λ t latest item. item ≡ latest;
+  good = λ p t shown_last line. Unit;
+}
+
+-- the servers that are joined to this one showed the same item last
+abbrev pub ShowAlike : ℕ → News → Type 0
+ShowAlike source news =
+    (u : Name) → AreJoined (links_of news.edges.items) u (name source) → (net_of news).state u ≡ (net_of news).state (name source)
+
+-- An item was announced at a server, which showed it. Whoever is joined to it has it for the last one, and showed it unless it was that
+-- already; for all others nothing changed; nothing is under way.
+pub record HasAnnounced (source item : ℕ) (old new : News) : Type 0 where
+  pub rest : IsAtRest (net_of new)
+  pub latest : (u : Name) → AreJoined (links_of old.edges.items) u (name source) → (net_of new).state u ≡ item
+  pub shown_there : (net_of new).shown (name source) ≡ (net_of old).shown (name source) ++ item ∷ []
+  pub shown : (u : Name) → AreJoined (links_of old.edges.items) u (name source) → u ≢ name source
+      → (net_of new).shown u ≡ (net_of old).shown u ++ (if item == (net_of old).state (name source) then [] else item ∷ [])
+  pub other_latest : (u : Name) → (AreJoined (links_of old.edges.items) u (name source) → ⊥) → (net_of new).state u ≡ (net_of old).state u
+  pub other_shown : (u : Name) → (AreJoined (links_of old.edges.items) u (name source) → ⊥) → (net_of new).shown u ≡ (net_of old).shown u

@@ -1,10 +1,10 @@
 //! An example of a network whose deliveries meet the laws: servers in a tree that relay news.
 
-ghost use Rattle.std.specs.Prelude.{◌≡◌, ◌≢◌, ◌++◌, [], ◌∷◌, IfOk, OnOk, IfSome, IfNone, IsTrue, IsFalse, MatchBool, position};
+ghost use Rattle.std.specs.Prelude.{◌≡◌, ◌≢◌, ◌++◌, [], ◌∷◌, slice_set, IfOk, OnOk, IfSome, IfNone, IsTrue, IsFalse, MatchBool, position};
 ghost use Rattle.irc_relay.specs.Queue.{queue_of};
 ghost use Rattle.irc_relay.specs.Links.{IsForest};
 ghost use Rattle.irc_relay.specs.Relay.{IsAtRest, GoesAway};
-ghost use Rattle.irc_relay.specs.NewsNet.{net_of, links_of, streams_of, HasSettled, PublishedGoesAway, name, reading, sent_on, DeliversNews, KeepsNews};
+ghost use Rattle.irc_relay.specs.NewsNet.{net_of, links_of, streams_of, HasSettled, PublishedGoesAway, name, reading, sent_on, DeliversNews, KeepsNews, ShowAlike, HasAnnounced};
 ghost use Rattle.irc_relay.specs.Loops.Taking.{is_between, TakesOldest};
 
 use std::alloc::{AllocError, Global};
@@ -103,6 +103,7 @@ impl News {
     pub fn publish(&mut self, at: u8, item: u8) -> Result<(), AllocError>
         ensures shown { OnOk result (self.new.shown.items ≡ self.old.shown.items ++ record { at = at; item = item } ∷ []) }
         ensures sent { OnOk result (self.new.flying.items ≡ self.old.flying.items ++ sent_on self.old.edges.items at at item) }
+        ensures latest { OnOk result (self.new.latest ≡ slice_set self.old.latest at item) }
         ensures goes_away { OnOk result (PublishedGoesAway at self.old self.new) }
         ensures edges { OnOk result (self.new.edges.items ≡ self.old.edges.items) }
     {
@@ -142,5 +143,17 @@ impl News {
             self.deliver(next.from, next.to)?;
         }
         Ok(())
+    }
+
+    /// Gives a news item to a server and delivers until nothing is under way. Whoever links join to that server has shown the item then,
+    /// unless it is the one that they all showed last.
+    pub fn announce(&mut self, source: u8, item: u8) -> Result<(), AllocError>
+        requires forest { IsForest (links_of self.old.edges.items) }
+        requires rest { IsAtRest (net_of self.old) }
+        requires alike { ShowAlike source self.old }
+        ensures announced { OnOk result (HasAnnounced source item self.old self.new) }
+    {
+        self.publish(source, item)?;
+        self.settle(source)
     }
 }

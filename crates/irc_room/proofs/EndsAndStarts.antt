@@ -9,7 +9,8 @@ use Rattle.irc_names.specs.Tables.{Table, fold_cmp, row, alter}
 use Rattle.irc_names.specs.TableLaws.{same_fold, same_fold-refl, row-alter, row-alter_same, row-each, row-keys, same_table}
 use Rattle.irc_channels.specs.declared.flags.Flags.{Flags}
 use Rattle.irc_channels.specs.declared.channel.Channel.{Channel}
-use Rattle.irc_channels.specs.Channels.{has_member, is_invited, is_nil, new_channel, joined, left, without_user, while_members}
+use Rattle.irc_channels.specs.Channels.{has_member, is_invited, new_channel, joined, left, without_user, while_members}
+use Rattle.irc_modes.specs.Modes.{is_nil}
 use Rattle.irc_room.specs.declared.effect.Effect.TheVariants.{AddUser, Rename, Quit, Join, Part, Kick, ChangeModes, SetTopic, Say, Invite, UserMode}
 use Rattle.irc_room.specs.After.{after}
 use Rattle.irc_room.specs.Laws.{LastMemberEndsChannel, JoinMakesChannel, InvitationUsedUp}

@@ -4,8 +4,8 @@ use Rattle.irc_names.specs.Fold.{fold, fold_table}
 use Rattle.irc_names.specs.Names.{is_ban_mask}
 use Rattle.irc_line.specs.Bytes.{cut}
 use Rattle.irc_line.specs.Messages.{line_text}
-use Rattle.irc_channels.specs.declared.modes.ModeChange.{ModeChange}
-use Rattle.irc_channels.specs.declared.modes.ModeLetter.TheVariants as letter
+use Rattle.irc_modes.specs.declared.modes.ModeChange.{ModeChange}
+use Rattle.irc_modes.specs.declared.modes.ModeLetter.TheVariants as letter
 use Rattle.irc_room.specs.declared.effect.By.TheVariants as by
 use Rattle.irc_room.specs.declared.effect.Target.TheVariants as target
 use Rattle.irc_room.specs.declared.effect.Effect.TheVariants.{AddUser, Rename, Quit, Join, Part, Kick, ChangeModes, SetTopic, Say, Invite}

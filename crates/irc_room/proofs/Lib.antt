@@ -5,6 +5,7 @@ pub mod SoundRows
 pub mod ModesKept
 pub mod WellFormedLaw
 pub mod ViewerLaws
+pub mod OneViewer
 pub mod QuitLaw
 pub mod Listed
 pub mod ListedRooms
@@ -12,6 +13,7 @@ pub mod ListedSeen
 pub mod ExampleRooms
 pub mod ExamplesProved
 pub mod Refusals
+pub mod CountedUsers
 pub mod WrittenChanges
 pub mod RowValues
 pub mod Keeping
@@ -23,3 +25,14 @@ pub mod IndexChanges
 pub mod Memberships
 pub mod OwnNames
 pub mod SeenAlone
+pub mod ModesWithin
+pub mod LimitsKept
+pub mod InvitingOnly
+pub mod InvitationsMoved
+pub mod HomeLaw
+pub mod ChangesFit
+pub mod ShownWhole
+pub mod HomeRooms
+pub mod BlindToInvitations
+pub mod AlikeLaw
+pub mod NameWords

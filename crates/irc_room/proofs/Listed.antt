@@ -7,7 +7,7 @@ use Rattle.std.specs.FinMap.{from_entries, from_sorted, entries, keys, get-from_
 use Rattle.std.specs.FinMap.Entries.{find, put, where_key, is_sorted, find-put, find-where_key}
 use Rattle.irc_names.specs.Tables.{Table, fold_cmp, row, alter, each, moved}
 use Rattle.irc_names.specs.TableLaws.{same_fold, same_fold-refl, row-alter, row-each, row-moved, row-moved_none, same_table}
-use Rattle.irc_channels.specs.Channels.{is_nil}
+use Rattle.irc_modes.specs.Modes.{is_nil}
 use Rattle.irc_room.proofs.Rows.{some_key, no_row}
 
 -- the table with these entries, each by a map of its value

@@ -7,12 +7,13 @@ use Rattle.irc_names.specs.Tables.{Table, fold_cmp, alter}
 use Rattle.irc_users.specs.declared.user.User.{User}
 use Rattle.irc_users.specs.UserTable.{with_nick, with_invisible}
 use Rattle.irc_channels.specs.declared.flags.Flags.{Flags}
-use Rattle.irc_channels.specs.declared.modes.Modes.{Modes}
-use Rattle.irc_channels.specs.declared.modes.ModeChange.{ModeChange}
-use Rattle.irc_channels.specs.declared.modes.ModeLetter.{ModeLetter}
-use Rattle.irc_channels.specs.declared.modes.ModeLetter.TheVariants as letter
+use Rattle.irc_modes.specs.declared.modes.Modes.{Modes}
+use Rattle.irc_modes.specs.declared.modes.ModeChange.{ModeChange}
+use Rattle.irc_modes.specs.declared.modes.ModeLetter.{ModeLetter}
+use Rattle.irc_modes.specs.declared.modes.ModeLetter.TheVariants as letter
 use Rattle.irc_channels.specs.declared.channel.Channel.{Channel}
-use Rattle.irc_channels.specs.Channels.{no_modes, new_channel, has_member, is_nil, while_members, joined, left, without_user, renamed, invited_too, with_topic, private_changed, secret_changed, key_changed, limit_changed, bans_changed, letter_changed, all_changed}
+use Rattle.irc_modes.specs.Modes.{no_modes, is_nil, private_changed, secret_changed, key_changed, limit_changed, bans_changed}
+use Rattle.irc_channels.specs.Channels.{new_channel, has_member, while_members, joined, left, without_user, renamed, invited_too, with_topic, letter_changed, all_changed}
 use Rattle.irc_room.specs.declared.effect.Effect.{Effect}
 use Rattle.irc_room.specs.declared.effect.Effect.TheVariants.{AddUser, Rename, Quit, Join, Part, Kick, ChangeModes, SetTopic, Say, Invite, UserMode}
 use Rattle.irc_room.specs.Room.{Room}

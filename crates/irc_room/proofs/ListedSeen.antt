@@ -10,7 +10,8 @@ use Rattle.irc_line.specs.Messages.{Sender, named}
 use Rattle.irc_users.specs.declared.user.User.{User}
 use Rattle.irc_channels.specs.declared.channel.Channel.{Channel}
 use Rattle.irc_channels.specs.Channels.{has_member}
-use Rattle.irc_channels.specs.declared.modes.ModeChange.{ModeChange}
+use Rattle.irc_modes.specs.ModeWritten.{letters_text}
+use Rattle.irc_modes.specs.declared.modes.ModeChange.{ModeChange}
 use Rattle.irc_room.specs.declared.effect.By.{By}
 use Rattle.irc_room.specs.declared.effect.By.TheVariants as by
 use Rattle.irc_room.specs.declared.effect.Target.{Target}
@@ -19,7 +20,7 @@ use Rattle.irc_room.specs.declared.effect.Effect.{Effect}
 use Rattle.irc_room.specs.declared.effect.Effect.TheVariants.{AddUser, Rename, Quit, Join, Part, Kick, ChangeModes, SetTopic, Say, Invite, UserMode}
 use Rattle.irc_room.specs.Room.{Room}
 use Rattle.irc_room.specs.Effects.{is_idle, is_member, has_channel}
-use Rattle.irc_room.specs.Seen.{Showing, seen, shown_to, share_channel, stored_nick, stored_channel, from_nick, full_sender, line_of, letters_text, names_member}
+use Rattle.irc_room.specs.Seen.{Showing, seen, shown_to, share_channel, stored_nick, stored_channel, from_nick, full_sender, line_of, names_member}
 use Rattle.irc_room.proofs.Rows.{is_some_map}
 use Rattle.irc_room.proofs.Listed.{map_itself, row_listed, entries_listed}
 use Rattle.irc_room.proofs.ListedRooms.{ListedChannel, ListedRoom, channel_of, room_of, lists_member, member_listed}

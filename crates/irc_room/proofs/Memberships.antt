@@ -9,14 +9,15 @@ use Rattle.irc_names.specs.Tables.{Table, fold_cmp, row, alter, each, moved}
 use Rattle.irc_names.specs.TableLaws.{same_fold, one_fold, row-alter, row-each, row-moved, row-moved_none}
 use Rattle.irc_channels.specs.declared.channel.Channel.{Channel}
 use Rattle.irc_channels.specs.declared.flags.Flags.{Flags}
-use Rattle.irc_channels.specs.declared.modes.ModeChange.{ModeChange}
-use Rattle.irc_channels.specs.Channels.{has_member, is_nil, new_channel, joined, left, without_user, while_members, renamed, changed, all_changed}
+use Rattle.irc_modes.specs.declared.modes.ModeChange.{ModeChange}
+use Rattle.irc_channels.specs.Channels.{has_member, new_channel, joined, left, without_user, while_members, renamed, changed, all_changed}
+use Rattle.irc_modes.specs.Modes.{is_nil}
 use Rattle.irc_users.specs.declared.user.User.{User}
 use Rattle.irc_room.specs.declared.effect.Effect.{Effect}
 use Rattle.irc_room.specs.declared.effect.Effect.TheVariants.{Rename}
 use Rattle.irc_room.specs.Effects.{brings_free}
 use Rattle.irc_room.specs.Room.{IsWellFormed}
-use Rattle.irc_room.specs.Indexes.{Names, Index, is_among, stands, holds, Tells, IsAlike, Adds, Drops, IsFreeOf}
+use Rattle.irc_room.specs.Indexes.{Names, Index, is_among, stands, holds, Tells, Adds, Drops, IsFreeOf}
 use Rattle.irc_room.proofs.Rows.{some_key, if_true, alter_same}
 use Rattle.irc_room.proofs.IndexChanges.{forgotten, stands-moved}
 use Rattle.irc_room.proofs.ModesKept.{letter_folk}

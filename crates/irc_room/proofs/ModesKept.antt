@@ -5,9 +5,9 @@ use Rattle.irc_names.specs.Tables.{Table, row, alter}
 use Rattle.irc_names.specs.TableLaws.{same_fold, one_fold, row-alter}
 use Rattle.irc_users.specs.declared.user.User.{User}
 use Rattle.irc_channels.specs.declared.flags.Flags.{Flags}
-use Rattle.irc_channels.specs.declared.modes.ModeChange.{ModeChange}
-use Rattle.irc_channels.specs.declared.modes.ModeLetter.{ModeLetter}
-use Rattle.irc_channels.specs.declared.modes.ModeLetter.TheVariants as letter
+use Rattle.irc_modes.specs.declared.modes.ModeChange.{ModeChange}
+use Rattle.irc_modes.specs.declared.modes.ModeLetter.{ModeLetter}
+use Rattle.irc_modes.specs.declared.modes.ModeLetter.TheVariants as letter
 use Rattle.irc_channels.specs.declared.channel.Channel.{Channel}
 use Rattle.irc_channels.specs.Channels.{member_changed, letter_changed, changed, all_changed}
 use Rattle.irc_room.specs.Room.{IsSoundRow}

@@ -13,7 +13,7 @@ use Rattle.irc_names.specs.Tables.{Table, fold_cmp, row}
 use Rattle.irc_tables.proofs.OrderedEntries.{find-there, sorted-below}
 use Rattle.irc_channels.specs.declared.channel.Channel.{Channel}
 use Rattle.irc_channels.specs.Channels.{has_member}
-use Rattle.irc_room.specs.Indexes.{Names, Index, is_among, stands, names_in, holds, own_names, entries_under, Tells}
+use Rattle.irc_room.specs.Indexes.{Names, Index, is_among, names_in, holds, own_names, entries_under, Tells}
 use Rattle.irc_room.specs.Loops.Viewing.{joins_both}
 
 order : IsTotalOrder fold_cmp

@@ -5,7 +5,7 @@ use Rattle.std.specs.Option.{option_map}
 use Rattle.std.specs.FinMap.{keys}
 use Rattle.irc_names.specs.Tables.{Table, row, alter}
 use Rattle.irc_names.specs.TableLaws.{same_fold, same_fold-refl, one_fold, row-alter, row-keys, same_table}
-use Rattle.irc_channels.specs.Channels.{is_nil}
+use Rattle.irc_modes.specs.Modes.{is_nil}
 
 pub not_true : {A : Type 0} → false ≡ true → A
 not_true e = cc

@@ -1,9 +1,9 @@
 -- What is for one user is shown to that user alone.
-use Rattle.std.proofs.Common.{◌≡◌, ℕ, true, Option, Some, List, sym, ◌∙◌, ap, map, is_some, option_map, option_to_list}
+use Rattle.std.proofs.Common.{◌≡◌, true, Option, Some, sym, ◌∙◌, ap, map, is_some, option_map, option_to_list}
 use Rattle.std.specs.FinMap.{values}
 use Rattle.irc_names.specs.Fold.{key}
 use Rattle.irc_names.specs.Tables.{row}
-use Rattle.irc_line.specs.Messages.{Sender}
+use Rattle.irc_line.specs.Messages.{Sender, Written, text}
 use Rattle.irc_users.specs.declared.user.User.{User}
 use Rattle.irc_room.specs.declared.effect.Effect.TheVariants.{Say, UserMode}
 use Rattle.irc_room.specs.declared.effect.Target.TheVariants as target
@@ -13,8 +13,9 @@ use Rattle.irc_room.proofs.AudienceLaw.{all_seen}
 use Rattle.irc_room.proofs.WhoSees.{one_chosen}
 
 -- there is a line where there is somebody who sends it
-sent : (line : Sender → List ℕ) (doer : Option User) (user : User) → doer ≡ Some user → is_some (option_map line (option_map full_sender doer)) ≡ true
-sent line doer user is = ap (λ o. is_some (option_map line (option_map full_sender o))) is
+sent : (parts : Sender → Written) (doer : Option User) (user : User) → doer ≡ Some user
+    → is_some (option_map text (option_map parts (option_map full_sender doer))) ≡ true
+sent parts doer user is = ap (λ o. is_some (option_map text (option_map parts (option_map full_sender o)))) is
 
 pub own_mode_seen_alone : OwnModeSeenAlone
 unfolding seen

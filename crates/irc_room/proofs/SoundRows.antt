@@ -6,7 +6,8 @@ use Rattle.irc_names.specs.Tables.{Table, fold_cmp, row, alter, moved}
 use Rattle.irc_names.specs.TableLaws.{same_fold, same_fold-refl, one_fold, row-alter, row-alter_same, row-moved, row-moved_none}
 use Rattle.irc_users.specs.declared.user.User.{User}
 use Rattle.irc_channels.specs.declared.channel.Channel.{Channel}
-use Rattle.irc_channels.specs.Channels.{has_member, is_nil, new_channel, joined, left, without_user, while_members, invited_too, with_topic, renamed}
+use Rattle.irc_channels.specs.Channels.{has_member, new_channel, joined, left, without_user, while_members, invited_too, with_topic, renamed}
+use Rattle.irc_modes.specs.Modes.{is_nil}
 use Rattle.irc_room.specs.Room.{IsSoundRow}
 use Rattle.irc_room.proofs.Rows.{some_key, some_row, not_none, not_true, same_some}
 

@@ -1,5 +1,5 @@
 -- A room as a server keeps it, and what comes of asking it for an effect.
-use Rattle.std.specs.Prelude.{◌≡◌, ℕ, Bool, true, false, not, Option, Some, None, Result, Ok, Err, List, ◌++◌, map, filter, if◌then◌else◌}
+use Rattle.std.specs.Prelude.{◌≡◌, ℕ, Bool, true, false, not, ◌&&◌, is_none, Option, Some, None, Result, Ok, Err, List, ◌++◌, map, filter, if◌then◌else◌}
 use Rattle.std.specs.List.{list_all}
 use Rattle.std.specs.Option.{option_map_or}
 use Rattle.arrayvec.specs.ArrayVec.{ArrayVec}
@@ -20,13 +20,20 @@ pub record Kept : Type 0 where
   pub failed : Bool
   pub room : Room
 
+-- what of all that an effect names is not there, if anything is not
+abbrev pub missing_fault : Room → Effect → Option RoomFault
+missing_fault room effect =
+    if not (list_all (has_user room) (needs_users effect)) then Some NoSuchUser
+    else (if not (option_map_or (has_channel room) (needs_channel effect) true) then Some NoSuchChannel
+    else None)
+
 -- why an effect is refused, if it is: the causes in the order in which they are looked for
 abbrev pub room_fault : Kept → Effect → Option RoomFault
-room_fault kept effect =
-    if kept.failed then Some Failed
-    else (if not (list_all (has_user kept.room) (needs_users effect)) then Some NoSuchUser
-    else (if not (option_map_or (has_channel kept.room) (needs_channel effect) true) then Some NoSuchChannel
-    else None))
+room_fault kept effect = if kept.failed then Some Failed else missing_fault kept.room effect
+
+-- whether an effect does anything: a room that has not failed does not refuse it, and it is not idle
+abbrev pub does : Room → Effect → Bool
+does room effect = is_none (missing_fault room effect) && not (is_idle room effect)
 
 -- whether a viewer is connected to the server whose room it is
 abbrev pub is_own : Kept → Showing → Bool

@@ -1,14 +1,21 @@
 -- What holds of a room and the effects on it.
-use Rattle.std.specs.Prelude.{◌≡◌, ℕ, Bool, true, false, Some, None, List, [], ◌∷◌, codes, map, filter}
+use Rattle.std.specs.Prelude.{◌≡◌, ◌≢◌, ℕ, ◌≤◌, Bool, true, false, Option, Some, None, List, [], ◌∷◌, ◌++◌, length, codes, map, filter}
+use Rattle.std.specs.Option.{option_map, IfSome}
 use Rattle.std.specs.List.Sorted.{IsStrictlySortedBy}
 use Rattle.std.specs.FinMap.{empty, insert, keys}
 use Rattle.irc_names.specs.Fold.{key, same, name_cmp}
 use Rattle.irc_names.specs.Tables.{row}
 use Rattle.arrayvec.specs.ArrayVec.{ArrayVec}
-use Rattle.irc_line.specs.Messages.{text}
+use Rattle.irc_line.specs.Limits.{max_line}
+use Rattle.irc_line.specs.Bytes.{crlf}
+use Rattle.irc_line.specs.Carried.{IsCarried}
+use Rattle.irc_line.specs.Messages.{IsPlainWord, Written, named, joined_text, text}
+use Rattle.irc_names.specs.Names.{IsNick, IsChannel, IsHost, IsServer, IsBanMask}
+use Rattle.irc_users.specs.Users.{IsUserName}
+use Rattle.irc_modes.specs.Texts.{IsKey}
 use Rattle.irc_users.specs.declared.user.User.{User}
 use Rattle.irc_channels.specs.declared.channel.Channel.{Channel}
-use Rattle.irc_channels.specs.Channels.{no_modes}
+use Rattle.irc_modes.specs.Modes.{no_modes}
 use Rattle.irc_room.specs.declared.effect.Effect.{Effect}
 use Rattle.irc_room.specs.declared.effect.Effect.TheVariants.{Quit, Join, Part, Kick, Say, UserMode}
 use Rattle.irc_room.specs.declared.effect.Target.TheVariants as target
@@ -16,7 +23,9 @@ use Rattle.irc_room.specs.Room.{Room, IsWellFormed}
 use Rattle.irc_room.specs.Effects.{is_idle, IsPossible}
 use Rattle.irc_room.specs.After.{after}
 use Rattle.irc_room.specs.Readers.{is_invited_at}
-use Rattle.irc_room.specs.Seen.{Showing, seen, full_sender, share_channel}
+use Rattle.irc_room.specs.Limits.{IsWithinLimits, KeepsLimits}
+use Rattle.irc_room.specs.Sendable.{IsSendable}
+use Rattle.irc_room.specs.Seen.{Showing, seen, full_sender, share_channel, shown_parts, shown_line}
 
 -- the room with nobody in it
 abbrev pub no_room : Room
@@ -28,6 +37,56 @@ NoRoomIsWellFormed = IsWellFormed no_room
 -- a possible effect leaves a room well formed
 abbrev pub AfterIsWellFormed : Type 0
 AfterIsWellFormed = (room : Room) (effect : Effect) → IsWellFormed room → IsPossible room effect → IsWellFormed (after room effect)
+
+-- a room stays within its limits
+abbrev pub NoRoomIsWithinLimits : Type 0
+NoRoomIsWithinLimits = IsWithinLimits no_room
+
+abbrev pub AfterIsWithinLimits : Type 0
+AfterIsWithinLimits = (room : Room) (effect : Effect) → IsWithinLimits room → KeepsLimits effect → IsWithinLimits (after room effect)
+
+-- and each effect that can be sent keeps it so
+abbrev pub SentKeepsLimits : Type 0
+SentKeepsLimits = (room : Room) (effect : Effect) → IsWithinLimits room → IsSendable room effect → KeepsLimits effect
+
+-- a word that a line can carry, and that is read again as it was written
+pub record IsLineWord (word : List ℕ) : Type 0 where
+  pub plain : IsPlainWord word
+  pub carried : IsCarried word
+
+-- each name that keeps its rule is such a word; the mask of a ban is where a line can carry its bytes
+pub record NamesAreLineWords : Type 0 where
+  pub nick : (word : List ℕ) → IsNick word → IsLineWord word
+  pub channel : (word : List ℕ) → IsChannel word → IsLineWord word
+  pub host : (word : List ℕ) → IsHost word → IsLineWord word
+  pub server : (word : List ℕ) → IsServer word → IsLineWord word
+  pub key : (word : List ℕ) → IsKey word → IsLineWord word
+  pub ban : (word : List ℕ) → IsBanMask word → IsCarried word → IsLineWord word
+  pub user : (word : List ℕ) → IsUserName word → word ≢ [] → IsLineWord word
+
+-- the parts of a line that is not cut
+abbrev pub IsWhole : Written → Type 0
+IsWhole parts = length (joined_text parts) ≤ max_line
+
+-- the line that they are then
+abbrev pub whole_text : Written → List ℕ
+whole_text parts = joined_text parts ++ crlf
+
+-- what an effect shows that can be sent fits into a line
+abbrev pub SentFitsItsLine : Type 0
+SentFitsItsLine = (room : Room) (effect : Effect) (viewer : User) → IsWithinLimits room → IsSendable room effect
+    → IfSome (shown_parts room effect viewer) IsWhole
+
+-- so nothing of the line that a viewer is shown was cut
+abbrev pub SentIsShownWhole : Type 0
+SentIsShownWhole = (room : Room) (effect : Effect) (viewer : User) → IsWithinLimits room → IsSendable room effect
+    → shown_line room effect viewer ≡ option_map whole_text (shown_parts room effect viewer)
+
+-- with the nickname alone for its prefix, as between servers, it is shorter still
+abbrev pub NamedIsWholeToo : Type 0
+NamedIsWholeToo = (user : User) (command : List ℕ) (middle : List (List ℕ)) (last : Option (List ℕ))
+    → IsWhole (record { sender = full_sender user; command = command; middle = middle; last = last })
+    → IsWhole (record { sender = named user.nick; command = command; middle = middle; last = last })
 
 -- what does nothing leaves the room as it is
 abbrev pub IdleChangesNothing : Type 0

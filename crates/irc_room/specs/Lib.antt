@@ -11,3 +11,8 @@ pub mod Loops
 pub mod Indexes
 pub mod InTurn
 pub mod InTurnLaws
+pub mod Limits
+pub mod Sendable
+pub mod Invitations
+pub mod Viewers
+pub mod OtherInvitations

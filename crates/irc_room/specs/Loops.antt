@@ -1,3 +1,4 @@
+pub mod HomeCount
 pub mod LineViews
 pub mod RoomParts
 pub mod Signs

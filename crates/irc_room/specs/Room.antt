@@ -4,7 +4,7 @@ use Rattle.irc_names.specs.Fold.{key}
 use Rattle.irc_names.specs.Tables.{Table, row}
 use Rattle.irc_users.specs.declared.user.User.{User}
 use Rattle.irc_channels.specs.declared.channel.Channel.{Channel}
-use Rattle.irc_channels.specs.Channels.{is_nil}
+use Rattle.irc_modes.specs.Modes.{is_nil}
 use Rattle.std.specs.FinMap.{keys}
 
 pub record Room : Type 0 where

@@ -1,18 +1,18 @@
 -- Who is shown which line by an effect (RFC 2812 section 3). Viewers are the users before the effect, each at most once, in folded order.
-use Rattle.std.specs.Prelude.{ℕ, Bool, true, false, not, ◌&&◌, ◌||◌, Option, Some, None, List, [], ◌∷◌, ◌++◌, codes, if◌then◌else◌}
+use Rattle.std.specs.Prelude.{ℕ, Bool, true, false, not, ◌&&◌, ◌||◌, Option, Some, None, List, [], ◌∷◌, codes, if◌then◌else◌}
 use Rattle.std.specs.List.{list_any, filter_map}
 use Rattle.std.specs.Option.{option_map, option_map_or}
 use Rattle.std.specs.FinMap.{values}
 use Rattle.irc_names.specs.Fold.{key, same}
 use Rattle.irc_names.specs.Tables.{row}
-use Rattle.irc_line.specs.Messages.{Sender, named, full, text}
+use Rattle.irc_line.specs.Messages.{Sender, Written, named, full, text}
 use Rattle.irc_users.specs.declared.user.User.{User}
-use Rattle.irc_channels.specs.declared.modes.ModeChange.{ModeChange}
-use Rattle.irc_channels.specs.declared.modes.ModeLetter.{ModeLetter}
-use Rattle.irc_channels.specs.declared.modes.ModeLetter.TheVariants as letter
+use Rattle.irc_modes.specs.declared.modes.ModeChange.{ModeChange}
+use Rattle.irc_modes.specs.declared.modes.ModeLetter.{ModeLetter}
+use Rattle.irc_modes.specs.declared.modes.ModeLetter.TheVariants as letter
 use Rattle.irc_channels.specs.declared.channel.Channel.{Channel}
 use Rattle.irc_channels.specs.Channels.{has_member}
-use Rattle.irc_channels.specs.Letters.{letter_byte, sign_byte}
+use Rattle.irc_modes.specs.ModeWritten.{letters_text}
 use Rattle.irc_room.specs.declared.effect.By.{By}
 use Rattle.irc_room.specs.declared.effect.By.TheVariants as by
 use Rattle.irc_room.specs.declared.effect.Target.{Target}
@@ -48,20 +48,6 @@ stored_nick room nick = option_map_or (λ (user : User). user.nick) (row room.us
 abbrev pub stored_channel : Room → List ℕ → List ℕ
 stored_channel room channel = option_map_or (λ (c : Channel). c.name) (row room.channels (key channel)) channel
 
--- Changes are written as their letters in order, with a sign before the first and wherever it differs from the one before, and then
--- their parameters in order (RFC 2812 section 3.2.3).
-
--- the letters behind a letter with this sign
-abbrev pub letters_behind : Bool → List ModeChange → List ℕ
-letters_behind sign [] = []
-letters_behind sign (c ∷ changes) =
-    (if c.plus then (if sign then [] else sign_byte true ∷ []) else (if sign then sign_byte false ∷ [] else []))
-    ++ letter_byte c.letter ∷ letters_behind c.plus changes
-
-abbrev pub letters_text : List ModeChange → List ℕ
-letters_text [] = []
-letters_text (c ∷ changes) = sign_byte c.plus ∷ letter_byte c.letter ∷ letters_behind c.plus changes
-
 -- the letters whose parameter is a member's nickname
 abbrev pub names_member : ModeLetter → Bool
 names_member letter.Operator = true
@@ -72,7 +58,7 @@ names_member other = false
 abbrev pub written_word : Room → ModeChange → Option (List ℕ)
 written_word room c = if names_member c.letter then option_map (stored_nick room) c.word else c.word
 
--- the words that changes are written as
+-- The words that changes are written as: the letters, then the parameters in order (RFC 2812 section 3.2.3).
 abbrev pub changes_words : Room → List ModeChange → List (List ℕ)
 changes_words room changes = letters_text changes ∷ filter_map (written_word room) changes
 
@@ -88,30 +74,37 @@ abbrev pub from_by : Room → By → User → Option Sender
 from_by room (by.User nick) viewer = from_nick room nick
 from_by room by.Home viewer = Some (named viewer.home)
 
--- the line that an effect shows to a viewer
+-- the parts of a line, and the line, from somebody who is there
+abbrev pub parts_of : List ℕ → List (List ℕ) → Option (List ℕ) → Option Sender → Option Written
+parts_of command middle last sender = option_map (λ s. record { sender = s; command = command; middle = middle; last = last }) sender
+
 abbrev pub line_of : List ℕ → List (List ℕ) → Option (List ℕ) → Option Sender → Option (List ℕ)
-line_of command middle last sender = option_map (λ s. text (record { sender = s; command = command; middle = middle; last = last })) sender
+line_of command middle last sender = option_map text (parts_of command middle last sender)
 
 abbrev pub target_name : Room → Target → List ℕ
 target_name room (target.User nick) = stored_nick room nick
 target_name room (target.Channel channel) = stored_channel room channel
 
+-- the parts of the line that an effect shows to a viewer, and the line
+abbrev pub shown_parts : Room → Effect → User → Option Written
+shown_parts room (AddUser user) viewer = None
+shown_parts room (Rename nick new) viewer = parts_of (codes "NICK") (new ∷ []) None (from_nick room nick)
+shown_parts room (Quit nick reason) viewer = parts_of (codes "QUIT") [] (Some reason) (from_nick room nick)
+shown_parts room (Join nick channel op) viewer = parts_of (codes "JOIN") (stored_channel room channel ∷ []) None (from_nick room nick)
+shown_parts room (Part nick channel reason) viewer = parts_of (codes "PART") (stored_channel room channel ∷ []) (Some reason) (from_nick room nick)
+shown_parts room (Kick by channel nick reason) viewer =
+    parts_of (codes "KICK") (stored_channel room channel ∷ stored_nick room nick ∷ []) (Some reason) (from_nick room by)
+shown_parts room (ChangeModes by channel changes) viewer =
+    parts_of (codes "MODE") (stored_channel room channel ∷ changes_words room changes) None (from_by room by viewer)
+shown_parts room (SetTopic by channel topic) viewer = parts_of (codes "TOPIC") (stored_channel room channel ∷ []) (Some topic) (from_by room by viewer)
+shown_parts room (Say by notice to words) viewer =
+    parts_of (if notice then codes "NOTICE" else codes "PRIVMSG") (target_name room to ∷ []) (Some (words.items)) (from_nick room by)
+shown_parts room (Invite by nick channel) viewer = parts_of (codes "INVITE") (stored_nick room nick ∷ stored_channel room channel ∷ []) None (from_nick room by)
+shown_parts room (UserMode nick invisible) viewer =
+    parts_of (codes "MODE") (stored_nick room nick ∷ (if invisible then codes "+i" else codes "-i") ∷ []) None (from_nick room nick)
+
 abbrev pub shown_line : Room → Effect → User → Option (List ℕ)
-shown_line room (AddUser user) viewer = None
-shown_line room (Rename nick new) viewer = line_of (codes "NICK") (new ∷ []) None (from_nick room nick)
-shown_line room (Quit nick reason) viewer = line_of (codes "QUIT") [] (Some reason) (from_nick room nick)
-shown_line room (Join nick channel op) viewer = line_of (codes "JOIN") (stored_channel room channel ∷ []) None (from_nick room nick)
-shown_line room (Part nick channel reason) viewer = line_of (codes "PART") (stored_channel room channel ∷ []) (Some reason) (from_nick room nick)
-shown_line room (Kick by channel nick reason) viewer =
-    line_of (codes "KICK") (stored_channel room channel ∷ stored_nick room nick ∷ []) (Some reason) (from_nick room by)
-shown_line room (ChangeModes by channel changes) viewer =
-    line_of (codes "MODE") (stored_channel room channel ∷ changes_words room changes) None (from_by room by viewer)
-shown_line room (SetTopic by channel topic) viewer = line_of (codes "TOPIC") (stored_channel room channel ∷ []) (Some topic) (from_by room by viewer)
-shown_line room (Say by notice to words) viewer =
-    line_of (if notice then codes "NOTICE" else codes "PRIVMSG") (target_name room to ∷ []) (Some (words.items)) (from_nick room by)
-shown_line room (Invite by nick channel) viewer = line_of (codes "INVITE") (stored_nick room nick ∷ stored_channel room channel ∷ []) None (from_nick room by)
-shown_line room (UserMode nick invisible) viewer =
-    line_of (codes "MODE") (stored_nick room nick ∷ (if invisible then codes "+i" else codes "-i") ∷ []) None (from_nick room nick)
+shown_line room effect viewer = option_map text (shown_parts room effect viewer)
 
 -- a viewer, by its nickname before the effect, and the line that it is shown
 pub record Showing : Type 0 where

@@ -1,8 +1,9 @@
 //! The changes that a room can undergo.
 ghost use Rattle.std.specs.Prelude.{◌≡◌};
 
-use irc_channels::{ModeChange, Words};
+use irc_channels::Words;
 use irc_line::Line;
+use irc_modes::ModeChange;
 use irc_names::{ChannelName, Nick};
 use irc_users::User;
 use std::alloc::Global;
@@ -17,7 +18,7 @@ pub struct ModeChanges {
 /// In a clause it is the list of its changes.
 impl Model for ModeChanges {
     ghost use Rattle.std.specs.Prelude.{List};
-    ghost use Rattle.irc_channels.specs.declared.modes.ModeChange.{ModeChange};
+    ghost use Rattle.irc_modes.specs.declared.modes.ModeChange.{ModeChange};
 
     ghost Value = { List ModeChange };
 

@@ -2,16 +2,24 @@
 //! proves it, and a crate above may cite it.
 ghost use Rattle.irc_room.specs.Laws.{
   AfterIsWellFormed,
+  AfterIsWithinLimits,
   EachViewerOnce,
   IdleChangesNothing,
   InvitationUsedUp,
   JoinMakesChannel,
   LastMemberEndsChannel,
+  NamedIsWholeToo,
+  NamesAreLineWords,
   NoRoomIsWellFormed,
+  NoRoomIsWithinLimits,
   OwnModeSeenAlone,
   PrivateTextSeenAlone,
   QuitSeenOnce,
+  SentFitsItsLine,
+  SentIsShownWhole,
+  SentKeepsLimits,
 };
+ghost use Rattle.irc_room.specs.Viewers.{OneViewersLines};
 
 /// The room with nobody in it is well formed.
 pub fn no_room_is_well_formed()
@@ -22,6 +30,31 @@ pub fn no_room_is_well_formed()
 /// each row stands under the fold of its name, and each channel has a member.
 pub fn after_is_well_formed()
     ensures { AfterIsWellFormed }
+{}
+
+/// Each name that keeps its rule is a word that a line can carry, and that is read again as it was written (RFC 2812 section 2.3.1).
+pub fn names_are_line_words()
+    ensures { NamesAreLineWords }
+{}
+
+/// A room with nobody in it is within its limits: the rules of names, the lengths of texts, and that a line can carry each of them.
+pub fn no_room_is_within_limits()
+    ensures { NoRoomIsWithinLimits }
+{}
+
+/// A room stays within its limits by each effect that brings only what is within them, whoever does it; and so does each effect that can
+/// be sent.
+pub fn after_is_within_limits()
+    ensures all { AfterIsWithinLimits }
+    ensures sent { SentKeepsLimits }
+{}
+
+/// The line that an effect shows which can be sent is never cut, whoever is shown it (RFC 2812 section 2.3: 510 bytes before CR LF). With the
+/// doer's nickname alone in front, as servers write it, it is shorter.
+pub fn sent_is_shown_whole()
+    ensures fits { SentFitsItsLine }
+    ensures whole { SentIsShownWhole }
+    ensures by_nickname { NamedIsWholeToo }
 {}
 
 /// An effect that does nothing leaves the room equal: a Join by a member, a Part or a Kick of somebody who is none.
@@ -64,4 +97,9 @@ pub fn last_member_ends_channel()
 /// member is who joined, an operator where the Join says so, and without voice.
 pub fn join_makes_channel()
     ensures { JoinMakesChannel }
+{}
+
+/// Among all that an effect shows, one user's lines are the one line that it shows to that user, or none.
+pub fn one_viewers_lines()
+    ensures { OneViewersLines }
 {}

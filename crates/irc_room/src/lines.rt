@@ -9,8 +9,8 @@ ghost use Rattle.irc_room.specs.Loops.RoomParts.{room_of};
 
 use crate::mode_letters::{letters_text, words_behind};
 use crate::room_parts::RoomParts;
-use irc_channels::ModeChange;
 use irc_line::{Parts, Prefix, Text, write_message};
+use irc_modes::ModeChange;
 use irc_users::User;
 use std::alloc::{AllocError, Global};
 

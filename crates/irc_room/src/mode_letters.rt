@@ -3,13 +3,14 @@ ghost use Rattle.std.specs.Prelude.{◌≡◌, [], ◌∷◌, ◌++◌, IfOk, On
 ghost use Rattle.std.specs.List.{filter_map};
 ghost use Rattle.irc_line.specs.MessageViews.{optional_now};
 ghost use Rattle.irc_line.specs.PartViews.{words_now};
-ghost use Rattle.irc_channels.specs.Letters.{letter_byte, sign_byte};
+ghost use Rattle.irc_modes.specs.Letters.{letter_byte, sign_byte};
+ghost use Rattle.irc_modes.specs.ModeWritten.{letters_text};
 ghost use Rattle.irc_room.specs.Loops.RoomParts.{room_of};
-ghost use Rattle.irc_room.specs.Seen.{letters_text, names_member, written_word};
+ghost use Rattle.irc_room.specs.Seen.{names_member, written_word};
 ghost use Rattle.irc_room.specs.Loops.Signs.{sign_between};
 
 use crate::room_parts::{RoomParts, stored_nick};
-use irc_channels::{ModeChange, ModeLetter};
+use irc_modes::{ModeChange, ModeLetter};
 use std::alloc::{AllocError, Global};
 
 /// The letter that a mode is written as.

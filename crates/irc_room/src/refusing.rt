@@ -4,7 +4,7 @@ ghost use Rattle.irc_names.specs.Fold.{key};
 ghost use Rattle.irc_names.specs.Tables.{row};
 ghost use Rattle.std.specs.List.{list_all};
 ghost use Rattle.std.specs.Option.{option_map_or};
-ghost use Rattle.irc_room.specs.Applying.{room_fault};
+ghost use Rattle.irc_room.specs.Applying.{missing_fault, room_fault};
 ghost use Rattle.irc_room.specs.Effects.{has_user, has_channel, needs_users, needs_channel, by_nick, target_users};
 
 use crate::effect::{By, Effect, Target};
@@ -24,7 +24,20 @@ pub(crate) fn refusal(
 {
     if failed {
         Some(RoomFault::Failed)
-    } else if !users_there(users, effect) {
+    } else {
+        missing(users, channels, effect)
+    }
+}
+
+/// What of all that an effect names is not there, if anything is not.
+pub(crate) fn missing(
+    users: &Users,
+    channels: &IndexedChannels,
+    effect: &Effect,
+) -> Option<RoomFault>
+    ensures { result ≡ missing_fault (record { users = users.now; channels = channels.now }) effect.now }
+{
+    if !users_there(users, effect) {
         Some(RoomFault::NoSuchUser)
     } else if !channel_there(channels, effect) {
         Some(RoomFault::NoSuchChannel)

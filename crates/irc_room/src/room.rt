@@ -5,9 +5,10 @@ ghost use Rattle.std.specs.FinMap.{empty, entries, values};
 ghost use Rattle.irc_names.specs.Fold.{key};
 ghost use Rattle.irc_names.specs.Tables.{row};
 ghost use Rattle.irc_tables.specs.RowViews.{row_entry};
+ghost use Rattle.irc_users.specs.UserTable.{is_home};
 ghost use Rattle.irc_channels.specs.Channels.{has_member};
 ghost use Rattle.irc_channels.specs.ChannelTable.{members_in};
-ghost use Rattle.irc_room.specs.Applying.{Kept, Applied, IdleStays};
+ghost use Rattle.irc_room.specs.Applying.{Kept, Applied, IdleStays, does};
 ghost use Rattle.irc_room.specs.Effects.{brings_free};
 ghost use Rattle.irc_room.specs.Indexes.{entries_under};
 ghost use Rattle.irc_room.specs.Laws.{no_room};
@@ -19,8 +20,10 @@ use crate::audience::audience;
 use crate::changing::perform;
 use crate::effect::Effect;
 use crate::fault::RoomFault;
+use crate::home_count::{homed, staying, with_newcomer};
+use crate::idle::is_idle;
 use crate::indexed_channels::IndexedChannels;
-use crate::refusing::refusal;
+use crate::refusing::{missing, refusal};
 use crate::room_parts::RoomParts;
 use irc_channels::{Channel, Flags};
 use irc_line::Text;
@@ -36,6 +39,7 @@ pub struct Room {
     own: ServerName,
     failed: bool,
     users: Users,
+    at_home: usize,
     channels: IndexedChannels,
     alloc: Global,
 }
@@ -43,7 +47,7 @@ pub struct Room {
 /// In a clause it is whose room it is, whether memory ran out, and the room, which is well formed.
 impl Model for Room {
     ghost use Rattle.irc_room.specs.Applying.{Kept};
-    ghost use Rattle.irc_room.specs.Room.{IsWellFormed};
+    ghost use Rattle.irc_room.specs.Loops.HomeCount.{IsCounted};
     ghost use Rattle.irc_room.specs.Codes.{kept_code};
     ghost use Rattle.irc_users.specs.contracts.users.Users.{the_row as users_row};
     ghost use Rattle.irc_channels.specs.contracts.channel.Channel.{the_row as channel_row};
@@ -54,7 +58,7 @@ impl Model for Room {
 
     ghost view = { λ r. record { own = r.own; failed = r.failed; room = record { users = r.users; channels = r.channels } } };
 
-    ghost invariant = { λ r. IsWellFormed (record { users = r.users; channels = r.channels }) };
+    ghost invariant = { λ r. IsCounted r.own r.at_home (record { users = r.users; channels = r.channels }) };
 }
 
 impl Room {
@@ -66,6 +70,7 @@ impl Room {
             own,
             failed: false,
             users: Users::new(alloc),
+            at_home: 0,
             channels: IndexedChannels::new(alloc),
             alloc,
         }
@@ -123,6 +128,34 @@ impl Room {
         self.users.as_slice().iter().collect(self.alloc)
     }
 
+    /// The users that are connected to a server, in folded order of their nicknames.
+    ///
+    /// # Errors
+    /// Where memory runs out.
+    pub fn users_at(&self, home: &ServerName) -> Result<Vec<&User, Global>, AllocError>
+        ensures { IfOk result (λ found. map (λ user. user.now) found.items ≡ filter (is_home home.now) (values self.now.room.users)) }
+    {
+        self.users.by_home(home)
+    }
+
+    /// How many users there are.
+    pub fn user_count(&self) -> usize
+        ensures { result ≡ length (values self.now.room.users) }
+    {
+        self.users.len()
+    }
+
+    /// How many users are connected to a server. For the one that keeps the room no user is looked at.
+    pub fn home_count(&self, home: &ServerName) -> usize
+        ensures { result ≡ length (filter (is_home home.now) (values self.now.room.users)) }
+    {
+        if self.own.as_bytes() == home.as_bytes() {
+            self.at_home
+        } else {
+            homed(home, self.users.as_slice())
+        }
+    }
+
     /// All channels, in folded order of their names.
     pub fn channels(&self) -> &[Row<Channel>]
         ensures { map row_entry result.now ≡ entries self.now.room.channels }
@@ -153,6 +186,18 @@ impl Room {
         ensures { map row_entry result.now ≡ members_in (channel_at self.now.room (key channel.now)) }
     {
         self.channels.members(channel)
+    }
+
+    /// Whether an effect does anything: whom and what it names is there, and it is no Join by a member, and no Part or Kick of
+    /// somebody who is none. That is asked of the users and channels alone, also where memory ran out before.
+    pub fn does(&self, effect: &Effect) -> bool
+        ensures { result ≡ does self.now.room effect.now }
+    {
+        let parts = RoomParts {
+            users: &self.users,
+            channels: &self.channels,
+        };
+        missing(&self.users, &self.channels, effect).is_none() && !is_idle(parts, effect)
     }
 
     /// The nicknames of all who see an effect, on whichever server, in folded order (RFC 2812 section 3).
@@ -192,6 +237,7 @@ impl Room {
             return Err(fault);
         }
         let before = out.len();
+        let stay = staying(&self.own, &self.users, self.at_home, effect);
         self.failed = true;
         match perform(
             self.alloc,
@@ -203,6 +249,7 @@ impl Room {
         ) {
             Ok(()) => {
                 self.failed = false;
+                self.at_home = with_newcomer(&self.own, &self.users, stay, effect);
                 Ok(())
             }
             Err(_) => {

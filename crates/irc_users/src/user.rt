@@ -1,8 +1,9 @@
 //! A user.
 ghost use Rattle.std.specs.Prelude.{◌≡◌};
+ghost use Rattle.irc_users.specs.UserTable.{is_home, is_found_by};
 
 use crate::texts::{RealName, UserName};
-use irc_names::{Host, Nick, ServerName};
+use irc_names::{Host, Nick, ServerName, mask_matches};
 
 /// A registered user (RFC 2812 sections 3.1.2 and 3.1.3).
 #[derive(Drop)]
@@ -34,5 +35,22 @@ impl User {
             home: self.home.copy(),
             invisible: self.invisible,
         }
+    }
+
+    /// Whether it is connected to a server.
+    pub fn is_home(&self, home: &ServerName) -> bool
+        ensures { result ≡ is_home home.now self.now }
+    {
+        self.home.as_bytes() == home.as_bytes()
+    }
+
+    /// Whether a mask matches its nickname, its host, its server or its real name. Any bytes are a mask (RFC 2812 section 3.6.1).
+    pub fn is_found_by(&self, mask: &[u8]) -> bool
+        ensures { result ≡ is_found_by mask.now self.now }
+    {
+        mask_matches(mask, self.nick.as_bytes())
+            || mask_matches(mask, self.host.as_bytes())
+            || mask_matches(mask, self.home.as_bytes())
+            || mask_matches(mask, self.real.as_bytes())
     }
 }

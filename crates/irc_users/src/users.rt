@@ -10,7 +10,7 @@ ghost use Rattle.irc_users.specs.UserTable.{entry, with_nick, with_invisible, is
 
 use crate::fault::{RenameFault, UsersFault};
 use crate::user::User;
-use irc_names::{Nick, ServerName, compare, mask_matches, same};
+use irc_names::{Nick, ServerName, compare, same};
 use std::alloc::{AllocError, Global};
 use std::marker::Model;
 
@@ -179,7 +179,7 @@ fn homed_at<'a>(
 {
     users
         .iter()
-        .filter(|user| is_home(user, home))
+        .filter(|user| user.is_home(home))
         .collect(alloc)
 }
 
@@ -193,25 +193,8 @@ fn matched_by<'a>(
 {
     users
         .iter()
-        .filter(|user| is_found_by(user, mask))
+        .filter(|user| user.is_found_by(mask))
         .collect(alloc)
-}
-
-/// Whether a user is connected to a server.
-fn is_home(user: &User, home: &ServerName) -> bool
-    ensures { result ≡ is_home home.now user.now }
-{
-    user.home.as_bytes() == home.as_bytes()
-}
-
-/// Whether a mask matches the nickname, the host, the server or the real name of a user.
-fn is_found_by(user: &User, mask: &[u8]) -> bool
-    ensures { result ≡ is_found_by mask.now user.now }
-{
-    mask_matches(mask, user.nick.as_bytes())
-        || mask_matches(mask, user.host.as_bytes())
-        || mask_matches(mask, user.home.as_bytes())
-        || mask_matches(mask, user.real.as_bytes())
 }
 
 /// Whether another user than the one with the first nickname has the second.

@@ -14,8 +14,9 @@ ghost use Rattle.std.specs.Prelude.{◌≡◌};
 ghost use Rattle.irc_room.specs.Effects.{brings_free};
 
 use arrayvec::ArrayVec;
-use irc_channels::{Channel, ModeItem, Modes, Privacy, Words, read_modes};
+use irc_channels::{Channel, Words};
 use irc_line::{Text, body};
+use irc_modes::{ModeItem, Modes, Privacy, read_modes};
 use irc_names::{ChannelName, Host, Nick, ServerName, cut_copy};
 use irc_room::{By, Effect, ModeChanges, Room, RoomFault, Target};
 use irc_users::{RealName, User, UserName};

@@ -38,7 +38,7 @@ module _ (Q : Room → Effect → Type 0) (me : User) (room : Room) (so : IsSoOf
       → EachInTurn Q room (effects_among (invites_found me other name found))
   found_so other known None is =
       by_test (λ (steps : List Act). EachInTurn Q room (effects_among steps)) (is_channel name) (invites me other name)
-      (Answer (NoSuchChannel (client_words name)) ∷ []) (λ fine. invites_so other known name (own.by_rule name fine)) (λ bad. tt)
+      (Answer (NoSuchChannel (client_words name)) ∷ []) (λ fine. invites_so other known name (own.by_rule name fine is)) (λ bad. tt)
   found_so other known (Some channel) is =
       refused_so Q room (first_refusal (invite_refusals me other channel)) (invites me other channel.name)
       (invites_so other known channel.name (own.of_found name channel is))

@@ -1,6 +1,9 @@
 -- The steps of a JOIN are its user's own.
-use Rattle.std.proofs.Common.{◌≡◌, ℕ, Bool, true, false, List, [], ◌∷◌, map, refl, if◌then◌else◌, ◌⊎◌, inl, inr}
+use Rattle.std.proofs.Common.{◌≡◌, ℕ, Bool, true, false, List, [], ◌∷◌, map, refl, sym, ◌∙◌, ap, if◌then◌else◌, ◌⊎◌, inl, inr}
+use Rattle.std.specs.Option.{option_map_or}
+use Rattle.irc_names.specs.Fold.{key}
 use Rattle.irc_users.specs.declared.user.User.{User}
+use Rattle.irc_channels.specs.Channels.{has_member}
 use Rattle.irc_room.specs.Room.{Room, IsWellFormed}
 use Rattle.irc_acts.specs.declared.act.Act.{Act}
 use Rattle.irc_acts.specs.Ahead.{in_turn}
@@ -23,7 +26,11 @@ LeavingAllIsOwn = (me : User) (room : Room) → IsWellFormed room → AreOwn me 
 
 one_own : (me : User) (room : Room) (asked : Asked) → AreOwn me room (join_one me room asked)
 one_own me room asked =
-    one_so (IsOwn me) me room asked (record { makes = λ outside. own.joins asked.channel _; enters = λ outside channel is. own.joins channel.name _ })
+    one_so (IsOwn me) me room asked (record {
+      makes = λ outside named none. own.makes asked.channel named none;
+      enters = λ outside channel is.
+          own.enters asked.channel channel is (sym (ap (λ found. option_map_or (has_member (key me.nick)) found false) is) ∙ outside);
+    })
 
 own_or_leaves : (me : User) (room : Room) (asked : List Asked) (zero : Bool)
     → let acts : List Act = if zero then map (leaves me) (own_channels room me) else in_turn (join_one me) room asked in

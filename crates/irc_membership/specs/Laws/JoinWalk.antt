@@ -1,5 +1,5 @@
 -- What is so of each Join by which a user may come to a channel is so of each effect of a JOIN of one channel.
-use Rattle.std.proofs.Common.{◌≡◌, ℕ, Bool, true, false, not, ◌&&◌, Option, Some, None, List, [], ◌∷◌, ◌++◌, length, map, nat_le, refl, sym, subst, if◌then◌else◌}
+use Rattle.std.proofs.Common.{◌≡◌, ℕ, Bool, true, false, not, ◌&&◌, Option, Some, None, List, [], ◌∷◌, ◌++◌, length, map, nat_le, refl, sym, ap, subst, if◌then◌else◌}
 use Rattle.irc_names.specs.Fold.{key}
 use Rattle.irc_names.specs.Names.{is_channel}
 use Rattle.irc_names.specs.Tables.{Table, row}
@@ -16,7 +16,7 @@ use Rattle.irc_room.specs.Effects.{is_member}
 use Rattle.irc_room.specs.After.{after}
 use Rattle.irc_room.specs.InTurn.{EachInTurn}
 use Rattle.irc_acts.specs.declared.act.Act.{Act}
-use Rattle.irc_acts.specs.declared.act.Act.TheVariants.{Answer}
+use Rattle.irc_acts.specs.declared.act.Act.TheVariants.{Answer, Do}
 use Rattle.irc_acts.specs.Acts.{client_words, effects_among}
 use Rattle.irc_acts.specs.AheadLaws.{none-both}
 use Rattle.irc_acts.specs.ByTest.{by_test}
@@ -43,11 +43,35 @@ told_answers users me name now =
     (lines_answer now (in_lines max_names (named_members users me now))))
     refl
 
--- the user is outside, and the channel is made, or was found under the name
+-- the user is outside, and the channel is made by a name that may be one, or was found under the name
 pub record IsSoOfJoins (Q : Room → Effect → Type 0) (me : User) (room : Room) (name : List ℕ) : Type 0 where
-  pub makes : is_member room me.nick name ≡ false → Q room (Join me.nick name true)
+  pub makes : is_member room me.nick name ≡ false → is_channel name ≡ true → row room.channels (key name) ≡ None → Q room (Join me.nick name true)
   pub enters : is_member room me.nick name ≡ false → (channel : Channel) → row room.channels (key name) ≡ Some channel
       → Q room (Join me.nick channel.name false)
+
+-- ---- what it does looks at the users alone, and at the row of the channel
+
+joins_by_users : (room now : Room) (me : User) (name : List ℕ) (op : Bool) (channel : Channel) → now.users ≡ room.users
+    → joins now me name op channel ≡ joins room me name op channel
+joins_by_users room now me name op channel same =
+    let after_join = joined (key me.nick) op channel in
+    ap (λ users. Do (Join me.nick channel.name op) ∷ topic_for_joiner after_join.name after_join.topic ++ names_of users me after_join ++ end_of_names name ∷ []) same
+
+admitted_by_users : (room now : Room) (me : User) (name : List ℕ) (channel : Channel) (refusal : Option Act) → now.users ≡ room.users
+    → admitted now me name channel refusal ≡ admitted room me name channel refusal
+admitted_by_users room now me name channel None same = joins_by_users room now me name false channel same
+admitted_by_users room now me name channel (Some refusal) same = refl
+
+pub found_by_users : (room now : Room) (me : User) (asked : Asked) (found : Option Channel) → now.users ≡ room.users
+    → joins_found now me asked found ≡ joins_found room me asked found
+found_by_users room now me asked None same = joins_by_users room now me asked.channel true (new_channel asked.channel) same
+found_by_users room now me asked (Some channel) same = admitted_by_users room now me asked.channel channel (kept_out me asked.key channel) same
+
+-- ---- the walk
+
+not_so : (b : Bool) → not b ≡ false → b ≡ true
+not_so true e = refl
+not_so false e = cc
 
 module _ (Q : Room → Effect → Type 0) (me : User) (room : Room) where
   joins_so : (name : List ℕ) (op : Bool) (channel : Channel) → Q room (Join me.nick channel.name op)
@@ -69,10 +93,10 @@ module _ (Q : Room → Effect → Type 0) (me : User) (room : Room) where
       (λ right. by_test R (is_full channel.modes.limit channel) (Some (Answer (ChannelIsFull channel.name))) None (λ no_room. tt)
       (λ some_room. joins_so name false channel first))))
 
-  found_so : (asked : Asked) → IsSoOfJoins Q me room asked.channel → is_member room me.nick asked.channel ≡ false → (found : Option Channel)
-      → row room.channels (key asked.channel) ≡ found → EachInTurn Q room (effects_among (joins_found room me asked found))
-  found_so asked so outside None is = joins_so asked.channel true (new_channel asked.channel) (so.makes outside)
-  found_so asked so outside (Some channel) is = admitted_so asked.channel asked.key channel (so.enters outside channel is)
+  found_so : (asked : Asked) → IsSoOfJoins Q me room asked.channel → is_member room me.nick asked.channel ≡ false → is_channel asked.channel ≡ true
+      → (found : Option Channel) → row room.channels (key asked.channel) ≡ found → EachInTurn Q room (effects_among (joins_found room me asked found))
+  found_so asked so outside named None is = joins_so asked.channel true (new_channel asked.channel) (so.makes outside named is)
+  found_so asked so outside named (Some channel) is = admitted_so asked.channel asked.key channel (so.enters outside channel is)
 
   pub one_so : (asked : Asked) → IsSoOfJoins Q me room asked.channel → EachInTurn Q room (effects_among (join_one me room asked))
   one_so asked so =
@@ -81,6 +105,6 @@ module _ (Q : Room → Effect → Type 0) (me : User) (room : Room) where
       let few : List Act = if nat_le max_joined (length (own_channels room me)) then Answer (TooManyChannels asked.channel) ∷ [] else found in
       let outside : List Act = if is_member room me.nick asked.channel then [] else few in
       by_test S (not (is_channel asked.channel)) (Answer (NoSuchChannel (client_words asked.channel)) ∷ []) outside (λ bad. tt)
-      (λ fine. by_test S (is_member room me.nick asked.channel) [] few (λ member. tt)
+      (λ named. by_test S (is_member room me.nick asked.channel) [] few (λ member. tt)
       (λ outsider. by_test S (nat_le max_joined (length (own_channels room me))) (Answer (TooManyChannels asked.channel) ∷ []) found (λ many. tt)
-      (λ some_left. found_so asked so outsider (row room.channels (key asked.channel)) refl)))
+      (λ some_left. found_so asked so outsider (not_so (is_channel asked.channel) named) (row room.channels (key asked.channel)) refl)))

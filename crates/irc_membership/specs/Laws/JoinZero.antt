@@ -74,7 +74,7 @@ leaving_rows room me (e ∷ es) rise all =
     let now = after room (Part me.nick e.1.name (cut_words me.nick)) in
     by_test (λ (channels : List Channel). AreOwn me room (map (leaves me) channels)) (has_member (key me.nick) e.1) (e.1 ∷ rest) rest
     (λ member. record {
-      now = parts e.1.name (cut_words me.nick) e.1 (ap (row room.channels) all.0.named ∙ all.0.there);
+      now = parts e.1.name (cut_words me.nick) e.1 (ap (row room.channels) all.0.named ∙ all.0.there) member;
       later = leaving_rows now me es parted.1 (still_stand room me e es all.0.named parted.0 all.1);
     })
     (λ outside. leaving_rows room me es parted.1 all.1)

@@ -14,12 +14,13 @@ use Rattle.irc_names.specs.TableLaws.{row-alter_same}
 use Rattle.irc_users.specs.declared.user.User.{User}
 use Rattle.irc_channels.specs.declared.channel.Channel.{Channel}
 use Rattle.irc_channels.specs.declared.flags.Flags.{Flags}
-use Rattle.irc_channels.specs.declared.modes.ModeChange.{ModeChange}
-use Rattle.irc_channels.specs.declared.modes.ModeLetter.{ModeLetter}
-use Rattle.irc_channels.specs.declared.modes.Privacy.{Privacy}
-use Rattle.irc_channels.specs.declared.modes.Privacy.TheVariants.{Public, Private, Secret}
-use Rattle.irc_channels.specs.Channels.{is_limit, number_of, private_changed, secret_changed, with_ban, without_ban, changed, all_changed}
-use Rattle.irc_channels.specs.ModeWords.{Asked, change, list, no_word, unknown}
+use Rattle.irc_modes.specs.declared.modes.ModeChange.{ModeChange}
+use Rattle.irc_modes.specs.declared.modes.ModeLetter.{ModeLetter}
+use Rattle.irc_modes.specs.declared.modes.Privacy.{Privacy}
+use Rattle.irc_modes.specs.declared.modes.Privacy.TheVariants.{Public, Private, Secret}
+use Rattle.irc_modes.specs.Modes.{is_limit, number_of, private_changed, secret_changed, with_ban, without_ban}
+use Rattle.irc_channels.specs.Channels.{changed, all_changed}
+use Rattle.irc_modes.specs.ModeWords.{Asked, change, list, no_word, unknown, modes_read}
 use Rattle.irc_room.specs.declared.effect.Effect.{Effect}
 use Rattle.irc_room.specs.declared.effect.Effect.TheVariants.{ChangeModes, UserMode}
 use Rattle.irc_room.specs.Room.{Room, IsWellFormed}
@@ -34,7 +35,7 @@ use Rattle.irc_moderation.specs.Mode.{mode_steps}
 use Rattle.irc_moderation.specs.Laws.BansFound.{find_any, find_passes, any_alike, stored_is_mask}
 use Rattle.irc_moderation.specs.Laws.JudgedWalk.{IsSo, judged_so}
 use Rattle.irc_moderation.specs.Laws.LimitsWritten.{limit_still, number_still}
-use Rattle.irc_moderation.specs.Laws.ModeLaw.{mode_so}
+use Rattle.irc_moderation.specs.Laws.ModeLaw.{changed_by, mode_so}
 
 -- each of some changes leaves another channel than those before it have left
 abbrev pub EachChanges : Channel → List ModeChange → Type 0
@@ -167,23 +168,23 @@ IsNamed users = (nick : List ℕ) (user : User) → row users nick ≡ Some user
 
 made_changes : (users : Table User) (now : Channel) → IsNamed users → (plus : Bool) (which : ModeLetter) (word : Option (List ℕ))
     → IsSo (λ made. changed made now ≢ now) (judge users now plus which word)
-made_changes users now named = judged_so (λ made. changed made now ≢ now) users now (record {
-  invite_only = λ plus other e. apart plus now.modes.invite_only other (ap (λ (c : Channel). c.modes.invite_only) e);
-  moderated = λ plus other e. apart plus now.modes.moderated other (ap (λ (c : Channel). c.modes.moderated) e);
-  no_outside = λ plus other e. apart plus now.modes.no_outside other (ap (λ (c : Channel). c.modes.no_outside) e);
-  topic_locked = λ plus other e. apart plus now.modes.topic_locked other (ap (λ (c : Channel). c.modes.topic_locked) e);
-  private = λ plus turns e. private_apart plus now.modes.privacy turns (ap (λ (c : Channel). c.modes.privacy) e);
-  secret = λ plus turns e. secret_apart plus now.modes.privacy turns (ap (λ (c : Channel). c.modes.privacy) e);
-  key_set = λ word is none e. key_apart word now.modes.key is none (ap (λ (c : Channel). c.modes.key) e);
-  key_cleared = λ word is e. some_apart now.modes.key (ap is_some is) (ap (λ (c : Channel). c.modes.key) e);
-  limit_set = λ word is other e. limit_apart word now.modes.limit is other (ap (λ (c : Channel). c.modes.limit) e);
+made_changes users now named plus which word = judged_so (λ made. changed made now ≢ now) users now plus which word (record {
+  invite_only = λ sign other e. apart sign now.modes.invite_only other (ap (λ (c : Channel). c.modes.invite_only) e);
+  moderated = λ sign other e. apart sign now.modes.moderated other (ap (λ (c : Channel). c.modes.moderated) e);
+  no_outside = λ sign other e. apart sign now.modes.no_outside other (ap (λ (c : Channel). c.modes.no_outside) e);
+  topic_locked = λ sign other e. apart sign now.modes.topic_locked other (ap (λ (c : Channel). c.modes.topic_locked) e);
+  private = λ sign turns e. private_apart sign now.modes.privacy turns (ap (λ (c : Channel). c.modes.privacy) e);
+  secret = λ sign turns e. secret_apart sign now.modes.privacy turns (ap (λ (c : Channel). c.modes.privacy) e);
+  key_set = λ given is none e. key_apart given now.modes.key is none (ap (λ (c : Channel). c.modes.key) e);
+  key_cleared = λ there is e. some_apart now.modes.key (ap is_some is) (ap (λ (c : Channel). c.modes.key) e);
+  limit_set = λ digits is other e. limit_apart digits now.modes.limit is other (ap (λ (c : Channel). c.modes.limit) e);
   limit_cleared = λ there e. some_apart now.modes.limit there (ap (λ (c : Channel). c.modes.limit) e);
-  ban_set = λ mask is none e. set_apart mask now.modes.bans is none (ap (λ (c : Channel). c.modes.bans) e);
+  ban_set = λ mask given is none e. set_apart mask now.modes.bans is none (ap (λ (c : Channel). c.modes.bans) e);
   ban_taken = λ mask there is found e. taken_apart mask there now.modes.bans is found (ap (λ (c : Channel). c.modes.bans) e);
-  operator = λ plus word user flags is at other e.
-      flag_apart now.members user.nick word flags (λ f. record f { op = plus }) (λ f. f.op) (named (key word) user is) at other (ap (λ (c : Channel). c.members) e);
-  voice = λ plus word user flags is at other e.
-      flag_apart now.members user.nick word flags (λ f. record f { voice = plus }) (λ f. f.voice) (named (key word) user is) at other (ap (λ (c : Channel). c.members) e);
+  operator = λ sign name user flags is at other e.
+      flag_apart now.members user.nick name flags (λ f. record f { op = sign }) (λ f. f.op) (named (key name) user is) at other (ap (λ (c : Channel). c.members) e);
+  voice = λ sign name user flags is at other e.
+      flag_apart now.members user.nick name flags (λ f. record f { voice = sign }) (λ f. f.voice) (named (key name) user is) at other (ap (λ (c : Channel). c.members) e);
 })
 
 verdict_changes : (now : Channel) (verdict : Verdict) → IsSo (λ made. changed made now ≢ now) verdict → EachChanges now (outcome_of verdict).changes
@@ -212,10 +213,10 @@ one_found : {X : Type 0} (a b : X) → Some a ≡ Some b → a ≡ b
 one_found a b e = ap (λ o. unwrap_or o a) e
 
 pub mode_does_something : ModeDoesSomething
-mode_does_something me room params well mine = mode_so IsDoing me room params (λ name. record {
-  changes_it = λ channel items is operator found at.
-      subst (λ (c : Channel). EachChanges c (served room.users channel channel items).changes)
+mode_does_something me room params well mine = mode_so IsDoing me room params (λ name words given. record {
+  changes_it = λ channel is operator some found at.
+      subst (λ (c : Channel). EachChanges c (changed_by room channel words))
       (one_found channel found (sym is ∙ ap (row room.channels) (sym ((well.channels_sound (key name) channel is).named)) ∙ at))
-      (served_changes room.users channel channel well.users_named items);
+      (served_changes room.users channel channel well.users_named (modes_read words));
   sets_own = λ invisible other user at e. apart me.invisible invisible other (ap (λ (u : User). u.invisible) (one_found me user (sym mine ∙ at)) ∙ e);
 })

@@ -5,11 +5,11 @@ use Rattle.irc_names.specs.Fold.{key}
 use Rattle.irc_names.specs.Tables.{Table, row}
 use Rattle.irc_users.specs.declared.user.User.{User}
 use Rattle.irc_channels.specs.declared.channel.Channel.{Channel}
-use Rattle.irc_channels.specs.declared.modes.ModeChange.{ModeChange}
-use Rattle.irc_channels.specs.declared.modes.ModeLetter.{ModeLetter}
-use Rattle.irc_channels.specs.declared.modes.ModeLetter.TheVariants as letter
+use Rattle.irc_modes.specs.declared.modes.ModeChange.{ModeChange}
+use Rattle.irc_modes.specs.declared.modes.ModeLetter.{ModeLetter}
+use Rattle.irc_modes.specs.declared.modes.ModeLetter.TheVariants as letter
 use Rattle.irc_channels.specs.Channels.{letter_changed, changed, all_changed}
-use Rattle.irc_channels.specs.ModeWords.{Asked, change, list, no_word, unknown, modes_read}
+use Rattle.irc_modes.specs.ModeWords.{Asked, change, list, no_word, unknown, modes_read}
 use Rattle.irc_numerics.specs.declared.replies.Reply.TheVariants.{ChanOPrivsNeeded}
 use Rattle.irc_room.specs.Room.{Room}
 use Rattle.irc_acts.specs.declared.act.Act.TheVariants.{Answer}

@@ -5,8 +5,8 @@ use Rattle.std.specs.Char.{is_ascii_digit}
 use Rattle.std.specs.Cmp.{first_so, second_so}
 use Rattle.std.proofs.lemmas.Bool.{eqb-true}
 use Rattle.std.proofs.lemmas.Bool.Decides.{nat_tests}
-use Rattle.irc_channels.specs.Channels.{number_of, is_limit}
-use Rattle.irc_channels.specs.Limits.{max_limit, max_limit_digits}
+use Rattle.irc_modes.specs.Modes.{number_of, is_limit}
+use Rattle.irc_modes.specs.Limits.{max_limit, max_limit_digits}
 use Rattle.irc_moderation.specs.Judging.{without_zeros}
 
 pub shorter : (digits : List ℕ) → length (without_zeros digits) ≤ length digits

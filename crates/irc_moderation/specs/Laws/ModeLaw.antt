@@ -1,12 +1,13 @@
 -- The steps of a MODE are its user's own.
-use Rattle.std.proofs.Common.{◌≡◌, ℕ, Bool, true, ◌++◌, map, Option, Some, None, List, [], ◌∷◌, refl, sym, ◌∙◌, ap, subst}
+use Rattle.std.proofs.Common.{◌≡◌, ℕ, Bool, true, false, ◌++◌, map, Option, Some, None, List, [], ◌∷◌, refl, sym, ◌∙◌, ap, subst}
 use Rattle.irc_names.specs.Fold.{key, same}
 use Rattle.irc_names.specs.Tables.{Table, row}
 use Rattle.irc_users.specs.declared.user.User.{User}
 use Rattle.irc_channels.specs.declared.channel.Channel.{Channel}
-use Rattle.irc_channels.specs.declared.modes.ModeChange.{ModeChange}
+use Rattle.irc_modes.specs.declared.modes.ModeChange.{ModeChange}
 use Rattle.irc_channels.specs.Channels.{all_changed}
-use Rattle.irc_channels.specs.ModeWords.{Asked, change, list, no_word, unknown, modes_read}
+use Rattle.irc_modes.specs.Modes.{is_nil}
+use Rattle.irc_modes.specs.ModeWords.{Asked, change, list, no_word, unknown, modes_read}
 use Rattle.irc_numerics.specs.declared.replies.Reply.TheVariants.{UsersDontMatch, UModeUnknownFlag, EndOfBanList}
 use Rattle.irc_room.specs.declared.effect.By.TheVariants as by
 use Rattle.irc_room.specs.declared.effect.Effect.{Effect}
@@ -79,10 +80,15 @@ quiet_so Q room acts quiet = subst (EachInTurn Q room) (sym quiet) tt
 
 -- ---- what is so of these effects is so of each effect of a MODE
 
--- an operator changes modes of a channel that was found under the name; a user makes its own mode another than it was
-pub record IsSoOfModes (Q : Room → Effect → Type 0) (me : User) (room : Room) (name : List ℕ) : Type 0 where
-  pub changes_it : (channel : Channel) (items : List Asked) → row room.channels (key name) ≡ Some channel → is_operator (row channel.members (key me.nick)) ≡ true
-      → Q room (ChangeModes (by.User me.nick) channel.name (served room.users channel channel items).changes)
+-- what is changed of a channel by the words of a MODE
+abbrev pub changed_by : Room → Channel → List (List ℕ) → List ModeChange
+changed_by room channel words = (served room.users channel channel (modes_read words)).changes
+
+-- an operator changes modes of a channel that was found under the name, by the words behind it; a user makes its own mode another than it was
+pub record IsSoOfModes (Q : Room → Effect → Type 0) (me : User) (room : Room) (name : List ℕ) (words : List (List ℕ)) : Type 0 where
+  pub changes_it : (channel : Channel) → row room.channels (key name) ≡ Some channel → is_operator (row channel.members (key me.nick)) ≡ true
+      → is_nil (changed_by room channel words) ≡ false
+      → Q room (ChangeModes (by.User me.nick) channel.name (changed_by room channel words))
   pub sets_own : (invisible : Bool) → differs me.invisible invisible ≡ true → Q room (UserMode me.nick invisible)
 
 own_so : (Q : Room → Effect → Type 0) (me : User) (room : Room) (more : List (List ℕ))
@@ -96,7 +102,7 @@ own_so Q me room (letters ∷ more) so =
     (by_test (λ (acts : List Act). EachInTurn Q room (effects_among acts)) (differs me.invisible invisible) (Do (UserMode me.nick invisible) ∷ []) []
     (λ apart. record { now = so invisible apart; later = tt }) (λ alike. tt))
 
-user_so : (Q : Room → Effect → Type 0) (me : User) (room : Room) (target : List ℕ) (more : List (List ℕ)) → IsSoOfModes Q me room target
+user_so : (Q : Room → Effect → Type 0) (me : User) (room : Room) (target : List ℕ) (more : List (List ℕ)) → IsSoOfModes Q me room target more
     → EachInTurn Q room (effects_among (user_mode me target more))
 unfolding user_mode
 user_so Q me room target more so =
@@ -104,37 +110,40 @@ user_so Q me room target more so =
     (λ own. own_so Q me room more so.sets_own) (λ other. tt)
 
 changing_so : (Q : Room → Effect → Type 0) (me : User) (room : Room) (channel : Channel) (changes : List ModeChange)
-    → Q room (ChangeModes (by.User me.nick) channel.name changes) → EachInTurn Q room (effects_among (changing me channel changes))
+    → (is_nil changes ≡ false → Q room (ChangeModes (by.User me.nick) channel.name changes)) → EachInTurn Q room (effects_among (changing me channel changes))
 changing_so Q me room channel [] so = tt
-changing_so Q me room channel (first ∷ changes) so = record { now = so; later = tt }
+changing_so Q me room channel (first ∷ changes) so = record { now = so refl; later = tt }
 
-asked_so : (Q : Room → Effect → Type 0) (me : User) (room : Room) (name : List ℕ) (channel : Channel) (items : List Asked) → IsSoOfModes Q me room name
-    → row room.channels (key name) ≡ Some channel → EachInTurn Q room (effects_among (asked_of room.users me channel items))
-asked_so Q me room name channel items so is =
+asked_so : (Q : Room → Effect → Type 0) (me : User) (room : Room) (name : List ℕ) (channel : Channel) (words : List (List ℕ))
+    → IsSoOfModes Q me room name words
+    → row room.channels (key name) ≡ Some channel → EachInTurn Q room (effects_among (asked_of room.users me channel (modes_read words)))
+asked_so Q me room name channel words so is =
+    let items = modes_read words in
     let outcome = served room.users channel channel items in
     by_test (λ (acts : List Act). EachInTurn Q room (effects_among acts)) (is_operator (row channel.members (key me.nick))) (in_one me channel outcome) (denied channel items)
     (λ operator. quiet_first Q room outcome.replies (changing me channel outcome.changes) (served_quiet room.users channel channel items)
-    (changing_so Q me room channel outcome.changes (so.changes_it channel items is operator)))
+    (changing_so Q me room channel outcome.changes (so.changes_it channel is operator)))
     (λ other. quiet_so Q room (denied channel items) (denied_quiet channel items))
 
-channel_so : (Q : Room → Effect → Type 0) (me : User) (room : Room) (name : List ℕ) (more : List (List ℕ)) → IsSoOfModes Q me room name
+channel_so : (Q : Room → Effect → Type 0) (me : User) (room : Room) (name : List ℕ) (more : List (List ℕ)) → IsSoOfModes Q me room name more
     → (found : Option Channel) → row room.channels (key name) ≡ found → EachInTurn Q room (effects_among (channel_mode room.users me name more found))
 unfolding channel_mode
 channel_so Q me room name more so None is = tt
 channel_so Q me room name [] so (Some channel) is = tt
-channel_so Q me room name (letters ∷ words) so (Some channel) is = asked_so Q me room name channel (modes_read (letters ∷ words)) so is
+channel_so Q me room name (letters ∷ words) so (Some channel) is = asked_so Q me room name channel (letters ∷ words) so is
 
-pub mode_so : (Q : Room → Effect → Type 0) (me : User) (room : Room) (params : List (List ℕ)) → ((name : List ℕ) → IsSoOfModes Q me room name)
+pub mode_so : (Q : Room → Effect → Type 0) (me : User) (room : Room) (params : List (List ℕ))
+    → ((name : List ℕ) (words : List (List ℕ)) → params ≡ name ∷ words → IsSoOfModes Q me room name words)
     → EachInTurn Q room (effects_among (mode_steps room me params))
 unfolding mode_steps
 mode_so Q me room [] so = tt
 mode_so Q me room (target ∷ more) so =
     by_test (λ (acts : List Act). EachInTurn Q room (effects_among acts)) (names_channel target)
     (channel_mode room.users me target more (row room.channels (key target))) (user_mode me target more)
-    (λ channel. channel_so Q me room target more (so target) (row room.channels (key target)) refl) (λ user. user_so Q me room target more (so target))
+    (λ channel. channel_so Q me room target more (so target more refl) (row room.channels (key target)) refl) (λ user. user_so Q me room target more (so target more refl))
 
 pub mode_is_own : ModeIsOwn
-mode_is_own me room params = mode_so (IsOwn me) me room params (λ name. record {
-  changes_it = λ channel items is operator. own.changes_modes name (served room.users channel channel items).changes channel is;
+mode_is_own me room params = mode_so (IsOwn me) me room params (λ name words given. record {
+  changes_it = λ channel is operator some. own.changes_modes name (changed_by room channel words) channel is;
   sets_own = λ invisible apart. own.sets_user_mode invisible;
 })

@@ -5,12 +5,13 @@ use Rattle.irc_names.specs.Fold.{key, same}
 use Rattle.irc_names.specs.Tables.{row}
 use Rattle.irc_channels.specs.declared.channel.Channel.{Channel}
 use Rattle.irc_channels.specs.declared.flags.Flags.{Flags}
-use Rattle.irc_channels.specs.declared.modes.Modes.{Modes}
-use Rattle.irc_channels.specs.declared.modes.ModeChange.{ModeChange}
-use Rattle.irc_channels.specs.declared.modes.ModeLetter.{ModeLetter}
-use Rattle.irc_channels.specs.declared.modes.ModeLetter.TheVariants as letter
-use Rattle.irc_channels.specs.Channels.{all_changed, ban_mask}
-use Rattle.irc_channels.specs.Bans.{rises}
+use Rattle.irc_modes.specs.declared.modes.Modes.{Modes}
+use Rattle.irc_modes.specs.declared.modes.ModeChange.{ModeChange}
+use Rattle.irc_modes.specs.declared.modes.ModeLetter.{ModeLetter}
+use Rattle.irc_modes.specs.declared.modes.ModeLetter.TheVariants as letter
+use Rattle.irc_channels.specs.Channels.{all_changed}
+use Rattle.irc_modes.specs.Modes.{ban_mask}
+use Rattle.irc_modes.specs.Bans.{rises}
 
 -- the flags of a member with one of them set or cleared; whoever is no member has none
 abbrev pub op_set : Bool → Flags → Flags

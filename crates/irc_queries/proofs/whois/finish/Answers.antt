@@ -1,14 +1,15 @@
 use Rattle.std.proofs.Common.{◌≤◌, List, [], ◌∷◌, ◌++◌, length, eqb, sym, ◌∙◌, ap, subst}
 use Rattle.std.proofs.lemmas.Bool.{eqb-true}
 use Rattle.irc_tables.proofs.RowsAsTable.{ok_also}
-use Rattle.irc_numerics.specs.declared.limits.TheConstants.{MAX_WHOIS_CHANNELS}
+use Rattle.irc_numerics.specs.Limits.{max_whois_channels}
 use Rattle.irc_numerics.specs.declared.replies.OnChannel.{OnChannel}
-use Rattle.irc_queries.proofs.CameChannels.{nothing_held, last_held}
+use Rattle.irc_answers.proofs.CameLines.{nothing_held, last_held}
+use Rattle.irc_queries.specs.Whois.{channels_line}
 use Rattle.irc_queries.proofs.whois.finish.Goals as goal
 
 pub returns-then-is_empty : goal.returns-then-is_empty
 returns-then-is_empty c =
-    nothing_held c.args.user.now c.args.steps.now.items c.args.held.items
+    nothing_held max_whois_channels (channels_line c.args.user.now) c.args.steps.now.items c.args.held.items
     (ap length (sym c.as_slice.ensures.value) ∙ eqb-true _ _ (sym c.is_empty.ensures ∙ c.if-is_empty.true))
 
 pub returns : goal.returns
@@ -16,7 +17,7 @@ returns c =
     ok_also c.put.result (λ sent.
     sent
     ∙ ap (λ a. c.args.steps.now.items ++ a ∷ []) c.channels_line.ensures
-    ∙ last_held c.args.user.now c.args.steps.now.items c.args.held.items
+    ∙ last_held max_whois_channels (channels_line c.args.user.now) c.args.steps.now.items c.args.held.items
     (ap (λ (xs : List OnChannel). eqb (length xs) 0) (sym c.as_slice.ensures.value) ∙ sym c.is_empty.ensures ∙ c.if-is_empty.false)
-    (subst (λ (xs : List OnChannel). length xs ≤ MAX_WHOIS_CHANNELS) c.as_slice.ensures.value c.as_slice.ensures.fits))
+    (subst (λ (xs : List OnChannel). length xs ≤ max_whois_channels) c.as_slice.ensures.value c.as_slice.ensures.fits))
     c.put.ensures

@@ -1,5 +1,5 @@
 use Rattle.std.proofs.Common.{◌≡◌, ◌++◌, drop}
-use Rattle.irc_room.specs.Seen.{letters_text}
+use Rattle.irc_modes.specs.ModeWritten.{letters_text}
 use Rattle.irc_room.proofs.WrittenChanges.{letters_from}
 use Rattle.irc_room.proofs.mode_letters.letters_text.Given as goal
 

@@ -1,6 +1,6 @@
 use Rattle.std.proofs.Common.{[], ◌∷◌, ◌++◌, ◌∙◌, ap, option_to_list}
 use Rattle.irc_line.specs.PartViews.{words_now}
-use Rattle.irc_channels.specs.declared.modes.ModeChange.{ModeChange}
+use Rattle.irc_modes.specs.declared.modes.ModeChange.{ModeChange}
 use Rattle.irc_room.specs.Loops.RoomParts.{room_of}
 use Rattle.irc_room.specs.Seen.{written_word}
 use Rattle.irc_room.proofs.WrittenChanges.{word_more}

@@ -1,11 +1,7 @@
-use Rattle.std.proofs.Common.{◌≡◌, ◌++◌, ◌∙◌, ap, Result, Ok, Err, OnOk, slice_set}
+use Rattle.std.proofs.Common.{◌≡◌, ◌++◌, ◌∙◌, ap, slice_set}
 use Rattle.irc_relay.specs.NewsNet.{PublishedGoesAway, sent_on}
-use Rattle.irc_relay.proofs.DeliveringNews.{published_goes_away}
+use Rattle.irc_relay.proofs.DeliveringNews.{on_ok, published_goes_away}
 use Rattle.irc_relay.proofs.news.News.publish.Goals as goal
-
-on_ok : {T E : Type 0} (P Q : Type 0) (r : Result T E) → (P → Q) → OnOk r P → OnOk r Q
-on_ok P Q (Ok x) f h = f h
-on_ok P Q (Err e) f h = tt
 
 pub returns-clause-goes_away : goal.returns-clause-goes_away
 returns-clause-goes_away c =

@@ -1,8 +1,10 @@
 use Rattle.std.proofs.Common.{◌∙◌, ap, sym, subst, take, ◌++◌, refl}
 use Rattle.irc_room.specs.Applying.{Kept, room_fault, shown_here}
 use Rattle.irc_room.specs.Effects.{brings_free, is_idle}
-use Rattle.irc_room.specs.Room.{IsWellFormed}
+use Rattle.irc_room.specs.Room.{Room, IsWellFormed}
+use Rattle.irc_room.specs.Loops.HomeCount.{home_count}
 use Rattle.irc_room.specs.Loops.Telling.{shown_at}
+use Rattle.irc_room.proofs.CountedUsers.{still_counted}
 use Rattle.irc_room.proofs.Refusals.{refused, served, kept_changed, kept_refused, idle_stays, not_done}
 use Rattle.irc_room.proofs.Rows.{not_none}
 use Rattle.irc_room.proofs.WellFormedLaw.{after_is_well_formed}
@@ -21,13 +23,22 @@ perform-requires-clause-there c =
 pub invariant_of-self : goal.invariant_of-self
 invariant_of-self c =
     let kept : Kept = record { own = c.self.inside.own; failed = c.self.inside.failed; room = record { users = c.self.inside.users; channels = c.self.inside.channels } } in
-    let all = served kept c.args.effect.now (sym (c.refusal.ensures c.self.inside.own) ∙ c.in_default.is) in
-    subst IsWellFormed (sym c.in-Ok.ensures.changed)
-    (after_is_well_formed kept.room c.args.effect.now c.self.invariant (record {
-      users_there = all.users_there;
-      channel_there = all.channel_there;
-      nick_free = ap (λ (k : Kept). brings_free k.room c.args.effect.now) c.self.view_is ∙ c.requires;
-    }))
+    let all = served kept c.args.effect.now (sym (c.refusal.ensures c.self.inside.own) ∙ c.in_default.is) in record {
+      well = subst IsWellFormed (sym c.in-Ok.ensures.changed)
+          (after_is_well_formed kept.room c.args.effect.now c.self.invariant.well (record {
+            users_there = all.users_there;
+            channel_there = all.channel_there;
+            nick_free = ap (λ (k : Kept). brings_free k.room c.args.effect.now) c.self.view_is ∙ c.requires;
+          }));
+      home = c.with_newcomer-self-inside.ensures;
+    }
+
+pub with_newcomer-self-inside-requires : goal.with_newcomer-self-inside-requires
+with_newcomer-self-inside-requires c =
+    let kept : Kept = record { own = c.self.inside.own; failed = c.self.inside.failed; room = record { users = c.self.inside.users; channels = c.self.inside.channels } } in
+    ap (λ (r : Room). home_count c.self.inside.own r.users) c.in-Ok.ensures.changed
+    ∙ still_counted c.self.inside.own kept.room c.args.effect.now c.self.inside.at_home c.staying-stay.result
+    (ap (λ (k : Kept). brings_free k.room c.args.effect.now) c.self.view_is ∙ c.requires) c.self.invariant.home c.staying-stay.ensures
 
 pub returns-in-Ok-clause-applied : goal.returns-in-Ok-clause-applied
 returns-in-Ok-clause-applied c =

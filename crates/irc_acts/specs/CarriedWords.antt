@@ -1,0 +1,77 @@
+-- What a line can carry of the words that clients give, and of names.
+use Rattle.std.proofs.Common.{◌≡◌, ℕ, zero, suc, ◌≤◌, Bool, true, false, not, ◌||◌, ◌&&◌, List, [], ◌∷◌, length, take, nat_eq, refl, sym, ◌∙◌, ap, arith}
+use Rattle.std.specs.List.{list_all, AllByRecursion}
+use Rattle.std.specs.Char.{is_ascii_alphabetic, is_ascii_digit}
+use Rattle.std.specs.Cmp.{first_so, second_so}
+use Rattle.std.proofs.lemmas.Bool.{eqb-true}
+use Rattle.std.proofs.lemmas.List.{length-take}
+use Rattle.irc_line.specs.Bytes.{is_line_end}
+use Rattle.irc_line.specs.Carried.{is_carried_byte, is_carried, IsCarried}
+use Rattle.irc_names.specs.Limits.{max_words}
+use Rattle.irc_names.specs.Names.{is_special, is_nick_byte, is_nick, is_key_byte, is_key, starts_without_colon, fits}
+use Rattle.irc_names.specs.Limits.{max_nick, max_key}
+use Rattle.irc_channels.specs.Texts.{cut_words}
+use Rattle.irc_room.specs.Limits.{IsCarriedText}
+use Rattle.irc_acts.specs.Words.{reason_given}
+
+-- ---- bytes of names
+
+-- a byte that a rule takes is none of those that it refuses
+is_other : (allows : ℕ → Bool) (refused : ℕ) → allows refused ≡ false → (b : ℕ) → allows b ≡ true → nat_eq b refused ≡ false
+is_other allows refused not_so b so = by (nat_eq b refused) refl
+  where
+    by : (test : Bool) → nat_eq b refused ≡ test → test ≡ false
+    by true is = let clash : true ≡ false = sym so ∙ ap allows (eqb-true b refused is) ∙ not_so in cc
+    by false is = refl
+
+module _ (allows : ℕ → Bool) (no_nul : allows 0 ≡ false) (no_return : allows 13 ≡ false) (no_feed : allows 10 ≡ false) where
+  one_carried : (b : ℕ) → allows b ≡ true → is_carried_byte b ≡ true
+  one_carried b so =
+      ap (λ t. not (t || is_line_end b)) (is_other allows 0 no_nul b so)
+      ∙ ap (λ t. not (t || nat_eq b 10)) (is_other allows 13 no_return b so)
+      ∙ ap not (is_other allows 10 no_feed b so)
+
+  pub all_carried : (bytes : List ℕ) → list_all allows bytes ≡ true → IsCarried bytes
+  all_carried [] all = refl
+  all_carried (b ∷ bytes) all =
+      ap (λ t. t && is_carried bytes) (one_carried b (first_so (allows b) (list_all allows bytes) all))
+      ∙ all_carried bytes (second_so (allows b) (list_all allows bytes) all)
+
+pub nick_carried : (bytes : List ℕ) → is_nick bytes ≡ true → IsCarried bytes
+unfolding is_nick
+nick_carried [] is = refl
+nick_carried (first ∷ rest) is =
+    let start = λ (b : ℕ). is_ascii_alphabetic b || is_special b in
+    let front = first_so (start first && list_all is_nick_byte rest) (fits max_nick (first ∷ rest)) is in
+    ap (λ t. t && is_carried rest) (one_carried start refl refl refl first (first_so (start first) (list_all is_nick_byte rest) front))
+    ∙ all_carried is_nick_byte refl refl refl rest (second_so (start first) (list_all is_nick_byte rest) front)
+
+pub key_carried : (bytes : List ℕ) → is_key bytes ≡ true → IsCarried bytes
+unfolding is_key
+key_carried bytes is =
+    all_carried is_key_byte refl refl refl bytes
+    (second_so (starts_without_colon bytes) (list_all is_key_byte bytes) (first_so (starts_without_colon bytes && list_all is_key_byte bytes) (fits max_key bytes) is))
+
+pub digits_carried : (bytes : List ℕ) → list_all is_ascii_digit bytes ≡ true → IsCarried bytes
+digits_carried = all_carried is_ascii_digit refl refl refl
+
+-- ---- texts
+
+pub front_carried : (n : ℕ) (bytes : List ℕ) → IsCarried bytes → IsCarried (take n bytes)
+front_carried zero bytes all = refl
+front_carried (suc n) [] all = refl
+front_carried (suc n) (b ∷ bytes) all =
+    ap (λ t. t && is_carried (take n bytes)) (first_so (is_carried_byte b) (is_carried bytes) all)
+    ∙ front_carried n bytes (second_so (is_carried_byte b) (is_carried bytes) all)
+
+front_fits : (n : ℕ) (bytes : List ℕ) → length (take n bytes) ≤ n
+front_fits n bytes = let long = length-take n bytes in omega (arith, long)
+
+pub cut_carried : (text : List ℕ) → IsCarried text → IsCarriedText (cut_words text)
+unfolding cut_words
+cut_carried text carried = record { fits = front_fits max_words text; carried = front_carried max_words text carried }
+
+pub reason_carried : (more : List (List ℕ)) (other : List ℕ) → AllByRecursion IsCarried more → IsCarried other → IsCarriedText (reason_given more other)
+reason_carried [] other all carried = cut_carried other carried
+reason_carried ([] ∷ more) other all carried = cut_carried other carried
+reason_carried ((b ∷ bytes) ∷ more) other all carried = cut_carried (b ∷ bytes) all.0

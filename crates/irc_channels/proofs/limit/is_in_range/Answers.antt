@@ -1,5 +1,0 @@
-use Rattle.std.proofs.Common.{rules}
-use Rattle.irc_channels.proofs.limit.is_in_range.Goals as goal
-
-pub returns-then-number-ge1 : goal.returns-then-number-ge1
-returns-then-number-ge1 c = search rules

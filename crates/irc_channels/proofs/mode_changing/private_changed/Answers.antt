@@ -1,5 +1,0 @@
-use Rattle.std.proofs.Common.{rules}
-use Rattle.irc_channels.proofs.mode_changing.private_changed.Goals as goal
-
-pub returns-in-true-Public : goal.returns-in-true-Public
-returns-in-true-Public c = search rules

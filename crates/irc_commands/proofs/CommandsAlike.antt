@@ -1,0 +1,147 @@
+-- What is decided in rooms that are alike but for the invitations of others is the same.
+use Rattle.std.proofs.Common.{◌≡◌, ℕ, cond, Option, Some, None, List, [], ◌∷◌, ◌++◌, take, drop, refl, sym, ◌∙◌, ap}
+use Rattle.std.proofs.Math.Path.{fun_ext}
+use Rattle.std.specs.List.{flat_map}
+use Rattle.std.specs.Option.{option_map}
+use Rattle.irc_names.specs.Fold.{key}
+use Rattle.irc_names.specs.Tables.{Table, row}
+use Rattle.irc_line.specs.Messages.{Parsed}
+use Rattle.irc_users.specs.declared.user.User.{User}
+use Rattle.irc_channels.specs.declared.flags.Flags.{Flags}
+use Rattle.irc_channels.specs.declared.channel.Channel.{Channel}
+use Rattle.irc_numerics.specs.declared.replies.Reply.TheVariants.{NoSuchChannel}
+use Rattle.irc_room.specs.Room.{Room, IsWellFormed}
+use Rattle.irc_room.specs.Readers.{is_invited_at}
+use Rattle.irc_routes.specs.Place.{Place}
+use Rattle.irc_acts.specs.declared.act.Act.{Act}
+use Rattle.irc_acts.specs.declared.act.Act.TheVariants.{Answer}
+use Rattle.irc_acts.specs.Acts.{client_words}
+use Rattle.irc_acts.specs.AlikeChannels.{row_alike}
+use Rattle.irc_acts.specs.CommaLists.{entries}
+use Rattle.irc_acts.specs.OtherInvitations.{uninviting, AreAlike, AreAlikeFor}
+use Rattle.irc_acts.specs.Standing.{is_known}
+use Rattle.irc_membership.specs.Laws.InviteDoes.{invite_looks_at_no_invitation}
+use Rattle.irc_membership.specs.Laws.JoinDoes.{join_looks_at_own_invitations}
+use Rattle.irc_membership.specs.Laws.KickDoes.{kick_looks_at_no_invitation}
+use Rattle.irc_membership.specs.Laws.PartDoes.{part_looks_at_no_invitation}
+use Rattle.irc_moderation.specs.Laws.InvitationsLaw.{mode_looks_at_no_invitations}
+use Rattle.irc_commands.specs.declared.say.Verb.{Verb}
+use Rattle.irc_commands.specs.declared.say.Verb.TheVariants as verb
+use Rattle.irc_commands.specs.declared.table.Command.{Command}
+use Rattle.irc_commands.specs.declared.table.Command.TheVariants as command
+use Rattle.irc_commands.specs.Limits.{max_targets}
+use Rattle.irc_commands.specs.Decisions.{nothing, does}
+use Rattle.irc_commands.specs.Decide.{is_from, decide_for, decide}
+use Rattle.irc_commands.specs.Nick.{nick_taken, nick_steps}
+use Rattle.irc_commands.specs.OwnInvitations.{DecidedByOwnInvitations}
+use Rattle.irc_commands.specs.Say.{is_channel_target, to_channel, to_user, to_one, too_many, unless_notice, say_steps}
+use Rattle.irc_commands.specs.Table.{command_of, row_of}
+use Rattle.irc_commands.specs.Topic.{topic_set, topic_known, topic_of, topic_steps}
+use Rattle.irc_commands.proofs.QueriesAlike.{names_alike, list_alike, lusers_alike, ison_alike, whois_alike, who_alike}
+
+-- PRIVMSG and NOTICE
+
+channel_aside : (me : User) (which : Verb) (words name : List ℕ) (found : Option Channel)
+    → to_channel me which name words found ≡ to_channel me which name words (option_map uninviting found)
+channel_aside me which words name None = refl
+channel_aside me which words name (Some channel) = refl
+
+abbrev said_to : User → Verb → List ℕ → List ℕ → Table User → Option Channel → List Act
+said_to me which words name users found =
+    cond (is_channel_target name) (to_channel me which name words found) (to_user me which name words (row users (key name)))
+
+one_alike : (room other : Room) → AreAlike room other → (me : User) (which : Verb) (words name : List ℕ)
+    → to_one room me which words name ≡ to_one other me which words name
+one_alike room other alike me which words name =
+    row_alike (said_to me which words name)
+    (λ users found. ap (λ acts. cond (is_channel_target name) acts (to_user me which name words (row users (key name)))) (channel_aside me which words name found))
+    room other alike (key name)
+
+say_alike : (room other : Room) → AreAlike room other → (me : User) (which : Verb) (params : List (List ℕ))
+    → say_steps room me which params ≡ say_steps other me which params
+unfolding say_steps
+say_alike room other alike me which [] = refl
+say_alike room other alike me which (targets ∷ []) = refl
+say_alike room other alike me which (targets ∷ [] ∷ more) = refl
+say_alike room other alike me which (targets ∷ (b ∷ bytes) ∷ more) =
+    ap (λ serve. unless_notice which (flat_map serve (take max_targets (entries targets)) ++ too_many (drop max_targets (entries targets))))
+    (fun_ext (one_alike room other alike me which (b ∷ bytes)))
+
+-- NICK
+
+nick_alike : (room other : Room) → AreAlike room other → (me : User) (params : List (List ℕ)) → nick_steps room me params ≡ nick_steps other me params
+unfolding nick_steps
+nick_alike room other alike me [] = refl
+nick_alike room other alike me ([] ∷ more) = refl
+nick_alike room other alike me ((b ∷ bytes) ∷ more) =
+    ap (λ (users : Table User). nick_taken (record { users = users; channels = room.channels }) me (b ∷ bytes)) alike.users
+
+-- TOPIC
+
+set_aside : (me : User) (channel : Channel) (text : List ℕ) (flags : Option Flags) → topic_set me channel text flags ≡ topic_set me (uninviting channel) text flags
+set_aside me channel text None = refl
+set_aside me channel text (Some flags) = refl
+
+known_aside : (me : User) (channel : Channel) (more : List (List ℕ)) → topic_known me channel more ≡ topic_known me (uninviting channel) more
+known_aside me channel [] = refl
+known_aside me channel (text ∷ more) = set_aside me channel text (row channel.members (key me.nick))
+
+topic_aside : (me : User) (name : List ℕ) (more : List (List ℕ)) (users : Table User) (found : Option Channel)
+    → topic_of me name more found ≡ topic_of me name more (option_map uninviting found)
+topic_aside me name more users None = refl
+topic_aside me name more users (Some channel) =
+    ap (λ act. cond (is_known me channel) act (Answer (NoSuchChannel (client_words name)))) (known_aside me channel more)
+
+topic_alike : (room other : Room) → AreAlike room other → (me : User) (params : List (List ℕ)) → topic_steps room me params ≡ topic_steps other me params
+unfolding topic_steps
+topic_alike room other alike me [] = refl
+topic_alike room other alike me (name ∷ more) =
+    ap (λ act. act ∷ []) (row_alike (λ users. topic_of me name more) (topic_aside me name more) room other alike (key name))
+
+-- ---- the whole table
+
+by_row : (room other : Room) (place : Place) (me : User) (message : Parsed) → AreAlikeFor me.nick room other → (which : Option Command)
+    → row_of room place me message which ≡ row_of other place me message which
+unfolding row_of
+by_row room other place me message so (Some command.Pass) = refl
+by_row room other place me message so (Some command.User) = refl
+by_row room other place me message so (Some command.Pong) = refl
+by_row room other place me message so (Some command.Motd) = refl
+by_row room other place me message so (Some command.Ping) = refl
+by_row room other place me message so (Some command.Quit) = refl
+by_row room other place me message so (Some command.Privmsg) = ap does (say_alike room other so.alike me verb.Privmsg message.params)
+by_row room other place me message so (Some command.Notice) = ap does (say_alike room other so.alike me verb.Notice message.params)
+by_row room other place me message so (Some command.Nick) = ap does (nick_alike room other so.alike me message.params)
+by_row room other place me message so (Some command.Join) = ap does (join_looks_at_own_invitations me room other message.params so)
+by_row room other place me message so (Some command.Part) = ap does (part_looks_at_no_invitation me room other message.params so.alike)
+by_row room other place me message so (Some command.Topic) = ap does (topic_alike room other so.alike me message.params)
+by_row room other place me message so (Some command.Names) = ap does (names_alike room other so.alike me message.params)
+by_row room other place me message so (Some command.Kick) = ap does (kick_looks_at_no_invitation me room other message.params so.alike)
+by_row room other place me message so (Some command.Invite) = ap does (invite_looks_at_no_invitation me room other message.params so.alike)
+by_row room other place me message so (Some command.Mode) = ap does (mode_looks_at_no_invitations me room other message.params so.alike)
+by_row room other place me message so (Some command.Ison) = ap does (ison_alike room other so.alike message.params)
+by_row room other place me message so (Some command.Lusers) = ap does (lusers_alike room other so.alike place)
+by_row room other place me message so (Some command.List) = ap does (list_alike room other so.alike me message.params)
+by_row room other place me message so (Some command.Whois) = ap does (whois_alike room other so.alike place me message.params)
+by_row room other place me message so (Some command.Who) = ap does (who_alike room other so.alike place me message.params)
+by_row room other place me message so None = refl
+
+-- rooms that are alike for a nickname are so for each of its spellings
+by_spelling : (room other : Room) (who nick : List ℕ) → key nick ≡ key who → AreAlikeFor who room other → AreAlikeFor nick room other
+by_spelling room other who nick folds so = record {
+  alike = so.alike;
+  invited = λ fold. ap (λ k. is_invited_at room k fold) folds ∙ so.invited fold ∙ sym (ap (λ k. is_invited_at other k fold) folds);
+}
+
+by_user : (room other : Room) (place : Place) (who : List ℕ) (message : Parsed) → IsWellFormed room → AreAlikeFor who room other
+    → (found : Option User) → row room.users (key who) ≡ found → decide_for room place message found ≡ decide_for other place message found
+by_user room other place who message well so None is = refl
+by_user room other place who message well so (Some me) is =
+    ap (λ d. cond (is_from message.prefix (Some me.nick)) d nothing)
+    (by_row room other place me message (by_spelling room other who me.nick (well.users_named (key who) me is) so) (command_of message.command))
+
+pub decided_by_own_invitations : DecidedByOwnInvitations
+unfolding decide
+decided_by_own_invitations room other place who message well so =
+    by_user room other place who message well so (row room.users (key who)) refl
+    ∙ ap (λ users. decide_for other place message (row users (key who))) so.alike.users

@@ -1,0 +1,31 @@
+-- What is decided does something.
+use Rattle.std.proofs.Common.{map, refl}
+use Rattle.irc_names.specs.Fold.{key}
+use Rattle.irc_acts.specs.Doing.{AreDoing}
+use Rattle.irc_acts.specs.DoingLaws.{own_are_doing}
+use Rattle.irc_acts.specs.Moves.{own_channels}
+use Rattle.irc_acts.specs.OwnLaws.{stored_there}
+use Rattle.irc_membership.specs.Join.{leaves}
+use Rattle.irc_membership.specs.Laws.JoinLaw.{leaving_all_is_own}
+use Rattle.irc_commands.specs.Doing.{DecidedDoes, RegisteringDoes}
+use Rattle.irc_commands.proofs.TableCases.{decided_so, registering_so}
+
+pub decided_does : DecidedDoes
+decided_does room place who message well =
+    decided_so room place who message (λ d. AreDoing room d.steps) (record {
+      silent = tt;
+      own = λ me steps is own carries. own_are_doing me room steps well (stored_there room well (key who) me is) own;
+      renamed = λ me nickname is named free. record { now = refl; later = tt };
+      leaves_all = λ me is. own_are_doing me room (map (leaves me) (own_channels room me)) well (stored_there room well (key who) me is) (leaving_all_is_own me room well);
+      quits = λ me reason line is reason_is. record { now = refl; later = tt };
+    })
+
+pub registering_does : RegisteringDoes
+registering_does room place pending message =
+    registering_so room place pending message (λ r. AreDoing room r.steps) (record {
+      silent = λ pending. tt;
+      answered = λ pending reply. tt;
+      told = λ pending line. tt;
+      closed = λ pending line. tt;
+      added = λ pending nickname username is free. record { now = refl; later = tt };
+    })

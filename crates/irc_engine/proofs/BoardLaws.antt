@@ -1,0 +1,226 @@
+-- Each step of the board, as what becomes of every connection.
+use Rattle.std.proofs.Common.{◌≡◌, ℕ, ◌+◌, ◌<◌, ◌≤◌, Bool, true, false, not, ◌&&◌, ◌||◌, cond, nat_eq, is_some, Option, Some, None, Result, Ok, Err, List, [], ◌∷◌, ◌++◌, length, refl, sym, ◌∙◌, ap, subst, append_assoc, append-nil, arith, length-append}
+use Rattle.std.specs.List.{list_any}
+use Rattle.std.proofs.lemmas.List.Folds.{list_any-append}
+use Rattle.std.specs.BTreeMap.{BTreeMap, btree_map_len}
+use Rattle.std.specs.BTreeSet.{BTreeSet, btree_set_len}
+use Rattle.arrayvec.specs.ArrayVec.{ArrayVec}
+use Rattle.irc_outbox.specs.declared.outbox.Overflow.{Overflow}
+use Rattle.irc_outbox.specs.declared.wire.IoFault.{IoFault}
+use Rattle.irc_outbox.specs.Calls.{Call, writes, closes, bytes_taken, is_some_bytes, Adds}
+use Rattle.irc_server.specs.declared.event.Out.{Out}
+use Rattle.irc_server.specs.declared.event.Out.TheVariants.{ToClient, CloseClient}
+use Rattle.irc_engine.specs.declared.board.Board.{Board}
+use Rattle.irc_engine.specs.declared.seat.Seat.{Seat}
+use Rattle.irc_engine.specs.Carrying.{answers, owed, is_open_at, is_lost_after, is_taking, AddsAll, Silent, Stays, Why, finished, cut_off, overflowed, Leaves, Fate, Passage}
+use Rattle.irc_engine.specs.Loops.Counts.{count_of}
+use Rattle.irc_engine.specs.Loops.Seats.{seat_of, is_done_at, IsSet, AreSame, Through, at_seat, no_seat, IsOffered, IsOfferedAt, IsShutAt, IsWritten, IsWrittenAt}
+use Rattle.irc_engine.specs.Loops.Boards.{has, IsNoted, Ends, Loses, Settles, ended, stayed, Carries}
+use Rattle.irc_engine.proofs.SeatLaws.{one_number, nat_eq-refl}
+use Rattle.irc_engine.proofs.CarryingLaws.{IsElsewhere, untouched, passage_on, elsewhere_both, kept_none, kept_some}
+
+-- accounts
+
+pub adds_none : {W : Type 0} (is_after : W → List Call → Type 0) (old new : W) → new ≡ old → AddsAll is_after old [] new
+adds_none is_after old new same = λ calls after.
+    subst (λ cs. is_after new cs) (sym (append-nil calls)) (subst (λ w. is_after w calls) (sym same) after)
+
+pub adds_both : {W : Type 0} (is_after : W → List Call → Type 0) (old mid new : W) (a b : List Call) → AddsAll is_after old a mid → AddsAll is_after mid b new
+    → AddsAll is_after old (a ++ b) new
+adds_both is_after old mid new a b one other = λ calls after.
+    subst (λ cs. is_after new cs) (append_assoc calls a b) (other (calls ++ a) (one calls after))
+
+-- numbers
+
+-- what holds of one connection, and of each other that nothing has happened to
+pub by_number : (conn : ℕ) (old new : ℕ → Option Seat) (was now : ℕ → Bool) (calls : List Call) (outs : List Out)
+    → ((q : ℕ) → nat_eq conn q ≡ false → new q ≡ old q) → ((q : ℕ) → nat_eq conn q ≡ false → now q ≡ was q)
+    → ((q : ℕ) → nat_eq conn q ≡ false → IsElsewhere q calls outs) → Passage conn (old conn) (was conn) calls outs (new conn) (now conn)
+    → (q : ℕ) → Passage q (old q) (was q) calls outs (new q) (now q)
+by_number conn old new was now calls outs same as_lost apart here q = by (nat_eq conn q) refl
+  where
+    by : (t : Bool) → nat_eq conn q ≡ t → Passage q (old q) (was q) calls outs (new q) (now q)
+    by true one = subst (λ p. Passage p (old p) (was p) calls outs (new p) (now p)) (one_number conn q one) here
+    by false two = untouched q calls outs (apart q two) (old q) (new q) (was q) (now q) (same q two) (as_lost q two)
+
+pub at_once : {A : Type 0} (conn : ℕ) (x y : A) → cond (nat_eq conn conn) x y ≡ x
+at_once conn x y = ap (λ t. cond t x y) (nat_eq-refl conn)
+
+pub set_other : (old new : ℕ → Option Seat) (conn : ℕ) (seat : Option Seat) → IsSet old conn seat new → (q : ℕ) → nat_eq conn q ≡ false → new q ≡ old q
+set_other old new conn seat set q two = set q ∙ ap (λ t. cond t seat (old q)) two
+
+pub set_here : (old new : ℕ → Option Seat) (conn : ℕ) (seat : Option Seat) → IsSet old conn seat new → new conn ≡ seat
+set_here old new conn seat set = set conn ∙ at_once conn seat (old conn)
+
+-- single calls and lines, to other connections
+
+pub nothing_else : (q : ℕ) → IsElsewhere q [] []
+nothing_else q = record { silent = record { nothing = refl; never = refl }; never_cut = refl; nothing = refl; never_closed = refl }
+
+pub write_elsewhere : (conn q : ℕ) (front : List ℕ) (result : Result ℕ IoFault) → nat_eq conn q ≡ false → IsElsewhere q (writes conn front result ∷ []) []
+write_elsewhere conn q front (Ok n) two = record {
+  silent = record { nothing = ap (λ t. cond t (bytes_taken front (Ok n)) [] ++ []) two; never = refl };
+  never_cut = refl;
+  nothing = refl;
+  never_closed = refl;
+}
+write_elsewhere conn q front (Err fault) two = record {
+  silent = record { nothing = ap (λ t. cond t (bytes_taken front (Err fault)) [] ++ []) two; never = refl };
+  never_cut = ap (λ t. t || false) two;
+  nothing = refl;
+  never_closed = refl;
+}
+
+pub close_elsewhere : (conn q : ℕ) → nat_eq conn q ≡ false → IsElsewhere q (closes conn ∷ []) []
+close_elsewhere conn q two = record {
+  silent = record { nothing = refl; never = ap (λ t. 0 + cond t 1 0) two };
+  never_cut = refl;
+  nothing = refl;
+  never_closed = refl;
+}
+
+pub line_elsewhere : (conn q : ℕ) (text : ArrayVec ℕ) → nat_eq conn q ≡ false → IsElsewhere q [] (ToClient conn text ∷ [])
+line_elsewhere conn q text two = record {
+  silent = record { nothing = refl; never = refl };
+  never_cut = refl;
+  nothing = ap (λ t. cond t text.items [] ++ []) two;
+  never_closed = refl;
+}
+
+pub shut_elsewhere : (conn q : ℕ) → nat_eq conn q ≡ false → IsElsewhere q [] (CloseClient conn ∷ [])
+shut_elsewhere conn q two = record {
+  silent = record { nothing = refl; never = refl };
+  never_cut = refl;
+  nothing = ap (λ t. cond t [] []) two;
+  never_closed = ap (λ t. t || false) two;
+}
+
+-- losing a connection
+
+open_some : (seat : Option Seat) → is_open_at seat ≡ true → is_some seat ≡ true
+open_some None unshut = cc unshut
+open_some (Some seat) unshut = refl
+
+noted_or : (t l o : Bool) → o ≡ true → cond t true l ≡ (l || (t && o))
+noted_or true true o is = refl
+noted_or true false o is = sym is
+noted_or false true o is = refl
+noted_or false false o is = refl
+
+never_or : (t l o : Bool) → o ≡ false → l ≡ (l || (t && o))
+never_or t true o is = refl
+never_or true false o is = sym is
+never_or false false o is = refl
+
+module _ {W : Type 0} (is_after : W → List Call → Type 0) (conn : ℕ) (old done : Board W) where
+  pub lost_open : (numbers : BTreeSet ℕ) → Ends is_after conn old done → is_open_at (seat_of old.seats conn) ≡ true → IsNoted done.lost conn true numbers
+      → btree_set_len numbers ≤ btree_set_len done.lost + 1 → Loses is_after conn old (record done { lost = numbers })
+  lost_open numbers ends unshut noted len =
+      let fewer : btree_map_len done.seats + 1 ≡ btree_map_len old.seats =
+      ap (λ t. btree_map_len done.seats + cond t 1 0) (sym (open_some (seat_of old.seats conn) unshut)) ∙ ends.len in
+      record {
+        account = ends.account;
+        seats = ends.seats;
+        lost = λ q. noted q ∙ noted_or (nat_eq conn q) (has done.lost q) (is_open_at (seat_of old.seats conn)) unshut
+            ∙ ap (λ l. has l q || (nat_eq conn q && is_open_at (seat_of old.seats conn))) ends.lost;
+        count = omega (arith, ap btree_set_len ends.lost);
+      }
+
+  fewer_or : (t : Bool) (n m : ℕ) → n + cond t 1 0 ≡ m → n ≤ m
+  fewer_or true n m is = omega arith
+  fewer_or false n m is = omega arith
+
+  pub ends_fewer : Ends is_after conn old done → count_of done ≤ count_of old
+  ends_fewer ends =
+      let fewer = fewer_or (is_some (seat_of old.seats conn)) (btree_map_len done.seats) (btree_map_len old.seats) ends.len in
+      omega (arith, ap btree_set_len ends.lost)
+
+  pub lost_shut : Ends is_after conn old done → is_open_at (seat_of old.seats conn) ≡ false → Loses is_after conn old done
+  lost_shut ends shut = record {
+    account = ends.account;
+    seats = ends.seats;
+    lost = λ q. ap (λ l. has l q) ends.lost ∙ never_or (nat_eq conn q) (has old.lost q) (is_open_at (seat_of old.seats conn)) shut;
+    count = ends_fewer ends;
+  }
+
+-- A connection that has a seat is lost, after these calls.
+pub record Drops {W : Type 0} (is_after : W → List Call → Type 0) (conn : ℕ) (seat : Seat) (before : List Call) (old new : Board W) : Type 0 where
+  pub was : seat_of old.seats conn ≡ Some seat
+  pub account : AddsAll is_after old.wire (before ++ closes conn ∷ []) new.wire
+  pub seats : IsSet (seat_of old.seats) conn None (seat_of new.seats)
+  pub lost : (q : ℕ) → has new.lost q ≡ (has old.lost q || (nat_eq conn q && is_some seat.framer))
+  pub count : count_of new ≤ count_of old
+
+pub last_close : (conn : ℕ) → 0 + cond (nat_eq conn conn) 1 0 ≡ 1
+last_close conn = ap (λ t. 0 + cond t 1 0) (nat_eq-refl conn)
+
+at_last : (l t o : Bool) → t ≡ true → (l || (t && o)) ≡ ((l || (o && true)) && true)
+at_last true t o is = refl
+at_last false true true is = refl
+at_last false true false is = refl
+at_last false false o is = cc is
+
+apart_lost : (l t o : Bool) → t ≡ false → (l || (t && o)) ≡ l
+apart_lost true t o is = refl
+apart_lost false t o is = ap (λ u. u && o) is
+
+module _ {W : Type 0} (is_after : W → List Call → Type 0) (conn : ℕ) (old new : Board W) (seat : Seat) where
+  -- a line that does not fit its outbox
+  pub line_drops : (text : ArrayVec ℕ) → is_some seat.framer ≡ true → seat.outbox.room < length seat.outbox.bytes + length text.items
+      → Drops is_after conn seat [] old new → Carries is_after old (ToClient conn text ∷ []) new
+  line_drops text unshut more drops =
+      let outs : List Out = ToClient conn text ∷ [] in
+      let owes : owed (is_some seat.framer) conn outs ≡ text.items =
+      ap (λ t. owed t conn outs) unshut ∙ ap (λ xs. xs ++ []) (at_once conn text.items []) ∙ append-nil text.items in
+      record {
+        calls = closes conn ∷ [];
+        account = drops.account;
+        passage = by_number conn (seat_of old.seats) (seat_of new.seats) (has old.lost) (has new.lost) (closes conn ∷ []) outs
+            (set_other (seat_of old.seats) (seat_of new.seats) conn None drops.seats)
+            (λ q two. drops.lost q ∙ apart_lost (has old.lost q) (nat_eq conn q) (is_some seat.framer) two)
+            (λ q two. elsewhere_both q [] (closes conn ∷ []) outs [] (line_elsewhere conn q text two) (close_elsewhere conn q two))
+            (subst (λ (s : Option Seat). Passage conn s (has old.lost conn) (closes conn ∷ []) outs (seat_of new.seats conn) (has new.lost conn)) (sym drops.was)
+            (subst (λ (s : Option Seat). Passage conn (Some seat) (has old.lost conn) (closes conn ∷ []) outs s (has new.lost conn))
+            (sym (set_here (seat_of old.seats) (seat_of new.seats) conn None drops.seats)) (record {
+              fate = record {
+                left = seat.outbox.bytes ++ owed (is_some seat.framer) conn outs;
+                carried = refl;
+                once = last_close conn;
+                why = overflowed (omega (
+                  arith,
+                  more,
+                  ap length owes,
+                  length-append {A = ℕ} seat.outbox.bytes (owed (is_some seat.framer) conn outs),
+                ));
+              };
+              lost_is = drops.lost conn ∙ at_last (has old.lost conn) (nat_eq conn conn) (is_some seat.framer) (nat_eq-refl conn);
+            })));
+        takes_none = refl;
+        count = drops.count;
+      }
+
+  -- a write that fails
+  pub write_drops : (front : List ℕ) (fault : IoFault) → Drops is_after conn seat (writes conn front (Err fault) ∷ []) old new → Carries is_after old [] new
+  write_drops front fault drops =
+      let calls : List Call = writes conn front (Err fault) ∷ closes conn ∷ [] in
+      record {
+        calls = calls;
+        account = drops.account;
+        passage = by_number conn (seat_of old.seats) (seat_of new.seats) (has old.lost) (has new.lost) calls []
+            (set_other (seat_of old.seats) (seat_of new.seats) conn None drops.seats)
+            (λ q two. drops.lost q ∙ apart_lost (has old.lost q) (nat_eq conn q) (is_some seat.framer) two)
+            (λ q two. elsewhere_both q (writes conn front (Err fault) ∷ []) (closes conn ∷ []) [] [] (write_elsewhere conn q front (Err fault) two) (close_elsewhere conn q two))
+            (subst (λ (s : Option Seat). Passage conn s (has old.lost conn) calls [] (seat_of new.seats conn) (has new.lost conn)) (sym drops.was)
+            (subst (λ (s : Option Seat). Passage conn (Some seat) (has old.lost conn) calls [] s (has new.lost conn))
+            (sym (set_here (seat_of old.seats) (seat_of new.seats) conn None drops.seats)) (record {
+              fate = record {
+                left = seat.outbox.bytes ++ owed (is_some seat.framer) conn [];
+                carried = ap (λ xs. (xs ++ []) ++ (seat.outbox.bytes ++ owed (is_some seat.framer) conn [])) (sym (at_once conn [] []));
+                once = last_close conn;
+                why = cut_off (ap (λ t. t || false) (nat_eq-refl conn));
+              };
+              lost_is = drops.lost conn ∙ at_last (has old.lost conn) (nat_eq conn conn) (is_some seat.framer) (nat_eq-refl conn);
+            })));
+        takes_none = refl;
+        count = drops.count;
+      }

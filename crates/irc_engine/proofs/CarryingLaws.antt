@@ -1,0 +1,249 @@
+-- What becomes of connections, step by step: two stretches are one, and what a call or a line of one connection is to the others.
+use Rattle.std.proofs.Common.{◌≡◌, ℕ, ◌+◌, ◌<◌, Bool, true, false, not, ◌&&◌, ◌||◌, cond, nat_eq, is_some, Option, Some, None, List, [], ◌∷◌, ◌++◌, length, refl, sym, ◌∙◌, ap, subst, append_assoc, append-nil, arith, length-append}
+use Rattle.std.specs.List.{list_any, flat_map}
+use Rattle.std.proofs.lemmas.Grind.{flat_map-append}
+use Rattle.std.proofs.lemmas.List.Folds.{list_any-append}
+use Rattle.std.proofs.lemmas.List.Sums.{sum_by-append}
+use Rattle.irc_outbox.specs.Calls.{Call, written, written_by, times_closed, is_close_of}
+use Rattle.irc_server.specs.declared.event.Out.{Out}
+use Rattle.irc_server.specs.declared.event.Out.TheVariants.{ToClient, CloseClient}
+use Rattle.irc_engine.specs.declared.seat.Seat.{Seat}
+use Rattle.irc_engine.specs.Carrying.{answers, is_closing, is_closed_by, owed, is_open_at, ends_at, is_cut_off, Silent, Stays, Why, finished, cut_off, overflowed, Leaves, Fate, is_lost_after, Passage}
+
+pub written-append : (conn : ℕ) (a b : List Call) → written conn (a ++ b) ≡ written conn a ++ written conn b
+written-append conn a b = flat_map-append (written_by conn) a b
+
+pub times_closed-append : (conn : ℕ) (a b : List Call) → times_closed conn (a ++ b) ≡ times_closed conn a + times_closed conn b
+times_closed-append conn a b = sum_by-append (λ c. cond (is_close_of conn c) 1 0) a b
+
+pub is_cut_off-append : (conn : ℕ) (a b : List Call) → is_cut_off conn (a ++ b) ≡ (is_cut_off conn a || is_cut_off conn b)
+is_cut_off-append conn a b = list_any-append (ends_at conn) a b
+
+pub is_closed_by-append : (conn : ℕ) (a b : List Out) → is_closed_by conn (a ++ b) ≡ (is_closed_by conn a || is_closed_by conn b)
+is_closed_by-append conn a b = list_any-append (is_closing conn) a b
+
+answers-append : (conn : ℕ) (a b : List Out) → answers conn (a ++ b) ≡ answers conn a ++ owed (not (is_closed_by conn a)) conn b
+answers-append conn [] b = refl
+answers-append conn (ToClient to text ∷ a) b =
+    let first : List ℕ = cond (nat_eq to conn) text.items [] in
+    ap (λ xs. first ++ xs) (answers-append conn a b) ∙ sym (append_assoc first (answers conn a) (owed (not (is_closed_by conn a)) conn b))
+answers-append conn (CloseClient which ∷ a) b = by (nat_eq which conn) (answers-append conn a b)
+  where
+    by : (t : Bool) → answers conn (a ++ b) ≡ answers conn a ++ owed (not (is_closed_by conn a)) conn b
+        → cond t [] (answers conn (a ++ b)) ≡ cond t [] (answers conn a) ++ owed (not (t || is_closed_by conn a)) conn b
+    by true rest = refl
+    by false rest = rest
+
+-- what is owed by two stretches, where the first may close the connection
+pub owed-append : (unshut : Bool) (conn : ℕ) (a b : List Out) → owed unshut conn (a ++ b) ≡ owed unshut conn a ++ owed (unshut && not (is_closed_by conn a)) conn b
+owed-append true conn a b = answers-append conn a b
+owed-append false conn a b = refl
+
+-- the lists of two stretches
+one_after_other : (held more further first later mid end : List ℕ) → held ++ more ≡ first ++ mid → mid ++ further ≡ later ++ end
+    → held ++ (more ++ further) ≡ (first ++ later) ++ end
+one_after_other held more further first later mid end one other =
+    sym (append_assoc held more further) ∙ ap (λ xs. xs ++ further) one ∙ append_assoc first mid further
+    ∙ ap (λ xs. first ++ xs) other ∙ sym (append_assoc first later end)
+
+module _ (conn : ℕ) (a b : List Call) (x y : List Out) where
+  silent_on : Silent conn a → Silent conn b → Silent conn (a ++ b)
+  silent_on one other = record {
+    nothing = written-append conn a b ∙ ap (λ xs. xs ++ written conn b) one.nothing ∙ other.nothing;
+    never = times_closed-append conn a b ∙ ap (λ n. n + times_closed conn b) one.never ∙ ap (λ n. 0 + n) other.never;
+  }
+
+  carried_on : (unshut still : Bool) (held mid end : List ℕ) → still ≡ (unshut && not (is_closed_by conn x)) → held ++ owed unshut conn x ≡ written conn a ++ mid
+      → mid ++ owed still conn y ≡ written conn b ++ end → held ++ owed unshut conn (x ++ y) ≡ written conn (a ++ b) ++ end
+  carried_on unshut still held mid end is one other =
+      ap (λ xs. held ++ xs) (owed-append unshut conn x y ∙ ap (λ t. owed unshut conn x ++ owed t conn y) (sym is))
+      ∙ one_after_other held (owed unshut conn x) (owed still conn y) (written conn a) (written conn b) mid end one other
+      ∙ ap (λ xs. xs ++ end) (sym (written-append conn a b))
+
+  open_on : (unshut still now : Bool) → still ≡ (unshut && not (is_closed_by conn x)) → now ≡ (still && not (is_closed_by conn y))
+      → now ≡ (unshut && not (is_closed_by conn (x ++ y)))
+  open_on unshut still now is then =
+      then ∙ ap (λ t. t && not (is_closed_by conn y)) is ∙ both unshut (is_closed_by conn x) (is_closed_by conn y)
+      ∙ ap (λ t. unshut && not t) (sym (is_closed_by-append conn x y))
+    where
+      both : (o c d : Bool) → ((o && not c) && not d) ≡ (o && not (c || d))
+      both true true d = refl
+      both true false d = refl
+      both false c d = refl
+
+  never_on : times_closed conn a ≡ 0 → (n : ℕ) → times_closed conn b ≡ n → times_closed conn (a ++ b) ≡ n
+  never_on none n is = times_closed-append conn a b ∙ ap (λ m. m + times_closed conn b) none ∙ ap (λ m. 0 + m) is ∙ omega arith
+
+  stays_on : (old mid new : Seat) → Stays conn old a x mid → Stays conn mid b y new → Stays conn old (a ++ b) (x ++ y) new
+  stays_on old mid new one other = record {
+    carried = carried_on (is_some old.framer) (is_some mid.framer) old.outbox.bytes mid.outbox.bytes new.outbox.bytes one.still_open one.carried other.carried;
+    same_room = other.same_room ∙ one.same_room;
+    still_open = open_on (is_some old.framer) (is_some mid.framer) (is_some new.framer) one.still_open other.still_open;
+    never = never_on one.never 0 other.never;
+    never_cut = is_cut_off-append conn a b ∙ ap (λ t. t || is_cut_off conn b) one.never_cut ∙ other.never_cut;
+  }
+
+  why_then : (old mid : Seat) (left : List ℕ) → Stays conn old a x mid → Why conn mid b y left → Why conn old (a ++ b) (x ++ y) left
+  why_then old mid left one (finished shut none) =
+      finished (sym (open_on (is_some old.framer) (is_some mid.framer) false one.still_open (sym shut))) none
+  why_then old mid left one (cut_off cut) =
+      cut_off (is_cut_off-append conn a b ∙ ap (λ t. t || is_cut_off conn b) one.never_cut ∙ cut)
+  why_then old mid left one (overflowed more) = overflowed (subst (λ (n : ℕ). n < length left) one.same_room more)
+
+  leaves_then : (old mid : Seat) → Stays conn old a x mid → Leaves conn mid b y → Leaves conn old (a ++ b) (x ++ y)
+  leaves_then old mid one other = record {
+    left = other.left;
+    carried = carried_on (is_some old.framer) (is_some mid.framer) old.outbox.bytes mid.outbox.bytes other.left one.still_open one.carried other.carried;
+    once = never_on one.never 1 other.once;
+    why = why_then old mid other.left one other.why;
+  }
+
+  either : (s t : Bool) → s ≡ true → (s || t) ≡ true
+  either s t is = ap (λ u. u || t) is
+
+  shut_still : (o c d : Bool) → (o && not c) ≡ false → (o && not (c || d)) ≡ false
+  shut_still true true d is = refl
+  shut_still true false d is = cc is
+  shut_still false c d is = refl
+
+  why_still : (old : Seat) (left : List ℕ) → Why conn old a x left
+      → Why conn old (a ++ b) (x ++ y) (left ++ owed (is_some old.framer && not (is_closed_by conn x)) conn y)
+  why_still old left (finished shut none) =
+      finished
+      (ap (λ t. is_some old.framer && not t) (is_closed_by-append conn x y) ∙ shut_still (is_some old.framer) (is_closed_by conn x) (is_closed_by conn y) shut)
+      (ap (λ t. left ++ owed t conn y) shut ∙ append-nil left ∙ none)
+  why_still old left (cut_off cut) = cut_off (is_cut_off-append conn a b ∙ either (is_cut_off conn a) (is_cut_off conn b) cut)
+  why_still old left (overflowed more) =
+      let rest = owed (is_some old.framer && not (is_closed_by conn x)) conn y in
+      overflowed (omega (arith, more, length-append {A = ℕ} left rest))
+
+  left_already : (old : Seat) → Leaves conn old a x → Silent conn b → Leaves conn old (a ++ b) (x ++ y)
+  left_already old one other = record {
+    left = one.left ++ owed (is_some old.framer && not (is_closed_by conn x)) conn y;
+    carried =
+        carried_on (is_some old.framer) (is_some old.framer && not (is_closed_by conn x)) old.outbox.bytes one.left
+        (one.left ++ owed (is_some old.framer && not (is_closed_by conn x)) conn y) refl one.carried
+        (ap (λ xs. xs ++ (one.left ++ owed (is_some old.framer && not (is_closed_by conn x)) conn y)) (sym other.nothing));
+    once = times_closed-append conn a b ∙ ap (λ m. m + times_closed conn b) one.once ∙ ap (λ m. 1 + m) other.never;
+    why = why_still old one.left one.why;
+  }
+
+  pub fate_on : (old mid new : Option Seat) → Fate conn old a x mid → Fate conn mid b y new → Fate conn old (a ++ b) (x ++ y) new
+  fate_on None None None one other = silent_on one other
+  fate_on None None (Some new) one other = absurd other
+  fate_on None (Some mid) new one other = absurd one
+  fate_on (Some old) (Some mid) (Some new) one other = stays_on old mid new one other
+  fate_on (Some old) (Some mid) None one other = leaves_then old mid one other
+  fate_on (Some old) None None one other = left_already old one other
+  fate_on (Some old) None (Some new) one other = absurd other
+
+  lost_both : (l o c d : Bool) → (((l || o) && not c) && not d) ≡ ((l || o) && not (c || d))
+  lost_both true o true d = refl
+  lost_both true o false d = refl
+  lost_both false true true d = refl
+  lost_both false true false d = refl
+  lost_both false false c d = refl
+
+  none_lost : (t : Bool) → (t || false) ≡ t
+  none_lost true = refl
+  none_lost false = refl
+
+  lost_late : (l o c d n : Bool) → (((l || (o && false)) && not c) || ((o && not c) && n)) && not d ≡ ((l || (o && n)) && not (c || d))
+  lost_late true true true d n = refl
+  lost_late true true false d n = refl
+  lost_late true false true d n = refl
+  lost_late true false false d n = refl
+  lost_late false true true d n = gone n
+    where
+      gone : (n : Bool) → false ≡ (n && false)
+      gone true = refl
+      gone false = refl
+  lost_late false true false d n = refl
+  lost_late false false true d n = refl
+  lost_late false false false d n = refl
+
+  lost_on : (old mid new : Option Seat) (was between : Bool) → Fate conn old a x mid → Fate conn mid b y new
+      → between ≡ is_lost_after old was (is_closed_by conn x) mid
+      → is_lost_after mid between (is_closed_by conn y) new ≡ is_lost_after old was (is_closed_by conn x || is_closed_by conn y) new
+  lost_on None None new was between one other is =
+      ap (λ t. (t || false) && not (is_closed_by conn y)) is ∙ ap (λ t. t && not (is_closed_by conn y)) (none_lost _)
+      ∙ lost_both was false (is_closed_by conn x) (is_closed_by conn y)
+  lost_on None (Some mid) new was between one other is = absurd one
+  lost_on (Some old) (Some mid) new was between one other is =
+      ap (λ t. (t || (is_some mid.framer && not (is_some new))) && not (is_closed_by conn y)) is
+      ∙ ap (λ t. (((was || (is_some old.framer && false)) && not (is_closed_by conn x)) || (t && not (is_some new))) && not (is_closed_by conn y)) one.still_open
+      ∙ lost_late was (is_some old.framer) (is_closed_by conn x) (is_closed_by conn y) (not (is_some new))
+  lost_on (Some old) None None was between one other is =
+      ap (λ t. (t || false) && not (is_closed_by conn y)) is ∙ ap (λ t. t && not (is_closed_by conn y)) (none_lost _)
+      ∙ lost_both was (is_some old.framer && true) (is_closed_by conn x) (is_closed_by conn y)
+  lost_on (Some old) None (Some new) was between one other is = absurd other
+
+  pub passage_on : (old mid new : Option Seat) (was between now : Bool) → Passage conn old was a x mid between → Passage conn mid between b y new now
+      → Passage conn old was (a ++ b) (x ++ y) new now
+  passage_on old mid new was between now one other = record {
+    fate = fate_on old mid new one.fate other.fate;
+    lost_is =
+        other.lost_is ∙ lost_on old mid new was between one.fate other.fate one.lost_is
+        ∙ ap (λ t. is_lost_after old was t new) (sym (is_closed_by-append conn x y));
+  }
+
+-- calls and lines of other connections
+pub record IsElsewhere (conn : ℕ) (calls : List Call) (outs : List Out) : Type 0 where
+  pub silent : Silent conn calls
+  pub never_cut : is_cut_off conn calls ≡ false
+  pub nothing : answers conn outs ≡ []
+  pub never_closed : is_closed_by conn outs ≡ false
+
+pub elsewhere_both : (conn : ℕ) (a b : List Call) (x y : List Out) → IsElsewhere conn a x → IsElsewhere conn b y → IsElsewhere conn (a ++ b) (x ++ y)
+elsewhere_both conn a b x y one other = record {
+  silent = silent_on conn a b x y one.silent other.silent;
+  never_cut = is_cut_off-append conn a b ∙ ap (λ t. t || is_cut_off conn b) one.never_cut ∙ other.never_cut;
+  nothing = answers-append conn x y ∙ ap (λ xs. xs ++ owed (not (is_closed_by conn x)) conn y) one.nothing
+      ∙ ap (λ t. owed (not t) conn y) one.never_closed ∙ other.nothing;
+  never_closed = is_closed_by-append conn x y ∙ ap (λ t. t || is_closed_by conn y) one.never_closed ∙ other.never_closed;
+}
+
+pub nothing_owed : (unshut : Bool) (conn : ℕ) (outs : List Out) → answers conn outs ≡ [] → owed unshut conn outs ≡ []
+nothing_owed true conn outs none = none
+nothing_owed false conn outs none = refl
+
+pub still : (t c : Bool) → c ≡ false → t ≡ (t && not c)
+still true c is = ap not (sym is)
+still false c is = refl
+
+pub untouched_fate : (conn : ℕ) (calls : List Call) (outs : List Out) → IsElsewhere conn calls outs → (seat : Option Seat) → Fate conn seat calls outs seat
+untouched_fate conn calls outs apart None = apart.silent
+untouched_fate conn calls outs apart (Some seat) = record {
+  carried =
+      ap (λ xs. seat.outbox.bytes ++ xs) (nothing_owed (is_some seat.framer) conn outs apart.nothing) ∙ append-nil seat.outbox.bytes
+      ∙ ap (λ xs. xs ++ seat.outbox.bytes) (sym apart.silent.nothing);
+  same_room = refl;
+  still_open = still (is_some seat.framer) (is_closed_by conn outs) apart.never_closed;
+  never = apart.silent.never;
+  never_cut = apart.never_cut;
+}
+
+pub kept_none : (l : Bool) → l ≡ ((l || false) && true)
+kept_none true = refl
+kept_none false = refl
+
+pub kept_some : (l o : Bool) → l ≡ ((l || (o && false)) && true)
+kept_some true o = refl
+kept_some false true = refl
+kept_some false false = refl
+
+kept_lost : (seat : Option Seat) (l c : Bool) → c ≡ false → l ≡ is_lost_after seat l c seat
+kept_lost None l c is = kept_none l ∙ ap (λ t. (l || false) && not t) (sym is)
+kept_lost (Some seat) l c is = kept_some l (is_some seat.framer) ∙ ap (λ t. (l || (is_some seat.framer && false)) && not t) (sym is)
+
+pub untouched : (conn : ℕ) (calls : List Call) (outs : List Out) → IsElsewhere conn calls outs → (old new : Option Seat) (was now : Bool) → new ≡ old → now ≡ was
+    → Passage conn old was calls outs new now
+untouched conn calls outs apart old new was now same as_lost =
+    subst (λ (s : Option Seat). Passage conn old was calls outs s now) (sym same)
+    (subst (λ (l : Bool). Passage conn old was calls outs old l) (sym as_lost) (record {
+      fate = untouched_fate conn calls outs apart old;
+      lost_is = kept_lost old was (is_closed_by conn outs) apart.never_closed;
+    }))
+
+pub same_fate : (conn : ℕ) (seat : Option Seat) → Fate conn seat [] [] seat
+same_fate conn seat = untouched_fate conn [] [] (record { silent = record { nothing = refl; never = refl }; never_cut = refl; nothing = refl; never_closed = refl }) seat

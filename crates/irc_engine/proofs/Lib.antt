@@ -1,0 +1,6 @@
+pub mod SeatLaws
+pub mod CarryingLaws
+pub mod BoardLaws
+pub mod BoardSteps
+pub mod RunLaws
+pub mod TurnLaws

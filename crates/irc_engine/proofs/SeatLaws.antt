@@ -1,0 +1,41 @@
+-- The code's map of seats, as what it answers at each number.
+use Rattle.std.proofs.Common.{◌≡◌, ℕ, Bool, true, false, cond, nat_eq, Some, Option, IsSome, is_some, refl, sym, ◌∙◌, ap}
+use Rattle.std.specs.Ordering.{nat_cmp, is_eq}
+use Rattle.std.specs.Cmp.{nat_cmp_total, eq_by_cmp_equiv, Equal-is}
+use Rattle.std.specs.FinMap.{nat_cmp-IsAntisymmetric}
+use Rattle.std.specs.BTreeMap.{BTreeMap, UpdatesBy, get_by}
+use Rattle.std.proofs.lemmas.Bool.{eq-eqb, eqb-true}
+use Rattle.irc_engine.specs.declared.seat.Seat.{Seat}
+use Rattle.irc_engine.specs.Loops.Seats.{seat_of, IsSet, Through, at_seat}
+
+pub one_number : (a b : ℕ) → nat_eq a b ≡ true → a ≡ b
+one_number a b same = eqb-true a b same
+
+pub nat_eq-refl : (a : ℕ) → nat_eq a a ≡ true
+nat_eq-refl a = eq-eqb a a refl
+
+-- numbers are one by their order just where they are equal
+pub by_order : (a b : ℕ) → is_eq (nat_cmp a b) ≡ nat_eq a b
+by_order a b = by (is_eq (nat_cmp a b)) refl (nat_eq a b) refl
+  where
+    by : (s : Bool) → is_eq (nat_cmp a b) ≡ s → (t : Bool) → nat_eq a b ≡ t → s ≡ t
+    by true e true f = refl
+    by false e false f = refl
+    by true e false f = sym (eq-eqb a b (nat_cmp-IsAntisymmetric a b ((Equal-is (nat_cmp a b)).0 e))) ∙ f
+    by false e true f =
+        sym e ∙ ap (λ n. is_eq (nat_cmp n b)) (one_number a b f) ∙ (eq_by_cmp_equiv nat_cmp_total).refl b
+
+pub set_at : {X : Type 0} (f : ℕ → X) (now : X) (conn q : ℕ) → cond (is_eq (nat_cmp conn q)) now (f q) ≡ cond (nat_eq conn q) now (f q)
+set_at f now conn q = ap (λ b. cond b now (f q)) (by_order conn q)
+
+pub set_seat : (old new : BTreeMap ℕ Seat) (conn : ℕ) (seat now : Seat) → UpdatesBy nat_cmp (nat_cmp conn) old new (Some now) → now ≡ seat
+    → IsSet (seat_of old) conn (Some seat) (seat_of new)
+set_seat old new conn seat now updates is = λ q.
+    updates.0 q ∙ set_at {X = Option Seat} (seat_of old) (Some now) conn q ∙ ap (λ s. cond (nat_eq conn q) (Some s) (seat_of old q)) is
+
+pub through : (conn : ℕ) (P : Seat → Seat → Type 0) (Q : Type 0) (old new : BTreeMap ℕ Seat) (seat now : Seat) → Some seat ≡ seat_of old conn
+    → (IsSome (get_by (nat_cmp conn) old) → UpdatesBy nat_cmp (nat_cmp conn) old new (Some now)) → P seat now → Through conn P Q old new
+through conn P Q old new seat now is updates so =
+    at_seat seat now (sym is)
+    (λ q. (updates (sym (ap is_some is))).0 q ∙ ap (λ b. cond b (Some now) (seat_of old q)) (by_order conn q))
+    so

@@ -1,0 +1,7 @@
+use Rattle.std.proofs.Common.{false, ◌∙◌}
+use Rattle.irc_engine.specs.Loops.Boards.{has}
+use Rattle.irc_engine.proofs.SeatLaws.{set_at}
+use Rattle.irc_engine.proofs.board.forget.Goals as goal
+
+pub returns-clause-forgotten : goal.returns-clause-forgotten
+returns-clause-forgotten c = λ q. c.remove.ensures.updates.0 q ∙ set_at (has c.args.numbers.now) false c.args.conn q

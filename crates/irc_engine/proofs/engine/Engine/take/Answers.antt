@@ -1,0 +1,9 @@
+use Rattle.std.proofs.Common.{refl}
+use Rattle.irc_engine.specs.Turning.{takes_it, runs_out}
+use Rattle.irc_engine.proofs.engine.Engine.take.Goals as goal
+
+pub returns-in-Ok : goal.returns-in-Ok
+returns-in-Ok g c = takes_it refl c.in-Ok.ensures
+
+pub returns-in-Err : goal.returns-in-Err
+returns-in-Err g c = runs_out refl

@@ -1,0 +1,101 @@
+-- What becomes of a connection while calls are made of the wire and the server puts lines out: the bytes to it go from the server to its outbox,
+-- and from there to the wire, in order, none twice; and when it is closed.
+use Rattle.std.specs.Prelude.{◌≡◌, ℕ, ◌<◌, Bool, true, false, not, ◌&&◌, ◌||◌, nat_eq, is_some, Option, Some, None, Result, Ok, Err, List, [], ◌∷◌, ◌++◌, length, if◌then◌else◌}
+use Rattle.std.specs.List.{list_any}
+use Rattle.irc_outbox.specs.declared.wire.Got.TheVariants.{End}
+use Rattle.irc_line.specs.Lines.{nothing_begun}
+use Rattle.irc_outbox.specs.Outboxes.{holding}
+use Rattle.irc_outbox.specs.Calls.{Call, asks, reads, writes, closes, written, times_closed}
+use Rattle.irc_server.specs.declared.event.Out.{Out}
+use Rattle.irc_server.specs.declared.event.Out.TheVariants.{ToClient, CloseClient}
+use Rattle.irc_engine.specs.declared.seat.Seat.{Seat}
+
+-- the seat of a connection that has just been made
+abbrev pub fresh_seat : ℕ → Seat
+fresh_seat room = record { outbox = holding [] room; framer = Some nothing_begun }
+
+-- the bytes to a connection among what the server puts out, up to where it closes it
+abbrev pub answers : ℕ → List Out → List ℕ
+answers conn [] = []
+answers conn (ToClient to text ∷ outs) = (if nat_eq to conn then text.items else []) ++ answers conn outs
+answers conn (CloseClient which ∷ outs) = if nat_eq which conn then [] else answers conn outs
+
+-- whether the server closes it there
+abbrev pub is_closing : ℕ → Out → Bool
+is_closing conn (CloseClient which) = nat_eq which conn
+is_closing conn (ToClient to text) = false
+
+abbrev pub is_closed_by : ℕ → List Out → Bool
+is_closed_by conn outs = list_any (is_closing conn) outs
+
+-- what is owed to a connection: nothing, once the server has closed it
+abbrev pub owed : Bool → ℕ → List Out → List ℕ
+owed true conn outs = answers conn outs
+owed false conn outs = []
+
+-- whether a connection has a seat that the server has not closed
+abbrev pub is_open_at : Option Seat → Bool
+is_open_at None = false
+is_open_at (Some seat) = is_some seat.framer
+
+-- a read of the connection that ended or failed, or a write that failed
+abbrev pub ends_at : ℕ → Call → Bool
+ends_at conn (reads from room (Ok End) bytes) = nat_eq from conn
+ends_at conn (reads from room (Err fault) bytes) = nat_eq from conn
+ends_at conn (writes to bytes (Err fault)) = nat_eq to conn
+ends_at conn call = false
+
+abbrev pub is_cut_off : ℕ → List Call → Bool
+is_cut_off conn calls = list_any (ends_at conn) calls
+
+-- Whatever calls the wire may have answered before, it may have answered these more now.
+abbrev pub AddsAll : {W : Type 0} → (W → List Call → Type 0) → W → List Call → W → Type 0
+AddsAll is_after old more new = (calls : List Call) → is_after old calls → is_after new (calls ++ more)
+
+-- whether a call asks what is ready, or reads
+abbrev pub is_taking : Call → Bool
+is_taking (asks answer) = true
+is_taking (reads conn room answer bytes) = true
+is_taking call = false
+
+-- nothing is written to it, and it is not closed
+pub record Silent (conn : ℕ) (calls : List Call) : Type 0 where
+  pub nothing : written conn calls ≡ []
+  pub never : times_closed conn calls ≡ 0
+
+-- A connection stays: what its outbox held, with what the server put out to it behind, is what was written, with what the outbox holds now behind.
+pub record Stays (conn : ℕ) (old : Seat) (calls : List Call) (outs : List Out) (new : Seat) : Type 0 where
+  pub carried : old.outbox.bytes ++ owed (is_some old.framer) conn outs ≡ written conn calls ++ new.outbox.bytes
+  pub same_room : new.outbox.room ≡ old.outbox.room
+  pub still_open : is_some new.framer ≡ (is_some old.framer && not (is_closed_by conn outs))
+  pub never : times_closed conn calls ≡ 0
+  pub never_cut : is_cut_off conn calls ≡ false
+
+-- Why a connection is closed with this left unwritten: the server closed it, and nothing is left; or the device failed at it, or it ended; or what was
+-- left did not fit its outbox.
+pub data Why (conn : ℕ) (old : Seat) (calls : List Call) (outs : List Out) (left : List ℕ) : Type 0 where
+  finished : (is_some old.framer && not (is_closed_by conn outs)) ≡ false → left ≡ [] → Why conn old calls outs left
+  cut_off : is_cut_off conn calls ≡ true → Why conn old calls outs left
+  overflowed : old.outbox.room < length left → Why conn old calls outs left
+
+-- A connection is closed, once: what was written is a front of what its outbox held, with what the server put out to it behind.
+pub record Leaves (conn : ℕ) (old : Seat) (calls : List Call) (outs : List Out) : Type 0 where
+  pub left : List ℕ
+  pub carried : old.outbox.bytes ++ owed (is_some old.framer) conn outs ≡ written conn calls ++ left
+  pub once : times_closed conn calls ≡ 1
+  pub why : Why conn old calls outs left
+
+abbrev pub Fate : ℕ → Option Seat → List Call → List Out → Option Seat → Type 0
+Fate conn None calls outs None = Silent conn calls
+Fate conn None calls outs (Some new) = ⊥
+Fate conn (Some old) calls outs (Some new) = Stays conn old calls outs new
+Fate conn (Some old) calls outs None = Leaves conn old calls outs
+
+-- The connections that were lost, of which the server has yet to be told: those that were, and those that were open and have no seat any more, but for
+-- those that the server has closed by now.
+abbrev pub is_lost_after : Option Seat → Bool → Bool → Option Seat → Bool
+is_lost_after old was_lost closed new = (was_lost || (is_open_at old && not (is_some new))) && not closed
+
+pub record Passage (conn : ℕ) (old : Option Seat) (was_lost : Bool) (calls : List Call) (outs : List Out) (new : Option Seat) (is_lost : Bool) : Type 0 where
+  pub fate : Fate conn old calls outs new
+  pub lost_is : is_lost ≡ is_lost_after old was_lost (is_closed_by conn outs) new

@@ -1,0 +1,4 @@
+pub mod Carrying
+pub mod Running
+pub mod Turning
+pub mod Loops

@@ -1,0 +1,4 @@
+pub mod Seats
+pub mod Counts
+pub mod Boards
+pub mod Desks

@@ -1,0 +1,136 @@
+//! The connections and the wire: what the server puts out goes to outboxes, and outboxes are written.
+ghost use Rattle.std.specs.Prelude.{◌≡◌, ◌+◌, ◌≤◌, true, false, [], ◌∷◌, OnOk};
+ghost use Rattle.std.specs.BTreeSet.{btree_set_len};
+ghost use Rattle.irc_engine.specs.Loops.Boards.{Carries, Ends, IsNoted, Loses, Settles};
+ghost use Rattle.irc_server.specs.declared.event.Out.TheVariants.{ToClient, CloseClient};
+
+use crate::seat::{Seat, has_some, is_done, is_open, offer, shut, vacate, write};
+use irc_line::Text;
+use irc_outbox::Wire;
+use irc_server::Out;
+use std::alloc::{AllocError, Global};
+use std::collections::{BTreeMap, BTreeSet};
+
+/// The connections of an engine, and its wire.
+#[derive(Drop)]
+pub(crate) struct Board<W: Wire> {
+    /// What carries the bytes.
+    pub wire: W,
+    /// The place of each connection, by its number.
+    pub seats: BTreeMap<u64, Seat, Global>,
+    /// Connections with bytes to write.
+    pub waiting: BTreeSet<u64, Global>,
+    /// Connections that were lost, of which the server has yet to be told.
+    pub lost: BTreeSet<u64, Global>,
+}
+
+/// Notes a connection's number.
+fn note(numbers: &mut BTreeSet<u64, Global>, conn: u64) -> Result<(), AllocError>
+    ensures noted { OnOk result (IsNoted numbers.old conn true numbers.new) }
+    ensures len { OnOk result (btree_set_len numbers.new ≤ btree_set_len numbers.old + 1) }
+{
+    match numbers.insert(conn) {
+        Ok(_) => Ok(()),
+        Err(_) => Err(AllocError),
+    }
+}
+
+/// Forgets a connection's number.
+fn forget(numbers: &mut BTreeSet<u64, Global>, conn: u64)
+    ensures forgotten { IsNoted numbers.old conn false numbers.new }
+    ensures len { btree_set_len numbers.new ≤ btree_set_len numbers.old }
+{
+    numbers.remove(&conn);
+}
+
+impl<W: Wire> Board<W> {
+    /// A connection ends here: its seat goes, with what was to be written, and it is closed.
+    fn end(&mut self, conn: u64)
+        ensures { Ends W.is_after conn self.old self.new }
+    {
+        vacate(&mut self.seats, conn);
+        self.waiting.remove(&conn);
+        self.wire.close(conn);
+    }
+
+    /// A connection is lost: it ends, and the server is to be told, unless it has closed it.
+    pub(crate) fn lose(&mut self, conn: u64) -> Result<(), AllocError>
+        ensures { OnOk result (Loses W.is_after conn self.old self.new) }
+    {
+        let was_open = is_open(&self.seats, conn);
+        self.end(conn);
+        if was_open {
+            note(&mut self.lost, conn)?;
+        }
+        Ok(())
+    }
+
+    /// A line goes to a connection's outbox. Where it does not fit, the connection is lost.
+    fn send(&mut self, conn: u64, text: &Text) -> Result<(), AllocError>
+        ensures { OnOk result (Carries W.is_after self.old (ToClient conn text.now ∷ []) self.new) }
+    {
+        match offer(&mut self.seats, conn, text) {
+            Ok(true) => note(&mut self.waiting, conn),
+            Ok(false) => Ok(()),
+            Err(_) => self.lose(conn),
+        }
+    }
+
+    /// The server has closed a connection: it ends once nothing is left to write.
+    fn shut(&mut self, conn: u64)
+        ensures { Carries W.is_after self.old (CloseClient conn ∷ []) self.new }
+    {
+        forget(&mut self.lost, conn);
+        shut(&mut self.seats, conn);
+        if is_done(&self.seats, conn) {
+            self.end(conn);
+        }
+    }
+
+    /// Does one thing that the server has put out.
+    fn deal_one(&mut self, out: &Out) -> Result<(), AllocError>
+        ensures { OnOk result (Carries W.is_after self.old (out.now ∷ []) self.new) }
+    {
+        match out {
+            Out::ToClient(conn, text) => self.send(*conn, text),
+            Out::CloseClient(conn) => {
+                self.shut(*conn);
+                Ok(())
+            }
+        }
+    }
+
+    /// Does what the server has put out.
+    pub(crate) fn deal(&mut self, outs: &[Out]) -> Result<(), AllocError>
+        ensures { OnOk result (Carries W.is_after self.old outs.now self.new) }
+    {
+        for out in outs {
+            self.deal_one(out)?;
+        }
+        Ok(())
+    }
+
+    /// Writes once to a connection. It ends where the server has closed it and nothing is left, and is lost where the device fails.
+    pub(crate) fn write(&mut self, conn: u64) -> Result<(), AllocError>
+        ensures { OnOk result (Carries W.is_after self.old [] self.new) }
+    {
+        match write(&mut self.seats, &mut self.wire, conn) {
+            Ok(_) => self.settle(conn),
+            Err(_) => self.lose(conn),
+        }
+    }
+
+    /// After a write: a connection ends, or waits where something is left.
+    fn settle(&mut self, conn: u64) -> Result<(), AllocError>
+        ensures { OnOk result (Settles W.is_after conn self.old self.new) }
+    {
+        if is_done(&self.seats, conn) {
+            self.end(conn);
+            return Ok(());
+        }
+        if has_some(&self.seats, conn) {
+            note(&mut self.waiting, conn)?;
+        }
+        Ok(())
+    }
+}

@@ -1,0 +1,281 @@
+//! An engine: one server over a wire.
+ghost use Rattle.std.specs.Prelude.{◌≡◌, ◌≤◌, [], length, IfOk, OnOk};
+ghost use Rattle.irc_engine.specs.Loops.Counts.{count_of};
+ghost use Rattle.irc_engine.specs.Loops.Desks.{came, moment_of};
+ghost use Rattle.irc_engine.specs.Running.{Answers, Connects, Does, Ran, Reads, RefusesLink};
+ghost use Rattle.irc_engine.specs.Turning.{IsNew, Taken, Turned, Turns};
+
+use crate::board::Board;
+use crate::seat::{give_seat, is_open, no_seats, take};
+use irc_line::Line;
+use irc_names::Host;
+use irc_outbox::{Got, IoFault, Ready, Wire};
+use irc_server::{Event, Out, Server, ServerFault};
+use std::alloc::{AllocError, Global};
+use std::collections::BTreeSet;
+use std::mem::replace;
+use thiserror::Error;
+
+/// The most bytes that a turn reads.
+const READ_SIZE: usize = 4096;
+
+/// Why a turn is not done.
+#[derive(Clone, Copy, Debug, Drop, Error, PartialEq, Eq)]
+pub enum EngineFault {
+    /// Memory ran out. The engine answers [`EngineFault::Failed`] from then on.
+    #[error("out of memory")]
+    Memory,
+    /// Memory ran out before.
+    #[error("the engine has failed")]
+    Failed,
+    /// The wire could not tell what is ready. Nothing else has happened, and the engine goes on.
+    #[error("the device failed")]
+    Device,
+}
+
+/// One server and the wire that it runs over.
+#[derive(Drop)]
+pub struct Engine<W: Wire> {
+    failed: bool,
+    desk: Desk<W>,
+}
+
+/// What an engine is made of.
+#[derive(Drop)]
+pub(crate) struct Desk<W: Wire> {
+    pub server: Server,
+    pub board: Board<W>,
+    /// What the server has put out by the event at hand.
+    pub out: Vec<Out, Global>,
+    /// Where bytes are read to.
+    pub buffer: Vec<u8, Global>,
+    /// How many bytes the outbox of a client holds.
+    pub client_room: usize,
+    pub alloc: Global,
+}
+
+impl<W: Wire + Drop> Engine<W> {
+    /// An engine for a server that has no connection, over a wire that has reported nothing. An outbox of a client has room for
+    /// `client_room` bytes. Servers cannot be linked yet, so `_link_room` has no use.
+    ///
+    /// # Errors
+    /// Where memory runs out.
+    pub fn new(
+        alloc: Global,
+        server: Server,
+        wire: W,
+        client_room: usize,
+        _link_room: usize,
+    ) -> Result<Self, AllocError>
+        ensures { IfOk result (λ engine. IsNew server wire client_room engine) }
+    {
+        let buffer = vec![in alloc; 0u8; READ_SIZE]?;
+        Ok(Engine {
+            failed: false,
+            desk: Desk {
+                server,
+                board: Board {
+                    wire,
+                    seats: no_seats(alloc),
+                    waiting: BTreeSet::new(alloc),
+                    lost: BTreeSet::new(alloc),
+                },
+                out: Vec::new(alloc),
+                buffer,
+                client_room,
+                alloc,
+            },
+        })
+    }
+}
+
+impl<W: Wire> Engine<W> {
+    /// Takes one turn: asks what is ready and does it, then writes once from each outbox that is not empty, in order of number.
+    ///
+    /// # Errors
+    /// [`EngineFault::Failed`] where memory ran out before; then [`EngineFault::Device`] where the wire could not tell what is ready:
+    /// nothing has changed then; [`EngineFault::Memory`] where memory runs out.
+    pub fn turn(&mut self) -> Result<(), EngineFault>
+        ensures { Turned W.is_after self.old self.new result }
+    {
+        if self.failed {
+            return Err(EngineFault::Failed);
+        }
+        match self.desk.board.wire.ready() {
+            Ok(ready) => self.take(ready),
+            Err(_) => Err(EngineFault::Device),
+        }
+    }
+
+    /// Does what is ready, and writes.
+    fn take(&mut self, ready: Ready) -> Result<(), EngineFault>
+        ensures { Taken W.is_after self.old.desk.client_room ready (moment_of self.old.desk) self.new result }
+    {
+        self.failed = true;
+        match self.desk.turn(ready) {
+            Ok(()) => {
+                self.failed = false;
+                Ok(())
+            }
+            Err(_) => Err(EngineFault::Memory),
+        }
+    }
+
+    /// Takes so many turns, up to the first that is not done.
+    ///
+    /// # Errors
+    /// As [`Engine::turn`], for that turn.
+    pub fn run(&mut self, turns: u64) -> Result<(), EngineFault>
+        ensures { OnOk result (Turns W.is_after self.old turns self.new) }
+    {
+        for _turn in 0..turns {
+            self.turn()?;
+        }
+        Ok(())
+    }
+}
+
+impl<W: Wire> Desk<W> {
+    /// Does what is ready, and writes.
+    fn turn(&mut self, ready: Ready) -> Result<(), AllocError>
+        ensures { OnOk result (Does W.is_after self.old.client_room ready (moment_of self.old) (moment_of self.new)) }
+    {
+        self.answer(ready)?;
+        self.flush()
+    }
+
+    /// Does what is ready.
+    fn answer(&mut self, ready: Ready) -> Result<(), AllocError>
+        ensures { OnOk result (Answers W.is_after self.old.client_room ready (moment_of self.old) (moment_of self.new)) }
+    {
+        match ready {
+            Ready::Idle | Ready::Writable(_) => Ok(()),
+            Ready::Client(conn, host) => self.connect(conn, host),
+            Ready::Linked(conn, _) => {
+                self.refuse_link(conn);
+                Ok(())
+            }
+            Ready::Readable(conn) => self.read(conn),
+        }
+    }
+
+    /// A client has connected. A number that is in use is passed over.
+    fn connect(&mut self, conn: u64, host: Host) -> Result<(), AllocError>
+        ensures { OnOk result (Connects W.is_after self.old.client_room conn host (moment_of self.old) (moment_of self.new)) }
+    {
+        if self.board.seats.contains_key(&conn) {
+            return Ok(());
+        }
+        give_seat(self.alloc, &mut self.board.seats, conn, self.client_room)?;
+        self.pass(Event::Connect(conn, host))
+    }
+
+    /// A server is connected. Servers cannot be linked yet, so it is closed at once. A number that is in use is passed over.
+    fn refuse_link(&mut self, conn: u64)
+        ensures { RefusesLink W.is_after conn (moment_of self.old) (moment_of self.new) }
+    {
+        if !self.board.seats.contains_key(&conn) {
+            self.board.wire.close(conn);
+        }
+    }
+
+    /// A connection has bytes, or has ended. One that the server has closed is read no more.
+    fn read(&mut self, conn: u64) -> Result<(), AllocError>
+        ensures { OnOk result (Reads W.is_after conn (moment_of self.old) (moment_of self.new)) }
+    {
+        if !is_open(&self.board.seats, conn) {
+            return Ok(());
+        }
+        match came(self.board.wire.read(conn, &mut self.buffer)) {
+            Some(count) => self.take_lines(conn, count),
+            None => {
+                self.board.lose(conn)?;
+                self.tell_losses()
+            }
+        }
+    }
+
+    /// Passes on each line that so many bytes at the front of the buffer complete, as long as the connection is open.
+    fn take_lines(&mut self, conn: u64, count: usize) -> Result<(), AllocError>
+        requires { count ≤ length self.old.buffer.items }
+        ensures { OnOk result (Ran W.is_after [] (moment_of self.old) (moment_of self.new)) }
+    {
+        let mut used = 0;
+        while used < count {
+            let Some((more, line)) = take(&mut self.board.seats, conn, &self.buffer[used..count])
+            else {
+                return Ok(());
+            };
+            used += more;
+            self.pass_line(conn, line)?;
+        }
+        Ok(())
+    }
+
+    /// Passes on a line, if there is one.
+    fn pass_line(&mut self, conn: u64, line: Option<Line>) -> Result<(), AllocError>
+        ensures ran { OnOk result (Ran W.is_after [] (moment_of self.old) (moment_of self.new)) }
+        ensures same { self.new.buffer ≡ self.old.buffer }
+    {
+        match line {
+            Some(line) => self.pass(Event::Line(conn, line)),
+            None => Ok(()),
+        }
+    }
+
+    /// Passes an event on to the server, and does what it puts out. Then it is told of each connection that was lost by this.
+    fn pass(&mut self, event: Event) -> Result<(), AllocError>
+        ensures ran { OnOk result (Ran W.is_after [] (moment_of self.old) (moment_of self.new)) }
+        ensures same { self.new.buffer ≡ self.old.buffer }
+    {
+        self.handle(event)?;
+        self.tell_losses()
+    }
+
+    /// Tells the server of each connection that was lost, the lowest number first, until there is none.
+    fn tell_losses(&mut self) -> Result<(), AllocError>
+        ensures ran { OnOk result (Ran W.is_after [] (moment_of self.old) (moment_of self.new)) }
+        ensures same { self.new.buffer ≡ self.old.buffer }
+    {
+        while let Some(conn) = self.board.lost.pop_first() {
+            self.handle(Event::Gone(conn))?;
+        }
+        Ok(())
+    }
+
+    /// Passes an event on to the server, and does what it puts out.
+    fn handle(&mut self, event: Event) -> Result<(), AllocError>
+        ensures count { OnOk result (count_of self.new.board ≤ count_of self.old.board) }
+        ensures ran { OnOk result (Ran W.is_after [] (moment_of self.old) (moment_of self.new)) }
+        ensures same { self.new.buffer ≡ self.old.buffer }
+    {
+        self.out.clear();
+        match self.server.handle(event, &mut self.out) {
+            Err(ServerFault::Memory | ServerFault::Failed) => Err(AllocError),
+            _ => self.board.deal(&self.out),
+        }
+    }
+
+    /// Writes once from each outbox that is not empty, in order of number.
+    fn flush(&mut self) -> Result<(), AllocError>
+        ensures { OnOk result (Ran W.is_after [] (moment_of self.old) (moment_of self.new)) }
+    {
+        let mut waiting = replace(&mut self.board.waiting, BTreeSet::new(self.alloc));
+        while let Some(conn) = waiting.pop_first() {
+            self.board.write(conn)?;
+            self.tell_losses()?;
+        }
+        Ok(())
+    }
+}
+
+/// How many bytes a read gave; none, where it ended or failed.
+fn came(answer: Result<Got, IoFault>) -> Option<usize>
+    ensures { result ≡ came answer }
+{
+    match answer {
+        Ok(Got::Bytes(count)) => Some(count),
+        Ok(Got::Later) => Some(0),
+        Ok(Got::End) | Err(_) => None,
+    }
+}

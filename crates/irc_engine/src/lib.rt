@@ -1,0 +1,8 @@
+//! An engine: it runs one server over a wire, as a program does over sockets.
+#![tactic(auto)]
+
+mod board;
+mod engine;
+mod seat;
+
+pub use engine::{Engine, EngineFault};

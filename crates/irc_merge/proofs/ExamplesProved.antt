@@ -1,0 +1,101 @@
+-- The examples, each by computing what the lists say.
+use Rattle.std.proofs.Common.{◌≡◌, ℕ, Bool, false, cond, ◌-◌, min, List, [], ◌∷◌, ◌∙◌, ap, map, length, drop, is_some, codes, nat_eq, arith}
+use Rattle.std.proofs.lemmas.List.{length-take, length-take-le, length-drop}
+use Rattle.std.specs.Int.{div_ceil}
+use Rattle.std.specs.Simd.{first_chunks}
+use Rattle.std.specs.List.{list_all}
+use Rattle.std.specs.Option.{option_map_or}
+use Rattle.std.specs.Cmp.Lexicographic.{pointwise}
+use Rattle.std.specs.FinMap.{keys}
+use Rattle.irc_names.specs.Fold.{fold, fold_table, key}
+use Rattle.irc_names.specs.Names.{is_key, is_ban_mask}
+use Rattle.irc_names.specs.TableLaws.{row-keys}
+use Rattle.irc_line.specs.Bytes.{cut}
+use Rattle.irc_line.specs.Messages.{line_text}
+use Rattle.irc_users.specs.declared.user.User.{User}
+use Rattle.irc_channels.specs.declared.flags.Flags.{Flags}
+use Rattle.irc_channels.specs.declared.channel.Channel.{Channel}
+use Rattle.irc_room.specs.declared.effect.Effect.{Effect}
+use Rattle.irc_room.specs.declared.effect.Effect.TheVariants.{AddUser}
+use Rattle.irc_room.specs.Effects.{has_user}
+use Rattle.irc_room.specs.Examples.{room_after, flags_of}
+use Rattle.irc_room.proofs.Listed.{table_of, row_listed}
+use Rattle.irc_room.proofs.ListedRooms.{room_of, all_listed, no_list}
+use Rattle.irc_room.proofs.ListedSeen.{user_listed, channel_listed}
+use Rattle.irc_room.proofs.ExampleRooms.{list_room}
+use Rattle.irc_merge.specs.Deeds.{does, kills, tops}
+use Rattle.irc_merge.specs.Bursts.{in_lines, burst, home_passes}
+use Rattle.irc_merge.specs.BurstRead.{read_deed}
+use Rattle.irc_merge.specs.Merge.{merge}
+use Rattle.irc_merge.specs.MergeShown.{merge_shown}
+use Rattle.irc_merge.specs.Examples.{an_operator, of_a, with_modes, als_side, bos_side, zeds_side, other_zeds_side, ChannelIsTold, ThirtyOneMembers, ChannelsAreJoined, TopicIsLeft, NicknameOnBothSides}
+use Rattle.irc_merge.proofs.ChannelTold.{one_fails}
+use Rattle.irc_merge.proofs.ListedMerge.{AreInOrder, burst_listed, user_merged, flags_merged, merge_listed}
+
+made : (effects : List Effect) → room_after effects ≡ room_of (list_room effects)
+made effects = all_listed no_list effects
+
+pub channel_is_told : ChannelIsTold
+unfolding fold fold_table is_key is_ban_mask in_lines
+channel_is_told =
+    ap (burst (codes "b.net")) (made with_modes)
+    ∙ burst_listed (codes "b.net") (list_room with_modes) (record { users = tt; channels = tt; members = (tt, tt) })
+
+pub thirty_one_members : ThirtyOneMembers
+unfolding in_lines
+thirty_one_members members is =
+    ap (λ l. map length (first_chunks 30 (div_ceil l 30) members)) is
+    ∙ (λ i. length-take-le 30 members (omega (arith, is)) i ∷ (length-take 30 (drop 30 members) ∙ ap (min 30) (length-drop 30 members ∙ ap (λ l. l - 30) is)) i ∷ [])
+
+pub channels_are_joined : ChannelsAreJoined
+unfolding fold fold_table cut line_text
+channels_are_joined =
+    let one = list_room als_side in
+    let other = list_room bos_side in
+    let first : AreInOrder one = record { users = tt; channels = tt; members = (tt, tt) } in
+    let second : AreInOrder other = record { users = tt; channels = tt; members = (tt, tt) } in (
+      (λ i. flags_of (merge (made als_side i) (made bos_side i)) (codes "al") (codes "#c")) ∙ flags_merged one other first second (key (codes "al")) (key (codes "#c")),
+      (λ i. flags_of (merge (made als_side i) (made bos_side i)) (codes "bo") (codes "#c")) ∙ flags_merged one other first second (key (codes "bo")) (key (codes "#c")),
+      (λ i. merge_shown (made als_side i) (made bos_side i) (codes "al"))
+          ∙ merge_listed one other (codes "al") (record { first = first; second = second; along = tt; left = second }),
+      (λ i. merge_shown (made bos_side i) (made als_side i) (codes "bo"))
+          ∙ merge_listed other one (codes "bo") (record { first = second; second = first; along = tt; left = first }),
+      (λ i. merge_shown (made als_side i) (made bos_side i) (codes "an"))
+          ∙ merge_listed one other (codes "an") (record { first = first; second = second; along = tt; left = second }),
+    )
+
+pub topic_is_left : TopicIsLeft
+unfolding fold fold_table
+topic_is_left =
+    let side = list_room als_side in
+    let far : List ℕ → Bool = λ home. pointwise nat_eq home (codes "b.net") in
+    let al = key (codes "al") in
+    let passes = home_passes far (room_of side).users in
+    let members : List (List ℕ × Flags) = (al, an_operator) ∷ [] in
+    let deed = tops (codes "b.net") (codes "#c") (codes "hello") in
+    ap (λ r. read_deed (codes "a.net") far r deed) (made als_side)
+    ∙ ap (λ b. cond b (deed ∷ []) [])
+    (ap (λ o. option_map_or (λ (c : Channel). list_all passes (keys c.members)) o false) (channel_listed side (key (codes "#c")))
+    ∙ one_fails passes al (keys (table_of (λ f. f) members)) (row-keys (table_of (λ f. f) members) al ∙ ap is_some (row_listed (λ f. f) members al))
+    (ap (λ o. option_map_or (λ (user : User). far user.home) o false) (user_listed side al)))
+
+pub nickname_on_both_sides : NicknameOnBothSides
+unfolding fold fold_table cut line_text
+nickname_on_both_sides =
+    let one = list_room zeds_side in
+    let other = list_room other_zeds_side in
+    let first : AreInOrder one = record { users = tt; channels = tt; members = (tt, (tt, tt)) } in
+    let second : AreInOrder other = record { users = tt; channels = tt; members = (tt, tt) } in (
+      (λ i. has_user (merge (made zeds_side i) (made other_zeds_side i)) (codes "zed")) ∙ ap is_some (user_merged one other first second (key (codes "zed"))),
+      (λ i. merge_shown (made zeds_side i) (made other_zeds_side i) (codes "al"))
+          ∙ merge_listed one other (codes "al")
+          (record { first = first; second = second; along = (first, tt); left = record { users = tt; channels = tt; members = (tt, tt) } }),
+      (λ i. merge_shown (made zeds_side i) (made other_zeds_side i) (codes "zed"))
+          ∙ merge_listed one other (codes "zed")
+          (record { first = first; second = second; along = (first, tt); left = record { users = tt; channels = tt; members = (tt, tt) } }),
+      (λ i. merge_shown (made other_zeds_side i) (made zeds_side i) (codes "bo"))
+          ∙ merge_listed other one (codes "bo")
+          (record { first = second; second = first; along = (second, tt); left = record { users = tt; channels = tt; members = (tt, tt) } }),
+      (λ i. read_deed (codes "b.net") (λ home. pointwise nat_eq home (codes "a.net")) (made other_zeds_side i) (does (AddUser (of_a (codes "zed")))))
+          ∙ ap (λ o. option_map_or (λ (holder : User). kills (codes "b.net") holder.nick ∷ []) o (does (AddUser (of_a (codes "zed"))) ∷ [])) (user_listed other (key (codes "zed"))),
+    )

@@ -1,0 +1,140 @@
+-- Two rooms become one: it is well formed, and the same whichever is named first.
+use Rattle.std.proofs.Common.{◌≡◌, ℕ, true, Option, Some, None, List, refl, sym, ◌∙◌, ap, subst, is_some}
+use Rattle.irc_names.specs.Fold.{key}
+use Rattle.irc_names.specs.Tables.{Table, row, both}
+use Rattle.irc_names.specs.TableLaws.{same_table, row-both}
+use Rattle.irc_users.specs.declared.user.User.{User}
+use Rattle.irc_channels.specs.declared.channel.Channel.{Channel}
+use Rattle.irc_room.specs.Room.{Room, IsWellFormed, IsSoundRow}
+use Rattle.irc_room.proofs.Rows.{not_true, same_some, some_row, some_key}
+use Rattle.irc_room.proofs.SoundRows.{IsWithin, sound_more}
+use Rattle.irc_merge.specs.Merge.{AreAlike, either, one_channel, joined_channel, union, merge, without}
+use Rattle.irc_merge.specs.Laws.{MergeIsEven, MergeIsWellFormed}
+use Rattle.irc_merge.proofs.Clashing.{without_well, held_apart}
+
+-- ---- rows of one table or another
+
+pub row-either : {X : Type 0} (one other : Table X) (q : List ℕ) → row (both either one other) q ≡ either (row one q) (row other q)
+row-either one other q = row-both either one other refl q
+
+pub row-joined : (one other : Table Channel) (q : List ℕ) → row (both joined_channel one other) q ≡ joined_channel (row one q) (row other q)
+row-joined one other q = row-both joined_channel one other refl q
+
+pub either_first : {X : Type 0} (x y : Option X) → is_some x ≡ true → is_some (either x y) ≡ true
+either_first None y there = not_true there
+either_first (Some x) y there = refl
+
+pub either_second : {X : Type 0} (x y : Option X) → is_some y ≡ true → is_some (either x y) ≡ true
+either_second None y there = there
+either_second (Some x) y there = refl
+
+either_turned : {X : Type 0} (x y : Option X) → (is_some x ≡ true → is_some y ≡ true → ⊥) → either x y ≡ either y x
+either_turned None None apart = refl
+either_turned None (Some y) apart = refl
+either_turned (Some x) None apart = refl
+either_turned (Some x) (Some y) apart = absurd (apart refl refl)
+
+turned : {X : Type 0} (one other : Table X) → ((q : List ℕ) → is_some (row one q) ≡ true → is_some (row other q) ≡ true → ⊥)
+    → both either one other ≡ both either other one
+turned one other apart = same_table (both either one other) (both either other one) (λ q.
+    row-either one other q ∙ either_turned (row one q) (row other q) (apart q) ∙ sym (row-either other one q))
+
+-- ---- the union is well formed
+
+first_within : {X : Type 0} (one other : Table X) → IsWithin one (both either one other)
+first_within one other = record { at = λ q there. ap is_some (row-either one other q) ∙ either_first (row one q) (row other q) there }
+
+second_within : {X : Type 0} (one other : Table X) → IsWithin other (both either one other)
+second_within one other = record { at = λ q there. ap is_some (row-either one other q) ∙ either_second (row one q) (row other q) there }
+
+-- what is within two tables, is within what both are
+either_within : {X Y : Type 0} (small more : Table X) (one other : Table Y) → IsWithin small one → IsWithin more other
+    → IsWithin (both either small more) (both either one other)
+either_within {X} small more one other first second = record {
+  at = λ q there. by_row q (row small q) refl (sym (ap is_some (row-either small more q)) ∙ there);
+}
+  where
+    by_row : (q : List ℕ) (o : Option X) → row small q ≡ o → is_some (either o (row more q)) ≡ true → is_some (row (both either one other) q) ≡ true
+    by_row q None at there = (second_within one other).at q (second.at q there)
+    by_row q (Some x) at there = (first_within one other).at q (first.at q (ap is_some at))
+
+both_sound : (one other : Table User) (fold : List ℕ) (c d : Channel) → IsSoundRow one fold c → IsSoundRow other fold d
+    → IsSoundRow (both either one other) fold (one_channel c d)
+both_sound one other fold c d sound_c sound_d = record {
+  named = sound_c.named;
+  members_known = (either_within c.members d.members one other (record { at = sound_c.members_known }) (record { at = sound_d.members_known })).at;
+  invited_known = (either_within c.invited d.invited one other (record { at = sound_c.invited_known }) (record { at = sound_d.invited_known })).at;
+  some_member =
+      let found = some_row c.members sound_c.some_member in
+      some_key (both either c.members d.members) found.0 ((first_within c.members d.members).at found.0 found.1);
+}
+
+pub union_well : (one other : Room) → IsWellFormed one → IsWellFormed other → IsWellFormed (union one other)
+union_well one other well_one well_other = record {
+  users_named = λ q user is. user_named q user (row one.users q) refl (sym (row-either one.users other.users q) ∙ is);
+  channels_sound = λ fold channel is.
+      channel_sound fold channel (row one.channels fold) refl (row other.channels fold) refl (sym (row-joined one.channels other.channels fold) ∙ is);
+}
+  where
+    user_named : (q : List ℕ) (user : User) (o : Option User) → row one.users q ≡ o → either o (row other.users q) ≡ Some user → key user.nick ≡ q
+    user_named q user None at is = well_other.users_named q user is
+    user_named q user (Some u) at is = well_one.users_named q user (at ∙ is)
+
+    channel_sound : (fold : List ℕ) (channel : Channel) (o : Option Channel) → row one.channels fold ≡ o → (p : Option Channel) → row other.channels fold ≡ p
+        → joined_channel o p ≡ Some channel → IsSoundRow (both either one.users other.users) fold channel
+    channel_sound fold channel None at p that is =
+        sound_more other.users (both either one.users other.users) fold channel (second_within one.users other.users)
+        (well_other.channels_sound fold channel (that ∙ is))
+    channel_sound fold channel (Some c) at None that is =
+        sound_more one.users (both either one.users other.users) fold channel (first_within one.users other.users)
+        (well_one.channels_sound fold channel (at ∙ is))
+    channel_sound fold channel (Some c) at (Some d) that is =
+        subst (IsSoundRow (both either one.users other.users) fold) (same_some (one_channel c d) channel is)
+        (both_sound one.users other.users fold c d (well_one.channels_sound fold c at) (well_other.channels_sound fold d that))
+
+pub merge_is_well_formed : MergeIsWellFormed
+unfolding merge
+merge_is_well_formed one other well_one well_other =
+    union_well (without one other) (without other one) (without_well one other well_one) (without_well other one well_other)
+
+-- ---- and even
+
+one_turned : (c d : Channel) → AreAlike c d → ((q : List ℕ) → is_some (row c.members q) ≡ true → is_some (row d.members q) ≡ true → ⊥)
+    → ((q : List ℕ) → is_some (row c.invited q) ≡ true → is_some (row d.invited q) ≡ true → ⊥) → one_channel c d ≡ one_channel d c
+one_turned c d alike members invited = λ i. record {
+  name = alike.name i;
+  modes = alike.modes i;
+  topic = alike.topic i;
+  members = turned c.members d.members members i;
+  invited = turned c.invited d.invited invited i;
+}
+
+channels_turned : (x y : Room) → IsWellFormed x → IsWellFormed y → ((q : List ℕ) → is_some (row x.users q) ≡ true → is_some (row y.users q) ≡ true → ⊥)
+    → ((fold : List ℕ) (c d : Channel) → row x.channels fold ≡ Some c → row y.channels fold ≡ Some d → AreAlike c d)
+    → both joined_channel x.channels y.channels ≡ both joined_channel y.channels x.channels
+channels_turned x y well_x well_y apart alike = same_table (both joined_channel x.channels y.channels) (both joined_channel y.channels x.channels) (λ f.
+    row-joined x.channels y.channels f
+    ∙ by_rows f (row x.channels f) refl (row y.channels f) refl
+    ∙ sym (row-joined y.channels x.channels f))
+  where
+    by_rows : (f : List ℕ) (o : Option Channel) → row x.channels f ≡ o → (p : Option Channel) → row y.channels f ≡ p → joined_channel o p ≡ joined_channel p o
+    by_rows f None at None that = refl
+    by_rows f None at (Some d) that = refl
+    by_rows f (Some c) at None that = refl
+    by_rows f (Some c) at (Some d) that =
+        let here = well_x.channels_sound f c at in
+        let there = well_y.channels_sound f d that in
+        ap Some (one_turned c d (alike f c d at that)
+        (λ q one other. apart q (here.members_known q one) (there.members_known q other))
+        (λ q one other. apart q (here.invited_known q one) (there.invited_known q other)))
+
+pub merge_is_even : MergeIsEven
+unfolding merge
+merge_is_even one other well_one well_other agree =
+    let x = without one other in
+    let y = without other one in
+    let apart : (q : List ℕ) → is_some (row x.users q) ≡ true → is_some (row y.users q) ≡ true → ⊥ = λ q. held_apart one other well_one well_other q in
+    λ i. record {
+      users = turned x.users y.users apart i;
+      channels = channels_turned x y (without_well one other well_one) (without_well other one well_other) apart agree.alike i;
+    }

@@ -1,0 +1,438 @@
+-- Invitations play no part in what a burst tells, does and shows, but that each server keeps those of its own users.
+use Rattle.std.proofs.Common.{◌≡◌, ℕ, Bool, true, false, cond, not, ◌&&◌, ◌||◌, Option, Some, None, List, [], ◌∷◌, ◌++◌, refl, sym, ◌∙◌, ap, subst, filter_map, is_some, option_map, option_to_list, codes}
+use Rattle.std.specs.List.{flat_map, list_any}
+use Rattle.std.specs.Option.{option_and_then, option_map_or}
+use Rattle.std.specs.Cmp.Lexicographic.{bytes_decides}
+use Rattle.std.specs.FinMap.{empty, keys, values, retain_keys, get-empty}
+use Rattle.irc_names.specs.Fold.{key, same}
+use Rattle.irc_names.specs.Tables.{Table, fold_cmp, row, alter, each, both}
+use Rattle.irc_names.specs.TableLaws.{same_table, row-each}
+use Rattle.irc_users.specs.declared.user.User.{User}
+use Rattle.irc_users.specs.UserTable.{is_home}
+use Rattle.irc_channels.specs.declared.channel.Channel.{Channel}
+use Rattle.irc_modes.specs.Modes.{is_nil}
+use Rattle.irc_channels.specs.Channels.{has_member, without_user}
+use Rattle.irc_room.specs.declared.effect.Effect.TheVariants.{Quit}
+use Rattle.irc_room.specs.Room.{Room, IsWellFormed, IsSoundRow}
+use Rattle.irc_room.specs.After.{after}
+use Rattle.irc_room.proofs.Rows.{not_none, not_true, same_some, alter_same}
+use Rattle.irc_room.specs.Seen.{full_sender, line_of}
+use Rattle.irc_room.specs.Viewers.{shows_to}
+use Rattle.irc_merge.specs.ShownAlong.{shown_along}
+use Rattle.irc_merge.specs.Deeds.{after_deeds, shown_by_all}
+use Rattle.irc_merge.specs.BurstRead.{read_all}
+use Rattle.irc_merge.specs.Quits.{quits, collision_text}
+use Rattle.irc_merge.specs.Bursts.{burst}
+use Rattle.irc_merge.specs.Merge.{clash, without, either, joined_channel, one_channel, merge, uninvited, channel_uninvited}
+use Rattle.irc_merge.specs.MergeShown.{channel_arrivals, arrivals, merge_shown}
+use Rattle.irc_merge.specs.Laws.{AreApart}
+use Rattle.irc_room.specs.Invitations.{is_at, inviting_only, of_home}
+use Rattle.irc_merge.specs.OwnInvitations.{ServerReadsMerge, ServerShowsMerge}
+use Rattle.irc_merge.proofs.TableWords.{row-kept, values_each}
+use Rattle.irc_merge.proofs.Tests.{either_way}
+use Rattle.irc_merge.proofs.Quitting.{among, thinned}
+use Rattle.irc_merge.proofs.Introducing.{told_user, both_users}
+use Rattle.irc_merge.proofs.Clashing.{clashing, users_without, channels_without}
+use Rattle.irc_merge.proofs.Joining.{row-either, row-joined}
+use Rattle.irc_merge.proofs.ReadMerge.{nothing_kept, uninvited_well, uninvited_burst, burst_read_is_merge}
+use Rattle.irc_merge.proofs.ShownUsers.{quit_to, quit_shows}
+use Rattle.irc_merge.proofs.ShownMerge.{shown_is_merge_shown}
+
+-- ---- a room without its invitations, whichever it had
+
+-- other invitations are none, once there are none
+pub of_home_uninvited : (home : List ℕ) (room : Room) → uninvited (of_home home room) ≡ uninvited room
+unfolding of_home
+of_home_uninvited home room = ap (λ (t : Table Channel). record room { channels = t }) (same_table
+    (each channel_uninvited (each (λ channel. Some (inviting_only (is_at home room.users) channel)) room.channels)) (each channel_uninvited room.channels) (λ q.
+    row-each channel_uninvited (each (λ channel. Some (inviting_only (is_at home room.users) channel)) room.channels) q
+    ∙ ap (option_and_then channel_uninvited) (row-each (λ channel. Some (inviting_only (is_at home room.users) channel)) room.channels q)
+    ∙ by_row (row room.channels q)
+    ∙ sym (row-each channel_uninvited room.channels q)))
+  where
+    by_row : (o : Option Channel)
+        → option_and_then channel_uninvited (option_and_then (λ channel. Some (inviting_only (is_at home room.users) channel)) o) ≡ option_and_then channel_uninvited o
+    by_row None = refl
+    by_row (Some channel) = refl
+
+-- what a server has of a room is told as all of the room
+pub of_home_burst : (server home : List ℕ) (room : Room) → burst server (of_home home room) ≡ burst server room
+of_home_burst server home room =
+    sym (uninvited_burst server (of_home home room)) ∙ ap (burst server) (of_home_uninvited home room) ∙ uninvited_burst server room
+
+-- ---- quits
+
+left_twice : (gone : List ℕ → Bool) (o : Option Channel)
+    → option_and_then (thinned gone) (option_and_then channel_uninvited o) ≡ option_and_then channel_uninvited (option_and_then (thinned gone) o)
+left_twice gone None = refl
+left_twice gone (Some channel) = by_test (is_nil (keys (retain_keys channel.members (λ q. not (gone q)))))
+  where
+    by_test : (b : Bool)
+        → cond b None (Some (record channel { members = retain_keys channel.members (λ q. not (gone q)); invited = retain_keys empty (λ q. not (gone q)) }))
+        ≡ option_and_then channel_uninvited
+        (cond b None (Some (record channel { members = retain_keys channel.members (λ q. not (gone q)); invited = retain_keys channel.invited (λ q. not (gone q)) })))
+    by_test true = refl
+    by_test false =
+        ap (λ (t : Table (Unit {0})). Some (record channel { members = retain_keys channel.members (λ q. not (gone q)); invited = t })) (sym (nothing_kept (λ q. not (gone q))))
+
+-- who quits before takes no part in who is invited after
+pub without_uninvited : (room other : Room) → IsWellFormed room → without (uninvited room) other ≡ uninvited (without room other)
+without_uninvited room other well = λ i. record { users = same_users i; channels = same_channels i }
+  where
+    same_users : (without (uninvited room) other).users ≡ (without room other).users
+    same_users = same_table (without (uninvited room) other).users (without room other).users (λ q.
+        users_without (uninvited room) other (uninvited_well room well) q ∙ sym (users_without room other well q))
+
+    same_channels : (without (uninvited room) other).channels ≡ each channel_uninvited (without room other).channels
+    same_channels = same_table (without (uninvited room) other).channels (each channel_uninvited (without room other).channels) (λ q.
+        channels_without (uninvited room) other (uninvited_well room well) q
+        ∙ ap (option_and_then (thinned (among (clash room other)))) (row-each channel_uninvited room.channels q)
+        ∙ left_twice (among (clash room other)) (row room.channels q)
+        ∙ sym (row-each channel_uninvited (without room other).channels q ∙ ap (option_and_then channel_uninvited) (channels_without room other well q)))
+
+-- who clashes is a matter of users
+same_without : (room other : Room) → without room (uninvited other) ≡ without room other
+unfolding without
+same_without room other = refl
+
+any_uninvited : (p : Channel → Bool) → ((channel : Channel) → p (record channel { invited = empty }) ≡ p channel) → (channels : List Channel)
+    → list_any p (filter_map channel_uninvited channels) ≡ list_any p channels
+any_uninvited p same [] = refl
+any_uninvited p same (channel ∷ channels) = λ i. same channel i || any_uninvited p same channels i
+
+quit_uninvited : (room : Room) (nick text viewer : List ℕ) → shows_to (uninvited room) (Quit nick text) viewer ≡ shows_to room (Quit nick text) viewer
+quit_uninvited room nick text viewer =
+    quit_shows (uninvited room) nick text viewer
+    ∙ by_viewer (row room.users (key viewer))
+    ∙ sym (quit_shows room nick text viewer)
+  where
+    by_viewer : (o : Option User) → quit_to nick text (each channel_uninvited room.channels) (row room.users (key nick)) o ≡ quit_to nick text room.channels (row room.users (key nick)) o
+    by_viewer None = refl
+    by_viewer (Some user) =
+        ap (λ b. cond (not (same nick user.nick) && b) (line_of (codes "QUIT") [] (Some text) (option_map full_sender (row room.users (key nick)))) None)
+        (ap (list_any (λ channel. has_member (key nick) channel && has_member (key user.nick) channel)) (values_each channel_uninvited room.channels)
+        ∙ any_uninvited (λ channel. has_member (key nick) channel && has_member (key user.nick) channel) (λ channel. refl) (values room.channels))
+
+gone_uninvited : (room : Room) (nick text : List ℕ) → after (uninvited room) (Quit nick text) ≡ uninvited (after room (Quit nick text))
+unfolding after
+gone_uninvited room nick text = ap (λ (t : Table Channel). record { users = alter (key nick) (λ _. None) room.users; channels = t }) (same_table
+    (each (without_user (key nick)) (each channel_uninvited room.channels)) (each channel_uninvited (each (without_user (key nick)) room.channels)) (λ q.
+    row-each (without_user (key nick)) (each channel_uninvited room.channels) q
+    ∙ ap (option_and_then (without_user (key nick))) (row-each channel_uninvited room.channels q)
+    ∙ by_row (row room.channels q)
+    ∙ sym (row-each channel_uninvited (each (without_user (key nick)) room.channels) q
+    ∙ ap (option_and_then channel_uninvited) (row-each (without_user (key nick)) room.channels q))))
+  where
+    by_test : (channel : Channel) (b : Bool)
+        → cond b None (Some (record channel { members = alter (key nick) (λ _. None) channel.members; invited = alter (key nick) (λ _. None) empty }))
+        ≡ option_and_then channel_uninvited
+        (cond b None (Some (record channel { members = alter (key nick) (λ _. None) channel.members; invited = alter (key nick) (λ _. None) channel.invited })))
+    by_test channel true = refl
+    by_test channel false =
+        ap (λ (t : Table (Unit {0})). Some (record channel { members = alter (key nick) (λ _. None) channel.members; invited = t }))
+        (alter_same (key nick) (λ _. None) empty (sym (get-empty fold_cmp (key nick))))
+
+    by_row : (o : Option Channel) → option_and_then (without_user (key nick)) (option_and_then channel_uninvited o)
+        ≡ option_and_then channel_uninvited (option_and_then (without_user (key nick)) o)
+    by_row None = refl
+    by_row (Some channel) = by_test channel (is_nil (keys (alter (key nick) (λ _. None) channel.members)))
+
+quits_uninvited : (viewer text : List ℕ) (users : List User) (room : Room)
+    → shown_along viewer (uninvited room) (quits text users) ≡ shown_along viewer room (quits text users)
+quits_uninvited viewer text [] room = refl
+quits_uninvited viewer text (user ∷ users) room =
+    λ i. option_to_list (quit_uninvited room user.nick text viewer i)
+    ++ (ap (λ r. shown_along viewer r (quits text users)) (gone_uninvited room user.nick text) ∙ quits_uninvited viewer text users (after room (Quit user.nick text))) i
+
+-- ---- arrivals
+
+ours_uninvited : (other : Room) (viewer : User) (theirs : Channel) (o : Option Channel)
+    → option_map_or (channel_arrivals other viewer theirs) (option_and_then channel_uninvited o) [] ≡ option_map_or (channel_arrivals other viewer theirs) o []
+ours_uninvited other viewer theirs None = refl
+ours_uninvited other viewer theirs (Some ours) = refl
+
+each_arrival : (room other : Room) (viewer : User) (channels : List Channel)
+    → flat_map (λ (theirs : Channel). option_map_or (channel_arrivals other viewer theirs) (row (uninvited room).channels (key theirs.name)) []) (filter_map channel_uninvited channels)
+    ≡ flat_map (λ (theirs : Channel). option_map_or (channel_arrivals other viewer theirs) (row room.channels (key theirs.name)) []) channels
+each_arrival room other viewer [] = refl
+each_arrival room other viewer (channel ∷ channels) =
+    λ i. (ap (λ o. option_map_or (channel_arrivals other viewer channel) o []) (row-each channel_uninvited room.channels (key channel.name))
+    ∙ ours_uninvited other viewer channel (row room.channels (key channel.name))) i
+    ++ each_arrival room other viewer channels i
+
+arrivals_uninvited : (room other : Room) (viewer : User) → arrivals (uninvited room) (uninvited other) viewer ≡ arrivals room other viewer
+arrivals_uninvited room other viewer =
+    ap (flat_map (λ (theirs : Channel). option_map_or (channel_arrivals other viewer theirs) (row (uninvited room).channels (key theirs.name)) [])) (values_each channel_uninvited other.channels)
+    ∙ each_arrival room other viewer (values other.channels)
+
+pub shown_uninvited : (room other : Room) → IsWellFormed room → IsWellFormed other → (viewer : List ℕ) → merge_shown (uninvited room) (uninvited other) viewer ≡ merge_shown room other viewer
+unfolding merge_shown
+shown_uninvited room other well well_other viewer =
+    (λ i. quits_uninvited viewer collision_text (clash room other) room i
+    ++ left_arrivals i)
+    ∙ ap (λ lines. shown_along viewer room (quits collision_text (clash room other)) ++ lines) (by_row (row (without room other).users (key viewer)))
+  where
+    ours : without (uninvited room) (uninvited other) ≡ uninvited (without room other)
+    ours = same_without (uninvited room) other ∙ without_uninvited room other well
+
+    theirs : without (uninvited other) (uninvited room) ≡ uninvited (without other room)
+    theirs = same_without (uninvited other) room ∙ without_uninvited other room well_other
+
+    left_arrivals : option_map_or (arrivals (without (uninvited room) (uninvited other)) (without (uninvited other) (uninvited room)))
+        (row (without (uninvited room) (uninvited other)).users (key viewer)) []
+        ≡ option_map_or (arrivals (uninvited (without room other)) (uninvited (without other room))) (row (without room other).users (key viewer)) []
+    left_arrivals = λ j. option_map_or (arrivals (ours j) (theirs j)) (row (ours j).users (key viewer)) []
+
+    by_row : (o : Option User) → option_map_or (arrivals (uninvited (without room other)) (uninvited (without other room))) o [] ≡ option_map_or (arrivals (without room other) (without other room)) o []
+    by_row None = refl
+    by_row (Some user) = arrivals_uninvited (without room other) (without other room) user
+
+-- ---- each server keeps those of its own users
+
+home_row : (home : List ℕ) (room : Room) (q : List ℕ)
+    → row (of_home home room).channels q ≡ option_map (inviting_only (is_at home room.users)) (row room.channels q)
+unfolding of_home
+home_row home room q = row-each (λ channel. Some (inviting_only (is_at home room.users) channel)) room.channels q ∙ by_row (row room.channels q)
+  where
+    by_row : (o : Option Channel) → option_and_then (λ channel. Some (inviting_only (is_at home room.users) channel)) o ≡ option_map (inviting_only (is_at home room.users)) o
+    by_row None = refl
+    by_row (Some channel) = refl
+
+home_users : (home : List ℕ) (room : Room) → (of_home home room).users ≡ room.users
+unfolding of_home
+home_users home room = refl
+
+home_clash : (home : List ℕ) (room other : Room) → clash (of_home home room) other ≡ clash room other
+unfolding of_home
+home_clash home room other = refl
+
+clash_home : (home : List ℕ) (room other : Room) → clash other (of_home home room) ≡ clash other room
+unfolding of_home
+clash_home home room other = refl
+
+invited_sound : (users : Table User) (stays : List ℕ → Bool) (fold : List ℕ) (channel : Channel) → IsSoundRow users fold channel → IsSoundRow users fold (inviting_only stays channel)
+invited_sound users stays fold channel sound = record {
+  named = sound.named;
+  members_known = sound.members_known;
+  invited_known = λ q there. sound.invited_known q (by_test q (stays q) (sym (ap is_some (row-kept channel.invited stays q)) ∙ there));
+  some_member = sound.some_member;
+}
+  where
+    by_test : (q : List ℕ) (b : Bool) → is_some (cond b (row channel.invited q) None) ≡ true → is_some (row channel.invited q) ≡ true
+    by_test q true there = there
+    by_test q false there = not_true there
+
+home_well : (home : List ℕ) (room : Room) → IsWellFormed room → IsWellFormed (of_home home room)
+home_well home room well = record {
+  users_named = λ q user is. well.users_named q user (ap (λ t. row t q) (sym (home_users home room)) ∙ is);
+  channels_sound = λ fold channel is.
+      subst (λ us. IsSoundRow us fold channel) (sym (home_users home room))
+      (by_row fold channel (row room.channels fold) refl (sym (home_row home room fold) ∙ is));
+}
+  where
+    by_row : (fold : List ℕ) (channel : Channel) (o : Option Channel) → row room.channels fold ≡ o → option_map (inviting_only (is_at home room.users)) o ≡ Some channel
+        → IsSoundRow room.users fold channel
+    by_row fold channel None at is = not_none channel is
+    by_row fold channel (Some before) at is =
+        subst (IsSoundRow room.users fold) (same_some (inviting_only (is_at home room.users) before) channel is)
+        (invited_sound room.users (is_at home room.users) fold before (well.channels_sound fold before at))
+
+-- this side's room, the other's, and a server of this side
+module _ (home : List ℕ) (room other : Room) (well : IsWellFormed room) (well_other : IsWellFormed other)
+    (elsewhere : (q : List ℕ) (user : User) → row other.users q ≡ Some user → is_home home user ≡ false) where
+  abbrev all : Table User
+  all = both either (without room other).users (without other room).users
+
+  abbrev stays : List ℕ → Bool
+  stays = is_at home all
+
+  stays_is : (q : List ℕ) → stays q ≡ option_map_or (is_home home) (told_user (row room.users q) (row other.users q)) false
+  stays_is q = ap (λ o. option_map_or (is_home home) o false) (both_users room other well well_other q)
+
+  abbrev gone : List ℕ → Bool
+  gone = among (clash room other)
+
+  abbrev theirs_gone : List ℕ → Bool
+  theirs_gone = among (clash other room)
+
+  -- an invitation of this side
+  our_invited : (invited : Table (Unit {0})) → ((q : List ℕ) → is_some (row invited q) ≡ true → is_some (row room.users q) ≡ true)
+      → retain_keys (retain_keys invited (is_at home room.users)) (λ q. not (gone q)) ≡ retain_keys (retain_keys invited (λ q. not (gone q))) stays
+  our_invited invited known = same_table _ _ (λ q.
+      row-kept (retain_keys invited (is_at home room.users)) (λ q. not (gone q)) q
+      ∙ ap (λ o. cond (not (gone q)) o None) (row-kept invited (is_at home room.users) q)
+      ∙ by_row q (row invited q) refl
+      ∙ sym (row-kept (retain_keys invited (λ q. not (gone q))) stays q ∙ ap (λ o. cond (stays q) o None) (row-kept invited (λ q. not (gone q)) q)))
+    where
+      by_users : (q : List ℕ) (o p : Option User) → is_some o ≡ true → (x : Option (Unit {0}))
+          → cond (not (is_some o && is_some p)) (cond (option_map_or (is_home home) o false) x None) None
+          ≡ cond (option_map_or (is_home home) (told_user o p) false) (cond (not (is_some o && is_some p)) x None) None
+      by_users q None p there x = not_true there
+      by_users q (Some user) None there x = refl
+      by_users q (Some user) (Some holder) there x = refl
+
+      by_row : (q : List ℕ) (o : Option (Unit {0})) → row invited q ≡ o
+          → cond (not (gone q)) (cond (is_at home room.users q) o None) None ≡ cond (stays q) (cond (not (gone q)) o None) None
+      by_row q None at =
+          ap (λ o. cond (not (gone q)) o None) (either_way (is_at home room.users q) None)
+          ∙ either_way (not (gone q)) None
+          ∙ sym (ap (λ o. cond (stays q) o None) (either_way (not (gone q)) None) ∙ either_way (stays q) None)
+      by_row q (Some u) at =
+          (λ i. cond (not (clashing room other well q i)) (cond (is_at home room.users q) (Some u) None) None)
+          ∙ by_users q (row room.users q) (row other.users q) (known q (ap is_some at)) (Some u)
+          ∙ sym (λ i. cond (stays_is q i) (cond (not (clashing room other well q i)) (Some u) None) None)
+
+  -- and one of the other side
+  their_invited : (invited : Table (Unit {0})) → ((q : List ℕ) → is_some (row invited q) ≡ true → is_some (row other.users q) ≡ true)
+      → retain_keys empty (λ q. not (theirs_gone q)) ≡ retain_keys (retain_keys invited (λ q. not (theirs_gone q))) stays
+  their_invited invited known = same_table _ _ (λ q.
+      row-kept empty (λ q. not (theirs_gone q)) q
+      ∙ ap (λ o. cond (not (theirs_gone q)) o None) (get-empty {X = Unit {0}} fold_cmp q)
+      ∙ either_way (not (theirs_gone q)) None
+      ∙ by_row q (row invited q) refl
+      ∙ sym (row-kept (retain_keys invited (λ q. not (theirs_gone q))) stays q ∙ ap (λ o. cond (stays q) o None) (row-kept invited (λ q. not (theirs_gone q)) q)))
+    where
+      by_users : (q : List ℕ) (o p : Option User) → row other.users q ≡ p → is_some p ≡ true → (x : Option (Unit {0}))
+          → None ≡ cond (option_map_or (is_home home) (told_user o p) false) (cond (not (is_some p && is_some o)) x None) None
+      by_users q o None is there x = not_true there
+      by_users q None (Some user) is there x = sym (ap (λ b. cond b x None) (elsewhere q user is))
+      by_users q (Some holder) (Some user) is there x = refl
+
+      by_row : (q : List ℕ) (o : Option (Unit {0})) → row invited q ≡ o → None ≡ cond (stays q) (cond (not (theirs_gone q)) o None) None
+      by_row q None at = sym (ap (λ o. cond (stays q) o None) (either_way (not (theirs_gone q)) None) ∙ either_way (stays q) None)
+      by_row q (Some u) at =
+          by_users q (row room.users q) (row other.users q) refl (known q (ap is_some at)) (Some u)
+          ∙ sym (λ i. cond (stays_is q i) (cond (not (clashing other room well_other q i)) (Some u) None) None)
+
+  ours_left : (fold : List ℕ) → row (without (of_home home room) (uninvited other)).channels fold ≡ option_map (inviting_only stays) (row (without room other).channels fold)
+  ours_left fold =
+      ap (λ (r : Room). row r.channels fold) (same_without (of_home home room) other)
+      ∙ channels_without (of_home home room) other (home_well home room well) fold
+      ∙ ap (λ us. option_and_then (thinned (among us)) (row (of_home home room).channels fold)) (home_clash home room other)
+      ∙ ap (option_and_then (thinned gone)) (home_row home room fold)
+      ∙ by_row (row room.channels fold) refl
+      ∙ sym (ap (option_map (inviting_only stays)) (channels_without room other well fold))
+    where
+      by_test : (channel : Channel) → IsSoundRow room.users fold channel → (b : Bool)
+          → cond b None (Some (record channel {
+            members = retain_keys channel.members (λ q. not (gone q));
+            invited = retain_keys (retain_keys channel.invited (is_at home room.users)) (λ q. not (gone q));
+          }))
+          ≡ option_map (inviting_only stays)
+          (cond b None (Some (record channel { members = retain_keys channel.members (λ q. not (gone q)); invited = retain_keys channel.invited (λ q. not (gone q)) })))
+      by_test channel sound true = refl
+      by_test channel sound false =
+          ap (λ (t : Table (Unit {0})). Some (record channel { members = retain_keys channel.members (λ q. not (gone q)); invited = t })) (our_invited channel.invited sound.invited_known)
+
+      by_row : (o : Option Channel) → row room.channels fold ≡ o
+          → option_and_then (thinned gone) (option_map (inviting_only (is_at home room.users)) o) ≡ option_map (inviting_only stays) (option_and_then (thinned gone) o)
+      by_row None at = refl
+      by_row (Some channel) at = by_test channel (well.channels_sound fold channel at) (is_nil (keys (retain_keys channel.members (λ q. not (gone q)))))
+
+  theirs_left : (fold : List ℕ) → row (without (uninvited other) (of_home home room)).channels fold ≡ option_map (inviting_only stays) (row (without other room).channels fold)
+  theirs_left fold =
+      channels_without (uninvited other) (of_home home room) (uninvited_well other well_other) fold
+      ∙ ap (λ us. option_and_then (thinned (among us)) (row (uninvited other).channels fold)) (clash_home home room (uninvited other))
+      ∙ ap (option_and_then (thinned theirs_gone)) (row-each channel_uninvited other.channels fold)
+      ∙ by_row (row other.channels fold) refl
+      ∙ sym (ap (option_map (inviting_only stays)) (channels_without other room well_other fold))
+    where
+      by_test : (channel : Channel) → IsSoundRow other.users fold channel → (b : Bool)
+          → cond b None (Some (record channel { members = retain_keys channel.members (λ q. not (theirs_gone q)); invited = retain_keys empty (λ q. not (theirs_gone q)) }))
+          ≡ option_map (inviting_only stays)
+          (cond b None (Some (record channel { members = retain_keys channel.members (λ q. not (theirs_gone q)); invited = retain_keys channel.invited (λ q. not (theirs_gone q)) })))
+      by_test channel sound true = refl
+      by_test channel sound false =
+          ap (λ (t : Table (Unit {0})). Some (record channel { members = retain_keys channel.members (λ q. not (theirs_gone q)); invited = t })) (their_invited channel.invited sound.invited_known)
+
+      by_row : (o : Option Channel) → row other.channels fold ≡ o
+          → option_and_then (thinned theirs_gone) (option_and_then channel_uninvited o) ≡ option_map (inviting_only stays) (option_and_then (thinned theirs_gone) o)
+      by_row None at = refl
+      by_row (Some channel) at = by_test channel (well_other.channels_sound fold channel at) (is_nil (keys (retain_keys channel.members (λ q. not (theirs_gone q)))))
+
+  -- invitations of both, of whom some stay
+  one_staying : (c d : Channel) → one_channel (inviting_only stays c) (inviting_only stays d) ≡ inviting_only stays (one_channel c d)
+  one_staying c d = ap (λ (t : Table (Unit {0})). record (one_channel c d) { invited = t }) (same_table _ _ (λ q.
+      row-either (retain_keys c.invited stays) (retain_keys d.invited stays) q
+      ∙ (λ i. either (row-kept c.invited stays q i) (row-kept d.invited stays q i))
+      ∙ by_test (stays q) (row c.invited q) (row d.invited q)
+      ∙ sym (row-kept (both either c.invited d.invited) stays q ∙ ap (λ o. cond (stays q) o None) (row-either c.invited d.invited q))))
+    where
+      by_test : (b : Bool) (x y : Option (Unit {0})) → either (cond b x None) (cond b y None) ≡ cond b (either x y) None
+      by_test true x y = refl
+      by_test false x y = refl
+
+  joined_staying : (x y : Option Channel)
+      → joined_channel (option_map (inviting_only stays) x) (option_map (inviting_only stays) y) ≡ option_map (inviting_only stays) (joined_channel x y)
+  joined_staying None None = refl
+  joined_staying None (Some d) = refl
+  joined_staying (Some c) None = refl
+  joined_staying (Some c) (Some d) = ap Some (one_staying c d)
+
+  left_users : (fold : List ℕ) → row (without (of_home home room) (uninvited other)).users fold ≡ row (without room other).users fold
+  left_users fold =
+      ap (λ (r : Room). row r.users fold) (same_without (of_home home room) other)
+      ∙ users_without (of_home home room) other (home_well home room well) fold
+      ∙ ap (λ us. cond (is_some (row us fold) && is_some (row other.users fold)) None (row us fold)) (home_users home room)
+      ∙ sym (users_without room other well fold)
+
+  their_users : (fold : List ℕ) → row (without (uninvited other) (of_home home room)).users fold ≡ row (without other room).users fold
+  their_users fold =
+      users_without (uninvited other) (of_home home room) (uninvited_well other well_other) fold
+      ∙ ap (λ us. cond (is_some (row other.users fold) && is_some (row us fold)) None (row other.users fold)) (home_users home room)
+      ∙ sym (users_without other room well_other fold)
+
+  pub home_of_merge : merge (of_home home room) (uninvited other) ≡ of_home home (merge room other)
+  unfolding merge of_home
+  home_of_merge = λ i. record { users = same_users i; channels = same_channels i }
+    where
+      same_users : both either (without (of_home home room) (uninvited other)).users (without (uninvited other) (of_home home room)).users ≡ all
+      same_users = same_table _ _ (λ q.
+          row-either (without (of_home home room) (uninvited other)).users (without (uninvited other) (of_home home room)).users q
+          ∙ (λ i. either (left_users q i) (their_users q i))
+          ∙ sym (row-either (without room other).users (without other room).users q))
+
+      mapped : (o : Option Channel) → option_map (inviting_only stays) o ≡ option_and_then (λ channel. Some (inviting_only stays channel)) o
+      mapped None = refl
+      mapped (Some channel) = refl
+
+      same_channels : both joined_channel (without (of_home home room) (uninvited other)).channels (without (uninvited other) (of_home home room)).channels
+          ≡ each (λ channel. Some (inviting_only stays channel)) (both joined_channel (without room other).channels (without other room).channels)
+      same_channels = same_table _ _ (λ q.
+          row-joined (without (of_home home room) (uninvited other)).channels (without (uninvited other) (of_home home room)).channels q
+          ∙ (λ i. joined_channel (ours_left q i) (theirs_left q i))
+          ∙ joined_staying (row (without room other).channels q) (row (without other room).channels q)
+          ∙ ap (option_map (inviting_only stays)) (sym (row-joined (without room other).channels (without other room).channels q))
+          ∙ mapped (row (both joined_channel (without room other).channels (without other room).channels) q)
+          ∙ sym (row-each (λ channel. Some (inviting_only stays channel)) (both joined_channel (without room other).channels (without other room).channels) q))
+
+-- ---- a server of one side reads what a server of the other tells
+
+elsewhere_of : (home : List ℕ) (far : List ℕ → Bool) (room other : Room) → AreApart far room other → far home ≡ false
+    → (q : List ℕ) (user : User) → row other.users q ≡ Some user → is_home home user ≡ false
+elsewhere_of home far room other apart near q user at = by_test (is_home home user) refl
+  where
+    by_test : (b : Bool) → is_home home user ≡ b → b ≡ false
+    by_test true here = not_true (sym near ∙ ap far (sym ((bytes_decides user.home home).0 here)) ∙ apart.behind q user at)
+    by_test false none = refl
+
+home_apart : (home : List ℕ) (far : List ℕ → Bool) (room other : Room) → AreApart far room other → AreApart far (of_home home room) other
+home_apart home far room other apart = record {
+  near = λ q user is. apart.near q user (ap (λ t. row t q) (sym (home_users home room)) ∙ is);
+  behind = apart.behind;
+}
+
+pub server_reads_merge : ServerReadsMerge
+server_reads_merge own server home theirs far room other well well_other told apart near =
+    ap (λ ds. after_deeds (of_home home room) (read_all own far (of_home home room) ds)) (of_home_burst server theirs other)
+    ∙ burst_read_is_merge own server far (of_home home room) other (home_well home room well) well_other told (home_apart home far room other apart)
+    ∙ home_of_merge home room other well well_other (elsewhere_of home far room other apart near)
+
+pub server_shows_merge : ServerShowsMerge
+server_shows_merge own server home theirs far room other well well_other apart viewer user at =
+    ap (λ ds. shown_by_all viewer (of_home home room) (read_all own far (of_home home room) ds)) (of_home_burst server theirs other)
+    ∙ shown_is_merge_shown own server far (of_home home room) other (home_well home room well) well_other (home_apart home far room other apart) viewer user
+    (ap (λ t. row t (key viewer)) (home_users home room) ∙ at)
+    ∙ sym (shown_uninvited (of_home home room) other (home_well home room well) well_other viewer)
+    ∙ ap (λ r. merge_shown r (uninvited other) viewer) (of_home_uninvited home room)
+    ∙ shown_uninvited room other well well_other viewer

@@ -1,0 +1,299 @@
+-- What a user of this side is shown by a burst that is read is what the merge shows.
+use Rattle.std.proofs.Common.{◌≡◌, ℕ, Bool, true, false, cond, not, ◌&&◌, Option, Some, None, List, [], ◌∷◌, ◌++◌, refl, sym, ◌∙◌, ap, map, filter, filter_map, is_some}
+use Rattle.std.proofs.lemmas.Bool.{and_parts}
+use Rattle.std.specs.List.{flat_map, cons_option, AllByRecursion}
+use Rattle.std.specs.Option.{option_map_or}
+use Rattle.std.specs.FinMap.{entries, entries_sorted, values, keys, retain_keys, find, is_sorted, get-entries}
+use Rattle.irc_names.specs.Fold.{key}
+use Rattle.irc_names.specs.Tables.{Table, fold_cmp, row, alter, each, both}
+use Rattle.irc_names.specs.TableLaws.{same_table, row-each, row-keys}
+use Rattle.irc_users.specs.declared.user.User.{User}
+use Rattle.irc_channels.specs.declared.flags.Flags.{Flags}
+use Rattle.irc_channels.specs.declared.channel.Channel.{Channel}
+use Rattle.irc_channels.specs.Channels.{has_member}
+use Rattle.irc_modes.specs.Modes.{is_nil}
+use Rattle.irc_room.specs.Room.{Room, IsWellFormed, IsSoundRow}
+use Rattle.irc_room.proofs.Rows.{not_true}
+use Rattle.irc_merge.specs.Quits.{quits, collision_text}
+use Rattle.irc_merge.specs.ShownAlong.{shown_along}
+use Rattle.irc_merge.specs.Bursts.{burst, user_deeds, channel_deeds, home_passes, stored_members}
+use Rattle.irc_merge.specs.Merge.{clash, without, either}
+use Rattle.irc_merge.specs.MergeShown.{arrival, member_arrival, channel_arrivals, arrivals, merge_shown}
+use Rattle.irc_merge.specs.Laws.{AreApart, ShownIsMergeShown}
+use Rattle.irc_merge.proofs.TableWords.{true_is, first_there, entries_kept, entries_all, values_each}
+use Rattle.irc_merge.proofs.Quitting.{thinned}
+use Rattle.irc_merge.proofs.Clashing.{clashing, users_without, channels_without, without_well}
+use Rattle.irc_merge.proofs.Joining.{union_well}
+use Rattle.irc_merge.proofs.ShownReading.{shown_reads, shown_reads-append}
+use Rattle.irc_merge.proofs.Introducing.{told_user, both_users, users_introduced, channels_introduced}
+use Rattle.irc_merge.proofs.ShownUsers.{kills_shown}
+use Rattle.irc_merge.proofs.Bringing.{deeds_row}
+use Rattle.irc_merge.proofs.ChannelTold.{StandsThere, entries_pass}
+use Rattle.irc_merge.proofs.ReadMerge.{gone, passes_is, left_passes, none_near, told_deeds, step_row, step_here}
+use Rattle.irc_merge.proofs.ShownChannels.{row_has}
+use Rattle.irc_merge.proofs.ShownMembers.{shown_joins, joins_seen, joins_unseen, arrived, AreOutside, AreHeld, IsOurs, deeds_shown}
+
+over_some : {X Y Z : Type 0} (f : Y → List Z) (h : X → Option Y) (xs : List X) → flat_map f (filter_map h xs) ≡ flat_map (λ x. option_map_or f (h x) []) xs
+over_some f h [] = refl
+over_some {X} {Y} {Z} f h (x ∷ xs) = by_row (h x) (over_some f h xs)
+  where
+    by_row : (o : Option Y) → flat_map f (filter_map h xs) ≡ flat_map (λ x. option_map_or f (h x) []) xs
+        → flat_map f (cons_option o (filter_map h xs)) ≡ option_map_or f o [] ++ flat_map (λ x. option_map_or f (h x) []) xs
+    by_row None rest = rest
+    by_row (Some y) rest = ap (λ zs. f y ++ zs) rest
+
+over_none : {X Z : Type 0} (f : X → List Z) (xs : List X) → ((x : X) → f x ≡ []) → flat_map f xs ≡ []
+over_none f [] none = refl
+over_none f (x ∷ xs) none = λ i. none x i ++ over_none f xs none i
+
+no_entries : {X : Type 0} (es : List (List ℕ × X)) → is_nil (map (λ e. e.0) es) ≡ true → es ≡ []
+no_entries [] none = refl
+no_entries (e ∷ es) none = cc
+
+module _ (far : List ℕ → Bool) (room other : Room) (well : IsWellFormed room) (well_other : IsWellFormed other) (apart : AreApart far room other)
+    (viewer : List ℕ) (mine : User) (at : row room.users (key viewer) ≡ Some mine) where
+  abbrev here : Room
+  here = without room other
+
+  abbrev there : Room
+  there = without other room
+
+  abbrev all : Table User
+  all = both either here.users there.users
+
+  abbrev pass : List ℕ → Bool
+  pass = home_passes far all
+
+  abbrev away : List ℕ → Bool
+  away = gone far room other well well_other apart
+
+  pass_is : (q : List ℕ) → pass q ≡ option_map_or (λ (user : User). far user.home) (told_user (row room.users q) (row other.users q)) false
+  pass_is = passes_is far room other well well_other apart
+
+  all_is : (q : List ℕ) → row all q ≡ told_user (row room.users q) (row other.users q)
+  all_is = both_users room other well well_other
+
+  -- the viewer is of this side
+  mine_near : pass (key viewer) ≡ false
+  mine_near =
+      pass_is (key viewer)
+      ∙ ap (λ o. option_map_or (λ (user : User). far user.home) (told_user o (row other.users (key viewer))) false) at
+      ∙ by_row (row other.users (key viewer))
+    where
+      by_row : (o : Option User) → option_map_or (λ (user : User). far user.home) (told_user (Some mine) o) false ≡ false
+      by_row None = apart.near (key viewer) mine at
+      by_row (Some user) = refl
+
+  all_named : (user : User) → row all (key viewer) ≡ Some user → key user.nick ≡ key viewer
+  all_named user is = (union_well here there (without_well room other well) (without_well other room well_other)).users_named (key viewer) user is
+
+  ours : IsOurs viewer far all
+  ours = record { named = all_named; near = mine_near }
+
+  -- where it is left, nobody of the other side had its nickname
+  mine_left : is_some (row here.users (key viewer)) ≡ true → (row here.users (key viewer) ≡ Some mine) × (row all (key viewer) ≡ Some mine)
+  mine_left left =
+      by_row (row other.users (key viewer)) refl
+      (sym (ap is_some (users_without room other well (key viewer) ∙ ap (λ o. cond (is_some o && is_some (row other.users (key viewer))) None o) at)) ∙ left)
+    where
+      by_row : (o : Option User) → row other.users (key viewer) ≡ o → is_some (cond (is_some o) None (Some mine)) ≡ true
+          → (row here.users (key viewer) ≡ Some mine) × (row all (key viewer) ≡ Some mine)
+      by_row None none left = (
+        users_without room other well (key viewer)
+            ∙ (λ i. cond (is_some (at i) && is_some (none i)) None (at i)),
+        all_is (key viewer) ∙ (λ i. told_user (at i) (none i)),
+      )
+      by_row (Some user) some left = not_true left
+
+  held : AreHeld pass other.users all
+  held q holder is passing = all_is q ∙ ap (told_user (row room.users q)) is ∙ by_row (row room.users q) (sym (pass_is q ∙ ap (λ o. option_map_or (λ (user : User). far user.home) (told_user (row room.users q) o) false) is) ∙ passing)
+    where
+      by_row : (o : Option User) → option_map_or (λ (user : User). far user.home) (told_user o (Some holder)) false ≡ true → told_user o (Some holder) ≡ Some holder
+      by_row None passing = refl
+      by_row (Some user) passing = not_true passing
+
+  -- ---- the members of a channel of the other side
+
+  abbrev per : User → Channel → List (List ℕ)
+  per user channel =
+      option_map_or (λ (theirs : Channel). option_map_or (channel_arrivals there user theirs) (row here.channels (key theirs.name)) []) (thinned away channel) []
+
+  abbrev lines_of : Channel → List (List ℕ)
+  lines_of channel = option_map_or (λ (user : User). per user channel) (row here.users (key viewer)) []
+
+  there_stays : (q : List ℕ) → not (away q) ≡ true → row there.users q ≡ row other.users q
+  there_stays q stays = users_without other room well_other q ∙ ap (λ b. cond b None (row other.users q)) (sym (clashing other room well_other q) ∙ is_not (away q) stays)
+    where
+      is_not : (b : Bool) → not b ≡ true → b ≡ false
+      is_not true e = not_true e
+      is_not false e = refl
+
+  over_kept : (title : List ℕ) (es : List (List ℕ × Flags)) → AllByRecursion (λ e. is_some (row other.users e.0) ≡ true) es
+      → flat_map (member_arrival there.users mine title) (filter (λ e. not (away e.0)) es) ≡ flat_map (arrived pass other.users mine title) es
+  over_kept title [] known = refl
+  over_kept title (e ∷ es) known =
+      by_test (not (away e.0)) refl (over_kept title es known.1)
+      ∙ ap (λ b. cond b (option_map_or (arrival mine title e.1) (row other.users e.0) []) [] ++ flat_map (arrived pass other.users mine title) es)
+      (sym (left_passes far room other well well_other apart e.0 known.0))
+    where
+      by_test : (b : Bool) → not (away e.0) ≡ b
+          → flat_map (member_arrival there.users mine title) (filter (λ e. not (away e.0)) es) ≡ flat_map (arrived pass other.users mine title) es
+          → flat_map (member_arrival there.users mine title) (cond b (e ∷ filter (λ e. not (away e.0)) es) (filter (λ e. not (away e.0)) es))
+          ≡ cond b (option_map_or (arrival mine title e.1) (row other.users e.0) []) [] ++ flat_map (arrived pass other.users mine title) es
+      by_test true stays rest = λ i. option_map_or (arrival mine title e.1) (there_stays e.0 stays i) [] ++ rest i
+      by_test false goes rest = rest
+
+  known_entries : (fold : List ℕ) (channel : Channel) → IsSoundRow other.users fold channel → AllByRecursion (λ e. is_some (row other.users e.0) ≡ true) (entries channel.members)
+  known_entries fold channel sound =
+      entries_pass (λ q. is_some (row other.users q) ≡ true) (entries channel.members) (λ q known. sound.members_known q (sym (row-keys channel.members q) ∙ known))
+
+  standing : (fold : List ℕ) (channel : Channel) → IsSoundRow other.users fold channel → AllByRecursion (λ e. StandsThere other.users e.0) (entries channel.members)
+  standing fold channel sound = entries_pass (StandsThere other.users) (entries channel.members) (λ q known.
+      stands q (row other.users q) refl (sound.members_known q (sym (row-keys channel.members q) ∙ known)))
+    where
+      stands : (q : List ℕ) (o : Option User) → row other.users q ≡ o → is_some o ≡ true → StandsThere other.users q
+      stands q None is some = not_true some
+      stands q (Some user) is some = record { holder = user; at = is; named = well_other.users_named q user is }
+
+  -- a room with the users of both sides and these channels
+  abbrev with_all : Table Channel → Room
+  with_all channels = record { users = all; channels = channels }
+
+  -- one who is a member sees all who come
+  seen_lines : (fold : List ℕ) (channel ours_here : Channel) (channels : Table Channel) → IsSoundRow other.users fold channel
+      → row channels (key channel.name) ≡ Some ours_here → row here.channels (key channel.name) ≡ Some ours_here → has_member (key viewer) ours_here ≡ true
+      → shown_joins viewer far channel.name (with_all channels) (stored_members other.users channel) ≡ lines_of channel
+  seen_lines fold channel ours_here channels sound is_row is_here member =
+      joins_seen viewer channel.name far other.users mine ours_here.name (entries channel.members) (true_is _ (entries_sorted channel.members))
+      (standing fold channel sound) (with_all channels)
+      (record { at = left.1; named = well.users_named (key viewer) mine at; channel = ours_here; there = is_row; titled = refl; member = member })
+      outside held
+      ∙ sym (ap (flat_map (member_arrival there.users mine ours_here.name)) (entries_kept channel.members (λ q. not (away q)))
+      ∙ over_kept ours_here.name (entries channel.members) (known_entries fold channel sound))
+      ∙ by_test (is_nil (keys (retain_keys channel.members (λ q. not (away q))))) refl
+      ∙ sym (ap (λ o. option_map_or (λ (user : User). per user channel) o []) left.0)
+    where
+      known : (q : List ℕ) → is_some (row ours_here.members q) ≡ true → is_some (row here.users q) ≡ true
+      known q some = ((without_well room other well).channels_sound (key channel.name) ours_here is_here).members_known q some
+
+      left : (row here.users (key viewer) ≡ Some mine) × (row all (key viewer) ≡ Some mine)
+      left = mine_left (known (key viewer) member)
+
+      outside : AreOutside pass channel.name (entries channel.members) (with_all channels)
+      outside q some passing = ap (row_has q) is_row ∙ by_member (has_member q ours_here) refl
+        where
+          by_member : (b : Bool) → has_member q ours_here ≡ b → b ≡ false
+          by_member true is = not_true (sym (ap is_some (none_near far room other well well_other apart q passing)) ∙ known q is)
+          by_member false is = refl
+
+      by_test : (b : Bool) → is_nil (keys (retain_keys channel.members (λ q. not (away q)))) ≡ b
+          → flat_map (member_arrival there.users mine ours_here.name) (entries (retain_keys channel.members (λ q. not (away q)))) ≡ per mine channel
+      by_test true none =
+          ap (flat_map (member_arrival there.users mine ours_here.name)) (no_entries (entries (retain_keys channel.members (λ q. not (away q)))) none)
+          ∙ sym (ap (λ b. option_map_or (λ (theirs : Channel). option_map_or (channel_arrivals there mine theirs) (row here.channels (key theirs.name)) [])
+          (cond b None (Some (record channel { members = retain_keys channel.members (λ q. not (away q)); invited = retain_keys channel.invited (λ q. not (away q)) }))) []) none)
+      by_test false some =
+          let theirs : Channel = record channel { members = retain_keys channel.members (λ q. not (away q)); invited = retain_keys channel.invited (λ q. not (away q)) } in
+          sym (ap (λ b. option_map_or (λ (theirs : Channel). option_map_or (channel_arrivals there mine theirs) (row here.channels (key theirs.name)) []) (cond b None (Some theirs)) []) some
+          ∙ ap (λ o. option_map_or (channel_arrivals there mine theirs) o []) is_here
+          ∙ ap (λ b. cond b (flat_map (member_arrival there.users mine ours_here.name) (entries theirs.members)) [])
+          (ap (λ f. has_member f ours_here) (well.users_named (key viewer) mine at) ∙ member))
+
+  -- one who is none sees nothing
+  no_lines : (channel : Channel) → row_has (key viewer) (row here.channels (key channel.name)) ≡ false → lines_of channel ≡ []
+  no_lines channel none = by_user (row here.users (key viewer)) refl
+    where
+      by_channel : (user : User) → key user.nick ≡ key viewer → (theirs : Channel) (o : Option Channel) → row_has (key viewer) o ≡ false
+          → option_map_or (channel_arrivals there user theirs) o [] ≡ []
+      by_channel user named theirs None none = refl
+      by_channel user named theirs (Some channel) none =
+          ap (λ b. cond b (flat_map (member_arrival there.users user channel.name) (entries theirs.members)) []) (ap (λ f. has_member f channel) named ∙ none)
+
+      by_left : (user : User) → key user.nick ≡ key viewer → (b : Bool)
+          → option_map_or (λ (theirs : Channel). option_map_or (channel_arrivals there user theirs) (row here.channels (key theirs.name)) [])
+          (cond b None (Some (record channel { members = retain_keys channel.members (λ q. not (away q)); invited = retain_keys channel.invited (λ q. not (away q)) }))) [] ≡ []
+      by_left user named true = refl
+      by_left user named false =
+          by_channel user named (record channel { members = retain_keys channel.members (λ q. not (away q)); invited = retain_keys channel.invited (λ q. not (away q)) })
+          (row here.channels (key channel.name)) none
+
+      by_user : (o : Option User) → row here.users (key viewer) ≡ o → option_map_or (λ (user : User). per user channel) o [] ≡ []
+      by_user None is = refl
+      by_user (Some user) is =
+          by_left user ((without_well room other well).users_named (key viewer) user is) (is_nil (keys (retain_keys channel.members (λ q. not (away q)))))
+
+  channel_lines : (own server fold : List ℕ) (channel : Channel) (channels : Table Channel) → IsSoundRow other.users fold channel
+      → row channels (key channel.name) ≡ row here.channels (key channel.name)
+      → shown_reads viewer own far (with_all channels) (channel_deeds server other.users channel) ≡ lines_of channel
+  channel_lines own server fold channel channels sound same =
+      deeds_shown viewer own server far other.users channel (with_all channels) ours ∙ by_row (row here.channels (key channel.name)) refl
+    where
+      unseen : row_has (key viewer) (row here.channels (key channel.name)) ≡ false
+          → shown_joins viewer far channel.name (with_all channels) (stored_members other.users channel) ≡ lines_of channel
+      unseen none =
+          joins_unseen viewer channel.name far (stored_members other.users channel) (with_all channels) mine_near
+          (record { named = all_named; outside = ap (row_has (key viewer)) same ∙ none })
+          ∙ sym (no_lines channel none)
+
+      by_member : (ours_here : Channel) → row here.channels (key channel.name) ≡ Some ours_here → (b : Bool) → has_member (key viewer) ours_here ≡ b
+          → shown_joins viewer far channel.name (with_all channels) (stored_members other.users channel) ≡ lines_of channel
+      by_member ours_here is true member = seen_lines fold channel ours_here channels sound (same ∙ is) is member
+      by_member ours_here is false none = unseen (ap (row_has (key viewer)) is ∙ none)
+
+      by_row : (o : Option Channel) → row here.channels (key channel.name) ≡ o
+          → shown_joins viewer far channel.name (with_all channels) (stored_members other.users channel) ≡ lines_of channel
+      by_row None is = unseen (ap (row_has (key viewer)) is)
+      by_row (Some ours_here) is = by_member ours_here is (has_member (key viewer) ours_here) refl
+
+  -- ---- all channels
+
+  all_lines : (own server : List ℕ) (es : List (List ℕ × Channel)) → is_sorted fold_cmp es ≡ true → AllByRecursion (λ e. IsSoundRow other.users e.0 e.1) es
+      → (channels : Table Channel) → ((q : List ℕ) → is_some (find fold_cmp q es) ≡ true → row channels q ≡ row here.channels q)
+      → shown_reads viewer own far (with_all channels) (told_deeds far room other well well_other apart server es) ≡ flat_map lines_of (map (λ e. e.1) es)
+  all_lines own server [] rise sound channels same = refl
+  all_lines own server (e ∷ es) rise sound channels same =
+      let parts = and_parts _ _ rise in
+      let before = with_all channels in
+      let rest = told_deeds far room other well well_other apart server es in
+      shown_reads-append viewer own far before (channel_deeds server other.users e.1) rest
+      ∙ (λ i. channel_lines own server e.0 e.1 channels sound.0
+      (ap (row channels) (sound.0).named ∙ same e.0 (first_there e es) ∙ ap (row here.channels) (sym (sound.0).named)) i
+      ++ shown_reads viewer own far (deeds_row own server far other.users e.1 before i) rest)
+      ∙ ap (λ lines. lines_of e.1 ++ lines)
+      (all_lines own server es parts.1 sound.1 (alter (key e.1.name) (step_row far room other well well_other apart before e.1) channels)
+      (step_here far room other well well_other apart before e es parts.0 (sound.0).named same))
+
+  left_values : values there.channels ≡ filter_map (thinned away) (values other.channels)
+  left_values =
+      ap values (same_table there.channels (each (thinned away) other.channels) (λ q.
+      channels_without other room well_other q ∙ sym (row-each (thinned away) other.channels q)))
+      ∙ values_each (thinned away) other.channels
+
+  gathered : (o : Option User) → flat_map (λ (channel : Channel). option_map_or (λ (user : User). per user channel) o []) (values other.channels)
+      ≡ option_map_or (arrivals here there) o []
+  gathered None = over_none (λ (channel : Channel). option_map_or (λ (user : User). per user channel) None []) (values other.channels) (λ channel. refl)
+  gathered (Some user) =
+      sym (ap (flat_map (λ (theirs : Channel). option_map_or (channel_arrivals there user theirs) (row here.channels (key theirs.name)) [])) left_values
+      ∙ over_some (λ (theirs : Channel). option_map_or (channel_arrivals there user theirs) (row here.channels (key theirs.name)) []) (thinned away) (values other.channels))
+
+  pub burst_shown : (own server : List ℕ) → shown_reads viewer own far room (burst server other) ≡ merge_shown room other viewer
+  unfolding burst merge_shown
+  burst_shown own server =
+      let rise = true_is _ (entries_sorted other.channels) in
+      let told = flat_map (channel_deeds server other.users) (values other.channels) in
+      shown_reads-append viewer own far room (user_deeds other) told
+      ∙ (λ i. kills_shown viewer own far room other well well_other (ap is_some at) i
+      ++ shown_reads viewer own far (record {
+        users = users_introduced own far room other well well_other i;
+        channels = channels_introduced own far room other well well_other i;
+      }) told)
+      ∙ ap (λ lines. shown_along viewer room (quits collision_text (clash room other)) ++ lines)
+      (all_lines own server (entries other.channels) rise
+      (entries_all (IsSoundRow other.users) (entries other.channels)
+      (λ q channel is. well_other.channels_sound q channel (get-entries other.channels q ∙ is)) rise)
+      here.channels (λ q some. refl)
+      ∙ gathered (row here.users (key viewer)))
+
+pub shown_is_merge_shown : ShownIsMergeShown
+shown_is_merge_shown own server far room other well well_other apart viewer mine at =
+    burst_shown far room other well well_other apart viewer mine at own server

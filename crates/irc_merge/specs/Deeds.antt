@@ -1,0 +1,68 @@
+-- What a line of a link says, without the numbers that stand for servers in it (RFC 2813 sections 4 and 5). Names of servers in front are
+-- those whose lines these are; a viewer is shown its own server in their place.
+use Rattle.std.specs.Prelude.{ℕ, Bool, true, false, Some, List, [], ◌∷◌, ◌++◌, if◌then◌else◌}
+use Rattle.std.specs.List.{flat_map}
+use Rattle.irc_channels.specs.declared.flags.Flags.{Flags}
+use Rattle.irc_modes.specs.declared.modes.ModeChange.{ModeChange}
+use Rattle.irc_modes.specs.declared.modes.ModeLetter.{ModeLetter}
+use Rattle.irc_modes.specs.declared.modes.ModeLetter.TheVariants as letter
+use Rattle.irc_room.specs.declared.effect.By.TheVariants as by
+use Rattle.irc_room.specs.declared.effect.Effect.{Effect}
+use Rattle.irc_room.specs.declared.effect.Effect.TheVariants.{Quit, Join, ChangeModes, SetTopic}
+use Rattle.irc_room.specs.Room.{Room}
+use Rattle.irc_room.specs.InTurn.{after_all}
+use Rattle.irc_merge.specs.ShownAlong.{shown_along}
+use Rattle.irc_merge.specs.Quits.{quits, users_at, collision_text}
+
+pub data Deed : Type 0 where
+  -- a line of a user, or NICK with which a user is introduced
+  does : (effect : Effect) → Deed
+  -- SERVER: the network has a server more
+  gains : (uplink name info : List ℕ) → Deed
+  -- SQUIT: it has lost one, and its users quit
+  loses : (server name text : List ℕ) → Deed
+  -- KILL: the holder of a nickname quits
+  kills : (server nick : List ℕ) → Deed
+  -- NJOIN: members of a channel, each with its flags
+  brings : (server channel : List ℕ) (members : List (List ℕ × Flags)) → Deed
+  -- MODE of a server
+  sets : (server channel : List ℕ) (changes : List ModeChange) → Deed
+  -- TOPIC of a server
+  tops : (server channel topic : List ℕ) → Deed
+
+-- a server gives a member a flag
+abbrev pub flag_given : Bool → ModeLetter → List ℕ → List ℕ → List Effect
+flag_given has which channel nick =
+    if has then ChangeModes by.Home channel (record { plus = true; letter = which; word = Some nick } ∷ []) ∷ [] else []
+
+-- a member comes with its flags: it joins, and is then given each flag that it has
+abbrev pub member_comes : List ℕ → List ℕ × Flags → List Effect
+member_comes channel member =
+    Join member.0 channel false
+    ∷ (flag_given member.1.op letter.Operator channel member.0 ++ flag_given member.1.voice letter.Voice channel member.0)
+
+-- what a deed does to a room, one effect after another
+abbrev pub effects_of : Room → Deed → List Effect
+effects_of room (does effect) = effect ∷ []
+effects_of room (gains uplink name info) = []
+effects_of room (loses server name text) = quits text (users_at name room)
+effects_of room (kills server nick) = Quit nick collision_text ∷ []
+effects_of room (brings server channel members) = flat_map (member_comes channel) members
+effects_of room (sets server channel changes) = ChangeModes by.Home channel changes ∷ []
+effects_of room (tops server channel topic) = SetTopic by.Home channel topic ∷ []
+
+unfoldable pub after_deed : Room → Deed → Room
+after_deed room deed = after_all room (effects_of room deed)
+
+-- the room after some deeds, one after another
+abbrev pub after_deeds : Room → List Deed → Room
+after_deeds room [] = room
+after_deeds room (deed ∷ deeds) = after_deeds (after_deed room deed) deeds
+
+-- the lines that the user of a nickname is shown by a deed, and by some deeds, one after another
+unfoldable pub shown_by : List ℕ → Room → Deed → List (List ℕ)
+shown_by viewer room deed = shown_along viewer room (effects_of room deed)
+
+abbrev pub shown_by_all : List ℕ → Room → List Deed → List (List ℕ)
+shown_by_all viewer room [] = []
+shown_by_all viewer room (deed ∷ deeds) = shown_by viewer room deed ++ shown_by_all viewer (after_deed room deed) deeds

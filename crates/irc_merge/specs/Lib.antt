@@ -1,0 +1,14 @@
+pub mod ShownAlong
+pub mod Quits
+pub mod Deeds
+pub mod Bursts
+pub mod BurstRead
+pub mod Merge
+pub mod MergeShown
+pub mod Split
+pub mod Laws
+pub mod LimitLaws
+pub mod Examples
+pub mod Agreeing
+pub mod CanBeDone
+pub mod OwnInvitations

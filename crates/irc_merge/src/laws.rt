@@ -1,0 +1,130 @@
+//! What holds of rooms that become one, and of one that comes apart. Each law is a function that does nothing, and its contract is the law: the
+//! check proves it, and a crate above may cite it.
+ghost use Rattle.irc_merge.specs.Agreeing.{AgreeTells};
+ghost use Rattle.irc_merge.specs.CanBeDone.{LinesCanBeDone};
+ghost use Rattle.irc_merge.specs.Laws.{
+  BurstReadIsMerge,
+  HomesOneByOne,
+  MembersAtOnce,
+  MergeHasNothingNew,
+  MergeIsEven,
+  MergeIsWellFormed,
+  OthersStay,
+  ShownIsMergeShown,
+  SideIsWellFormed,
+  SideReadIsMerge,
+  SplitHasNothingNew,
+  SplitIsWellFormed,
+  SquitsSplit,
+  WholeSide,
+};
+ghost use Rattle.irc_merge.specs.LimitLaws.{MergeIsWithinLimits, SplitIsWithinLimits, WithinLimitsIsTold};
+ghost use Rattle.irc_merge.specs.OwnInvitations.{ServerReadsMerge, ServerShowsMerge};
+
+/// Where two halves of a network agree, the room that they become is the same whichever is named first.
+pub fn merge_is_even()
+    ensures { MergeIsEven }
+{}
+
+/// Two well-formed rooms become a well-formed one, whether they agree or not.
+pub fn merge_is_well_formed()
+    ensures { MergeIsWellFormed }
+{}
+
+/// What a split leaves of a well-formed room is well formed.
+pub fn split_is_well_formed()
+    ensures { SplitIsWellFormed }
+{}
+
+/// The users of one server are the same after another server was lost.
+pub fn others_stay()
+    ensures { OthersStay }
+{}
+
+/// Servers that are lost one by one leave just what the split leaves that loses all of them.
+pub fn homes_one_by_one()
+    ensures { HomesOneByOne }
+{}
+
+/// The SQUITs of the lost servers leave what the split leaves, and show to each user what it shows (RFC 2813 section 4.1.6).
+pub fn squits_split()
+    ensures { SquitsSplit }
+{}
+
+/// A burst that is read makes a room just what both halves become: who clashes is gone, everybody else is there, and so are all channels, members,
+/// modes, bans and topics (RFC 2813 section 5.2). Invitations alone are not told.
+pub fn burst_read_is_merge()
+    ensures { BurstReadIsMerge }
+{}
+
+/// A burst that is read shows to each user of this side just what the merge shows: those who clash quit, in order, and then, channel by channel, each
+/// of the other side's members comes, with its flags (RFC 2813 section 5.2.2). The lines are the same, and so is their order.
+pub fn shown_is_merge_shown()
+    ensures { ShownIsMergeShown }
+{}
+
+/// Each user of a merge is a user of one of the halves, and each channel has its name, modes and topic of one of them; so what holds of all of these
+/// in both halves, as the limits of a room do, holds of the merge.
+pub fn merge_has_nothing_new()
+    ensures { MergeHasNothingNew }
+{}
+
+/// Each user that a split leaves was there, and each channel has its name, modes and topic as before.
+pub fn split_has_nothing_new()
+    ensures { SplitHasNothingNew }
+{}
+
+/// Where the homes of all users pass, all that a room has is told.
+pub fn whole_side()
+    ensures { WholeSide }
+{}
+
+/// Where no nickname stands twice in a line of members, each may be judged by the room as it was before the line.
+pub fn members_at_once()
+    ensures { MembersAtOnce }
+{}
+
+/// The test of agreement tells whether two halves agree.
+pub fn agree_tells()
+    ensures { AgreeTells }
+{}
+
+/// The side of a well-formed room whose homes pass a test is well formed.
+pub fn side_is_well_formed()
+    ensures { SideIsWellFormed }
+{}
+
+/// A burst that tells of some homes alone makes a room, when it is read, what this room and that side become.
+pub fn side_read_is_merge()
+    ensures { SideReadIsMerge }
+{}
+
+/// Whatever the lines of a burst say: each effect of what is read of them is possible when its turn comes, and is not idle.
+pub fn lines_can_be_done()
+    ensures { LinesCanBeDone }
+{}
+
+/// A server keeps the invitations of its own users alone. One that reads what a server of the other half tells, has then of the merge what it has to have.
+pub fn server_reads_merge()
+    ensures { ServerReadsMerge }
+{}
+
+/// And it shows to each user of its half just what the merge shows.
+pub fn server_shows_merge()
+    ensures { ServerShowsMerge }
+{}
+
+/// Two rooms within limits become one that is within them.
+pub fn merge_is_within_limits()
+    ensures { MergeIsWithinLimits }
+{}
+
+/// What a split leaves of a room within limits is within them.
+pub fn split_is_within_limits()
+    ensures { SplitIsWithinLimits }
+{}
+
+/// The modes of each channel of a room within limits can be told.
+pub fn within_limits_is_told()
+    ensures { WithinLimitsIsTold }
+{}

@@ -1,0 +1,12 @@
+pub mod Modes
+pub mod Texts
+pub mod Limits
+pub mod Bans
+pub mod Letters
+pub mod ModeWords
+pub mod ModeViews
+pub mod ModeWritten
+pub mod Readable
+pub mod ModesSet
+pub mod ModeLaws
+pub mod Loops

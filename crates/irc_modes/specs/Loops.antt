@@ -1,0 +1,2 @@
+pub mod ManyChanges
+pub mod ModeLimits

@@ -1,0 +1,21 @@
+-- How changes of modes are written: their letters in order, with a sign before the first and wherever it differs from the one before, and then
+-- their parameters in order (RFC 2812 section 3.2.3).
+use Rattle.std.specs.Prelude.{ℕ, Bool, true, false, List, [], ◌∷◌, ◌++◌, if◌then◌else◌}
+use Rattle.std.specs.List.{filter_map}
+use Rattle.irc_modes.specs.declared.modes.ModeChange.{ModeChange}
+use Rattle.irc_modes.specs.Letters.{letter_byte, sign_byte}
+
+-- the letters behind a letter with this sign
+abbrev pub letters_behind : Bool → List ModeChange → List ℕ
+letters_behind sign [] = []
+letters_behind sign (c ∷ changes) =
+    (if c.plus then (if sign then [] else sign_byte true ∷ []) else (if sign then sign_byte false ∷ [] else []))
+    ++ letter_byte c.letter ∷ letters_behind c.plus changes
+
+abbrev pub letters_text : List ModeChange → List ℕ
+letters_text [] = []
+letters_text (c ∷ changes) = sign_byte c.plus ∷ letter_byte c.letter ∷ letters_behind c.plus changes
+
+-- the words that changes are written as, each parameter as the change has it
+abbrev pub changes_written : List ModeChange → List (List ℕ)
+changes_written changes = letters_text changes ∷ filter_map (λ (c : ModeChange). c.word) changes

@@ -1,0 +1,78 @@
+-- What a wire in memory tells of a connection: what it gave and took, and whether it was closed.
+use Rattle.std.specs.Prelude.{◌≡◌, ℕ, ⊤, Bool, true, false, nat_eq, Option, Some, None, Result, List, [], ◌∷◌, ◌++◌, if◌then◌else◌}
+use Rattle.std.specs.List.{list_any}
+use Rattle.std.specs.Option.{option_map}
+use Rattle.std.specs.Ordering.{nat_cmp}
+use Rattle.std.specs.BTreeMap.{BTreeMap, get}
+use Rattle.irc_outbox.specs.declared.memory.Far.{Far}
+use Rattle.irc_outbox.specs.declared.wire.Got.{Got}
+use Rattle.irc_outbox.specs.declared.wire.IoFault.{IoFault}
+use Rattle.irc_outbox.specs.Calls.{Call, reads, taken, written, is_close_of}
+
+pub record Told : Type 0 where
+  pub taken : List ℕ
+  pub written : List ℕ
+  pub closed : Bool
+
+abbrev pub told : Far → Told
+told far = record { taken = far.taken.items; written = far.written.items; closed = far.closed }
+
+abbrev pub fresh_told : Told
+fresh_told = record { taken = []; written = []; closed = false }
+
+abbrev pub same_told : Told → Told
+same_told t = t
+
+abbrev pub with_taken : List ℕ → Told → Told
+with_taken bytes t = record t { taken = t.taken ++ bytes }
+
+abbrev pub with_written : List ℕ → Told → Told
+with_written bytes t = record t { written = t.written ++ bytes }
+
+abbrev pub with_close : Told → Told
+with_close t = record t { closed = true }
+
+abbrev pub far_of : BTreeMap ℕ Far → ℕ → Option Far
+far_of fars conn = get nat_cmp fars conn
+
+-- what is told of a connection, if a step names it
+abbrev pub told_at : BTreeMap ℕ Far → ℕ → Option Told
+told_at fars conn = option_map told (far_of fars conn)
+
+-- nothing is told of a connection that no step names
+abbrev pub told_or_none : Option Told → Told
+told_or_none None = fresh_told
+told_or_none (Some t) = t
+
+-- what is told of a connection is what the account says of it
+pub record IsTold (conn : ℕ) (t : Told) (calls : List Call) : Type 0 where
+  pub taken_is : t.taken ≡ taken conn calls
+  pub written_is : t.written ≡ written conn calls
+  pub closed_is : t.closed ≡ list_any (is_close_of conn) calls
+
+abbrev pub IsToldAt : ℕ → Option Far → List Call → Type 0
+IsToldAt conn None calls = ⊤
+IsToldAt conn (Some far) calls = IsTold conn (told far) calls
+
+-- so of each connection that a step names
+abbrev pub AllTold : BTreeMap ℕ Far → List Call → Type 0
+AllTold fars calls = (conn : ℕ) → IsToldAt conn (far_of fars conn) calls
+
+-- what is told of one connection has changed so, if a step names it
+pub data Changes (conn : ℕ) (change : Told → Told) (old new : BTreeMap ℕ Far) : Type 0 where
+  at_far : (far now : Far) → far_of old conn ≡ Some far → ((q : ℕ) → far_of new q ≡ (if nat_eq conn q then Some now else far_of old q)) → told now ≡ change (told far)
+      → Changes conn change old new
+  no_far : far_of old conn ≡ None → ((q : ℕ) → far_of new q ≡ far_of old q) → Changes conn change old new
+
+-- a connection is there from now on
+abbrev pub IsAdded : BTreeMap ℕ Far → ℕ → Far → BTreeMap ℕ Far → Type 0
+IsAdded old conn far new = (q : ℕ) → far_of new q ≡ (if nat_eq conn q then Some far else far_of old q)
+
+-- whatever was told still is
+abbrev pub StillTold : BTreeMap ℕ Far → BTreeMap ℕ Far → Type 0
+StillTold old new = (calls : List Call) → AllTold old calls → AllTold new calls
+
+-- a connection has given these bytes to a read
+abbrev pub Gives : ℕ → List ℕ → BTreeMap ℕ Far → BTreeMap ℕ Far → Type 0
+Gives conn bytes old new =
+    (calls : List Call) (room : ℕ) (answer : Result Got IoFault) → AllTold old calls → AllTold new (calls ++ reads conn room answer bytes ∷ [])

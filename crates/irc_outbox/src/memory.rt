@@ -1,0 +1,436 @@
+//! A wire in memory: it serves a list of steps, and keeps what each connection gave and took.
+ghost use Rattle.std.specs.Prelude.{◌≡◌, ◌≤◌, ◌++◌, [], length, take, IfOk, OnOk};
+ghost use Rattle.irc_outbox.specs.Memory.{fresh_told, same_told, told, told_at, told_or_none, with_close, with_taken, with_written, AllTold, Changes, Gives, IsAdded, StillTold};
+
+use crate::wire::{Got, IoFault, Ready, Wire};
+use circular_buffer::HeapCircularBuffer;
+use irc_names::{Host, ServerName, first_bytes};
+use std::alloc::{AllocError, Global};
+use std::cmp::max;
+use std::collections::BTreeMap;
+use std::mem::replace;
+
+/// One thing that happens on a wire in memory.
+#[derive(Drop)]
+pub enum WireStep {
+    /// A client connects, from a host, under a number that is new.
+    Client(u64, Host),
+    /// A server is connected, under a number that is new; the name is the one that was called, where this side called it.
+    Linked(u64, Option<ServerName>),
+    /// Bytes come from a connection.
+    Bytes(u64, Vec<u8, Global>),
+    /// A connection ends: no more bytes will come.
+    End(u64),
+    /// The next read of a connection fails.
+    ReadFails(u64),
+    /// A connection takes so many bytes more.
+    Room(u64, usize),
+    /// The next write to a connection fails.
+    WriteFails(u64),
+}
+
+/// The far end of a connection.
+#[derive(Drop)]
+struct Far {
+    /// Whether its number has been reported.
+    known: bool,
+    /// What was read from it.
+    taken: Vec<u8, Global>,
+    /// What was written to it.
+    written: Vec<u8, Global>,
+    /// How many bytes all steps give, and how many they let be written.
+    inward: usize,
+    outward: usize,
+    /// How many bytes more it takes.
+    room: usize,
+    closed: bool,
+    ended: bool,
+    read_fails: bool,
+    write_fails: bool,
+}
+
+/// A wire in memory. It serves its steps in order, one for each report. It passes over steps of a number that was not reported yet, or that is
+/// closed, and over those that report a number again.
+#[derive(Drop)]
+pub struct MemoryWire {
+    steps: Vec<WireStep, Global>,
+    /// How many steps were looked at.
+    at: usize,
+    /// The connection of the step that gives bytes, and which of these were not read.
+    hand: Option<u64>,
+    pending: HeapCircularBuffer<u8, Global>,
+    /// Whether that connection was read since the last report.
+    was_read: bool,
+    fars: BTreeMap<u64, Far, Global>,
+}
+
+impl WireStep {
+    /// The connection that it is about.
+    fn conn(&self) -> u64 {
+        match self {
+            WireStep::Client(conn, _)
+            | WireStep::Linked(conn, _)
+            | WireStep::Bytes(conn, _)
+            | WireStep::End(conn)
+            | WireStep::ReadFails(conn)
+            | WireStep::Room(conn, _)
+            | WireStep::WriteFails(conn) => *conn,
+        }
+    }
+
+    /// What it is reported as.
+    fn report(&self) -> Ready {
+        match self {
+            WireStep::Client(conn, host) => Ready::Client(*conn, host.copy()),
+            WireStep::Linked(conn, Some(name)) => Ready::Linked(*conn, Some(name.copy())),
+            WireStep::Linked(conn, None) => Ready::Linked(*conn, None),
+            WireStep::Bytes(conn, _) | WireStep::End(conn) | WireStep::ReadFails(conn) => {
+                Ready::Readable(*conn)
+            }
+            WireStep::Room(conn, _) | WireStep::WriteFails(conn) => Ready::Writable(*conn),
+        }
+    }
+}
+
+/// The ways in which a connection may fail.
+#[derive(Clone, Copy, Drop)]
+enum Way {
+    In,
+    Out,
+}
+
+/// Appends bytes, and tells how many: all of them, where there is memory.
+fn append(to: &mut Vec<u8, Global>, bytes: &[u8]) -> usize
+    ensures items { to.new.items ≡ to.old.items ++ take result bytes.now }
+    ensures within { result ≤ length bytes.now }
+{
+    match to.extend_from_slice(bytes) {
+        Ok(()) => bytes.len(),
+        Err(_) => 0,
+    }
+}
+
+impl Far {
+    /// One that was not reported yet, and has given and taken nothing.
+    fn new(alloc: Global) -> Self
+        ensures { told result ≡ fresh_told }
+    {
+        Far {
+            known: false,
+            taken: Vec::new(alloc),
+            written: Vec::new(alloc),
+            inward: 0,
+            outward: 0,
+            room: 0,
+            closed: false,
+            ended: false,
+            read_fails: false,
+            write_fails: false,
+        }
+    }
+
+    /// Makes the room for what a step gives or lets be written.
+    fn plan(&mut self, step: &WireStep) -> Result<(), AllocError>
+        ensures { told self.new ≡ told self.old }
+    {
+        match step {
+            WireStep::Bytes(_, bytes) => {
+                self.inward = self.inward.saturating_add(bytes.len());
+                self.taken.reserve(self.inward)
+            }
+            WireStep::Room(_, room) => {
+                self.outward = self.outward.saturating_add(*room);
+                self.written.reserve(self.outward)
+            }
+            _ => Ok(()),
+        }
+    }
+
+    /// A step comes. Tells whether it is one to report.
+    fn meet(&mut self, step: &WireStep) -> bool
+        ensures { told self.new ≡ told self.old }
+    {
+        if let WireStep::Client(_, _) | WireStep::Linked(_, _) = step {
+            return !replace(&mut self.known, true);
+        }
+        if !self.known || self.closed {
+            return false;
+        }
+        match step {
+            WireStep::End(_) => self.ended = true,
+            WireStep::ReadFails(_) => self.read_fails = true,
+            WireStep::Room(_, room) => self.room = self.room.saturating_add(*room),
+            WireStep::WriteFails(_) => self.write_fails = true,
+            _ => (),
+        }
+        true
+    }
+
+    /// Whether it fails now, as a step has said; it does so once.
+    fn fails_now(&mut self, way: Way) -> bool
+        ensures { told self.new ≡ told self.old }
+    {
+        match way {
+            Way::In => replace(&mut self.read_fails, false),
+            Way::Out => replace(&mut self.write_fails, false),
+        }
+    }
+
+    /// Takes what it can of bytes that are written to it, and tells how many.
+    fn take(&mut self, bytes: &[u8]) -> usize
+        ensures told { told self.new ≡ with_written (take result bytes.now) (told self.old) }
+        ensures within { result ≤ length bytes.now }
+    {
+        let count = append(&mut self.written, first_bytes(bytes, self.room));
+        self.room = self.room.saturating_sub(count);
+        count
+    }
+}
+
+impl MemoryWire {
+    /// A wire that serves these steps, with the room for all that they let it hold.
+    ///
+    /// # Errors
+    /// Where memory runs out.
+    pub fn new(alloc: Global, steps: Vec<WireStep, Global>) -> Result<Self, AllocError>
+        ensures { IfOk result (λ wire. AllTold wire.fars []) }
+    {
+        let mut fars = no_fars(alloc);
+        let mut longest = 0;
+        for step in &steps {
+            if let WireStep::Bytes(_, bytes) = step {
+                longest = max(longest, bytes.len());
+            }
+            plan(alloc, &mut fars, step)?;
+        }
+        let pending = HeapCircularBuffer::with_capacity(alloc, longest)?;
+        Ok(MemoryWire {
+            steps,
+            at: 0,
+            hand: None,
+            pending,
+            was_read: false,
+            fars,
+        })
+    }
+
+    /// What was read from a connection; nothing, where no step names it.
+    pub fn taken(&self, conn: u64) -> &[u8]
+        ensures { result.now ≡ (told_or_none (told_at self.now.fars conn)).taken }
+    {
+        match self.fars.get(&conn) {
+            Some(far) => &far.taken,
+            None => &[],
+        }
+    }
+
+    /// What was written to a connection; nothing, where no step names it.
+    pub fn written(&self, conn: u64) -> &[u8]
+        ensures { result.now ≡ (told_or_none (told_at self.now.fars conn)).written }
+    {
+        match self.fars.get(&conn) {
+            Some(far) => &far.written,
+            None => &[],
+        }
+    }
+
+    /// Whether a connection that a step names was closed.
+    pub fn closed(&self, conn: u64) -> bool
+        ensures { result ≡ (told_or_none (told_at self.now.fars conn)).closed }
+    {
+        match self.fars.get(&conn) {
+            Some(far) => far.closed,
+            None => false,
+        }
+    }
+
+    /// Whether the step at hand is reported once more: it was read since, and bytes of it are left.
+    fn goes_on(&self, conn: u64) -> bool {
+        self.was_read && !self.pending.is_empty() && !self.closed(conn)
+    }
+
+    /// Goes on to the next step that is one to report.
+    fn step_on(&mut self) -> Ready
+        ensures { StillTold self.old.fars self.new.fars }
+    {
+        self.hand = None;
+        self.pending.clear();
+        while self.at < self.steps.len() {
+            let step = &self.steps[self.at];
+            self.at += 1;
+            if meet(&mut self.fars, step.conn(), step) {
+                if let WireStep::Bytes(conn, bytes) = step {
+                    self.hand = Some(*conn);
+                    self.pending.fill_from_slice(bytes);
+                }
+                return step.report();
+            }
+        }
+        Ready::Idle
+    }
+
+    /// Gives bytes of the step at hand, if it is one of this connection.
+    fn give(&mut self, conn: u64, buffer: &mut [u8]) -> usize
+        ensures gives { Gives conn (take result buffer.new) self.old.fars self.new.fars }
+        ensures within { result ≤ length buffer.old }
+    {
+        if self.hand != Some(conn) {
+            return 0;
+        }
+        self.was_read = true;
+        let count = self.pending.read_into(buffer);
+        keep(&mut self.fars, conn, &buffer[..count])
+    }
+}
+
+/// No connections.
+fn no_fars(alloc: Global) -> BTreeMap<u64, Far, Global>
+    ensures { AllTold result [] }
+{
+    BTreeMap::new(alloc)
+}
+
+/// Makes the room for what a step gives or lets be written.
+fn plan(
+    alloc: Global,
+    fars: &mut BTreeMap<u64, Far, Global>,
+    step: &WireStep,
+) -> Result<(), AllocError>
+    ensures { OnOk result (AllTold fars.old [] → AllTold fars.new []) }
+{
+    let conn = step.conn();
+    ensure(alloc, fars, conn)?;
+    reserve(fars, conn, step)
+}
+
+/// A connection is there from now on, if it was not.
+fn ensure(alloc: Global, fars: &mut BTreeMap<u64, Far, Global>, conn: u64) -> Result<(), AllocError>
+    ensures { OnOk result (AllTold fars.old [] → AllTold fars.new []) }
+{
+    if fars.contains_key(&conn) {
+        return Ok(());
+    }
+    add(fars, conn, Far::new(alloc))
+}
+
+/// Makes the room for what a step of a connection gives or lets be written.
+fn reserve(
+    fars: &mut BTreeMap<u64, Far, Global>,
+    conn: u64,
+    step: &WireStep,
+) -> Result<(), AllocError>
+    ensures { Changes conn same_told fars.old fars.new }
+{
+    match fars.get_mut(&conn) {
+        Some(far) => far.plan(step),
+        None => Ok(()),
+    }
+}
+
+/// A connection is there from now on.
+fn add(fars: &mut BTreeMap<u64, Far, Global>, conn: u64, far: Far) -> Result<(), AllocError>
+    ensures { OnOk result (IsAdded fars.old conn far fars.new) }
+{
+    match fars.insert(conn, far) {
+        Ok(_) => Ok(()),
+        Err(_) => Err(AllocError),
+    }
+}
+
+/// A step comes. Tells whether it is one to report.
+fn meet(fars: &mut BTreeMap<u64, Far, Global>, conn: u64, step: &WireStep) -> bool
+    ensures { Changes conn same_told fars.old fars.new }
+{
+    match fars.get_mut(&conn) {
+        Some(far) => far.meet(step),
+        None => false,
+    }
+}
+
+/// Whether a connection fails now, as a step has said; it does so once.
+fn fails_now(fars: &mut BTreeMap<u64, Far, Global>, conn: u64, way: Way) -> bool
+    ensures { Changes conn same_told fars.old fars.new }
+{
+    match fars.get_mut(&conn) {
+        Some(far) => far.fails_now(way),
+        None => false,
+    }
+}
+
+/// Keeps bytes that were read from a connection, and tells how many.
+fn keep(fars: &mut BTreeMap<u64, Far, Global>, conn: u64, bytes: &[u8]) -> usize
+    ensures kept { Changes conn (with_taken (take result bytes.now)) fars.old fars.new }
+    ensures within { result ≤ length bytes.now }
+{
+    match fars.get_mut(&conn) {
+        Some(far) => append(&mut far.taken, bytes),
+        None => 0,
+    }
+}
+
+/// A connection takes what it can of bytes, and tells how many.
+fn take(fars: &mut BTreeMap<u64, Far, Global>, conn: u64, bytes: &[u8]) -> usize
+    ensures taken { Changes conn (with_written (take result bytes.now)) fars.old fars.new }
+    ensures within { result ≤ length bytes.now }
+{
+    match fars.get_mut(&conn) {
+        Some(far) => far.take(bytes),
+        None => 0,
+    }
+}
+
+/// A connection is closed.
+fn shut(fars: &mut BTreeMap<u64, Far, Global>, conn: u64)
+    ensures { Changes conn with_close fars.old fars.new }
+{
+    if let Some(far) = fars.get_mut(&conn) {
+        far.closed = true;
+    }
+}
+
+/// Whether a connection has ended.
+fn has_ended(fars: &BTreeMap<u64, Far, Global>, conn: u64) -> bool {
+    match fars.get(&conn) {
+        Some(far) => far.ended,
+        None => false,
+    }
+}
+
+impl Wire for MemoryWire {
+    ghost use Rattle.irc_outbox.specs.Memory.{AllTold};
+
+    ghost is_after = { λ wire calls. AllTold wire.fars calls };
+
+    fn ready(&mut self) -> Result<Ready, IoFault> {
+        if let Some(conn) = self.hand {
+            if self.goes_on(conn) {
+                self.was_read = false;
+                return Ok(Ready::Readable(conn));
+            }
+        }
+        self.was_read = false;
+        Ok(self.step_on())
+    }
+
+    fn read(&mut self, conn: u64, buffer: &mut [u8]) -> Result<Got, IoFault> {
+        if fails_now(&mut self.fars, conn, Way::In) {
+            return Err(IoFault::Failed);
+        }
+        match self.give(conn, buffer) {
+            0 if has_ended(&self.fars, conn) => Ok(Got::End),
+            0 => Ok(Got::Later),
+            count => Ok(Got::Bytes(count)),
+        }
+    }
+
+    fn write(&mut self, conn: u64, bytes: &[u8]) -> Result<usize, IoFault> {
+        if fails_now(&mut self.fars, conn, Way::Out) {
+            return Err(IoFault::Failed);
+        }
+        Ok(take(&mut self.fars, conn, bytes))
+    }
+
+    fn close(&mut self, conn: u64) {
+        shut(&mut self.fars, conn);
+    }
+}

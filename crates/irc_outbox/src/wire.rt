@@ -1,0 +1,73 @@
+//! What carries bytes, as sockets do: it tells what is ready, reads, writes and closes.
+ghost use Rattle.std.specs.Prelude.{List, ◌≤◌, length, IfOk};
+ghost use Rattle.irc_outbox.specs.Calls.{Call, asks, reads, writes, closes, bytes_got, Adds, FitsIn};
+
+use irc_names::{Host, ServerName};
+use thiserror::Error;
+
+/// What is ready on a wire.
+#[derive(Drop)]
+pub enum Ready {
+    /// Nothing.
+    Idle,
+    /// A client has connected, from a host; its connection has this number from now on.
+    Client(u64, Host),
+    /// A server is connected, by this number. The name is the one that was called, where this side called it.
+    Linked(u64, Option<ServerName>),
+    /// A connection has bytes, or has ended.
+    Readable(u64),
+    /// A connection takes bytes again.
+    Writable(u64),
+}
+
+/// What comes of a read that does not fail.
+#[derive(Clone, Copy, Debug, Drop, PartialEq, Eq)]
+pub enum Got {
+    /// So many bytes, at the front of the buffer.
+    Bytes(usize),
+    /// None are there yet.
+    Later,
+    /// None will come any more.
+    End,
+}
+
+/// The device failed, in the call that answers this.
+#[derive(Clone, Copy, Debug, Drop, Error, PartialEq, Eq)]
+pub enum IoFault {
+    /// The one kind that is told.
+    #[error("the device failed")]
+    Failed,
+}
+
+/// A device with connections, each under a number. Each call is one step in the account of what was asked and answered.
+pub trait Wire {
+    /// Whether these may be the calls so far, with their answers. A device that keeps no account of them takes any for possible.
+    ghost is_after: { Self → List Call → Type 0 };
+
+    /// Tells one thing that is ready.
+    ///
+    /// # Errors
+    /// Where the device failed in this call.
+    fn ready(&mut self) -> Result<Ready, IoFault>
+        ensures { Adds is_after self.old (asks result) self.new };
+
+    /// Reads bytes of a connection to the front of a buffer.
+    ///
+    /// # Errors
+    /// Where the device failed in this call.
+    fn read(&mut self, conn: u64, buffer: &mut [u8]) -> Result<Got, IoFault>
+        ensures account { Adds is_after self.old (reads conn (length buffer.old) result (bytes_got result buffer.new)) self.new }
+        ensures within { FitsIn result (length buffer.old) };
+
+    /// Writes bytes to a connection, from their front on, and tells how many it took: 0 where it takes none yet.
+    ///
+    /// # Errors
+    /// Where the device failed in this call: it took none.
+    fn write(&mut self, conn: u64, bytes: &[u8]) -> Result<usize, IoFault>
+        ensures account { Adds is_after self.old (writes conn bytes.now result) self.new }
+        ensures within { IfOk result (λ n. n ≤ length bytes.now) };
+
+    /// Closes a connection.
+    fn close(&mut self, conn: u64)
+        ensures { Adds is_after self.old (closes conn) self.new };
+}

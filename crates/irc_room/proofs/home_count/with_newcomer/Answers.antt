@@ -1,0 +1,8 @@
+use Rattle.std.proofs.Common.{ap, arith}
+use Rattle.irc_room.specs.Loops.HomeCount.{come}
+use Rattle.irc_room.proofs.CountedUsers.{home_fits}
+use Rattle.irc_room.proofs.home_count.with_newcomer.Goals as goal
+
+pub overflow_add-result : goal.overflow_add-result
+overflow_add-result c =
+    omega (arith, c.requires, home_fits c.args.home.now c.args.users.now, c.len.ensures, c.len.type_inv, c.one_of.ensures, ap (come c.args.home.now) c.in-AddUser.is)

@@ -1,0 +1,62 @@
+//! How many users are connected to the server that keeps a room.
+ghost use Rattle.std.specs.Prelude.{◌≡◌, ◌+◌, Some, filter, length};
+ghost use Rattle.irc_names.specs.Fold.{key};
+ghost use Rattle.irc_names.specs.Tables.{row};
+ghost use Rattle.irc_users.specs.UserTable.{is_home};
+ghost use Rattle.irc_room.specs.Loops.HomeCount.{come, gone, home_count, one_of};
+
+use crate::effect::Effect;
+use irc_names::{Nick, ServerName};
+use irc_users::{User, Users};
+
+/// How many of the users of a server stay through an effect: all, but for one that quits.
+pub(crate) fn staying(home: &ServerName, users: &Users, count: usize, effect: &Effect) -> usize
+    requires { count ≡ home_count home.now users.now }
+    ensures { count ≡ result + gone home.now users.now effect.now }
+{
+    match effect {
+        Effect::Quit { nick, .. } => count - one_named(home, users, nick),
+        _ => count,
+    }
+}
+
+/// How many users of a server there are after an effect, where so many stayed.
+pub(crate) fn with_newcomer(
+    home: &ServerName,
+    users: &Users,
+    staying: usize,
+    effect: &Effect,
+) -> usize
+    requires { home_count home.now users.now ≡ staying + come home.now effect.now }
+    ensures { result ≡ home_count home.now users.now }
+{
+    users.len();
+    match effect {
+        Effect::AddUser(user) => staying + one_of(home, user),
+        _ => staying,
+    }
+}
+
+/// How many of some users are connected to a server.
+pub(crate) fn homed(home: &ServerName, users: &[User]) -> usize
+    ensures { result ≡ length (filter (is_home home.now) users.now) }
+{
+    users.iter().filter(|user| user.is_home(home)).count()
+}
+
+/// One, where the user with a nickname is there and connected to a server, or none.
+fn one_named(home: &ServerName, users: &Users, nick: &Nick) -> usize
+    ensures { result ≡ one_of (is_home home.now) (row users.now (key nick.now)) }
+{
+    match users.find(nick) {
+        Some(user) => one_of(home, user),
+        None => 0,
+    }
+}
+
+/// One, where a user is connected to a server, or none.
+fn one_of(home: &ServerName, user: &User) -> usize
+    ensures { result ≡ one_of (is_home home.now) (Some user.now) }
+{
+    if user.is_home(home) { 1 } else { 0 }
+}

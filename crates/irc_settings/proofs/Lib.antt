@@ -1,0 +1,2 @@
+pub mod KeysOfTables
+pub mod ValuesOfArrays

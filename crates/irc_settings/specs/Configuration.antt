@@ -1,0 +1,66 @@
+-- Which texts are configurations, and what is read of one.
+use Rattle.std.specs.Prelude.{◌≡◌, ℕ, ℤ, pos, Bool, true, false, Option, Some, Result, Ok, Err, option_map, option_and_then, List, [], map, codes, string_bytes}
+use Rattle.std.specs.List.{filter_map}
+use Rattle.std.specs.Option.{option_map_or}
+use Rattle.toml.specs.Data.{Data, Members, get_member, as_str, as_integer, as_array, as_table}
+use Rattle.toml.specs.Parse.{parse_document}
+use Rattle.irc_settings.specs.declared.settings.Settings.{Settings}
+use Rattle.irc_settings.specs.declared.settings.PeerSettings.{PeerSettings}
+use Rattle.irc_settings.specs.declared.fault.SettingsFault.{SettingsFault}
+use Rattle.irc_settings.specs.declared.fault.SettingsFault.TheVariants.{BadConfiguration, Memory}
+use Rattle.irc_settings.specs.Keys.{is_in_form, server_keys, values_in}
+
+-- the text and the integer that a table has at a key
+abbrev pub text_at : List ℕ → Members → Option (List ℕ)
+text_at key table = option_and_then as_str (get_member key table)
+
+abbrev pub integer_at : List ℕ → Members → Option ℤ
+integer_at key table = option_and_then as_integer (get_member key table)
+
+-- the tables in an array, and those in the array at a key; none where there is none
+abbrev pub tables_in : Data → List Members
+tables_in value = option_map_or (λ items. filter_map as_table (values_in items)) (as_array value) []
+
+abbrev pub tables_at : List ℕ → Members → List Members
+tables_at key table = option_map_or tables_in (get_member key table) []
+
+-- what a table tells of a peer
+pub record PeerTold : Type 0 where
+  pub name : Option (List ℕ)
+  pub password : Option (List ℕ)
+  pub connect : Option (List ℕ)
+
+abbrev pub peer_at : Members → PeerTold
+peer_at table = record {
+  name = text_at (codes "name") table;
+  password = text_at (codes "password") table;
+  connect = text_at (codes "connect") table;
+}
+
+abbrev pub peer_told : PeerSettings → PeerTold
+peer_told peer = record {
+  name = Some (string_bytes peer.name);
+  password = Some (string_bytes peer.password);
+  connect = option_map string_bytes peer.connect;
+}
+
+-- the settings are what the document has at their keys
+pub record Tells (document : Members) (settings : Settings) : Type 0 where
+  pub name : text_at (codes "name") document ≡ Some (string_bytes settings.name)
+  pub info : text_at (codes "info") document ≡ Some (string_bytes settings.info)
+  pub created : text_at (codes "created") document ≡ Some (string_bytes settings.created)
+  pub listen : text_at (codes "listen") document ≡ Some (string_bytes settings.listen)
+  pub client_room : integer_at (codes "client_room") document ≡ Some (pos settings.client_room)
+  pub link_room : integer_at (codes "link_room") document ≡ Some (pos settings.link_room)
+  pub listen_links : text_at (codes "listen_links") document ≡ option_map string_bytes settings.listen_links
+  pub peers : map peer_at (tables_at (codes "peer") document) ≡ map peer_told settings.peers.items
+
+-- whether a text is a configuration: a TOML document with the keys that it has to have, and no others
+abbrev pub is_configuration : List ℕ → Bool
+is_configuration text = option_map_or (is_in_form server_keys) (parse_document text) false
+
+-- what comes of reading a text
+abbrev pub IsReadAs : List ℕ → Result Settings SettingsFault → Type 0
+IsReadAs text (Ok settings) = (document : Members) × (parse_document text ≡ Some document) × (is_in_form server_keys document ≡ true) × Tells document settings
+IsReadAs text (Err BadConfiguration) = is_configuration text ≡ false
+IsReadAs text (Err Memory) = Unit {0}

@@ -1,0 +1,75 @@
+-- The keys that a configuration may have, and what may stand at each (our own choice).
+use Rattle.std.specs.Prelude.{ℕ, ℤ, pos, negsuc, nat_le, Bool, true, false, not, ◌&&◌, is_some, List, [], ◌∷◌, codes}
+use Rattle.std.specs.List.{list_any, list_all}
+use Rattle.std.specs.Str.{bytes_eq}
+use Rattle.std.specs.Option.{option_map_or}
+use Rattle.toml.specs.Data.{Data, Items, no_items, item, Members, no_members, member, get_member, as_str, as_integer, as_array, as_table}
+
+-- what may stand at a key
+pub data Kind : Type 0 where
+  text : Kind
+  -- an integer from the first of these numbers to the second
+  integer : ℕ → ℕ → Kind
+  -- an array of tables that all pass this test
+  tables : (Members → Bool) → Kind
+
+pub record Key : Type 0 where
+  pub name : List ℕ
+  pub kind : Kind
+  -- whether it has to be there
+  pub is_needed : Bool
+
+abbrev pub needed : List ℕ → Kind → Key
+needed name kind = record { name = name; kind = kind; is_needed = true }
+
+abbrev pub optional : List ℕ → Kind → Key
+optional name kind = record { name = name; kind = kind; is_needed = false }
+
+abbrev pub is_between : ℕ → ℕ → ℤ → Bool
+is_between least most (pos number) = nat_le least number && nat_le number most
+is_between least most (negsuc number) = false
+
+-- the values of an array, and the keys of a table
+abbrev pub values_in : Items → List Data
+values_in no_items = []
+values_in (item value items) = value ∷ values_in items
+
+abbrev pub keys_in : Members → List (List ℕ)
+keys_in no_members = []
+keys_in (member key value members) = key ∷ keys_in members
+
+-- whether a value is a table that passes a test, and an array of such
+abbrev pub is_table : (Members → Bool) → Data → Bool
+is_table test value = option_map_or test (as_table value) false
+
+abbrev pub are_tables : (Members → Bool) → Items → Bool
+are_tables test items = list_all (is_table test) (values_in items)
+
+-- whether a value may stand at a key of this kind
+abbrev pub is_of : Kind → Data → Bool
+is_of text value = is_some (as_str value)
+is_of (integer least most) value = option_map_or (is_between least most) (as_integer value) false
+is_of (tables test) value = option_map_or (are_tables test) (as_array value) false
+
+-- whether what a table has at a key may stand there: where it has nothing, whether the key may be left out
+abbrev pub is_kept : Members → Key → Bool
+is_kept table key = option_map_or (is_of key.kind) (get_member key.name table) (not key.is_needed)
+
+-- whether a name is one of these keys
+abbrev pub is_known : List Key → List ℕ → Bool
+is_known keys name = list_any (λ key. bytes_eq name key.name) keys
+
+-- whether a table has these keys, each with what may stand there, and no others
+abbrev pub is_in_form : List Key → Members → Bool
+is_in_form keys table = list_all (is_known keys) (keys_in table) && list_all (is_kept table) keys
+
+-- the keys of a table `peer`: a server that may be linked to
+abbrev pub peer_keys : List Key
+peer_keys = needed (codes "name") text ∷ needed (codes "password") text ∷ optional (codes "connect") text ∷ []
+
+-- the keys of the document
+abbrev pub server_keys : List Key
+server_keys =
+    needed (codes "name") text ∷ needed (codes "info") text ∷ needed (codes "created") text ∷ needed (codes "listen") text
+    ∷ needed (codes "client_room") (integer 512 1048576) ∷ needed (codes "link_room") (integer 512 16777216)
+    ∷ optional (codes "listen_links") text ∷ optional (codes "peer") (tables (is_in_form peer_keys)) ∷ []

@@ -1,0 +1,3 @@
+pub mod Configuration
+pub mod Keys
+pub mod Loops

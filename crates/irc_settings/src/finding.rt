@@ -1,0 +1,101 @@
+//! What a table has at its keys.
+ghost use Rattle.std.specs.Prelude.{◌≡◌, Some, pos, option_map, string_bytes, is_some};
+ghost use Rattle.std.specs.List.{list_all, list_any};
+ghost use Rattle.std.specs.Str.{bytes_eq};
+ghost use Rattle.std.specs.BTreeMap.{keys};
+ghost use Rattle.toml.specs.Data.{get_member, as_str, as_integer};
+ghost use Rattle.toml.specs.View.{view, table_view};
+ghost use Rattle.irc_settings.specs.Configuration.{text_at, integer_at};
+ghost use Rattle.irc_settings.specs.Keys.{is_kept, is_of, needed, optional, text, integer};
+ghost use Rattle.irc_settings.specs.Loops.Finding.{Finds};
+
+use crate::{LEAST_ROOM, SettingsFault};
+use std::alloc::Global;
+use toml::{Table, Value};
+
+/// Whether a table has no other keys than these.
+pub(crate) fn has_only(table: &Table, names: &[&str]) -> bool
+    ensures { result ≡ list_all (λ name. list_any (λ key. bytes_eq (string_bytes name) key.now) names.now) (keys table.now) }
+{
+    table.keys().all(|name| is_among(name.as_str(), names))
+}
+
+/// Whether a name is one of these.
+fn is_among(name: &str, keys: &[&str]) -> bool
+    ensures { result ≡ list_any (λ key. bytes_eq name.now key.now) keys.now }
+{
+    keys.iter().any(|key| name == *key)
+}
+
+/// The value at a key.
+pub(crate) fn value_at<'a>(table: &'a Table, key: &str) -> Option<&'a Value>
+    ensures { option_map (λ value. view value.now) result ≡ get_member key.now (table_view table.now) }
+{
+    table.get(key)
+}
+
+/// The text at a key.
+///
+/// # Errors
+/// Where there is none; where memory runs out.
+pub(crate) fn text(alloc: Global, table: &Table, key: &str) -> Result<String, SettingsFault>
+    ensures { Finds (is_kept (table_view table.now) (needed key.now text)) (λ found. text_at key.now (table_view table.now) ≡ Some (string_bytes found)) result }
+{
+    match value_at(table, key) {
+        Some(value) => copied(alloc, value),
+        None => Err(SettingsFault::BadConfiguration),
+    }
+}
+
+/// The text at a key that may be left out.
+///
+/// # Errors
+/// Where something else than a text is there; where memory runs out.
+pub(crate) fn optional_text(
+    alloc: Global,
+    table: &Table,
+    key: &str,
+) -> Result<Option<String>, SettingsFault>
+    ensures { Finds (is_kept (table_view table.now) (optional key.now text)) (λ found. text_at key.now (table_view table.now) ≡ option_map string_bytes found) result }
+{
+    match value_at(table, key) {
+        Some(value) => copied(alloc, value).map(Some),
+        None => Ok(None),
+    }
+}
+
+/// A copy of a value that is a text.
+fn copied(alloc: Global, value: &Value) -> Result<String, SettingsFault>
+    ensures { Finds (is_some (as_str (view value.now))) (λ found. as_str (view value.now) ≡ Some (string_bytes found)) result }
+{
+    match value.as_str() {
+        Some(text) => Ok(String::from_str(alloc, text)?),
+        None => Err(SettingsFault::BadConfiguration),
+    }
+}
+
+/// The number of bytes at a key, from [`crate::LEAST_ROOM`] to `most`.
+///
+/// # Errors
+/// Where there is none.
+pub(crate) fn room(table: &Table, key: &str, most: usize) -> Result<usize, SettingsFault>
+    ensures { Finds (is_kept (table_view table.now) (needed key.now (integer 512 most))) (λ found. integer_at key.now (table_view table.now) ≡ Some (pos found)) result }
+{
+    match value_at(table, key) {
+        Some(value) => room_in(value, most),
+        None => Err(SettingsFault::BadConfiguration),
+    }
+}
+
+/// The number of bytes that a value is.
+fn room_in(value: &Value, most: usize) -> Result<usize, SettingsFault>
+    ensures { Finds (is_of (integer 512 most) (view value.now)) (λ found. as_integer (view value.now) ≡ Some (pos found)) result }
+{
+    let Some(number) = value.as_integer() else {
+        return Err(SettingsFault::BadConfiguration);
+    };
+    match usize::try_from(number) {
+        Ok(room) if LEAST_ROOM <= room && room <= most => Ok(room),
+        _ => Err(SettingsFault::BadConfiguration),
+    }
+}

@@ -1,0 +1,19 @@
+//! The settings of the daemon: what stands in its configuration file.
+#![tactic(auto)]
+
+mod fault;
+mod finding;
+mod peers;
+mod settings;
+
+pub use fault::SettingsFault;
+pub use settings::{PeerSettings, Settings, read_settings};
+
+/// The least number of bytes that may wait for a client or a link: one line's (our own choice).
+pub const LEAST_ROOM: usize = 512;
+
+/// The most bytes that may wait for a client (our own choice).
+pub const MOST_CLIENT_ROOM: usize = 1_048_576;
+
+/// The most bytes that may wait for a link (our own choice).
+pub const MOST_LINK_ROOM: usize = 16_777_216;

@@ -1,0 +1,99 @@
+//! What stands in the configuration file of the daemon.
+ghost use Rattle.std.specs.Prelude.{◌≡◌};
+ghost use Rattle.toml.specs.Parse.{parse_document};
+ghost use Rattle.toml.specs.View.{table_view};
+ghost use Rattle.irc_settings.specs.Configuration.{IsReadAs, Tells};
+ghost use Rattle.irc_settings.specs.Keys.{is_in_form, server_keys};
+ghost use Rattle.irc_settings.specs.Loops.Finding.{Finds, IsParsedAs};
+
+use crate::finding::{has_only, optional_text, room, text};
+use crate::peers::peers;
+use crate::{MOST_CLIENT_ROOM, MOST_LINK_ROOM, SettingsFault};
+use std::alloc::Global;
+use toml::Table;
+
+/// The keys of the document.
+const SERVER_KEYS: [&str; 8] = [
+    "name",
+    "info",
+    "created",
+    "listen",
+    "client_room",
+    "link_room",
+    "listen_links",
+    "peer",
+];
+
+/// What stands in the configuration file, a field for each key.
+#[derive(Drop)]
+pub struct Settings {
+    /// The server's name.
+    pub name: String,
+    /// How it describes itself.
+    pub info: String,
+    /// When it was created.
+    pub created: String,
+    /// The address at which it listens for clients.
+    pub listen: String,
+    /// How many bytes may wait for a client: [`crate::LEAST_ROOM`] to [`MOST_CLIENT_ROOM`].
+    pub client_room: usize,
+    /// How many bytes may wait for a link: [`crate::LEAST_ROOM`] to [`MOST_LINK_ROOM`].
+    pub link_room: usize,
+    /// The address at which it listens for links, if it does.
+    pub listen_links: Option<String>,
+    /// The servers that may be linked to: the tables `peer`, in order.
+    pub peers: Vec<PeerSettings, Global>,
+}
+
+/// A server that may be linked to.
+#[derive(Drop)]
+pub struct PeerSettings {
+    /// Its name.
+    pub name: String,
+    /// The password that both give each other.
+    pub password: String,
+    /// The address at which it is called, if it is called.
+    pub connect: Option<String>,
+}
+
+/// Reads a configuration file: a TOML document with the keys that [`Settings`] and [`PeerSettings`] have as fields, and no others.
+/// Only `listen_links`, `peer` and a peer's `connect` may be left out. Names, passwords and addresses are any texts here.
+///
+/// # Errors
+/// Where the text is no such document; where memory runs out, which may come first.
+pub fn read_settings(alloc: Global, text: &str) -> Result<Settings, SettingsFault>
+    ensures { IsReadAs text.now result }
+{
+    let document = document(alloc, text)?;
+    settings_in(alloc, &document)
+}
+
+/// The TOML document that a text is.
+fn document(alloc: Global, text: &str) -> Result<Table, SettingsFault>
+    ensures { IsParsedAs text.now result }
+{
+    match toml::table_from_str(alloc, text) {
+        Ok(document) => Ok(document),
+        Err(error) if error.is_memory() => Err(SettingsFault::Memory),
+        Err(_) => Err(SettingsFault::BadConfiguration),
+    }
+}
+
+/// What a document tells.
+fn settings_in(alloc: Global, document: &Table) -> Result<Settings, SettingsFault>
+    ensures { Finds (is_in_form server_keys (table_view document.now)) (Tells (table_view document.now)) result }
+{
+    if !has_only(document, &SERVER_KEYS) {
+        return Err(SettingsFault::BadConfiguration);
+    }
+    Ok(Settings {
+        client_room: room(document, "client_room", MOST_CLIENT_ROOM)?,
+        link_room: room(document, "link_room", MOST_LINK_ROOM)?,
+        name: text(alloc, document, "name")?,
+        info: text(alloc, document, "info")?,
+        created: text(alloc, document, "created")?,
+        listen: text(alloc, document, "listen")?,
+        listen_links: optional_text(alloc, document, "listen_links")?,
+        peers: peers(alloc, document)?,
+    })
+}

@@ -1,5 +1,0 @@
-use Rattle.std.proofs.Common.{rules}
-use Rattle.irc_users.proofs.users.is_found_by.Goals as goal
-
-pub returns-else-mask_matches-3 : goal.returns-else-mask_matches-3
-returns-else-mask_matches-3 c = search rules

@@ -1,0 +1,5 @@
+pub mod Numbers
+pub mod Words
+pub mod Written
+pub mod Reader
+pub mod Means

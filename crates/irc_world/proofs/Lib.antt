@@ -1,0 +1,3 @@
+pub mod HandledKeeps
+pub mod Halls
+pub mod StaysSound

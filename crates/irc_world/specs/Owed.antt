@@ -1,0 +1,22 @@
+-- What each client of the network is owed over a list of items, and how many lines servers may need to tell each other of one.
+use Rattle.std.specs.Prelude.{ℕ, ◌+◌, ◌*◌, ◌-◌, Bool, List, [], ◌∷◌, ◌++◌, length}
+use Rattle.irc_relay.specs.Links.{Name, joined, without}
+use Rattle.irc_world.specs.World.{Setting, World, new_world, servers_where}
+use Rattle.irc_world.specs.Stepping.{Item, connect, line, gone, link, cut, step}
+
+-- the network after these items
+abbrev pub after_items : List Setting → World → List Item → World
+after_items settings world [] = world
+after_items settings world (item ∷ items) = after_items settings (step settings world item).world items
+
+abbrev pub world_of : List Setting → List Item → World
+world_of settings items = after_items settings new_world items
+
+-- the lines that a client receives by these items, in order
+abbrev pub owed_from : List Setting → World → List Item → ℕ → List (List ℕ)
+owed_from settings world [] client = []
+owed_from settings world (item ∷ items) client =
+    (step settings world item).lines client ++ owed_from settings (step settings world item).world items client
+
+unfoldable pub owed : List Setting → List Item → ℕ → List (List ℕ)
+owed settings items client = owed_from settings new_world items client
