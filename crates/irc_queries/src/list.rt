@@ -117,17 +117,21 @@ fn named_count(context: &Context<'_>, channel: &Channel) -> usize
 fn named_among(room: &Room, all: bool, members: &[Row<Flags>]) -> usize
     ensures { result ≡ length (filter (λ row. is_some (listed room.now.room.users (is_shown all) (row_entry row))) members.now) }
 {
-    members
-        .iter()
-        .filter(|row| is_named(room, all, row))
-        .count()
+    let mut near = 0;
+    let mut count = 0;
+    for member in members {
+        if is_named(room, &mut near, all, member) {
+            count += 1;
+        }
+    }
+    count
 }
 
-/// Whether a member is named.
-fn is_named(room: &Room, all: bool, member: &Row<Flags>) -> bool
+/// Whether a member is named, which is looked for near a place first.
+fn is_named(room: &Room, near: &mut usize, all: bool, member: &Row<Flags>) -> bool
     ensures { result ≡ is_some (listed room.now.room.users (is_shown all) (row_entry member.now)) }
 {
-    match room.user(member.name.as_slice()) {
+    match room.user_near(near, member.name.as_slice()) {
         Some(user) => all || !user.invisible,
         None => false,
     }

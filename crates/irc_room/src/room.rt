@@ -91,6 +91,14 @@ impl Room {
         self.users.find_named(name)
     }
 
+    /// The user that [`Room::user`] finds for these bytes. It is looked for near a place first, as [`irc_users::Users::find_near`] has it, so
+    /// a walk over nicknames in folded order finds neighbours at once.
+    pub fn user_near(&self, near: &mut usize, name: &[u8]) -> Option<&User>
+        ensures { option_copied result ≡ user_at self.now.room (key name.now) }
+    {
+        self.users.find_near(near, name)
+    }
+
     /// The channel whose name is the same as these bytes under the fold, which may be no channel's name themselves.
     pub fn channel(&self, name: &[u8]) -> Option<&Channel>
         ensures { option_copied result ≡ channel_at self.now.room (key name.now) }
