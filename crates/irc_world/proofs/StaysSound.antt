@@ -161,7 +161,7 @@ link_taken settings world near far is =
     let there = if_taken (is_server settings near && is_server settings far) no_such_server (link_refusal settings world near far) is in
     let both_known = and_parts _ _ there.0 in
     let may = if_passed (joined world.links near far || not (are_peers settings near far)) link_refused
-        (if agree (world.hall near).room (world.hall far).room then None else Some disagree) there.1 in
+    (if agree (world.hall near).room (world.hall far).room then None else Some disagree) there.1 in
     let two = neither (joined world.links near far) (are_peers settings near far) may.0 in
     record {
       near_known = both_known.0;
@@ -242,19 +242,19 @@ module _ (settings : List Setting) (world : World) (near far : Name) (sound : Is
   linked_sound = record {
     forest = made.forest;
     one_hall = one_hall_with near hall_of_both new_links (λ s t one apart. elim (made.meets s t one) [
-      within joined ↦ sound.one_hall s t joined
-    | over to_near _ ↦ absurd (apart ((made.kept s near to_near).joined))
-    | back to_far _ ↦ absurd (apart ((made.kept s far to_far).joined ∙ sym made.joined))
+      | within joined ↦ sound.one_hall s t joined
+      | over to_near _ ↦ absurd (apart ((made.kept s near to_near).joined))
+      | back to_far _ ↦ absurd (apart ((made.kept s far to_far).joined ∙ sym made.joined))
     ]);
     well_formed = λ s. hall_with (λ h. IsWellFormed h.room) near s hall_of_both new_links
         (λ _. merge_well (world.hall near).room (world.hall far).room (sound.well_formed near) (sound.well_formed far)) (λ _. sound.well_formed s);
     clients_home = λ s client. hall_with (λ h. is_some (get h.clients client) ≡ true → HasHomeBy (new_link ∷ world.links) world.homes client s) near s hall_of_both new_links
         (λ here there. ⊎_elim
-            (λ (one : is_some (get (world.hall near).clients client) ≡ true). reaches client near s (sound.clients_home near client one) (sym here))
-            (λ (other : is_some (get (world.hall far).clients client) ≡ true). reaches client far s (sound.clients_home far client other) (sym made.joined ∙ sym here))
-            (of_either (not (clashes_in (world.hall far).room (get (world.hall near).clients client))) (not (clashes_in (world.hall near).room (get (world.hall far).clients client)))
-            (get (world.hall near).clients client) (get (world.hall far).clients client)
-            (ap is_some (sym (get-merged (world.hall near) (world.hall far) client)) ∙ there)))
+        (λ (one : is_some (get (world.hall near).clients client) ≡ true). reaches client near s (sound.clients_home near client one) (sym here))
+        (λ (other : is_some (get (world.hall far).clients client) ≡ true). reaches client far s (sound.clients_home far client other) (sym made.joined ∙ sym here))
+        (of_either (not (clashes_in (world.hall far).room (get (world.hall near).clients client))) (not (clashes_in (world.hall near).room (get (world.hall far).clients client)))
+        (get (world.hall near).clients client) (get (world.hall far).clients client)
+        (ap is_some (sym (get-merged (world.hall near) (world.hall far) client)) ∙ there)))
         (λ _ there. reaches client s s (sound.clients_home s client there) refl);
     homes_known = sound.homes_known;
   }
@@ -299,9 +299,9 @@ module _ (settings : List Setting) (world : World) (near far : Name) (sound : Is
     home = at_home.home;
     is_home = at_home.is_home;
     joined = elim (over_link world.links near far at_home.home s sound.forest are at_home.joined) [
-      still one ↦ one
-    | parted _ behind ↦ absurd (not_far (sym behind))
-    | turned _ behind ↦ absurd (not_near (sym behind))
+      | still one ↦ one
+      | parted _ behind ↦ absurd (not_far (sym behind))
+      | turned _ behind ↦ absurd (not_near (sym behind))
     ];
   }
 
@@ -313,12 +313,12 @@ module _ (settings : List Setting) (world : World) (near far : Name) (sound : Is
     well_formed = λ s. hall_with (λ h. IsWellFormed h.room) far s far_hall (with_hall near near_hall fewer_links)
         (λ _. split_well (split_text far near) (side_of settings rest near) (world.hall far).room (sound.well_formed far))
         (λ _. hall_with (λ h. IsWellFormed h.room) near s near_hall fewer_links
-            (λ _. split_well (split_text near far) (side_of settings rest far) (world.hall near).room (sound.well_formed near)) (λ _. sound.well_formed s));
+        (λ _. split_well (split_text near far) (side_of settings rest far) (world.hall near).room (sound.well_formed near)) (λ _. sound.well_formed s));
     clients_home = λ s client. hall_with (λ h. is_some (get h.clients client) ≡ true → HasHomeBy rest world.homes client s) far s far_hall (with_hall near near_hall fewer_links)
         (λ here there. stays client far near s here there)
         (λ not_far. hall_with (λ h. is_some (get h.clients client) ≡ true → HasHomeBy rest world.homes client s) near s near_hall fewer_links
-            (λ here there. stays client near far s here there)
-            (λ not_near there. elsewhere client s not_far not_near (sound.clients_home s client there)));
+        (λ here there. stays client near far s here there)
+        (λ not_near there. elsewhere client s not_far not_near (sound.clients_home s client there)));
     homes_known = sound.homes_known;
   }
 
