@@ -1,3 +1,4 @@
 pub mod FoldsByRanges
 pub mod MaskSteps
 pub mod RuleFacts
+pub mod LengthsApart

@@ -31,6 +31,10 @@ pub key-length : (a : List ℕ) → length (key a) ≡ length a
 key-length [] = refl
 key-length (x ∷ xs) = ap suc (key-length xs)
 
+-- names that are the same are equally long
+pub same-long : (a b : List ℕ) → IsTrue (same a b) → length a ≡ length b
+same-long a b h = sym (key-length a) ∙ ap length ((same-tells a b).0 h) ∙ key-length b
+
 -- what a name feeds a hasher: its length, and then each byte of its fold
 abbrev pub folds_fed : List ℕ → List (List ℕ)
 folds_fed name = fed.slice fed.u8 (key name)

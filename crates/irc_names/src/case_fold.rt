@@ -1,5 +1,6 @@
 //! The case fold of names.
 ghost use Rattle.std.specs.Prelude.{◌≡◌};
+ghost use Rattle.std.specs.Ordering.{nat_cmp};
 ghost use Rattle.irc_names.specs.Fold.{fold, same, name_cmp};
 
 use std::cmp::Ordering;
@@ -20,6 +21,17 @@ pub fn fold(byte: u8) -> u8
     }
 }
 
+/// The order of two bytes: that of their folds. Where names are looked for most bytes are the same as they stand.
+fn compare_bytes(first: u8, other: u8) -> Ordering
+    ensures { result ≡ nat_cmp (fold first) (fold other) }
+{
+    if first == other {
+        Ordering::Equal
+    } else {
+        fold(first).cmp(&fold(other))
+    }
+}
+
 /// The order of two names: that of their folds, byte by byte.
 pub fn compare(left: &[u8], right: &[u8]) -> Ordering
     ensures { result ≡ name_cmp left.now right.now }
@@ -30,7 +42,7 @@ pub fn compare(left: &[u8], right: &[u8]) -> Ordering
         let Some((other, their_rest)) = theirs.split_first() else {
             return Ordering::Greater;
         };
-        match fold(*first).cmp(&fold(*other)) {
+        match compare_bytes(*first, *other) {
             Ordering::Equal => {}
             unequal => return unequal,
         }
@@ -48,5 +60,5 @@ pub fn compare(left: &[u8], right: &[u8]) -> Ordering
 pub fn same(left: &[u8], right: &[u8]) -> bool
     ensures { result ≡ same left.now right.now }
 {
-    compare(left, right).is_eq()
+    left.len() == right.len() && compare(left, right).is_eq()
 }
