@@ -1,5 +1,5 @@
 -- Many changes of modes are those of the channel and those of its members, which do not touch each other.
-use Rattle.std.proofs.Common.{◌≡◌, ℕ, Bool, cond, Option, Some, None, List, [], ◌∷◌, fold, refl, sym, ap, ◌∙◌, option_map, is_some, true, false}
+use Rattle.std.proofs.Common.{◌≡◌, ℕ, Bool, Option, Some, None, List, [], ◌∷◌, fold, refl, sym, ap, ◌∙◌, option_map, is_some, true, false}
 use Rattle.std.specs.Prelude.{unwrap_or}
 use Rattle.irc_names.specs.Fold.{key}
 use Rattle.irc_names.specs.Tables.{Table, row, put, alter}
@@ -9,10 +9,8 @@ use Rattle.irc_modes.specs.declared.modes.Modes.{Modes}
 use Rattle.irc_modes.specs.declared.modes.ModeChange.{ModeChange}
 use Rattle.irc_modes.specs.declared.modes.ModeLetter.{ModeLetter}
 use Rattle.irc_modes.specs.declared.modes.ModeLetter.TheVariants as letter
-use Rattle.irc_names.specs.Names.{is_ban_mask}
-use Rattle.irc_modes.specs.Modes.{ban_changed, ban_mask, bans_by_word, mode_changed, mode_step, modes_after}
+use Rattle.irc_modes.specs.Modes.{mode_changed, mode_step, modes_after}
 use Rattle.irc_channels.specs.Channels.{letter_changed, all_changed}
-use Rattle.irc_modes.specs.Loops.ManyChanges.{bans_by_mask, ban_step, bans_after, setting_changed, settings_after}
 use Rattle.irc_channels.specs.Loops.ManyChanges.{members_changed, members_step, members_after}
 
 -- a channel with other modes and members

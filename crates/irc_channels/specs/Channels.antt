@@ -1,18 +1,12 @@
 -- A channel as a row of a table, and each change that is made to one (RFC 2811 sections 2 to 4).
-use Rattle.std.specs.Prelude.{ℕ, ◌+◌, ◌-◌, ◌*◌, Bool, true, false, not, ◌&&◌, is_some, Option, Some, None, List, [], ◌∷◌, ◌++◌, fold, filter, nat_le, if◌then◌else◌}
-use Rattle.std.specs.List.{list_any, list_all}
-use Rattle.std.specs.Char.{is_ascii_digit}
+use Rattle.std.specs.Prelude.{ℕ, Bool, false, not, is_some, Option, Some, None, List, [], ◌∷◌, if◌then◌else◌}
+use Rattle.std.specs.List.{list_any}
 use Rattle.std.specs.Option.{option_map}
-use Rattle.std.specs.Ordering.{is_lt}
 use Rattle.std.specs.FinMap.{empty, keys}
-use Rattle.irc_names.specs.Fold.{key, same, name_cmp}
-use Rattle.irc_names.specs.Names.{fits, is_key, is_ban_mask}
+use Rattle.irc_names.specs.Fold.{key}
 use Rattle.irc_names.specs.Tables.{row, alter, moved}
-use Rattle.irc_modes.specs.Limits.{max_limit, max_limit_digits}
 use Rattle.irc_channels.specs.declared.channel.Channel.{Channel}
 use Rattle.irc_channels.specs.declared.flags.Flags.{Flags}
-use Rattle.irc_modes.specs.declared.modes.Privacy.{Privacy}
-use Rattle.irc_modes.specs.declared.modes.Privacy.TheVariants.{Public, Private, Secret}
 use Rattle.irc_modes.specs.declared.modes.Modes.{Modes}
 use Rattle.irc_modes.specs.declared.modes.ModeChange.{ModeChange}
 use Rattle.irc_modes.specs.declared.modes.ModeLetter.{ModeLetter}

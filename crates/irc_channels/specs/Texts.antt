@@ -1,8 +1,6 @@
 -- The texts of a channel.
-use Rattle.std.specs.Prelude.{ℕ, ◌≤◌, ⊤, Option, Some, None, List, length, take, IsTrue}
+use Rattle.std.specs.Prelude.{ℕ, ◌≤◌, List, length, take}
 use Rattle.irc_names.specs.Limits.{max_words}
-use Rattle.irc_names.specs.Names.{is_key}
-use Rattle.irc_modes.specs.Limits.{max_mode_word}
 
 abbrev pub IsWords : List ℕ → Type 0
 IsWords bytes = length bytes ≤ max_words

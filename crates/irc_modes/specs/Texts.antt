@@ -1,6 +1,5 @@
 -- The texts of modes: keys, and the parameters of changes.
-use Rattle.std.specs.Prelude.{ℕ, ◌≤◌, ⊤, Option, Some, None, List, length, take, IsTrue}
-use Rattle.irc_names.specs.Limits.{max_words}
+use Rattle.std.specs.Prelude.{ℕ, ◌≤◌, ⊤, Option, Some, None, List, length, IsTrue}
 use Rattle.irc_names.specs.Names.{is_key}
 use Rattle.irc_modes.specs.Limits.{max_mode_word}
 

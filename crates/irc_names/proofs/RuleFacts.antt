@@ -4,8 +4,7 @@ use Rattle.std.specs.List.{list_any, list_all}
 use Rattle.std.proofs.lemmas.Bool.Decides.{nat_tests}
 use Rattle.std.proofs.lemmas.Bool.{eqb-true}
 use Rattle.std.specs.Cmp.{first_so, second_so}
-use Rattle.std.specs.Char.{is_ascii_alphabetic, is_ascii_alphanumeric}
-use Rattle.irc_names.specs.Names.{fits, is_special, is_nick_byte, is_channel_byte, is_host_byte, is_server_byte, is_key_byte, is_ban_mask_byte, starts_without_colon, is_nick, is_channel, is_host, is_server, is_key, is_ban_mask}
+use Rattle.irc_names.specs.Names.{is_nick, is_channel, is_host, is_server, is_key, is_ban_mask}
 use Rattle.irc_names.specs.declared.TheConstants.{MAX_NICK, MAX_CHANNEL, MAX_HOST, MAX_SERVER, MAX_KEY, MAX_BAN_MASK}
 
 -- ---- lengths

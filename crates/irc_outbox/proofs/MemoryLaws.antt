@@ -10,10 +10,9 @@ use Rattle.std.proofs.lemmas.Grind.{flat_map-append}
 use Rattle.std.proofs.lemmas.List.{take-append-drop, take-append-le}
 use Rattle.std.proofs.lemmas.List.Folds.{list_any-append}
 use Rattle.irc_outbox.specs.declared.memory.Far.{Far}
-use Rattle.irc_outbox.specs.declared.wire.Got.{Got}
 use Rattle.irc_outbox.specs.declared.wire.IoFault.{IoFault}
 use Rattle.irc_outbox.specs.declared.wire.Ready.{Ready}
-use Rattle.irc_outbox.specs.Calls.{Call, asks, reads, writes, closes, taken, taken_by, written, written_by, bytes_taken, is_close_of}
+use Rattle.irc_outbox.specs.Calls.{Call, asks, reads, writes, closes, taken, taken_by, written, written_by, is_close_of}
 use Rattle.irc_outbox.specs.Memory.{Told, told, same_told, with_taken, with_written, with_close, far_of, IsTold, IsToldAt, AllTold, Changes, at_far, no_far, IsAdded, StillTold, Gives, fresh_told}
 
 pub on_ok : {E : Type 0} (result : Result (Unit {0}) E) (P Q : Type 0) → (P → Q) → OnOk result P → OnOk result Q

@@ -1,6 +1,6 @@
 -- What was asked of a wire and what it answered, call by call; and what such an account says of each connection.
-use Rattle.std.specs.Prelude.{ℕ, ⊤, ◌≤◌, ◌<◌, Bool, true, false, ◌&&◌, nat_eq, nat_lt, Option, Some, None, Result, Ok, Err, List, [], ◌∷◌, ◌++◌, take, count_by, if◌then◌else◌}
-use Rattle.std.specs.List.{flat_map, list_any}
+use Rattle.std.specs.Prelude.{ℕ, ⊤, ◌≤◌, Bool, true, false, ◌&&◌, nat_eq, nat_lt, Option, Some, None, Result, Ok, Err, List, [], ◌∷◌, ◌++◌, take, count_by, if◌then◌else◌}
+use Rattle.std.specs.List.{flat_map}
 use Rattle.irc_outbox.specs.declared.wire.Ready.{Ready}
 use Rattle.irc_outbox.specs.declared.wire.Got.{Got}
 use Rattle.irc_outbox.specs.declared.wire.Got.TheVariants.{Bytes, Later, End}

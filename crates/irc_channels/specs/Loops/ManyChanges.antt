@@ -1,15 +1,13 @@
 -- What the code's loop over changes of modes is at, where it changes the members: they are changed apart from the modes of the channel,
 -- since these do not touch each other.
-use Rattle.std.specs.Prelude.{ℕ, Bool, Option, Some, None, List, fold}
+use Rattle.std.specs.Prelude.{ℕ, Bool, Option, Some, List, fold}
 use Rattle.std.specs.Option.{option_map}
 use Rattle.irc_names.specs.Fold.{key}
 use Rattle.irc_names.specs.Tables.{Table, alter}
 use Rattle.irc_channels.specs.declared.flags.Flags.{Flags}
-use Rattle.irc_modes.specs.declared.modes.Modes.{Modes}
 use Rattle.irc_modes.specs.declared.modes.ModeChange.{ModeChange}
 use Rattle.irc_modes.specs.declared.modes.ModeLetter.{ModeLetter}
 use Rattle.irc_modes.specs.declared.modes.ModeLetter.TheVariants as letter
-use Rattle.irc_modes.specs.Modes.{ban_changed, ban_mask, mode_changed}
 
 -- a member's flags with one of them set or cleared
 abbrev pub flag_changed : Bool → ModeLetter → Flags → Flags

@@ -1,9 +1,6 @@
 -- What the code's loops over changes of modes are at: the changes of the bans and of the other modes are made apart, since they do not
 -- touch each other.
 use Rattle.std.specs.Prelude.{ℕ, Bool, Option, Some, None, List, fold}
-use Rattle.std.specs.Option.{option_map}
-use Rattle.irc_names.specs.Fold.{key}
-use Rattle.irc_names.specs.Tables.{Table, alter}
 use Rattle.irc_modes.specs.declared.modes.Modes.{Modes}
 use Rattle.irc_modes.specs.declared.modes.ModeChange.{ModeChange}
 use Rattle.irc_modes.specs.declared.modes.ModeLetter.{ModeLetter}

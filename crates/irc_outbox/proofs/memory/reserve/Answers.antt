@@ -1,4 +1,4 @@
-use Rattle.irc_outbox.proofs.MemoryLaws.{changed, whenever}
+use Rattle.irc_outbox.proofs.MemoryLaws.{changed}
 use Rattle.irc_outbox.proofs.memory.reserve.Goals as goal
 
 pub returns-in-Some : goal.returns-in-Some
