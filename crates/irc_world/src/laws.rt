@@ -1,6 +1,10 @@
 //! What holds of the network, whatever is given to it. Each law is a function that does nothing, and its contract is the law: the check
 //! proves it, and a crate above may cite it.
 ghost use Rattle.irc_world.specs.Laws.{NewWorldIsSound, StepStaysSound, WorldIsSound};
+ghost use Rattle.irc_world.specs.Bounds.{OneServerTellsNobody};
+ghost use Rattle.irc_world.specs.Even.{LinkIsEven};
+ghost use Rattle.irc_world.specs.OneServer.{OneServerIsTheNetwork, OneServerOwes};
+ghost use Rattle.irc_world.specs.Parts.{ClientsAreNumberedOnce, ViewIsWellFormed};
 
 /// A network with no link and nobody in it is sound.
 pub fn new_world_is_sound()
@@ -35,3 +39,47 @@ pub fn world_is_sound()
     irc_merge::laws::merge_is_well_formed();
     irc_merge::laws::split_is_well_formed();
 }
+
+/// A network of one server is that server: an item that is not refused is one that the server takes, it does the same to both, and each client receives the
+/// same lines.
+pub fn one_server_is_the_network()
+    ensures { OneServerIsTheNetwork }
+{
+    irc_routes::laws::alone_is_alone();
+}
+
+/// Over any items of which none is refused, the clients of a network of one server are owed just what that server owes them.
+pub fn one_server_owes()
+    ensures { OneServerOwes }
+{
+    irc_routes::laws::alone_is_alone();
+    irc_server::laws::lone_server_is_one_room();
+    step_stays_sound();
+}
+
+/// Where a link between two servers is not refused, either of them may connect: afterwards the same servers are joined, each has the same hall, and each client
+/// receives the same lines.
+pub fn link_is_even()
+    ensures { LinkIsEven }
+{
+    irc_relay::laws_of_forests::link_between_parts();
+    irc_merge::laws::merge_is_even();
+    irc_merge::laws::agree_tells();
+}
+
+/// Each client in a hall has a number that was given, and is in no other part's hall.
+pub fn clients_are_numbered_once()
+    ensures { ClientsAreNumberedOnce }
+{}
+
+/// What a server keeps of the room of its part, all but the invitations of other servers' users, is well formed.
+pub fn view_is_well_formed()
+    ensures { ViewIsWellFormed }
+{
+    irc_room::invitation_laws::home_is_well_formed();
+}
+
+/// A network of one server needs no line between servers.
+pub fn one_server_tells_nobody()
+    ensures { OneServerTellsNobody }
+{}
