@@ -1,24 +1,23 @@
 -- Where clients are, and what a server that is alone has to tell.
-use Rattle.std.proofs.Common.{◌≡◌, ℕ, zero, suc, Bool, true, false, cond, ◌&&◌, arith, ◌+◌, ◌*◌, ◌-◌, ◌≤◌, Option, Some, None, List, [], ◌∷◌, length, refl, sym, ◌∙◌, ap, is_some, if◌then◌else◌, map}
+use Rattle.std.proofs.Common.{◌≡◌, ℕ, zero, suc, true, false, cond, ◌&&◌, arith, ◌+◌, ◌*◌, ◌-◌, ◌≤◌, Option, Some, None, List, [], ◌∷◌, length, refl, sym, ◌∙◌, ap, is_some, if◌then◌else◌}
 use Rattle.std.proofs.Math.Nat.{mul-zero}
 use Rattle.std.proofs.lemmas.List.{length-map}
 use Rattle.std.proofs.lemmas.Option.{slice_get_within}
-use Rattle.std.specs.List.{slice_get}
 use Rattle.std.specs.Cmp.Lexicographic.{nat_list_cmp_total}
-use Rattle.std.specs.FinMap.{get, empty, keys, entries, len, insert, get-empty, len-empty, len-entries, len-insert}
+use Rattle.std.specs.FinMap.{empty, keys, entries, len, insert, get-empty, len-empty, len-entries, len-insert}
 use Rattle.irc_line.specs.Reading.{read_of}
 use Rattle.irc_names.specs.Tables.{fold_cmp, put}
-use Rattle.irc_relay.specs.Links.{Name, Link, part, joined, AreJoined}
+use Rattle.irc_relay.specs.Links.{Name, part}
 use Rattle.irc_relay.specs.Links.{linked as are_linked}
 use Rattle.irc_relay.proofs.TellingNames.{same_when}
 use Rattle.irc_room.specs.Invitations.{HomeIsWellFormed}
 use Rattle.irc_room.proofs.Rows.{same_some}
 use Rattle.irc_server.specs.Handle.{Happening, says, goes}
-use Rattle.irc_world.specs.World.{Setting, World, is_server, home_in, home_of, servers_where, machine_at}
-use Rattle.irc_world.specs.Stepping.{Item, connect, line, gone, link, cut}
+use Rattle.irc_world.specs.World.{Setting, World, is_server, home_in, home_of, machine_at}
+use Rattle.irc_world.specs.Stepping.{connect, line, gone, link, cut}
 use Rattle.irc_world.specs.Refused.{refused, no_such_server, not_linked}
-use Rattle.irc_world.specs.Sound.{HasHomeBy, IsSound}
-use Rattle.irc_world.specs.Parts.{ViewIsWellFormed, IsNumberedOnce, ClientsAreNumberedOnce}
+use Rattle.irc_world.specs.Sound.{IsSound}
+use Rattle.irc_world.specs.Parts.{ViewIsWellFormed, ClientsAreNumberedOnce}
 use Rattle.irc_world.specs.Bounds.{part_size, effects_at, most_of_client, most, OneServerTellsNobody}
 use Rattle.irc_world.proofs.StaysSound.{if_taken, link_taken}
 use Rattle.irc_world.proofs.ServedAlone.{one_name}

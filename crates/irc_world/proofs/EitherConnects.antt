@@ -1,5 +1,5 @@
 -- Which of two servers connects makes no difference.
-use Rattle.std.proofs.Common.{◌≡◌, ℕ, Bool, true, false, cond, ◌&&◌, ◌||◌, not, Option, Some, None, List, [], ◌∷◌, ◌++◌, refl, sym, ◌∙◌, ap, is_some, if◌then◌else◌}
+use Rattle.std.proofs.Common.{◌≡◌, ℕ, Bool, true, false, cond, ◌&&◌, ◌||◌, not, Option, Some, None, List, ◌∷◌, ◌++◌, refl, sym, ◌∙◌, ap, is_some, if◌then◌else◌}
 use Rattle.std.proofs.lemmas.List.{append-nil}
 use Rattle.std.specs.FinMap.{get}
 use Rattle.irc_relay.specs.Links.{Name, Link, part, joined, AreJoined, IsMade, within, over, back}
@@ -9,15 +9,14 @@ use Rattle.irc_room.specs.Room.{Room}
 use Rattle.irc_room.proofs.Rows.{same_some}
 use Rattle.irc_merge.specs.Agreeing.{agree, AgreeTells}
 use Rattle.irc_merge.specs.Laws.{MergeIsEven}
-use Rattle.irc_merge.specs.Merge.{AreAlike, Agree, merge}
+use Rattle.irc_merge.specs.Merge.{Agree, merge}
 use Rattle.irc_server.specs.declared.clients.Client.{Client}
-use Rattle.irc_server.specs.RoomMachine.{Clients}
 use Rattle.irc_server.proofs.Numbers.{same_clients}
-use Rattle.irc_world.specs.World.{Setting, Hall, World, is_server, with_hall}
-use Rattle.irc_world.specs.Stepping.{Item, link, step, merged, linked, clashes_in, meeting_lines}
+use Rattle.irc_world.specs.World.{Setting, Hall, World, is_server}
+use Rattle.irc_world.specs.Stepping.{link, step, merged, linked, clashes_in, meeting_lines}
 use Rattle.irc_world.specs.Refused.{Refusal, refused, password_for, are_equal, are_peers, no_such_server, link_refused, disagree}
-use Rattle.irc_world.specs.Sound.{HasHomeBy, IsSound}
-use Rattle.irc_world.specs.Even.{AreTheSame, MayConnectToo, LinkIsEven}
+use Rattle.irc_world.specs.Sound.{IsSound}
+use Rattle.irc_world.specs.Even.{AreTheSame, LinkIsEven}
 use Rattle.irc_world.proofs.Halls.{hall_with}
 use Rattle.irc_world.proofs.StaysSound.{LinkIsTaken, link_taken, two_parts, first_of, survivor, get-merged}
 

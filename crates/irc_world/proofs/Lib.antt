@@ -5,3 +5,4 @@ pub mod ServedAlone
 pub mod EitherConnects
 pub mod ClientsPlaces
 pub mod ExamplesProved
+pub mod OwnUsers

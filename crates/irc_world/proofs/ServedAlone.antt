@@ -1,5 +1,5 @@
 -- A network of one server is that server.
-use Rattle.std.proofs.Common.{◌≡◌, ℕ, zero, suc, Bool, true, false, cond, ◌&&◌, Option, Some, None, List, [], ◌∷◌, ◌++◌, length, refl, sym, ◌∙◌, ap, subst, is_some, if◌then◌else◌, option_map}
+use Rattle.std.proofs.Common.{◌≡◌, ℕ, suc, true, false, cond, ◌&&◌, Option, Some, None, List, [], ◌∷◌, ◌++◌, length, refl, sym, ◌∙◌, ap, subst, is_some, if◌then◌else◌, option_map}
 use Rattle.std.specs.Prelude.{option_to_list}
 use Rattle.std.specs.List.{slice_get}
 use Rattle.std.specs.Option.{option_map_or, option_and_then}
@@ -10,7 +10,7 @@ use Rattle.irc_names.specs.TableLaws.{same_fold, same_table, row-put}
 use Rattle.irc_tables.specs.FoldedRows.{table_of, IsInFoldedOrder}
 use Rattle.irc_tables.proofs.RowsAsTable.{nothing-table, nothing-sorted}
 use Rattle.irc_line.specs.Reading.{read_of}
-use Rattle.irc_relay.specs.Links.{Name, Link, part, joined, distance}
+use Rattle.irc_relay.specs.Links.{Name, part, distance}
 use Rattle.irc_relay.specs.Links.{linked as are_linked}
 use Rattle.irc_relay.proofs.TellingNames.{alike, unlike, tell, same_when}
 use Rattle.irc_room.specs.Room.{Room}
@@ -21,18 +21,18 @@ use Rattle.irc_routes.specs.Place.{KnownServer, Place, alone}
 use Rattle.irc_routes.proofs.TableRows.{values-table_of}
 use Rattle.irc_server.specs.declared.clients.Client.{Client}
 use Rattle.irc_server.specs.RoomMachine.{Clients, RoomMachine, client_of}
-use Rattle.irc_server.specs.View.{View, machine_of, IsAlone}
+use Rattle.irc_server.specs.View.{View, machine_of}
 use Rattle.irc_server.specs.Handle.{Happening, connects, says, goes, handled}
 use Rattle.irc_server.specs.Served.{served, LoneServerIsOneRoom, SaysTheSame}
 use Rattle.irc_server.specs.Owed.{lines_to}
 use Rattle.irc_server.specs.Owed.{owed as owed_by_server}
-use Rattle.irc_world.specs.World.{Setting, Hall, World, new_world, setting_of, is_server, home_in, home_of, known_from, place_in, place_at, machine_at, with_hall}
+use Rattle.irc_world.specs.World.{Setting, Hall, World, new_world, setting_of, is_server, home_of, known_from, place_in, place_at, machine_at}
 use Rattle.irc_world.specs.Stepping.{Item, connect, line, gone, link, cut, Stepped, step, still as unmoved, by_machine, by_client}
-use Rattle.irc_world.specs.Refused.{Refusal, refused, open_client, no_such_client, no_such_server, not_linked}
+use Rattle.irc_world.specs.Refused.{refused, open_client, no_such_client, no_such_server, not_linked}
 use Rattle.irc_world.specs.Owed.{owed, owed_from}
-use Rattle.irc_world.specs.Sound.{HasHomeBy, IsSound, AreTaken}
+use Rattle.irc_world.specs.Sound.{IsSound, AreTaken}
 use Rattle.irc_world.specs.Laws.{StepStaysSound}
-use Rattle.irc_world.specs.OneServer.{lone_view, IsTheServer, happening_at, IsExpected, IsServed, OneServerIsTheNetwork, happenings_from, OneServerOwes}
+use Rattle.irc_world.specs.OneServer.{lone_view, IsTheServer, IsServed, OneServerIsTheNetwork, happenings_from, OneServerOwes}
 use Rattle.irc_world.proofs.Halls.{hall_with}
 use Rattle.irc_world.proofs.StaysSound.{new_world_is_sound, if_taken, server_known, link_taken}
 

@@ -1,7 +1,6 @@
 -- How many lines the servers of a network need at most to tell each other of one item. A client's effects are told to each other server of its part; two
 -- sides that are linked tell each other all that they have, and pass it on; of a lost link each side is told which servers it has lost.
-use Rattle.std.specs.Prelude.{◌≡◌, ℕ, ◌+◌, ◌*◌, ◌-◌, Option, Some, None, Result, Ok, Err, List, [], ◌∷◌, length}
-use Rattle.std.specs.Option.{option_map_or}
+use Rattle.std.specs.Prelude.{◌≡◌, ℕ, ◌+◌, ◌*◌, ◌-◌, Option, Some, None, Ok, Err, List, [], ◌∷◌, length}
 use Rattle.irc_names.specs.Fold.{key}
 use Rattle.irc_names.specs.Tables.{row}
 use Rattle.irc_line.specs.Messages.{Parsed}

@@ -2,7 +2,7 @@
 use Rattle.std.specs.Prelude.{◌≡◌, ℕ, None, List}
 use Rattle.irc_relay.specs.Links.{Name, AreJoined}
 use Rattle.irc_world.specs.World.{Setting, World}
-use Rattle.irc_world.specs.Stepping.{Item, link, Stepped, step}
+use Rattle.irc_world.specs.Stepping.{link, Stepped, step}
 use Rattle.irc_world.specs.Refused.{refused}
 use Rattle.irc_world.specs.Sound.{IsSound}
 

@@ -9,3 +9,4 @@ pub mod Even
 pub mod Parts
 pub mod Bounds
 pub mod Examples
+pub mod Homes

@@ -1,5 +1,6 @@
 //! What holds of the network, whatever is given to it. Each law is a function that does nothing, and its contract is the law: the check
 //! proves it, and a crate above may cite it.
+ghost use Rattle.irc_world.specs.Homes.{ClientsBringOwnUsers};
 ghost use Rattle.irc_world.specs.Laws.{NewWorldIsSound, StepStaysSound, WorldIsSound};
 ghost use Rattle.irc_world.specs.Bounds.{OneServerTellsNobody};
 ghost use Rattle.irc_world.specs.Even.{LinkIsEven};
@@ -83,3 +84,12 @@ pub fn view_is_well_formed()
 pub fn one_server_tells_nobody()
     ensures { OneServerTellsNobody }
 {}
+
+/// What a client does makes users of its own server alone: where the homes of all users of its part pass a test, and its own server does, they pass it still.
+pub fn clients_bring_own_users()
+    ensures { ClientsBringOwnUsers }
+{
+    irc_commands::laws::decided_adds_nobody();
+    irc_commands::laws::registered_is_added();
+    irc_commands::laws::unregistered_changes_nothing();
+}
