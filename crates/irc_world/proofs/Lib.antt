@@ -6,3 +6,4 @@ pub mod EitherConnects
 pub mod ClientsPlaces
 pub mod ExamplesProved
 pub mod OwnUsers
+pub mod HomesKept

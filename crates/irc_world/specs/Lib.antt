@@ -10,3 +10,4 @@ pub mod Parts
 pub mod Bounds
 pub mod Examples
 pub mod Homes
+pub mod UsersHomes

@@ -6,6 +6,7 @@ ghost use Rattle.irc_world.specs.Bounds.{OneServerTellsNobody};
 ghost use Rattle.irc_world.specs.Even.{LinkIsEven};
 ghost use Rattle.irc_world.specs.OneServer.{OneServerIsTheNetwork, OneServerOwes};
 ghost use Rattle.irc_world.specs.Parts.{ClientsAreNumberedOnce, ViewIsWellFormed};
+ghost use Rattle.irc_world.specs.UsersHomes.{StepKeepsHomes, UsersHomesAreServers};
 
 /// A network with no link and nobody in it is sound.
 pub fn new_world_is_sound()
@@ -92,4 +93,21 @@ pub fn clients_bring_own_users()
     irc_commands::laws::decided_adds_nobody();
     irc_commands::laws::registered_is_added();
     irc_commands::laws::unregistered_changes_nothing();
+}
+
+/// Where each user's home is a server that there is, an item that is not refused leaves it so.
+pub fn step_keeps_homes()
+    ensures { StepKeepsHomes }
+{
+    clients_bring_own_users();
+    irc_merge::laws::merge_has_nothing_new();
+    irc_merge::laws::split_has_nothing_new();
+}
+
+/// After any items of which none is refused, each user's home is a server that there is.
+pub fn users_homes_are_servers()
+    ensures { UsersHomesAreServers }
+{
+    step_keeps_homes();
+    step_stays_sound();
 }
