@@ -59,8 +59,8 @@ pub fn one_server_owes()
     step_stays_sound();
 }
 
-/// Where a link between two servers is not refused, either of them may connect: afterwards the same servers are joined, each has the same hall, and each client
-/// receives the same lines.
+/// Where a link between two servers is not refused, either of them may connect: afterwards the same servers are joined, each has the same
+/// hall, and each client receives the same lines.
 pub fn link_is_even()
     ensures { LinkIsEven }
 {
