@@ -1,5 +1,5 @@
 -- One hall for all servers that are joined.
-use Rattle.std.proofs.Common.{◌≡◌, Bool, refl, sym, ◌∙◌, subst, if◌then◌else◌}
+use Rattle.std.proofs.Common.{◌≡◌, refl, sym, ◌∙◌, subst, if◌then◌else◌}
 use Rattle.irc_relay.specs.Links.{Name, part, joined, AreJoined}
 use Rattle.irc_relay.proofs.TellingNames.{Telling, alike, unlike, tell}
 use Rattle.irc_world.specs.World.{Hall, World, with_hall}

@@ -4,9 +4,9 @@ use Rattle.std.proofs.lemmas.Bool.{and_parts}
 use Rattle.std.specs.List.{slice_get}
 use Rattle.std.specs.Option.{option_map_or}
 use Rattle.std.specs.Ordering.{nat_cmp}
-use Rattle.std.specs.Cmp.{nat_cmp_total, Equal-is}
-use Rattle.std.specs.FinMap.{get, empty, get-empty, find, entries, from_entries, retain_keys, get-from_entries, get-entries, get-retain_keys, nat_cmp-IsAntisymmetric}
-use Rattle.irc_relay.specs.Links.{Name, Link, part, joined, without, AreJoined, AreLinked, IsLeft, IsMade, Meets, within, over, back, Rejoins, still, parted, turned}
+use Rattle.std.specs.Cmp.{nat_cmp_total}
+use Rattle.std.specs.FinMap.{get, empty, get-empty, find, entries, retain_keys, get-from_entries, get-entries, get-retain_keys, nat_cmp-IsAntisymmetric}
+use Rattle.irc_relay.specs.Links.{Name, Link, part, joined, without, AreJoined, AreLinked, IsLeft, IsMade, within, over, back, still, parted, turned}
 use Rattle.irc_relay.specs.Links.{linked as are_linked}
 use Rattle.irc_relay.specs.Laws.{TestsTell, LinkBetweenParts, LinkTakenOut, JoinedOverLink}
 use Rattle.irc_relay.proofs.TellingNames.{alike, unlike, tell, same_when}
@@ -16,7 +16,6 @@ use Rattle.irc_room.proofs.Rows.{same_some}
 use Rattle.irc_room.proofs.WellFormedLaw.{no_room_is_well_formed}
 use Rattle.irc_commands.specs.Possible.{DecidedIsPossible, RegisteringIsPossible}
 use Rattle.irc_merge.specs.Laws.{MergeIsWellFormed, SplitIsWellFormed}
-use Rattle.irc_merge.specs.Merge.{merge}
 use Rattle.irc_merge.specs.Agreeing.{agree}
 use Rattle.irc_server.specs.declared.clients.Client.{Client}
 use Rattle.irc_server.specs.RoomMachine.{Clients}
@@ -25,7 +24,7 @@ use Rattle.irc_server.specs.Handle.{Happening, connects, says, goes, handled}
 use Rattle.irc_world.specs.World.{Setting, Hall, World, new_world, is_server, home_in, home_of, machine_at, with_hall}
 use Rattle.irc_world.specs.Stepping.{Item, connect, line, gone, link, cut, step, still as unmoved, by_machine, by_client, merged, linked, remaining, parted as cut_apart, surviving, clashes_in, split_text, side_of}
 use Rattle.irc_world.specs.Refused.{Refusal, refused, are_peers, link_refusal, no_such_server, link_refused, not_linked, disagree}
-use Rattle.irc_world.specs.Owed.{after_items, world_of}
+use Rattle.irc_world.specs.Owed.{after_items}
 use Rattle.irc_world.specs.Sound.{HasHomeBy, IsSound, AreTaken}
 use Rattle.irc_world.specs.Laws.{NewWorldIsSound, StepStaysSound, WorldIsSound}
 use Rattle.irc_world.proofs.HandledKeeps.{Keeps, Comes, handled_keeps}

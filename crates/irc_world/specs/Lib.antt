@@ -4,3 +4,10 @@ pub mod Stepping
 pub mod Owed
 pub mod Sound
 pub mod Laws
+pub mod OneServer
+pub mod Even
+pub mod Parts
+pub mod Bounds
+pub mod Examples
+pub mod Homes
+pub mod UsersHomes

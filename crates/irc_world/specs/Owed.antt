@@ -1,8 +1,7 @@
 -- What each client of the network is owed over a list of items, and how many lines servers may need to tell each other of one.
-use Rattle.std.specs.Prelude.{ℕ, ◌+◌, ◌*◌, ◌-◌, Bool, List, [], ◌∷◌, ◌++◌, length}
-use Rattle.irc_relay.specs.Links.{Name, joined, without}
-use Rattle.irc_world.specs.World.{Setting, World, new_world, servers_where}
-use Rattle.irc_world.specs.Stepping.{Item, connect, line, gone, link, cut, step}
+use Rattle.std.specs.Prelude.{ℕ, List, [], ◌∷◌, ◌++◌}
+use Rattle.irc_world.specs.World.{Setting, World, new_world}
+use Rattle.irc_world.specs.Stepping.{Item, step}
 
 -- the network after these items
 abbrev pub after_items : List Setting → World → List Item → World

@@ -1,14 +1,14 @@
 -- Which items are refused, and why: the causes in the order in which they are looked for.
-use Rattle.std.specs.Prelude.{ℕ, Bool, true, false, not, ◌&&◌, ◌||◌, Option, Some, None, is_some, List, if◌then◌else◌}
-use Rattle.std.specs.List.{find, list_all}
-use Rattle.std.specs.Option.{option_map_or, option_and_then, option_map}
+use Rattle.std.specs.Prelude.{ℕ, Bool, false, not, ◌&&◌, ◌||◌, Option, Some, None, is_some, List, if◌then◌else◌}
+use Rattle.std.specs.List.{find}
+use Rattle.std.specs.Option.{option_and_then, option_map}
 use Rattle.std.specs.FinMap.{get}
 use Rattle.irc_relay.specs.Links.{Name, same, joined}
 use Rattle.irc_relay.specs.Links.{linked as are_linked}
 use Rattle.irc_merge.specs.Agreeing.{agree}
 use Rattle.irc_server.specs.declared.clients.Client.{Client}
 use Rattle.irc_server.specs.View.{KnownPeer}
-use Rattle.irc_world.specs.World.{Setting, Hall, World, setting_of, is_server, home_of}
+use Rattle.irc_world.specs.World.{Setting, World, setting_of, is_server, home_of}
 use Rattle.irc_world.specs.Stepping.{Item, connect, line, gone, link, cut}
 
 pub data Refusal : Type 0 where

@@ -1,8 +1,7 @@
 -- What each thing that is given to the network does to it, and which lines its clients receive by that.
-use Rattle.std.specs.Prelude.{ℕ, suc, Bool, false, not, ◌&&◌, ◌||◌, Option, Some, None, is_some, Result, List, [], ◌∷◌, ◌++◌, codes, length, if◌then◌else◌}
-use Rattle.std.specs.List.{flat_map}
-use Rattle.std.specs.Option.{option_map_or, option_and_then}
-use Rattle.std.specs.FinMap.{FinMap, get, entries, from_entries, retain_keys}
+use Rattle.std.specs.Prelude.{ℕ, suc, Bool, false, not, Option, Some, None, is_some, List, [], ◌∷◌, ◌++◌, codes, length, if◌then◌else◌}
+use Rattle.std.specs.Option.{option_map_or}
+use Rattle.std.specs.FinMap.{get, entries, from_entries, retain_keys}
 use Rattle.irc_names.specs.Fold.{key}
 use Rattle.irc_names.specs.Tables.{row}
 use Rattle.irc_line.specs.Reading.{read_of}

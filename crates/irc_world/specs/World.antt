@@ -1,6 +1,6 @@
 -- The network as its people know it: its servers, the links between them, and for each part that links join one room with its clients. No
 -- message, route, token, burst or queue is in it (RFC 2810 section 3).
-use Rattle.std.specs.Prelude.{ℕ, zero, suc, Bool, ◌||◌, Option, Some, None, is_some, List, [], ◌∷◌, count_by, map, if◌then◌else◌}
+use Rattle.std.specs.Prelude.{ℕ, zero, suc, Bool, ◌||◌, Option, Some, None, is_some, List, [], count_by, map, if◌then◌else◌}
 use Rattle.std.specs.List.{find, slice_get}
 use Rattle.std.specs.Option.{option_map, option_map_or}
 use Rattle.std.specs.FinMap.{empty, keys, values}

@@ -1,6 +1,12 @@
 //! What holds of the network, whatever is given to it. Each law is a function that does nothing, and its contract is the law: the check
 //! proves it, and a crate above may cite it.
+ghost use Rattle.irc_world.specs.Homes.{ClientsBringOwnUsers};
 ghost use Rattle.irc_world.specs.Laws.{NewWorldIsSound, StepStaysSound, WorldIsSound};
+ghost use Rattle.irc_world.specs.Bounds.{OneServerTellsNobody};
+ghost use Rattle.irc_world.specs.Even.{LinkIsEven};
+ghost use Rattle.irc_world.specs.OneServer.{OneServerIsTheNetwork, OneServerOwes};
+ghost use Rattle.irc_world.specs.Parts.{ClientsAreNumberedOnce, ViewIsWellFormed};
+ghost use Rattle.irc_world.specs.UsersHomes.{StepKeepsHomes, UsersHomesAreServers};
 
 /// A network with no link and nobody in it is sound.
 pub fn new_world_is_sound()
@@ -34,4 +40,74 @@ pub fn world_is_sound()
     irc_commands::laws::registering_is_possible();
     irc_merge::laws::merge_is_well_formed();
     irc_merge::laws::split_is_well_formed();
+}
+
+/// A network of one server is that server: an item that is not refused is one that the server takes, it does the same to both, and each client receives the
+/// same lines.
+pub fn one_server_is_the_network()
+    ensures { OneServerIsTheNetwork }
+{
+    irc_routes::laws::alone_is_alone();
+}
+
+/// Over any items of which none is refused, the clients of a network of one server are owed just what that server owes them.
+pub fn one_server_owes()
+    ensures { OneServerOwes }
+{
+    irc_routes::laws::alone_is_alone();
+    irc_server::laws::lone_server_is_one_room();
+    step_stays_sound();
+}
+
+/// Where a link between two servers is not refused, either of them may connect: afterwards the same servers are joined, each has the same
+/// hall, and each client receives the same lines.
+pub fn link_is_even()
+    ensures { LinkIsEven }
+{
+    irc_relay::laws_of_forests::link_between_parts();
+    irc_merge::laws::merge_is_even();
+    irc_merge::laws::agree_tells();
+}
+
+/// Each client in a hall has a number that was given, and is in no other part's hall.
+pub fn clients_are_numbered_once()
+    ensures { ClientsAreNumberedOnce }
+{}
+
+/// What a server keeps of the room of its part, all but the invitations of other servers' users, is well formed.
+pub fn view_is_well_formed()
+    ensures { ViewIsWellFormed }
+{
+    irc_room::invitation_laws::home_is_well_formed();
+}
+
+/// A network of one server needs no line between servers.
+pub fn one_server_tells_nobody()
+    ensures { OneServerTellsNobody }
+{}
+
+/// What a client does makes users of its own server alone: where the homes of all users of its part pass a test, and its own server does, they pass it still.
+pub fn clients_bring_own_users()
+    ensures { ClientsBringOwnUsers }
+{
+    irc_commands::laws::decided_adds_nobody();
+    irc_commands::laws::registered_is_added();
+    irc_commands::laws::unregistered_changes_nothing();
+}
+
+/// Where each user's home is a server that there is, an item that is not refused leaves it so.
+pub fn step_keeps_homes()
+    ensures { StepKeepsHomes }
+{
+    clients_bring_own_users();
+    irc_merge::laws::merge_has_nothing_new();
+    irc_merge::laws::split_has_nothing_new();
+}
+
+/// After any items of which none is refused, each user's home is a server that there is.
+pub fn users_homes_are_servers()
+    ensures { UsersHomesAreServers }
+{
+    step_keeps_homes();
+    step_stays_sound();
 }

@@ -2,4 +2,5 @@
 //! contracts of functions with empty bodies.
 #![tactic(auto)]
 
+pub mod examples;
 pub mod laws;

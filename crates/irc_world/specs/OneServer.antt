@@ -1,0 +1,73 @@
+-- A network of one server is that server: what happens to the one happens to the other, and their clients receive the same.
+use Rattle.std.specs.Prelude.{◌≡◌, ℕ, suc, true, Option, Some, None, is_some, List, [], ◌∷◌, ◌++◌, length, option_to_list}
+use Rattle.std.specs.FinMap.{empty}
+use Rattle.irc_line.specs.Reading.{read_of}
+use Rattle.irc_room.specs.Laws.{no_room}
+use Rattle.irc_routes.specs.Known.{alone_known}
+use Rattle.irc_server.specs.RoomMachine.{RoomMachine, client_of}
+use Rattle.irc_server.specs.View.{View, machine_of}
+use Rattle.irc_server.specs.Handle.{Happening, connects, says, goes}
+use Rattle.irc_server.specs.Served.{served}
+use Rattle.irc_server.specs.Owed.{lines_to}
+use Rattle.irc_server.specs.Owed.{owed as owed_by_server}
+use Rattle.irc_world.specs.World.{Setting, World, new_world}
+use Rattle.irc_world.specs.Stepping.{Item, connect, line, gone, link, cut, step}
+use Rattle.irc_world.specs.Refused.{refused}
+use Rattle.irc_world.specs.Owed.{owed}
+use Rattle.irc_world.specs.Sound.{IsSound, AreTaken}
+
+-- a server as it is configured: it knows no other, and nobody is there
+abbrev pub lone_view : Setting → View
+lone_view setting = record {
+  routes = alone_known setting.name setting.info setting.created;
+  peers = setting.peers;
+  ends = [];
+  clients = empty;
+  room = no_room;
+}
+
+-- a server is all that a network without links is to its clients: it knows no other, and has the clients and the room of its hall
+pub record IsTheServer (setting : Setting) (world : World) (view : View) : Type 0 where
+  pub no_links : world.links ≡ []
+  pub routes : view.routes ≡ alone_known setting.name setting.info setting.created
+  pub no_ends : view.ends ≡ []
+  pub clients : view.clients ≡ (world.hall setting.name).clients
+  pub room : view.room ≡ (world.hall setting.name).room
+
+-- what an item is to the one server: there is no other that it could be linked to
+abbrev pub happening_at : World → Item → Option Happening
+happening_at world (connect server host) = Some (connects (suc (length world.homes)) host)
+happening_at world (line client bytes) = Some (says client (read_of bytes))
+happening_at world (gone client) = Some (goes client)
+happening_at world (link near far) = None
+happening_at world (cut near far) = None
+
+-- who connects is not there yet, and all others are: so no server refuses it
+abbrev pub IsExpected : RoomMachine → Happening → Type 0
+IsExpected machine (connects conn host) = client_of machine conn ≡ None
+IsExpected machine (says conn read) = is_some (client_of machine conn) ≡ true
+IsExpected machine (goes conn) = is_some (client_of machine conn) ≡ true
+
+-- an item does to the network what it does to the server
+pub record IsServed (setting : Setting) (world : World) (view : View) (item : Item) : Type 0 where
+  pub happening : Happening
+  pub is_item : happening_at world item ≡ Some happening
+  pub expected : IsExpected (machine_of view) happening
+  pub stays : IsTheServer setting (step (setting ∷ []) world item).world (served view happening).view
+  pub lines : (client : ℕ) → (step (setting ∷ []) world item).lines client ≡ lines_to client (served view happening).out
+
+-- any item that is not refused is one for the one server, and it does the same
+abbrev pub OneServerIsTheNetwork : Type 0
+OneServerIsTheNetwork = (setting : Setting) (world : World) (view : View) (item : Item) → IsSound (setting ∷ []) world → IsTheServer setting world view
+    → refused (setting ∷ []) world item ≡ None → IsServed setting world view item
+
+-- what these items are to the one server, each when its turn comes
+abbrev pub happenings_from : List Setting → World → List Item → List Happening
+happenings_from settings world [] = []
+happenings_from settings world (item ∷ items) =
+    option_to_list (happening_at world item) ++ happenings_from settings (step settings world item).world items
+
+-- so the clients of a network of one server are owed what that server owes them
+abbrev pub OneServerOwes : Type 0
+OneServerOwes = (setting : Setting) (items : List Item) → AreTaken (setting ∷ []) new_world items → (client : ℕ)
+    → owed (setting ∷ []) items client ≡ owed_by_server client (machine_of (lone_view setting)) (happenings_from (setting ∷ []) new_world items)

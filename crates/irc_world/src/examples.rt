@@ -1,0 +1,8 @@
+//! A small network, by example.
+ghost use Rattle.irc_world.specs.Examples.{FourRefusals};
+
+/// What is refused where there are three servers, no link and nobody: names of no server, numbers of no client, a link that is not there to be cut, and
+/// links between servers of which one is no peer, keeps another password, or is the same server.
+pub fn four_refusals()
+    ensures { FourRefusals }
+{}
