@@ -33,7 +33,8 @@ letters_of_one (Some before) c rest = letters_shape_some before c.plus (letter_b
 -- the letters of one change more
 pub letters_next : (sign : Option Bool) (changes : List ModeChange) (i : ℕ) (d : ModeChange) → i < length changes
     → letters_from sign (drop i changes)
-    ≡ (sign_between sign (get_or changes i d).plus ++ letter_byte (get_or changes i d).letter ∷ []) ++ letters_from (Some (get_or changes i d).plus) (drop (i + 1) changes)
+    ≡ (sign_between sign (get_or changes i d).plus ++ letter_byte (get_or changes i d).letter ∷ [])
+    ++ letters_from (Some (get_or changes i d).plus) (drop (i + 1) changes)
 letters_next sign changes i d within =
     let c = get_or changes i d in
     ap (letters_from sign) (drop_more changes i d within)
@@ -61,10 +62,11 @@ nothing_on line whole fits so_far = sym (ap cut (append-nil line) ∙ cut_all li
 pub letters_done : (line whole : List ℕ) (sign : Option Bool) (changes : List ModeChange) (i : ℕ) → length changes ≤ i → length line ≤ max_line
     → cut (line ++ letters_from sign (drop i changes)) ≡ cut whole → line ≡ cut whole
 letters_done line whole sign changes i past fits so_far =
-    nothing_on line whole fits (sym (ap (λ cs. cut (line ++ letters_from sign cs)) (drop_all i changes past) ∙ ap (λ t. cut (line ++ t)) (no_letters sign)) ∙ so_far)
+    nothing_on line whole fits
+    (sym (ap (λ cs. cut (line ++ letters_from sign cs)) (drop_all i changes past) ∙ ap (λ t. cut (line ++ t)) (no_letters sign)) ∙ so_far)
 
-pub words_done : (written : ModeChange → Option (List ℕ)) (line whole : List ℕ) (changes : List ModeChange) (i : ℕ) → length changes ≤ i → length line ≤ max_line
-    → cut (line ++ middle_text (filter_map written (drop i changes))) ≡ cut whole → line ≡ cut whole
+pub words_done : (written : ModeChange → Option (List ℕ)) (line whole : List ℕ) (changes : List ModeChange) (i : ℕ)
+    → length changes ≤ i → length line ≤ max_line → cut (line ++ middle_text (filter_map written (drop i changes))) ≡ cut whole → line ≡ cut whole
 words_done written line whole changes i past fits so_far =
     nothing_on line whole fits (sym (ap (λ cs. cut (line ++ middle_text (filter_map written cs))) (drop_all i changes past)) ∙ so_far)
 

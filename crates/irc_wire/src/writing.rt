@@ -25,7 +25,6 @@ type MarkedName = ArrayVec<u8, 52>;
 /// The byte 7 and `o` (RFC 2813 section 4.2.1).
 const OPERATOR_MARK: &[u8] = b"\x07o";
 
-
 /// The line that tells the server at the other end of a link of an effect (RFC 2813 section 4). It is the same for every link. It is to be written
 /// before the effect is applied. It takes no memory.
 pub fn write_effect(effect: &Effect, room: &Room, routes: &Routes, link: u64) -> Text
@@ -160,7 +159,8 @@ fn kick_line<'a>(
     nick: &'a Nick,
     words: &[u8],
 ) -> Text
-    ensures { result.items ≡ text (from (stored_nick room.now.room by.now) (codes "KICK") (stored_channel room.now.room channel.now ∷ stored_nick room.now.room nick.now ∷ []) (Some words.now)) }
+    ensures { result.items ≡ text (from (stored_nick room.now.room by.now) (codes "KICK")
+        (stored_channel room.now.room channel.now ∷ stored_nick room.now.room nick.now ∷ []) (Some words.now)) }
 {
     line(
         stored_nick(room, by.as_bytes()),
@@ -174,7 +174,8 @@ fn kick_line<'a>(
 }
 
 fn invite_line<'a>(room: &'a Room, by: &Nick, nick: &'a Nick, channel: &'a ChannelName) -> Text
-    ensures { result.items ≡ text (from (stored_nick room.now.room by.now) (codes "INVITE") (stored_nick room.now.room nick.now ∷ stored_channel room.now.room channel.now ∷ []) None) }
+    ensures { result.items ≡ text (from (stored_nick room.now.room by.now) (codes "INVITE")
+        (stored_nick room.now.room nick.now ∷ stored_channel room.now.room channel.now ∷ []) None) }
 {
     line(
         stored_nick(room, by.as_bytes()),
@@ -202,7 +203,9 @@ fn introduction_line(routes: &Routes, user: &User) -> Text
     let mut token = Buffer::new();
     introduction(
         user,
-        distance.format(next_distance(routes, &user.home)).as_bytes(),
+        distance
+            .format(next_distance(routes, &user.home))
+            .as_bytes(),
         token.format(written_token(routes, &user.home)).as_bytes(),
     )
 }

@@ -17,8 +17,8 @@ loop-change-preserved c =
     let line = c.loop-change.line.items in
     let written = written_word c.args.room.now.room in
     let pushed = c.push_word.ensures.pushed
-        ∙ ap (λ o. cut (line ++ middle_text (option_to_list o))) c.written_word.ensures
-        ∙ ap (λ (m : ModeChange). cut (line ++ middle_text (option_to_list (written m)))) c.change-item.is in
+    ∙ ap (λ o. cut (line ++ middle_text (option_to_list o))) c.written_word.ensures
+    ∙ ap (λ (m : ModeChange). cut (line ++ middle_text (option_to_list (written m)))) c.change-item.is in
     record {
       still_cut = c.push_word.ensures.still_cut;
       pushed = piece_on line _ _ _ _ pushed (words_next written changes i _ c.loop-change-test.true) ∙ c.loop-change.invariant.pushed;
