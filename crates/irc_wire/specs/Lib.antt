@@ -3,3 +3,4 @@ pub mod Words
 pub mod Written
 pub mod Reader
 pub mod Means
+pub mod Loops
