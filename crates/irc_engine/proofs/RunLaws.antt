@@ -1,16 +1,16 @@
 -- Stretches of a turn, one after another.
-use Rattle.std.proofs.Common.{◌≡◌, ℕ, ◌+◌, ◌-◌, ◌<◌, ◌≤◌, Bool, true, false, not, ◌&&◌, ◌||◌, cond, nat_eq, is_some, Option, Some, None, Result, Ok, Err, OnOk, List, [], ◌∷◌, ◌++◌, refl, sym, ◌∙◌, ap, subst, append_assoc, append-nil, arith, take, drop, length}
+use Rattle.std.proofs.Common.{◌≡◌, ℕ, ◌+◌, ◌-◌, ◌<◌, ◌≤◌, Bool, true, false, not, ◌&&◌, ◌||◌, cond, nat_eq, is_some, Option, Some, None, Result, Ok, Err, OnOk, List, [], ◌∷◌, ◌++◌, refl, sym, ◌∙◌, ap, subst, append_assoc, append-nil, arith, take, drop, length, length-append}
 use Rattle.std.specs.List.{filter, list_any, slice_range}
 use Rattle.std.specs.BTreeMap.{BTreeMap}
 use Rattle.std.proofs.Math.Seq.{take-add}
-use Rattle.std.proofs.lemmas.List.{take-append-le, length-take}
+use Rattle.std.proofs.lemmas.List.{take-append-le, take-append-drop, length-take}
 use Rattle.std.proofs.lemmas.List.Folds.{drop_split}
 use Rattle.std.proofs.lemmas.List.Elements.{filter-append}
 use Rattle.std.proofs.lemmas.List.Folds.{list_any-append}
 use Rattle.irc_outbox.specs.declared.wire.Got.{Got}
 use Rattle.irc_outbox.specs.declared.wire.Got.TheVariants.{Bytes, Later, End}
 use Rattle.irc_outbox.specs.declared.wire.IoFault.{IoFault}
-use Rattle.irc_outbox.specs.Calls.{Call, reads, closes, bytes_got, Adds}
+use Rattle.irc_outbox.specs.Calls.{Call, reads, closes, bytes_got, Adds, FitsIn}
 use Rattle.irc_server.specs.declared.event.Event.{Event}
 use Rattle.irc_server.specs.declared.event.Out.{Out}
 use Rattle.irc_server.specs.declared.event.ServerFault.{ServerFault}
@@ -241,6 +241,19 @@ pub frames_within : (conn : ℕ) (piece : List ℕ) (old new : BTreeMap ℕ Seat
     → used ≤ length piece
 frames_within conn piece old new used line (no_seat none same never) = cc never
 frames_within conn piece old new used line (at_seat seat now was set so) = so.within
+
+-- what a read gave, in the buffer after it
+pub front_after : (answer : Result Got IoFault) (xs rest : List ℕ) (n room len : ℕ) → came answer ≡ Some n → FitsIn answer room → room ≡ len → length xs ≡ room
+    → take n (take len (xs ++ rest)) ≡ take n xs
+front_after (Ok (Bytes m)) xs rest n room len is fits same long =
+    subst (λ k. take k (take len (xs ++ rest)) ≡ take k xs) (ap number_in is) (sym (
+      sym (take-append-le m xs rest (omega (arith, fits, long)))
+      ∙ ap (λ ys. take m ys) (sym (take-append-drop len (xs ++ rest)))
+      ∙ take-append-le m (take len (xs ++ rest)) (drop len (xs ++ rest))
+        (omega (arith, fits, same, long, length-take len (xs ++ rest), length-append {A = ℕ} xs rest))))
+front_after (Ok Later) xs rest n room len is fits same long = subst (λ k. take k (take len (xs ++ rest)) ≡ take k xs) (ap number_in is) refl
+front_after (Ok End) xs rest n room len is fits same long = cc is
+front_after (Err fault) xs rest n room len is fits same long = cc is
 
 -- the engine's board, and what else there is of it, at one moment
 abbrev pub at_board : {W : Type 0} → Option View → ℕ → Board W → Moment W
@@ -602,12 +615,12 @@ module _ {W : Type 0} (is_after : W → List Call → Type 0) where
       by (at_seat seat now was set so) = so_then (ap begun_at was ∙ so.0) (λ q. as_before q seat now (nat_eq conn q) refl was so.1 (set q))
 
   -- what a read gave is heard
-  pub ran_fed : (takings : List Call) (conn : ℕ) (answer : Result Got IoFault) (buffer : List ℕ) (n : ℕ) (old mid new : Moment W) → came answer ≡ Some n
-      → Ran is_after takings [] nothing_of old mid → Ran is_after [] [] (only_of conn (take n buffer)) mid new
+  pub ran_fed : (takings : List Call) (conn : ℕ) (answer : Result Got IoFault) (buffer after : List ℕ) (n : ℕ) (old mid new : Moment W) → came answer ≡ Some n → take n after ≡ take n buffer
+      → Ran is_after takings [] nothing_of old mid → Ran is_after [] [] (only_of conn (take n after)) mid new
       → Ran is_after takings [] (only_of conn (bytes_got answer buffer)) old new
-  ran_fed takings conn answer buffer n old mid new is one other =
-      ran_then takings [] nothing_of (only_of conn (take n buffer)) (only_of conn (bytes_got answer buffer)) old mid new
-      (λ q. ap (λ bs. only_of conn bs q) (got answer buffer n is)) one other
+  ran_fed takings conn answer buffer after n old mid new is same one other =
+      ran_then takings [] nothing_of (only_of conn (take n after)) (only_of conn (bytes_got answer buffer)) old mid new
+      (λ q. ap (λ bs. only_of conn bs q) (got answer buffer n is ∙ sym same)) one other
 
   -- a read that ended or failed gave nothing
   pub ran_ended : (takings : List Call) (conn : ℕ) (answer : Result Got IoFault) (buffer : List ℕ) (old new : Moment W) → came answer ≡ None

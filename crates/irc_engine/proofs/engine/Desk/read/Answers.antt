@@ -1,6 +1,6 @@
 use Rattle.std.proofs.Common.{refl, sym, ◌∙◌}
 use Rattle.irc_engine.specs.Running.{not_open, read_once}
-use Rattle.irc_engine.proofs.RunLaws.{on_ok, ran_none, ran_after, ran_read, ran_cut, ran_fed, ran_ended}
+use Rattle.irc_engine.proofs.RunLaws.{on_ok, ran_none, ran_after, ran_read, ran_cut, ran_fed, ran_ended, front_after}
 use Rattle.irc_engine.proofs.engine.Desk.read.Goals as goal
 
 pub returns-then-not-is_open-clause-done : goal.returns-then-not-is_open-clause-done
@@ -10,7 +10,8 @@ pub returns-in-Some-clause-done : goal.returns-in-Some-clause-done
 returns-in-Some-clause-done g c =
     on_ok c.take_lines.result _ _
     (λ ran. read_once _ _ _ (sym c.is_open.ensures ∙ c.if-not-is_open.false) c.deref_mut.ensures.len
-    (ran_fed _ _ _ _ _ _ _ _ _ (sym c.came.ensures ∙ c.in-Some.is)
+    (ran_fed _ _ _ _ _ _ _ _ _ _ (sym c.came.ensures ∙ c.in-Some.is)
+    (front_after c.read.result c.read.new.buffer _ _ _ _ (sym c.came.ensures ∙ c.in-Some.is) c.read.ensures.within c.deref_mut.ensures.len c.read.auto.buffer)
     (ran_read _ _ c.args.self.now.board (record c.args.self.now.board { wire = c.read.new.self }) _ _ _ _ _ _ _ (sym c.came.ensures ∙ c.in-Some.is) c.read.ensures.account refl refl refl) ran))
     c.take_lines.ensures.ran
 
