@@ -247,10 +247,10 @@ pub front_after : (answer : Result Got IoFault) (xs rest : List ℕ) (n room len
     → take n (take len (xs ++ rest)) ≡ take n xs
 front_after (Ok (Bytes m)) xs rest n room len is fits same long =
     subst (λ k. take k (take len (xs ++ rest)) ≡ take k xs) (ap number_in is) (sym (
-      sym (take-append-le m xs rest (omega (arith, fits, long)))
-      ∙ ap (λ ys. take m ys) (sym (take-append-drop len (xs ++ rest)))
-      ∙ take-append-le m (take len (xs ++ rest)) (drop len (xs ++ rest))
-        (omega (arith, fits, same, long, length-take len (xs ++ rest), length-append {A = ℕ} xs rest))))
+    sym (take-append-le m xs rest (omega (arith, fits, long)))
+    ∙ ap (λ ys. take m ys) (sym (take-append-drop len (xs ++ rest)))
+    ∙ take-append-le m (take len (xs ++ rest)) (drop len (xs ++ rest))
+    (omega (arith, fits, same, long, length-take len (xs ++ rest), length-append {A = ℕ} xs rest))))
 front_after (Ok Later) xs rest n room len is fits same long = subst (λ k. take k (take len (xs ++ rest)) ≡ take k xs) (ap number_in is) refl
 front_after (Ok End) xs rest n room len is fits same long = cc is
 front_after (Err fault) xs rest n room len is fits same long = cc is

@@ -105,7 +105,7 @@ pub data Connects {W : Type 0} (is_after : W → List Call → Type 0) (room con
 -- A server is connected. Servers cannot be linked yet, so it is closed at once. A number that has a seat is passed over.
 pub data RefusesLink {W : Type 0} (is_after : W → List Call → Type 0) (conn : ℕ) (old new : Moment W) : Type 0 where
   in_use_by_client : is_some (old.seats conn) ≡ true → RanOn is_after old new → RefusesLink is_after conn old new
-  closes_it : old.seats conn ≡ None → Adds is_after old.wire (closes conn) new.wire 
+  closes_it : old.seats conn ≡ None → Adds is_after old.wire (closes conn) new.wire
       → new ≡ record old { wire = new.wire } → RefusesLink is_after conn old new
 
 -- A connection that the server has not closed is read once; another is not.
