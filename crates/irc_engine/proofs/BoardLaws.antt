@@ -17,6 +17,7 @@ use Rattle.irc_engine.specs.Loops.Counts.{count_of}
 use Rattle.irc_engine.specs.Loops.Seats.{seat_of, is_done_at, IsSet, AreSame, Through, at_seat, no_seat, IsOffered, IsOfferedAt, IsShutAt, IsWritten, IsWrittenAt}
 use Rattle.irc_engine.specs.Loops.Boards.{has, IsNoted, Ends, Loses, Settles, ended, stayed, Carries}
 use Rattle.irc_engine.proofs.SeatLaws.{one_number, nat_eq-refl}
+use Rattle.irc_engine.proofs.HearingLaws.{hears_gone}
 use Rattle.irc_engine.proofs.CarryingLaws.{IsElsewhere, untouched, passage_on, elsewhere_both, kept_none, kept_some}
 
 -- accounts
@@ -194,6 +195,7 @@ module _ {W : Type 0} (is_after : W → List Call → Type 0) (conn : ℕ) (old 
                 ));
               };
               lost_is = drops.lost conn ∙ at_last (has old.lost conn) (nat_eq conn conn) (is_some seat.framer) (nat_eq-refl conn);
+              hears_none = hears_gone seat.framer;
             })));
         takes_none = refl;
         count = drops.count;
@@ -220,6 +222,7 @@ module _ {W : Type 0} (is_after : W → List Call → Type 0) (conn : ℕ) (old 
                 why = cut_off (ap (λ t. t || false) (nat_eq-refl conn));
               };
               lost_is = drops.lost conn ∙ at_last (has old.lost conn) (nat_eq conn conn) (is_some seat.framer) (nat_eq-refl conn);
+              hears_none = hears_gone seat.framer;
             })));
         takes_none = refl;
         count = drops.count;

@@ -12,6 +12,9 @@ use Rattle.irc_server.specs.declared.event.Out.{Out}
 use Rattle.irc_server.specs.declared.event.Out.TheVariants.{ToClient, CloseClient}
 use Rattle.irc_engine.specs.declared.board.Board.{Board}
 use Rattle.irc_engine.specs.declared.seat.Seat.{Seat}
+use Rattle.irc_line.specs.Lines.{Begun}
+use Rattle.irc_engine.specs.Hearing.{Hears}
+use Rattle.irc_engine.proofs.HearingLaws.{hears_gone, hears_same}
 use Rattle.irc_engine.specs.Carrying.{owed, is_open_at, is_lost_after, is_taking, AddsAll, Passage, finished}
 use Rattle.irc_engine.specs.Loops.Counts.{count_of}
 use Rattle.irc_engine.specs.Loops.Seats.{seat_of, is_done_at, IsSet, AreSame, at_seat, no_seat, IsOfferedAt, IsShutAt, IsWrittenAt}
@@ -87,6 +90,7 @@ module _ {W : Type 0} (is_after : W → List Call → Type 0) where
                         never_cut = refl;
                       };
                       lost_is = same_lost conn ∙ kept_some (has old.lost conn) (is_some seat.framer);
+                      hears_none = hears_same seat.framer now.framer (ap (λ (s : Seat). s.framer) now_is);
                     });
                 takes_none = refl;
                 count = count;
@@ -103,7 +107,7 @@ module _ {W : Type 0} (is_after : W → List Call → Type 0) where
             account = adds_none is_after old.wire new.wire wire;
             passage = one_seat [] (ToClient conn text ∷ []) None None none (same conn ∙ none) (λ q two. same q) (λ q two. same_lost q)
                 (λ q two. line_elsewhere conn q text two)
-                (record { fate = record { nothing = refl; never = refl }; lost_is = same_lost conn ∙ kept_none (has old.lost conn) });
+                (record { fate = record { nothing = refl; never = refl }; lost_is = same_lost conn ∙ kept_none (has old.lost conn); hears_none = refl });
             takes_none = refl;
             count = count;
           }
@@ -122,6 +126,7 @@ module _ {W : Type 0} (is_after : W → List Call → Type 0) where
                     never_cut = refl;
                   };
                   lost_is = same_lost conn ∙ kept_some (has old.lost conn) (is_some seat.framer);
+                  hears_none = hears_same seat.framer now.framer (ap (λ (s : Seat). s.framer) now_is);
                 });
             takes_none = refl;
             count = count;
@@ -146,7 +151,7 @@ module _ {W : Type 0} (is_after : W → List Call → Type 0) where
           calls = [];
           account = adds_none is_after old.wire new.wire wire;
           passage = one_seat [] (CloseClient conn ∷ []) None None none (same conn ∙ none) (λ q two. same q) others_lost (λ q two. shut_elsewhere conn q two)
-              (record { fate = record { nothing = refl; never = refl }; lost_is = not_lost ∙ sym (closed_now _) });
+              (record { fate = record { nothing = refl; never = refl }; lost_is = not_lost ∙ sym (closed_now _); hears_none = refl });
           takes_none = refl;
           count = count;
         }
@@ -165,6 +170,7 @@ module _ {W : Type 0} (is_after : W → List Call → Type 0) where
                   never_cut = refl;
                 };
                 lost_is = not_lost ∙ sym (closed_now _);
+                hears_none = subst (λ (b : Option Begun). Hears seat.framer [] [] b) (sym (ap (λ (s : Seat). s.framer) now_is)) (hears_gone seat.framer);
               });
           takes_none = refl;
           count = count;
@@ -202,6 +208,7 @@ module _ {W : Type 0} (is_after : W → List Call → Type 0) where
                       why = finished (ap (λ o. o && true) parts.0) refl;
                     };
                     lost_is = ap (λ l. has l conn) ends.lost ∙ shut_lost (has old.lost conn) (is_some seat.framer) parts.0;
+                    hears_none = hears_gone seat.framer;
                   });
               takes_none = refl;
               count = ends_fewer is_after conn old new ends;
@@ -234,6 +241,7 @@ module _ {W : Type 0} (is_after : W → List Call → Type 0) where
                       never_cut = refl;
                     };
                     lost_is = ap (λ l. has l conn) lost ∙ kept_some (has old.lost conn) (is_some seat.framer);
+                    hears_none = hears_same seat.framer now.framer so.same_framer;
                   });
               takes_none = refl;
               count = count;

@@ -8,6 +8,8 @@ use Rattle.irc_outbox.specs.Calls.{Call, written, written_by, times_closed, is_c
 use Rattle.irc_server.specs.declared.event.Out.{Out}
 use Rattle.irc_server.specs.declared.event.Out.TheVariants.{ToClient, CloseClient}
 use Rattle.irc_engine.specs.declared.seat.Seat.{Seat}
+use Rattle.irc_engine.specs.Hearing.{begun_at}
+use Rattle.irc_engine.proofs.HearingLaws.{hears_on, hears_kept}
 use Rattle.irc_engine.specs.Carrying.{answers, is_closing, is_closed_by, owed, is_open_at, ends_at, is_cut_off, Silent, Stays, Why, finished, cut_off, overflowed, Leaves, Fate, is_lost_after, Passage}
 
 pub written-append : (conn : ℕ) (a b : List Call) → written conn (a ++ b) ≡ written conn a ++ written conn b
@@ -185,6 +187,7 @@ module _ (conn : ℕ) (a b : List Call) (x y : List Out) where
     lost_is =
         other.lost_is ∙ lost_on old mid new was between one.fate other.fate one.lost_is
         ∙ ap (λ t. is_lost_after old was t new) (sym (is_closed_by-append conn x y));
+    hears_none = hears_on (begun_at old) (begun_at mid) (begun_at new) [] [] [] [] one.hears_none other.hears_none;
   }
 
 -- calls and lines of other connections
@@ -243,6 +246,7 @@ untouched conn calls outs apart old new was now same as_lost =
     (subst (λ (l : Bool). Passage conn old was calls outs old l) (sym as_lost) (record {
       fate = untouched_fate conn calls outs apart old;
       lost_is = kept_lost old was (is_closed_by conn outs) apart.never_closed;
+      hears_none = hears_kept (begun_at old);
     }))
 
 pub same_fate : (conn : ℕ) (seat : Option Seat) → Fate conn seat [] [] seat

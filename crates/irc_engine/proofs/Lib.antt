@@ -1,3 +1,4 @@
+pub mod HearingLaws
 pub mod SeatLaws
 pub mod CarryingLaws
 pub mod BoardLaws

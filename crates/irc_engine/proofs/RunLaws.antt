@@ -1,11 +1,16 @@
 -- Stretches of a turn, one after another.
-use Rattle.std.proofs.Common.{◌≡◌, ℕ, Bool, true, false, ◌||◌, cond, nat_eq, is_some, Option, Some, None, Result, Ok, Err, OnOk, List, [], ◌∷◌, ◌++◌, refl, sym, ◌∙◌, ap, subst, append_assoc, append-nil}
-use Rattle.std.specs.List.{filter, list_any}
+use Rattle.std.proofs.Common.{◌≡◌, ℕ, ◌+◌, ◌-◌, ◌<◌, ◌≤◌, Bool, true, false, not, ◌&&◌, ◌||◌, cond, nat_eq, is_some, Option, Some, None, Result, Ok, Err, OnOk, List, [], ◌∷◌, ◌++◌, refl, sym, ◌∙◌, ap, subst, append_assoc, append-nil, arith, take, drop, length, length-append}
+use Rattle.std.specs.List.{filter, list_any, slice_range}
+use Rattle.std.specs.BTreeMap.{BTreeMap}
+use Rattle.std.proofs.Math.Seq.{take-add}
+use Rattle.std.proofs.lemmas.List.{take-append-le, take-append-drop, length-take}
+use Rattle.std.proofs.lemmas.List.Folds.{drop_split}
 use Rattle.std.proofs.lemmas.List.Elements.{filter-append}
+use Rattle.std.proofs.lemmas.List.Folds.{list_any-append}
 use Rattle.irc_outbox.specs.declared.wire.Got.{Got}
 use Rattle.irc_outbox.specs.declared.wire.Got.TheVariants.{Bytes, Later, End}
 use Rattle.irc_outbox.specs.declared.wire.IoFault.{IoFault}
-use Rattle.irc_outbox.specs.Calls.{Call, reads, closes, Adds}
+use Rattle.irc_outbox.specs.Calls.{Call, reads, closes, bytes_got, Adds, FitsIn}
 use Rattle.irc_server.specs.declared.event.Event.{Event}
 use Rattle.irc_server.specs.declared.event.Out.{Out}
 use Rattle.irc_server.specs.declared.event.ServerFault.{ServerFault}
@@ -13,15 +18,20 @@ use Rattle.irc_server.specs.View.{View}
 use Rattle.irc_server.specs.Happening.{IsHandled}
 use Rattle.irc_engine.specs.declared.board.Board.{Board}
 use Rattle.irc_engine.specs.declared.seat.Seat.{Seat}
-use Rattle.irc_engine.specs.Carrying.{is_taking, owed, is_open_at, is_cut_off, AddsAll, Fate, cut_off}
-use Rattle.irc_engine.specs.Running.{Moment, AskedFirst, AreAsked, Ran}
+use Rattle.irc_engine.specs.Carrying.{is_taking, owed, is_open_at, is_cut_off, is_closed_by, is_lost_after, AddsAll, Fate, Passage, cut_off}
+use Rattle.irc_server.specs.declared.event.Event.TheVariants.{Line, Gone}
+use Rattle.irc_line.specs.Lines.{Begun, Takes}
+use Rattle.irc_line.specs.Framed.{found_in}
+use Rattle.irc_engine.specs.Hearing.{begun_at, is_connect, line_by, lines_by, times_gone, nothing_of, only_of, Hears}
+use Rattle.irc_engine.specs.Running.{Moment, AskedFirst, AreAsked, Ran, RanOn, Standing, standing_of, is_known, IsApart, IsTold, Tells, one_if, AllTold}
+use Rattle.irc_engine.proofs.HearingLaws.{lines_by-append, times_gone-append, hears_on, hears_kept, hears_same, hears_gone, hears_deaf}
 use Rattle.irc_engine.specs.Loops.Seats.{seat_of, at_seat, no_seat, FramesAt}
-use Rattle.irc_engine.specs.Loops.Boards.{Carries, Loses}
-use Rattle.irc_engine.specs.Loops.Desks.{came}
+use Rattle.irc_engine.specs.Loops.Boards.{has, Carries, Loses}
+use Rattle.irc_engine.specs.Loops.Desks.{came, passed_on}
 use Rattle.irc_engine.proofs.BoardLaws.{adds_none, adds_both, at_once, set_here, set_other, close_elsewhere, last_close}
 use Rattle.irc_engine.proofs.SeatLaws.{one_number, nat_eq-refl}
 use Rattle.arrayvec.specs.ArrayVec.{ArrayVec}
-use Rattle.irc_engine.proofs.CarryingLaws.{IsElsewhere, elsewhere_both, fate_on, same_fate, untouched_fate, nothing_owed, still}
+use Rattle.irc_engine.proofs.CarryingLaws.{is_closed_by-append, IsElsewhere, elsewhere_both, fate_on, same_fate, untouched_fate, nothing_owed, still}
 
 pub on_ok : {E : Type 0} (result : Result (Unit {0}) E) (P Q : Type 0) → (P → Q) → OnOk result P → OnOk result Q
 on_ok (Ok done) P Q so holds = so holds
@@ -52,23 +62,236 @@ asked_on old mid new (event ∷ a) b x y one other = record {
   rest_is = asked_on one.between mid new a b one.more y one.rest_is other;
 }
 
+either_false : (a b : Bool) → (a || b) ≡ false → (a ≡ false) × (b ≡ false)
+either_false true b is = cc is
+either_false false b is = (refl, is)
+
+-- what the server is told of one connection, in two stretches
+tells_on : (conn : ℕ) (was mid now : Standing) (a b : List Event) (x y : List Out) → Tells conn was a x mid → Tells conn mid b y now → Tells conn was (a ++ b) (x ++ y) now
+tells_on conn was mid now a b x y one other = λ apart.
+    let first = one apart in
+    let then = other first.apart in
+    record {
+      at_most = omega (arith, first.at_most, then.at_most, times_gone-append conn a b);
+      unless_closed = λ unshut.
+          let parts = either_false (is_closed_by conn x) (is_closed_by conn y) (sym (is_closed_by-append conn x y) ∙ unshut) in
+          omega (arith, first.unless_closed parts.0, then.unless_closed parts.1, times_gone-append conn a b);
+      apart = then.apart;
+    }
+
+tells_still : (conn : ℕ) (now : Standing) → Tells conn now [] [] now
+tells_still conn now = λ apart. record { at_most = omega arith; unless_closed = λ unshut. omega arith; apart = apart }
+
+tells_as : (conn : ℕ) (was now : Standing) → now.lost ≡ was.lost → now.unshut ≡ was.unshut → Tells conn was [] [] now
+tells_as conn was now lost unshut =
+    subst (λ (l : Bool). Tells conn was [] [] (record { lost = l; unshut = now.unshut })) (sym lost)
+    (subst (λ (o : Bool). Tells conn was [] [] (record { lost = was.lost; unshut = o })) (sym unshut) (tells_still conn was))
+
+fewer : (b c : Bool) → 0 + one_if (b && not c) ≤ one_if b
+fewer true true = omega arith
+fewer true false = omega arith
+fewer false c = omega arith
+
+and_true : (b : Bool) → (b && true) ≡ b
+and_true true = refl
+and_true false = refl
+
+known_none : (l c : Bool) → (((l || false) && not c) || false) ≡ ((l || false) && not c)
+known_none true true = refl
+known_none true false = refl
+known_none false c = refl
+
+known_some : (l o c : Bool) → (((l || (o && false)) && not c) || (o && not c)) ≡ ((l || o) && not c)
+known_some true true true = refl
+known_some true true false = refl
+known_some true false true = refl
+known_some true false false = refl
+known_some false true true = refl
+known_some false true false = refl
+known_some false false true = refl
+known_some false false false = refl
+
+known_left : (l o c : Bool) → (((l || (o && true)) && not c) || false) ≡ ((l || o) && not c)
+known_left true o true = refl
+known_left true o false = refl
+known_left false true true = refl
+known_left false true false = refl
+known_left false false true = refl
+known_left false false false = refl
+
+-- the server knows of just those connections of which it knew, but for those that it has closed
+known_after : (conn : ℕ) (old : Option Seat) (was : Bool) (calls : List Call) (outs : List Out) (new : Option Seat) (now : Bool)
+    → Passage conn old was calls outs new now → (now || is_open_at new) ≡ ((was || is_open_at old) && not (is_closed_by conn outs))
+known_after conn None was calls outs None now passed = ap (λ t. t || false) passed.lost_is ∙ known_none was (is_closed_by conn outs)
+known_after conn None was calls outs (Some new) now passed = absurd passed.fate
+known_after conn (Some old) was calls outs (Some new) now passed =
+    ap (λ t. t || is_some new.framer) passed.lost_is
+    ∙ ap (λ t. ((was || (is_some old.framer && false)) && not (is_closed_by conn outs)) || t) passed.fate.still_open
+    ∙ known_some was (is_some old.framer) (is_closed_by conn outs)
+known_after conn (Some old) was calls outs None now passed =
+    ap (λ t. t || false) passed.lost_is ∙ known_left was (is_some old.framer) (is_closed_by conn outs)
+
+never_both : (b : Bool) → (b && false) ≡ false
+never_both true = refl
+never_both false = refl
+
+apart_some : (l o c : Bool) → (l && o) ≡ false → (((l || (o && false)) && not c) && (o && not c)) ≡ false
+apart_some true true c is = cc is
+apart_some true false true is = refl
+apart_some true false false is = refl
+apart_some false true c is = refl
+apart_some false false c is = refl
+
+apart_after : (conn : ℕ) (old : Option Seat) (was : Bool) (calls : List Call) (outs : List Out) (new : Option Seat) (now : Bool)
+    → Passage conn old was calls outs new now → (was && is_open_at old) ≡ false → (now && is_open_at new) ≡ false
+apart_after conn old was calls outs None now passed apart = never_both now
+apart_after conn None was calls outs (Some new) now passed apart = absurd passed.fate
+apart_after conn (Some old) was calls outs (Some new) now passed apart =
+    ap (λ t. t && is_some new.framer) passed.lost_is
+    ∙ ap (λ t. ((was || (is_some old.framer && false)) && not (is_closed_by conn outs)) && t) passed.fate.still_open
+    ∙ apart_some was (is_some old.framer) (is_closed_by conn outs) apart
+
+-- the board has done something: the server is told nothing
+tells_passage : (conn : ℕ) (old : Option Seat) (was : Bool) (calls : List Call) (outs : List Out) (new : Option Seat) (now : Bool)
+    → Passage conn old was calls outs new now
+    → Tells conn (record { lost = was; unshut = is_open_at old }) [] outs (record { lost = now; unshut = is_open_at new })
+tells_passage conn old was calls outs new now passed = λ apart. record {
+  at_most = subst (λ (b : Bool). 0 + one_if b ≤ one_if (was || is_open_at old)) (sym known) (fewer (was || is_open_at old) (is_closed_by conn outs));
+  unless_closed = λ unshut.
+      let same : one_if (now || is_open_at new) ≡ one_if (was || is_open_at old) =
+      ap one_if (known ∙ ap (λ c. (was || is_open_at old) && not c) unshut ∙ and_true (was || is_open_at old)) in
+      omega (arith, same);
+  apart = apart_after conn old was calls outs new now passed apart;
+}
+  where
+    known : (now || is_open_at new) ≡ ((was || is_open_at old) && not (is_closed_by conn outs))
+    known = known_after conn old was calls outs new now passed
+
+or_false : (b : Bool) → (b || false) ≡ b
+or_false true = refl
+or_false false = refl
+
+-- an open connection is lost
+lost_now : (q : ℕ) (l o t p : Bool) (s : Option Seat) → t ≡ true → o ≡ true → p ≡ true
+    → Tells q (record { lost = l; unshut = o }) [] [] (record { lost = l || (t && p); unshut = is_open_at (cond t None s) })
+lost_now q l o false p s one here unshut = cc one
+lost_now q l false t p s one here unshut = cc here
+lost_now q l o t false s one here unshut = cc unshut
+lost_now q true true true true s one here unshut = λ apart. cc apart
+lost_now q false true true true s one here unshut = λ apart. record { at_most = omega arith; unless_closed = λ never. omega arith; apart = refl }
+
+no_connect_in : (conn : ℕ) (line : Option (ArrayVec ℕ)) → list_any is_connect (passed_on conn line) ≡ false
+no_connect_in conn None = refl
+no_connect_in conn (Some line) = refl
+
+lines_here : (conn : ℕ) (line : Option (ArrayVec ℕ)) → lines_by conn (passed_on conn line) ≡ found_in line
+lines_here conn None = refl
+lines_here conn (Some line) = ap (λ xs. xs ++ []) (at_once conn (line.items ∷ []) [])
+
+lines_elsewhere : (conn q : ℕ) (line : Option (ArrayVec ℕ)) → nat_eq conn q ≡ false → lines_by q (passed_on conn line) ≡ []
+lines_elsewhere conn q None two = refl
+lines_elsewhere conn q (Some line) two = ap (λ t. cond t (line.items ∷ []) [] ++ []) two
+
+told_by_no_line : (q conn : ℕ) (line : Option (ArrayVec ℕ)) (was now : Standing) (events : List Event) (outs : List Out)
+    → Tells q was events outs now → Tells q was (passed_on conn line ++ events) outs now
+told_by_no_line q conn line was now events outs tells = tells_on q was was now (passed_on conn line) events [] outs (alone line) tells
+  where
+    alone : (line : Option (ArrayVec ℕ)) → Tells q was (passed_on conn line) [] was
+    alone None = tells_still q was
+    alone (Some l) = λ apart. record { at_most = omega arith; unless_closed = λ never. omega arith; apart = apart }
+
+none_of : (t : Bool) → cond {A = List ℕ} t [] [] ≡ []
+none_of true = refl
+none_of false = refl
+
+only_both : (t : Bool) (a b : List ℕ) → cond t (a ++ b) [] ≡ cond t a [] ++ cond t b []
+only_both true a b = refl
+only_both false a b = refl
+
+abbrev pub number_in : Option ℕ → ℕ
+number_in None = 0
+number_in (Some n) = n
+
+got : (answer : Result Got IoFault) (buffer : List ℕ) (n : ℕ) → came answer ≡ Some n → bytes_got answer buffer ≡ take n buffer
+got (Ok (Bytes m)) buffer n is = ap (λ o. take (number_in o) buffer) is
+got (Ok Later) buffer n is = ap (λ o. take (number_in o) buffer) is
+got (Ok End) buffer n is = cc is
+got (Err fault) buffer n is = cc is
+
+got_none : (answer : Result Got IoFault) (buffer : List ℕ) → came answer ≡ None → bytes_got answer buffer ≡ []
+got_none (Ok (Bytes m)) buffer is = cc is
+got_none (Ok Later) buffer is = cc is
+got_none (Ok End) buffer is = refl
+got_none (Err fault) buffer is = refl
+
+front_of : (buffer piece : List ℕ) (used more count : ℕ) → piece ≡ slice_range buffer used count → used ≤ count → more ≤ length piece
+    → take (used + more) buffer ≡ take used buffer ++ take more piece
+front_of buffer piece used more count is within fits =
+    take-add used more buffer
+    ∙ ap (λ xs. take used buffer ++ take more xs) (drop_split buffer used count within ∙ ap (λ p. p ++ drop count buffer) (sym is))
+    ∙ ap (λ xs. take used buffer ++ xs) (take-append-le more piece (drop count buffer) fits)
+
+pub front_whole : (buffer : List ℕ) (used count : ℕ) → used ≤ count → take count buffer ≡ take used buffer ++ take (count - used) (drop used buffer)
+front_whole buffer used count within = ap (λ n. take n buffer) (omega (arith, within)) ∙ take-add used (count - used) buffer
+
+pub used_within : (bytes : List ℕ) (used count more : ℕ) → used < count → more ≤ length (take (count - used) bytes) → used + more ≤ count
+used_within bytes used count more within fits = omega (arith, within, fits, length-take (count - used) bytes)
+
+pub frames_within : (conn : ℕ) (piece : List ℕ) (old new : BTreeMap ℕ Seat) (used : ℕ) (line : Option (ArrayVec ℕ)) → FramesAt conn piece old (Some (used, line)) new
+    → used ≤ length piece
+frames_within conn piece old new used line (no_seat none same never) = cc never
+frames_within conn piece old new used line (at_seat seat now was set so) = so.within
+
+-- what a read gave, in the buffer after it
+pub front_after : (answer : Result Got IoFault) (xs rest : List ℕ) (n room len : ℕ) → came answer ≡ Some n → FitsIn answer room → room ≡ len → length xs ≡ room
+    → take n (take len (xs ++ rest)) ≡ take n xs
+front_after (Ok (Bytes m)) xs rest n room len is fits same long =
+    subst (λ k. take k (take len (xs ++ rest)) ≡ take k xs) (ap number_in is) (sym (
+    sym (take-append-le m xs rest (omega (arith, fits, long)))
+    ∙ ap (λ ys. take m ys) (sym (take-append-drop len (xs ++ rest)))
+    ∙ take-append-le m (take len (xs ++ rest)) (drop len (xs ++ rest))
+    (omega (arith, fits, same, long, length-take len (xs ++ rest), length-append {A = ℕ} xs rest))))
+front_after (Ok Later) xs rest n room len is fits same long = subst (λ k. take k (take len (xs ++ rest)) ≡ take k xs) (ap number_in is) refl
+front_after (Ok End) xs rest n room len is fits same long = cc is
+front_after (Err fault) xs rest n room len is fits same long = cc is
+
+-- the engine's board, and what else there is of it, at one moment
+abbrev pub at_board : {W : Type 0} → Option View → ℕ → Board W → Moment W
+at_board server room board = record { server = server; wire = board.wire; seats = seat_of board.seats; lost = has board.lost; read_room = room }
+
 module _ {W : Type 0} (is_after : W → List Call → Type 0) where
-  pub ran_after : (takings : List Call) (old mid new : Moment W) → Ran is_after takings old mid → Ran is_after [] mid new → Ran is_after takings old new
-  ran_after takings old mid new one other = record {
+  pub ran_then : (takings : List Call) (first : List Event) (f g h : ℕ → List ℕ) (old mid new : Moment W) → ((q : ℕ) → h q ≡ f q ++ g q)
+      → Ran is_after takings first f old mid → Ran is_after [] [] g mid new → Ran is_after takings first h old new
+  ran_then takings first f g h old mid new is one other = record {
     events = one.events ++ other.events;
     outs = one.outs ++ other.outs;
     calls = one.calls ++ other.calls;
-    are_asked = asked_on old.server mid.server new.server one.events other.events one.outs other.outs one.are_asked other.are_asked;
+    are_asked = subst (λ (es : List Event). AreAsked old.server es (one.outs ++ other.outs) new.server) (append_assoc first one.events other.events)
+        (asked_on old.server mid.server new.server (first ++ one.events) other.events one.outs other.outs one.are_asked other.are_asked);
     account = adds_both is_after old.wire mid.wire new.wire one.calls other.calls one.account other.account;
     takes = filter-append is_taking one.calls other.calls ∙ ap (λ cs. filter is_taking one.calls ++ cs) other.takes ∙ append-nil (filter is_taking one.calls) ∙ one.takes;
     fates = λ conn. fate_on conn one.calls other.calls one.outs other.outs (old.seats conn) (mid.seats conn) (new.seats conn) (one.fates conn) (other.fates conn);
+    no_connect = list_any-append is_connect one.events other.events ∙ ap (λ t. t || list_any is_connect other.events) one.no_connect ∙ other.no_connect;
+    hears = λ conn. subst (λ (bs : List ℕ). Hears (begun_at (old.seats conn)) bs (lines_by conn (one.events ++ other.events)) (begun_at (new.seats conn))) (sym (is conn))
+        (subst (λ (ls : List (List ℕ)). Hears (begun_at (old.seats conn)) (f conn ++ g conn) ls (begun_at (new.seats conn)))
+        (sym (lines_by-append conn one.events other.events))
+        (hears_on (begun_at (old.seats conn)) (begun_at (mid.seats conn)) (begun_at (new.seats conn)) (f conn) (g conn)
+        (lines_by conn one.events) (lines_by conn other.events) (one.hears conn) (other.hears conn)));
+    tells = λ conn. tells_on conn (standing_of conn old) (standing_of conn mid) (standing_of conn new) one.events other.events one.outs other.outs
+        (one.tells conn) (other.tells conn);
+    same_room = other.same_room ∙ one.same_room;
   }
 
-  pub ran_on : (old mid new : Moment W) → Ran is_after [] old mid → Ran is_after [] mid new → Ran is_after [] old new
-  ran_on old mid new one other = ran_after [] old mid new one other
+  pub ran_after : (takings : List Call) (first : List Event) (came : ℕ → List ℕ) (old mid new : Moment W) → Ran is_after takings first came old mid → RanOn is_after mid new
+      → Ran is_after takings first came old new
+  ran_after takings first came old mid new one other =
+      ran_then takings first came nothing_of came old mid new (λ q. sym (append-nil (came q))) one other
+
+  pub ran_on : (old mid new : Moment W) → RanOn is_after old mid → RanOn is_after mid new → RanOn is_after old new
+  ran_on old mid new one other = ran_after [] [] nothing_of old mid new one other
 
   -- nothing has happened
-  pub ran_none : (old : Moment W) → Ran is_after [] old old
+  pub ran_none : (old : Moment W) → RanOn is_after old old
   ran_none old = record {
     events = [];
     outs = [];
@@ -77,14 +300,18 @@ module _ {W : Type 0} (is_after : W → List Call → Type 0) where
     account = adds_none is_after old.wire old.wire refl;
     takes = refl;
     fates = λ conn. same_fate conn (old.seats conn);
+    no_connect = refl;
+    hears = λ conn. hears_kept (begun_at (old.seats conn));
+    tells = λ conn. tells_still conn (standing_of conn old);
+    same_room = refl;
   }
 
   -- the board has done what the server put out by an event
-  pub ran_event : (server after : Option View) (old new : Board W) (event : Event) (result : Result (Unit {0}) ServerFault) (before outs : List Out) → before ≡ []
+  pub ran_event : (server after : Option View) (room : ℕ) (old new : Board W) (event : Event) (result : Result (Unit {0}) ServerFault) (before outs : List Out) → before ≡ []
       → IsHandled server event before result after outs → Carries is_after old outs new
-      → Ran is_after [] (record { server = server; wire = old.wire; seats = seat_of old.seats }) (record { server = after; wire = new.wire; seats = seat_of new.seats })
-  ran_event server after old new event result before outs none handled carries = record {
-    events = event ∷ [];
+      → Ran is_after [] (event ∷ []) nothing_of (at_board server room old) (at_board after room new)
+  ran_event server after room old new event result before outs none handled carries = record {
+    events = [];
     outs = outs;
     calls = carries.calls;
     are_asked = record {
@@ -99,12 +326,15 @@ module _ {W : Type 0} (is_after : W → List Call → Type 0) where
     account = carries.account;
     takes = none_pass is_taking carries.calls carries.takes_none;
     fates = λ conn. (carries.passage conn).fate;
+    no_connect = refl;
+    hears = λ conn. (carries.passage conn).hears_none;
+    tells = λ conn. tells_passage conn (seat_of old.seats conn) (has old.lost conn) carries.calls outs (seat_of new.seats conn) (has new.lost conn) (carries.passage conn);
+    same_room = refl;
   }
 
   -- the board has done something of itself
-  pub ran_board : (server : Option View) (old new : Board W) → Carries is_after old [] new
-      → Ran is_after [] (record { server = server; wire = old.wire; seats = seat_of old.seats }) (record { server = server; wire = new.wire; seats = seat_of new.seats })
-  ran_board server old new carries = record {
+  pub ran_board : (server : Option View) (room : ℕ) (old new : Board W) → Carries is_after old [] new → RanOn is_after (at_board server room old) (at_board server room new)
+  ran_board server room old new carries = record {
     events = [];
     outs = [];
     calls = carries.calls;
@@ -112,7 +342,56 @@ module _ {W : Type 0} (is_after : W → List Call → Type 0) where
     account = carries.account;
     takes = none_pass is_taking carries.calls carries.takes_none;
     fates = λ conn. (carries.passage conn).fate;
+    no_connect = refl;
+    hears = λ conn. (carries.passage conn).hears_none;
+    tells = λ conn. tells_passage conn (seat_of old.seats conn) (has old.lost conn) carries.calls [] (seat_of new.seats conn) (has new.lost conn) (carries.passage conn);
+    same_room = refl;
   }
+
+  -- The server is told that a connection is gone, which was lost and of which it was to be told.
+  gone_of : (conn q : ℕ) (t l o : Bool) (events : List Event) (outs : List Out) (now : Standing) → nat_eq conn q ≡ t → (t ≡ true → l ≡ true)
+      → Tells q (record { lost = cond t false l; unshut = o }) events outs now → Tells q (record { lost = l; unshut = o }) (Gone conn ∷ events) outs now
+  gone_of conn q true true true events outs now is lost tells = λ apart. cc apart
+  gone_of conn q true true false events outs now is lost tells = λ apart.
+      let told = tells refl in
+      let here : times_gone q (Gone conn ∷ []) ≡ 1 = ap (λ t. 0 + cond t 1 0) is in
+      record {
+        at_most = omega (arith, told.at_most, here, times_gone-append q (Gone conn ∷ []) events);
+        unless_closed = λ unshut. omega (arith, told.unless_closed unshut, here, times_gone-append q (Gone conn ∷ []) events);
+        apart = told.apart;
+      }
+  gone_of conn q true false o events outs now is lost tells = cc (lost refl)
+  gone_of conn q false l o events outs now is lost tells = λ apart.
+      let told = tells apart in
+      let here : times_gone q (Gone conn ∷ []) ≡ 0 = ap (λ t. 0 + cond t 1 0) is in
+      record {
+        at_most = omega (arith, told.at_most, here, times_gone-append q (Gone conn ∷ []) events);
+        unless_closed = λ unshut. omega (arith, told.unless_closed unshut, here, times_gone-append q (Gone conn ∷ []) events);
+        apart = told.apart;
+      }
+
+  pub ran_gone : (server : Option View) (room conn : ℕ) (old mid : Board W) (new : Moment W) → mid.wire ≡ old.wire → mid.seats ≡ old.seats → has old.lost conn ≡ true
+      → ((q : ℕ) → has mid.lost q ≡ cond (nat_eq conn q) false (has old.lost q))
+      → Ran is_after [] (Gone conn ∷ []) nothing_of (at_board server room mid) new → RanOn is_after (at_board server room old) new
+  ran_gone server room conn old mid new wire seats was_lost popped ran = record {
+    events = Gone conn ∷ ran.events;
+    outs = ran.outs;
+    calls = ran.calls;
+    are_asked = ran.are_asked;
+    account = subst (λ w. AddsAll is_after w ran.calls new.wire) wire ran.account;
+    takes = ran.takes;
+    fates = λ q. subst (λ (s : Option Seat). Fate q s ran.calls ran.outs (new.seats q)) (at q) (ran.fates q);
+    no_connect = ran.no_connect;
+    hears = λ q. subst (λ (s : Option Seat). Hears (begun_at s) [] (lines_by q ran.events) (begun_at (new.seats q))) (at q) (ran.hears q);
+    tells = λ q. gone_of conn q (nat_eq conn q) (has old.lost q) (is_open_at (seat_of old.seats q)) ran.events ran.outs (standing_of q new) refl
+        (λ one. ap (has old.lost) (sym (one_number conn q one)) ∙ was_lost)
+        (subst (λ (l : Bool). Tells q (record { lost = l; unshut = is_open_at (seat_of old.seats q) }) ran.events ran.outs (standing_of q new)) (popped q)
+        (subst (λ (s : Option Seat). Tells q (record { lost = has mid.lost q; unshut = is_open_at s }) ran.events ran.outs (standing_of q new)) (at q) (ran.tells q)));
+    same_room = ran.same_room;
+  }
+    where
+      at : (q : ℕ) → seat_of mid.seats q ≡ seat_of old.seats q
+      at q = ap (λ s. seat_of s q) seats
 
   -- the fate of one connection, and that of the others
   fate_of_one : (conn : ℕ) (old new : ℕ → Option Seat) (calls : List Call) (outs : List Out) → ((q : ℕ) → nat_eq conn q ≡ false → new q ≡ old q)
@@ -130,18 +409,27 @@ module _ {W : Type 0} (is_after : W → List Call → Type 0) where
   goes_by conn room (Ok End) bytes n is q = cc is
   goes_by conn room (Err fault) bytes n is q = cc is
 
-  pub ran_read : (server : Option View) (old new : W) (seats : ℕ → Option Seat) (conn room : ℕ) (answer : Result Got IoFault) (bytes : List ℕ) (n : ℕ) → came answer ≡ Some n
-      → Adds is_after old (reads conn room answer bytes) new
-      → Ran is_after (reads conn room answer bytes ∷ []) (record { server = server; wire = old; seats = seats }) (record { server = server; wire = new; seats = seats })
-  ran_read server old new seats conn room answer bytes n is account = record {
+  pub ran_read : (server : Option View) (old new : Board W) (size later conn room : ℕ) (answer : Result Got IoFault) (bytes : List ℕ) (n : ℕ) → came answer ≡ Some n
+      → Adds is_after old.wire (reads conn room answer bytes) new.wire → new.seats ≡ old.seats → new.lost ≡ old.lost → later ≡ size
+      → Ran is_after (reads conn room answer bytes ∷ []) [] nothing_of (at_board server size old) (at_board server later new)
+  ran_read server old new size later conn room answer bytes n is account seats lost as_large = record {
     events = [];
     outs = [];
     calls = reads conn room answer bytes ∷ [];
     are_asked = (refl, refl);
     account = account;
     takes = refl;
-    fates = λ q. untouched_fate q (reads conn room answer bytes ∷ []) [] (goes_by conn room answer bytes n is q) (seats q);
+    fates = λ q. subst (λ (s : Option Seat). Fate q (seat_of old.seats q) (reads conn room answer bytes ∷ []) [] s) (sym (at q))
+        (untouched_fate q (reads conn room answer bytes ∷ []) [] (goes_by conn room answer bytes n is q) (seat_of old.seats q));
+    no_connect = refl;
+    hears = λ q. hears_same (begun_at (seat_of old.seats q)) (begun_at (seat_of new.seats q)) (ap begun_at (at q));
+    tells = λ q. tells_as q (standing_of q (at_board server size old)) (standing_of q (at_board server later new))
+        (ap (λ l. has l q) lost) (ap is_open_at (at q));
+    same_room = as_large;
   }
+    where
+      at : (q : ℕ) → seat_of new.seats q ≡ seat_of old.seats q
+      at q = ap (λ s. seat_of s q) seats
 
   -- a read that ended or failed
   cut_elsewhere : (conn room : ℕ) (answer : Result Got IoFault) (bytes : List ℕ) → came answer ≡ None → (q : ℕ) → nat_eq conn q ≡ false
@@ -160,11 +448,11 @@ module _ {W : Type 0} (is_after : W → List Call → Type 0) where
   cut_here conn room (Ok End) bytes is = ap (λ t. t || false) (nat_eq-refl conn)
   cut_here conn room (Err fault) bytes is = ap (λ t. t || false) (nat_eq-refl conn)
 
-  pub ran_cut : (server : Option View) (old mid new : Board W) (conn room : ℕ) (answer : Result Got IoFault) (bytes : List ℕ) → came answer ≡ None
-      → is_open_at (seat_of old.seats conn) ≡ true → Adds is_after old.wire (reads conn room answer bytes) mid.wire → mid.seats ≡ old.seats
-      → Loses is_after conn mid new
-      → Ran is_after (reads conn room answer bytes ∷ []) (record { server = server; wire = old.wire; seats = seat_of old.seats }) (record { server = server; wire = new.wire; seats = seat_of new.seats })
-  ran_cut server old mid new conn room answer bytes is unshut account same loses = record {
+  pub ran_cut : (server : Option View) (size later : ℕ) (old mid new : Board W) (conn room : ℕ) (answer : Result Got IoFault) (bytes : List ℕ) → came answer ≡ None
+      → is_open_at (seat_of old.seats conn) ≡ true → Adds is_after old.wire (reads conn room answer bytes) mid.wire → mid.seats ≡ old.seats → mid.lost ≡ old.lost
+      → Loses is_after conn mid new → later ≡ size
+      → Ran is_after (reads conn room answer bytes ∷ []) [] nothing_of (at_board server size old) (at_board server later new)
+  ran_cut server size later old mid new conn room answer bytes is unshut account same same_lost loses as_large = record {
     events = [];
     outs = [];
     calls = calls;
@@ -175,6 +463,10 @@ module _ {W : Type 0} (is_after : W → List Call → Type 0) where
         (λ q two. elsewhere_both q (reads conn room answer bytes ∷ []) (closes conn ∷ []) [] [] (cut_elsewhere conn room answer bytes is q two) (close_elsewhere conn q two))
         (subst (λ (s : Option Seat). Fate conn (seat_of old.seats conn) calls [] s) (sym (set_here (seat_of old.seats) (seat_of new.seats) conn None set))
         (here (seat_of old.seats conn) unshut));
+    no_connect = refl;
+    hears = λ q. subst (λ (s : Option Seat). Hears (begun_at (seat_of old.seats q)) [] [] (begun_at s)) (sym (set q)) (hears_cut (nat_eq conn q) (seat_of old.seats q));
+    tells = λ q. tells_cut q (nat_eq conn q) refl;
+    same_room = as_large;
   }
     where
       calls : List Call
@@ -182,6 +474,26 @@ module _ {W : Type 0} (is_after : W → List Call → Type 0) where
 
       set : (q : ℕ) → seat_of new.seats q ≡ cond (nat_eq conn q) None (seat_of old.seats q)
       set q = loses.seats q ∙ ap (λ s. cond (nat_eq conn q) None (seat_of s q)) same
+
+      hears_cut : (t : Bool) (s : Option Seat) → Hears (begun_at s) [] [] (begun_at (cond t None s))
+      hears_cut true s = hears_gone (begun_at s)
+      hears_cut false s = hears_kept (begun_at s)
+
+      lost_is : (q : ℕ) → has new.lost q ≡ (has old.lost q || (nat_eq conn q && is_open_at (seat_of old.seats conn)))
+      lost_is q = loses.lost q ∙ ap (λ l. has l q || (nat_eq conn q && is_open_at (seat_of mid.seats conn))) same_lost
+          ∙ ap (λ s. has old.lost q || (nat_eq conn q && is_open_at (seat_of s conn))) same
+
+      tells_cut : (q : ℕ) (t : Bool) → nat_eq conn q ≡ t → Tells q (standing_of q (at_board server size old)) [] [] (standing_of q (at_board server later new))
+      tells_cut q true one =
+          subst (λ (l : Bool). Tells q (standing_of q (at_board server size old)) [] [] (record { lost = l; unshut = is_open_at (seat_of new.seats q) })) (sym (lost_is q))
+          (subst (λ (s : Option Seat). Tells q (standing_of q (at_board server size old)) [] []
+          (record { lost = has old.lost q || (nat_eq conn q && is_open_at (seat_of old.seats conn)); unshut = is_open_at s })) (sym (set q))
+          (lost_now q (has old.lost q) (is_open_at (seat_of old.seats q)) (nat_eq conn q) (is_open_at (seat_of old.seats conn)) (seat_of old.seats q) one
+          (ap (λ p. is_open_at (seat_of old.seats p)) (sym (one_number conn q one)) ∙ unshut) unshut))
+      tells_cut q false two =
+          tells_as q (standing_of q (at_board server size old)) (standing_of q (at_board server later new))
+          (lost_is q ∙ ap (λ t. has old.lost q || (t && is_open_at (seat_of old.seats conn))) two ∙ or_false (has old.lost q))
+          (ap is_open_at (set q) ∙ ap (λ t. is_open_at (cond t None (seat_of old.seats q))) two)
 
       here : (s : Option Seat) → is_open_at s ≡ true → Fate conn s (reads conn room answer bytes ∷ closes conn ∷ []) [] None
       here None never = cc never
@@ -192,31 +504,150 @@ module _ {W : Type 0} (is_after : W → List Call → Type 0) where
         why = cut_off (cut_here conn room answer bytes is);
       }
 
-  -- a framer has taken bytes
-  pub ran_framed : (server : Option View) (old new : Board W) (conn : ℕ) (piece : List ℕ) (taken : ℕ × Option (ArrayVec ℕ)) (result : Option (ℕ × Option (ArrayVec ℕ)))
-      → result ≡ Some taken → FramesAt conn piece old.seats result new.seats → new.wire ≡ old.wire
-      → Ran is_after [] (record { server = server; wire = old.wire; seats = seat_of old.seats }) (record { server = server; wire = new.wire; seats = seat_of new.seats })
-  ran_framed server old new conn piece taken result is frames wire = by (subst (λ r. FramesAt conn piece old.seats r new.seats) is frames)
+  -- A framer has taken bytes, and the line that they complete is passed on.
+  pub ran_framed : (server : Option View) (size : ℕ) (old mid : Board W) (new : Moment W) (conn : ℕ) (piece : List ℕ) (used : ℕ) (line : Option (ArrayVec ℕ))
+      (result : Option (ℕ × Option (ArrayVec ℕ))) → result ≡ Some (used, line) → FramesAt conn piece old.seats result mid.seats → mid.wire ≡ old.wire → mid.lost ≡ old.lost
+      → Ran is_after [] (passed_on conn line) nothing_of (at_board server size mid) new
+      → Ran is_after [] [] (only_of conn (take used piece)) (at_board server size old) new
+  ran_framed server size old mid new conn piece used line result is frames wire lost ran = by (subst (λ r. FramesAt conn piece old.seats r mid.seats) is frames)
     where
-      by : FramesAt conn piece old.seats (Some taken) new.seats
-          → Ran is_after [] (record { server = server; wire = old.wire; seats = seat_of old.seats }) (record { server = server; wire = new.wire; seats = seat_of new.seats })
+      by : FramesAt conn piece old.seats (Some (used, line)) mid.seats → Ran is_after [] [] (only_of conn (take used piece)) (at_board server size old) new
       by (no_seat none same never) = cc never
       by (at_seat seat now was set so) = record {
-        events = [];
-        outs = [];
-        calls = [];
-        are_asked = (refl, refl);
-        account = adds_none is_after old.wire new.wire wire;
-        takes = refl;
-        fates = fate_of_one conn (seat_of old.seats) (seat_of new.seats) [] [] (set_other (seat_of old.seats) (seat_of new.seats) conn (Some now) set)
+        events = passed_on conn line ++ ran.events;
+        outs = ran.outs;
+        calls = ran.calls;
+        are_asked = ran.are_asked;
+        account = subst (λ w. AddsAll is_after w ran.calls new.wire) wire ran.account;
+        takes = ran.takes;
+        fates = λ q. fate_on q [] ran.calls [] ran.outs (seat_of old.seats q) (seat_of mid.seats q) (new.seats q)
+            (fate_of_one conn (seat_of old.seats) (seat_of mid.seats) [] [] (set_other (seat_of old.seats) (seat_of mid.seats) conn (Some now) set)
             (λ q two. record { silent = record { nothing = refl; never = refl }; never_cut = refl; nothing = refl; never_closed = refl })
-            (subst (λ (s : Option Seat). Fate conn s [] [] (seat_of new.seats conn)) (sym was)
-            (subst (λ (s : Option Seat). Fate conn (Some seat) [] [] s) (sym (set_here (seat_of old.seats) (seat_of new.seats) conn (Some now) set)) (record {
+            (subst (λ (s : Option Seat). Fate conn s [] [] (seat_of mid.seats conn)) (sym was)
+            (subst (λ (s : Option Seat). Fate conn (Some seat) [] [] s) (sym is_now) (record {
               carried = ap (λ xs. seat.outbox.bytes ++ xs) (nothing_owed (is_some seat.framer) conn [] refl) ∙ append-nil seat.outbox.bytes
                   ∙ sym (ap (λ (s : Seat). s.outbox.bytes) so.is);
               same_room = ap (λ (s : Seat). s.outbox.room) so.is;
               still_open = ap (λ (s : Seat). is_some s.framer) so.is ∙ sym (ap is_some so.was) ∙ still (is_some seat.framer) false refl;
               never = refl;
               never_cut = refl;
-            })));
+            }))) q)
+            (ran.fates q);
+        no_connect = list_any-append is_connect (passed_on conn line) ran.events ∙ ap (λ t. t || list_any is_connect ran.events) (no_connect_in conn line) ∙ ran.no_connect;
+        hears = λ q.
+            subst (λ (ls : List (List ℕ)). Hears (begun_at (seat_of old.seats q)) (only_of conn (take used piece) q) ls (begun_at (new.seats q)))
+            (sym (lines_by-append q (passed_on conn line) ran.events))
+            (subst (λ (bs : List ℕ). Hears (begun_at (seat_of old.seats q)) bs (lines_by q (passed_on conn line) ++ lines_by q ran.events) (begun_at (new.seats q)))
+            (append-nil (only_of conn (take used piece) q))
+            (hears_on (begun_at (seat_of old.seats q)) (begun_at (seat_of mid.seats q)) (begun_at (new.seats q)) (only_of conn (take used piece) q) []
+            (lines_by q (passed_on conn line)) (lines_by q ran.events) (framed q (nat_eq conn q) refl) (ran.hears q)));
+        tells = λ q. subst (λ (s : Standing). Tells q s (passed_on conn line ++ ran.events) ran.outs (standing_of q new)) (same_standing q)
+            (told_by_no_line q conn line (standing_of q (at_board server size mid)) (standing_of q new) ran.events ran.outs (ran.tells q));
+        same_room = ran.same_room;
       }
+        where
+          is_now : seat_of mid.seats conn ≡ Some now
+          is_now = set_here (seat_of old.seats) (seat_of mid.seats) conn (Some now) set
+
+          unshut_as : (q : ℕ) (t : Bool) → nat_eq conn q ≡ t → is_open_at (seat_of mid.seats q) ≡ is_open_at (seat_of old.seats q)
+          unshut_as q true one = ap (λ p. is_open_at (seat_of mid.seats p)) (sym (one_number conn q one))
+              ∙ ap is_open_at is_now ∙ ap (λ (s : Seat). is_some s.framer) so.is ∙ sym (ap is_some so.was)
+              ∙ sym (ap is_open_at was) ∙ ap (λ p. is_open_at (seat_of old.seats p)) (one_number conn q one)
+          unshut_as q false two = ap is_open_at (set_other (seat_of old.seats) (seat_of mid.seats) conn (Some now) set q two)
+
+          same_standing : (q : ℕ) → standing_of q (at_board server size mid) ≡ standing_of q (at_board server size old)
+          same_standing q = ap (λ l. record { lost = has l q; unshut = is_open_at (seat_of mid.seats q) }) lost
+              ∙ ap (λ o. record { lost = has old.lost q; unshut = o }) (unshut_as q (nat_eq conn q) refl)
+
+          framed : (q : ℕ) (t : Bool) → nat_eq conn q ≡ t
+              → Hears (begun_at (seat_of old.seats q)) (only_of conn (take used piece) q) (lines_by q (passed_on conn line)) (begun_at (seat_of mid.seats q))
+          framed q true one =
+              subst (λ p. Hears (begun_at (seat_of old.seats p)) (only_of conn (take used piece) p) (lines_by p (passed_on conn line)) (begun_at (seat_of mid.seats p)))
+              (one_number conn q one)
+              (subst (λ (s : Option Seat). Hears (begun_at s) (only_of conn (take used piece) conn) (lines_by conn (passed_on conn line)) (begun_at (seat_of mid.seats conn))) (sym was)
+              (subst (λ (s : Option Seat). Hears seat.framer (only_of conn (take used piece) conn) (lines_by conn (passed_on conn line)) (begun_at s)) (sym is_now)
+              (subst (λ (bs : List ℕ). Hears seat.framer bs (lines_by conn (passed_on conn line)) now.framer) (sym (at_once conn (take used piece) []))
+              (subst (λ (ls : List (List ℕ)). Hears seat.framer (take used piece) ls now.framer) (sym (lines_here conn line))
+              (subst (λ (b : Option Begun). Hears b (take used piece) (found_in line) now.framer) (sym so.was)
+              (subst (λ (b : Option Begun). Hears (Some so.before) (take used piece) (found_in line) b) (sym (ap (λ (s : Seat). s.framer) so.is)) so.takes))))))
+          framed q false two =
+              subst (λ (bs : List ℕ). Hears (begun_at (seat_of old.seats q)) bs (lines_by q (passed_on conn line)) (begun_at (seat_of mid.seats q)))
+              (sym (ap (λ t. cond t (take used piece) []) two))
+              (subst (λ (ls : List (List ℕ)). Hears (begun_at (seat_of old.seats q)) [] ls (begun_at (seat_of mid.seats q))) (sym (lines_elsewhere conn q line two))
+              (hears_same (begun_at (seat_of old.seats q)) (begun_at (seat_of mid.seats q))
+              (ap begun_at (set_other (seat_of old.seats) (seat_of mid.seats) conn (Some now) set q two))))
+
+  -- bytes come of a connection that is not open
+  pub ran_refused : (server : Option View) (size : ℕ) (old new : Board W) (conn : ℕ) (piece bytes : List ℕ) (result : Option (ℕ × Option (ArrayVec ℕ))) → result ≡ None
+      → FramesAt conn piece old.seats result new.seats → new.wire ≡ old.wire → new.lost ≡ old.lost
+      → Ran is_after [] [] (only_of conn bytes) (at_board server size old) (at_board server size new)
+  ran_refused server size old new conn piece bytes result is frames wire lost = by (subst (λ r. FramesAt conn piece old.seats r new.seats) is frames)
+    where
+      so_then : begun_at (seat_of old.seats conn) ≡ None → ((q : ℕ) → seat_of new.seats q ≡ seat_of old.seats q)
+          → Ran is_after [] [] (only_of conn bytes) (at_board server size old) (at_board server size new)
+      so_then shut same = record {
+        events = [];
+        outs = [];
+        calls = [];
+        are_asked = (refl, refl);
+        account = adds_none is_after old.wire new.wire wire;
+        takes = refl;
+        fates = λ q. subst (λ (s : Option Seat). Fate q (seat_of old.seats q) [] [] s) (sym (same q)) (same_fate q (seat_of old.seats q));
+        no_connect = refl;
+        hears = λ q. subst (λ (s : Option Seat). Hears (begun_at (seat_of old.seats q)) (only_of conn bytes q) [] (begun_at s)) (sym (same q)) (deaf q (nat_eq conn q) refl);
+        tells = λ q. tells_as q (standing_of q (at_board server size old)) (standing_of q (at_board server size new)) (ap (λ l. has l q) lost) (ap is_open_at (same q));
+        same_room = refl;
+      }
+        where
+          deaf : (q : ℕ) (t : Bool) → nat_eq conn q ≡ t → Hears (begun_at (seat_of old.seats q)) (only_of conn bytes q) [] (begun_at (seat_of old.seats q))
+          deaf q true one = hears_deaf (only_of conn bytes q) (begun_at (seat_of old.seats q)) (ap (λ p. begun_at (seat_of old.seats p)) (sym (one_number conn q one)) ∙ shut)
+          deaf q false two = subst (λ (bs : List ℕ). Hears (begun_at (seat_of old.seats q)) bs [] (begun_at (seat_of old.seats q)))
+              (sym (ap (λ t. cond t bytes []) two)) (hears_kept (begun_at (seat_of old.seats q)))
+
+      as_before : (q : ℕ) (seat now : Seat) (t : Bool) → nat_eq conn q ≡ t → seat_of old.seats conn ≡ Some seat → now ≡ seat
+          → seat_of new.seats q ≡ cond (nat_eq conn q) (Some now) (seat_of old.seats q) → seat_of new.seats q ≡ seat_of old.seats q
+      as_before q seat now true one was now_is set =
+          set ∙ ap (λ t. cond t (Some now) (seat_of old.seats q)) one ∙ ap Some now_is ∙ sym was ∙ ap (λ p. seat_of old.seats p) (one_number conn q one)
+      as_before q seat now false two was now_is set = set ∙ ap (λ t. cond t (Some now) (seat_of old.seats q)) two
+
+      by : FramesAt conn piece old.seats None new.seats → Ran is_after [] [] (only_of conn bytes) (at_board server size old) (at_board server size new)
+      by (no_seat none same never) = so_then (ap begun_at none) same
+      by (at_seat seat now was set so) = so_then (ap begun_at was ∙ so.0) (λ q. as_before q seat now (nat_eq conn q) refl was so.1 (set q))
+
+  -- what a read gave is heard
+  pub ran_fed : (takings : List Call) (conn : ℕ) (answer : Result Got IoFault) (buffer after : List ℕ) (n : ℕ) (old mid new : Moment W) → came answer ≡ Some n → take n after ≡ take n buffer
+      → Ran is_after takings [] nothing_of old mid → Ran is_after [] [] (only_of conn (take n after)) mid new
+      → Ran is_after takings [] (only_of conn (bytes_got answer buffer)) old new
+  ran_fed takings conn answer buffer after n old mid new is same one other =
+      ran_then takings [] nothing_of (only_of conn (take n after)) (only_of conn (bytes_got answer buffer)) old mid new
+      (λ q. ap (λ bs. only_of conn bs q) (got answer buffer n is ∙ sym same)) one other
+
+  -- a read that ended or failed gave nothing
+  pub ran_ended : (takings : List Call) (conn : ℕ) (answer : Result Got IoFault) (buffer : List ℕ) (old new : Moment W) → came answer ≡ None
+      → Ran is_after takings [] nothing_of old new → Ran is_after takings [] (only_of conn (bytes_got answer buffer)) old new
+  ran_ended takings conn answer buffer old new is ran =
+      ran_then takings [] nothing_of nothing_of (only_of conn (bytes_got answer buffer)) old new new
+      (λ q. ap (λ bs. only_of conn bs q) (got_none answer buffer is) ∙ none_of (nat_eq conn q)) ran (ran_none new)
+
+  -- no bytes have come so far
+  pub ran_unfed : (conn : ℕ) (old : Moment W) → Ran is_after [] [] (only_of conn []) old old
+  ran_unfed conn old = ran_then [] [] nothing_of nothing_of (only_of conn []) old old old (λ q. none_of (nat_eq conn q)) (ran_none old) (ran_none old)
+
+  -- bytes at the front of a piece are heard, behind those before them
+  pub ran_step : (start mid new : Moment W) (conn : ℕ) (buffer piece : List ℕ) (used more count : ℕ) → piece ≡ slice_range buffer used count → used ≤ count
+      → more ≤ length piece → Ran is_after [] [] (only_of conn (take used buffer)) start mid → Ran is_after [] [] (only_of conn (take more piece)) mid new
+      → Ran is_after [] [] (only_of conn (take (used + more) buffer)) start new
+  ran_step start mid new conn buffer piece used more count is within fits one other =
+      ran_then [] [] (only_of conn (take used buffer)) (only_of conn (take more piece)) (only_of conn (take (used + more) buffer)) start mid new
+      (λ q. ap (λ bs. only_of conn bs q) (front_of buffer piece used more count is within fits) ∙ only_both (nat_eq conn q) (take used buffer) (take more piece)) one other
+
+  -- what is left of the bytes comes of a connection that is not open
+  pub ran_rest : (start mid new : Moment W) (conn : ℕ) (buffer : List ℕ) (used count : ℕ) → used ≤ count → Ran is_after [] [] (only_of conn (take used buffer)) start mid
+      → Ran is_after [] [] (only_of conn (take (count - used) (drop used buffer))) mid new → Ran is_after [] [] (only_of conn (take count buffer)) start new
+  ran_rest start mid new conn buffer used count within one other =
+      ran_then [] [] (only_of conn (take used buffer)) (only_of conn (take (count - used) (drop used buffer))) (only_of conn (take count buffer)) start mid new
+      (λ q. ap (λ bs. only_of conn bs q) (front_whole buffer used count within)
+      ∙ only_both (nat_eq conn q) (take used buffer) (take (count - used) (drop used buffer))) one other
+
+  pub ran_no_line : (conn : ℕ) (line : Option (ArrayVec ℕ)) (now : Moment W) → line ≡ None → Ran is_after [] (passed_on conn line) nothing_of now now
+  ran_no_line conn line now none = subst (λ (o : Option (ArrayVec ℕ)). Ran is_after [] (passed_on conn o) nothing_of now now) (sym none) (ran_none now)

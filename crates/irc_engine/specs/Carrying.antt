@@ -9,6 +9,7 @@ use Rattle.irc_outbox.specs.Calls.{Call, asks, reads, writes, closes, written, t
 use Rattle.irc_server.specs.declared.event.Out.{Out}
 use Rattle.irc_server.specs.declared.event.Out.TheVariants.{ToClient, CloseClient}
 use Rattle.irc_engine.specs.declared.seat.Seat.{Seat}
+use Rattle.irc_engine.specs.Hearing.{begun_at, Hears}
 
 -- the seat of a connection that has just been made
 abbrev pub fresh_seat : ℕ → Seat
@@ -99,3 +100,4 @@ is_lost_after old was_lost closed new = (was_lost || (is_open_at old && not (is_
 pub record Passage (conn : ℕ) (old : Option Seat) (was_lost : Bool) (calls : List Call) (outs : List Out) (new : Option Seat) (is_lost : Bool) : Type 0 where
   pub fate : Fate conn old calls outs new
   pub lost_is : is_lost ≡ is_lost_after old was_lost (is_closed_by conn outs) new
+  pub hears_none : Hears (begun_at old) [] [] (begun_at new)

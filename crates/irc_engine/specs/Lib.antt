@@ -1,4 +1,5 @@
 pub mod Carrying
+pub mod Hearing
 pub mod Running
 pub mod Turning
 pub mod Loops

@@ -1,24 +1,49 @@
 -- What a turn of an engine does: the events that it passes to the server, the calls that it makes of the wire, and what becomes of each connection.
-use Rattle.std.specs.Prelude.{◌≡◌, ℕ, Bool, true, false, nat_eq, is_some, Option, Some, None, Result, Ok, Err, List, [], ◌∷◌, ◌++◌, if◌then◌else◌}
-use Rattle.std.specs.List.{filter}
+use Rattle.std.specs.Prelude.{◌≡◌, ℕ, ◌+◌, ◌≤◌, Bool, true, false, ◌&&◌, ◌||◌, nat_eq, is_some, Option, Some, None, Result, Ok, Err, List, [], ◌∷◌, ◌++◌, if◌then◌else◌}
+use Rattle.std.specs.List.{filter, list_any}
 use Rattle.irc_outbox.specs.declared.wire.Ready.{Ready}
 use Rattle.irc_outbox.specs.declared.wire.Ready.TheVariants.{Client, Linked, Idle, Readable, Writable}
 use Rattle.irc_outbox.specs.declared.wire.Got.{Got}
 use Rattle.irc_outbox.specs.declared.wire.IoFault.{IoFault}
 use Rattle.irc_outbox.specs.Calls.{Call, asks, reads, closes, Adds}
 use Rattle.irc_server.specs.declared.event.Event.{Event}
+use Rattle.irc_server.specs.declared.event.Event.TheVariants.{Connect}
 use Rattle.irc_server.specs.declared.event.Out.{Out}
 use Rattle.irc_server.specs.declared.event.ServerFault.{ServerFault}
 use Rattle.irc_server.specs.View.{View}
 use Rattle.irc_server.specs.Happening.{IsHandled}
 use Rattle.irc_engine.specs.declared.seat.Seat.{Seat}
-use Rattle.irc_engine.specs.Carrying.{is_open_at, is_taking, AddsAll, Fate, fresh_seat}
+use Rattle.irc_engine.specs.Carrying.{is_closed_by, is_open_at, is_taking, AddsAll, Fate, fresh_seat}
+use Rattle.irc_engine.specs.Hearing.{begun_at, is_connect, lines_by, nothing_of, only_of, times_gone, Hears}
 
--- an engine at one moment: its server, its wire, and the seat of each connection
+-- an engine at one moment: its server, its wire, the seat of each connection, those that were lost and of which the server has yet to be told, and how many
+-- bytes it reads at most
 pub record Moment (W : Type 0) : Type 0 where
   pub server : Option View
   pub wire : W
   pub seats : ℕ → Option Seat
+  pub lost : ℕ → Bool
+  pub read_room : ℕ
+
+-- how a connection stands with the server: it was lost and the server has yet to be told, or it is open, or neither
+pub record Standing : Type 0 where
+  pub lost : Bool
+  pub unshut : Bool
+
+abbrev pub standing_of : {W : Type 0} → ℕ → Moment W → Standing
+standing_of conn now = record { lost = now.lost conn; unshut = is_open_at (now.seats conn) }
+
+-- whether the server knows of it
+abbrev pub is_known : Standing → Bool
+is_known now = now.lost || now.unshut
+
+-- it is not lost and open at once
+abbrev pub IsApart : Standing → Type 0
+IsApart now = (now.lost && now.unshut) ≡ false
+
+-- the server has been told of each connection that was lost
+abbrev pub AllTold : {W : Type 0} → Moment W → Type 0
+AllTold now = (conn : ℕ) → now.lost conn ≡ false
 
 -- the server is asked for an event, and then for others
 pub record AskedFirst (old : Option View) (event : Event) (outs : List Out) (rest : Option View → List Out → Type 0) : Type 0 where
@@ -35,48 +60,74 @@ abbrev pub AreAsked : Option View → List Event → List Out → Option View �
 AreAsked old [] outs new = (outs ≡ []) × (new ≡ old)
 AreAsked old (event ∷ events) outs new = AskedFirst old event outs (λ between more. AreAsked between events more new)
 
+abbrev pub one_if : Bool → ℕ
+one_if b = if b then 1 else 0
+
+-- How often the server is told that one connection is gone: once where it was open or lost before and is neither any more, and else never; nor where
+-- the server has closed it before.
+pub record IsTold (conn : ℕ) (was : Standing) (events : List Event) (outs : List Out) (now : Standing) : Type 0 where
+  pub at_most : times_gone conn events + one_if (is_known now) ≤ one_if (is_known was)
+  pub unless_closed : is_closed_by conn outs ≡ false → times_gone conn events + one_if (is_known now) ≡ one_if (is_known was)
+  pub apart : IsApart now
+
+abbrev pub Tells : ℕ → Standing → List Event → List Out → Standing → Type 0
+Tells conn was events outs now = IsApart was → IsTold conn was events outs now
+
 -- From one moment to another: the server was asked for some events, calls were made of the wire, and each connection has met its fate. Just these
--- of the calls asked what is ready, or read.
-pub record Ran {W : Type 0} (is_after : W → List Call → Type 0) (takings : List Call) (old new : Moment W) : Type 0 where
+-- of the calls asked what is ready, or read. The events begin with the given ones; behind them are the lines that the bytes of each connection complete, and
+-- that connections are gone.
+pub record Ran {W : Type 0} (is_after : W → List Call → Type 0) (takings : List Call) (first : List Event) (came : ℕ → List ℕ) (old new : Moment W) : Type 0 where
   pub events : List Event
   pub outs : List Out
   pub calls : List Call
-  pub are_asked : AreAsked old.server events outs new.server
+  pub are_asked : AreAsked old.server (first ++ events) outs new.server
   pub account : AddsAll is_after old.wire calls new.wire
   pub takes : filter is_taking calls ≡ takings
   pub fates : (conn : ℕ) → Fate conn (old.seats conn) calls outs (new.seats conn)
+  pub no_connect : list_any is_connect events ≡ false
+  pub hears : (conn : ℕ) → Hears (begun_at (old.seats conn)) (came conn) (lines_by conn events) (begun_at (new.seats conn))
+  pub tells : (conn : ℕ) → Tells conn (standing_of conn old) events outs (standing_of conn new)
+  pub same_room : new.read_room ≡ old.read_room
+
+-- This and no more: nothing is asked or read, and the server is told of no connection but those that are gone.
+abbrev pub RanOn : {W : Type 0} → (W → List Call → Type 0) → Moment W → Moment W → Type 0
+RanOn is_after old new = Ran is_after [] [] nothing_of old new
 
 -- A client has connected, and has a seat: nothing is owed to it, and nothing has come. A number that has a seat is passed over.
 pub data Connects {W : Type 0} (is_after : W → List Call → Type 0) (room conn : ℕ) (host : List ℕ) (old new : Moment W) : Type 0 where
-  in_use : is_some (old.seats conn) ≡ true → Ran is_after [] old new → Connects is_after room conn host old new
+  in_use : is_some (old.seats conn) ≡ true → RanOn is_after old new → Connects is_after room conn host old new
   takes_seat : (between : Moment W) → old.seats conn ≡ None → between.server ≡ old.server → between.wire ≡ old.wire
-      → ((q : ℕ) → between.seats q ≡ (if nat_eq conn q then Some (fresh_seat room) else old.seats q)) → Ran is_after [] between new
+      → between.lost ≡ old.lost → between.read_room ≡ old.read_room
+      → ((q : ℕ) → between.seats q ≡ (if nat_eq conn q then Some (fresh_seat room) else old.seats q))
+      → Ran is_after [] (Connect conn host ∷ []) nothing_of between new
       → Connects is_after room conn host old new
 
 -- A server is connected. Servers cannot be linked yet, so it is closed at once. A number that has a seat is passed over.
 pub data RefusesLink {W : Type 0} (is_after : W → List Call → Type 0) (conn : ℕ) (old new : Moment W) : Type 0 where
-  in_use_by_client : is_some (old.seats conn) ≡ true → Ran is_after [] old new → RefusesLink is_after conn old new
-  closes_it : old.seats conn ≡ None → Adds is_after old.wire (closes conn) new.wire → new.server ≡ old.server → new.seats ≡ old.seats → RefusesLink is_after conn old new
+  in_use_by_client : is_some (old.seats conn) ≡ true → RanOn is_after old new → RefusesLink is_after conn old new
+  closes_it : old.seats conn ≡ None → Adds is_after old.wire (closes conn) new.wire
+      → new ≡ record old { wire = new.wire } → RefusesLink is_after conn old new
 
 -- A connection that the server has not closed is read once; another is not.
 pub data Reads {W : Type 0} (is_after : W → List Call → Type 0) (conn : ℕ) (old new : Moment W) : Type 0 where
-  not_open : is_open_at (old.seats conn) ≡ false → Ran is_after [] old new → Reads is_after conn old new
-  read_once : (room : ℕ) (answer : Result Got IoFault) (bytes : List ℕ) → is_open_at (old.seats conn) ≡ true
-      → Ran is_after (reads conn room answer bytes ∷ []) old new → Reads is_after conn old new
+  not_open : is_open_at (old.seats conn) ≡ false → RanOn is_after old new → Reads is_after conn old new
+  read_once : (room : ℕ) (answer : Result Got IoFault) (bytes : List ℕ) → is_open_at (old.seats conn) ≡ true → room ≡ old.read_room
+      → Ran is_after (reads conn room answer bytes ∷ []) [] (only_of conn bytes) old new → Reads is_after conn old new
 
 -- What is ready is done.
 abbrev pub Answers : {W : Type 0} → (W → List Call → Type 0) → ℕ → Ready → Moment W → Moment W → Type 0
-Answers is_after room Idle old new = Ran is_after [] old new
+Answers is_after room Idle old new = RanOn is_after old new
 Answers is_after room (Client conn host) old new = Connects is_after room conn host old new
 Answers is_after room (Linked conn starts) old new = RefusesLink is_after conn old new
 Answers is_after room (Readable conn) old new = Reads is_after conn old new
-Answers is_after room (Writable conn) old new = Ran is_after [] old new
+Answers is_after room (Writable conn) old new = RanOn is_after old new
 
 -- What is ready is done, and then outboxes are written.
 pub record Does {W : Type 0} (is_after : W → List Call → Type 0) (room : ℕ) (report : Ready) (old new : Moment W) : Type 0 where
   pub between : Moment W
   pub answers : Answers is_after room report old between
-  pub writes : Ran is_after [] between new
+  pub writes : RanOn is_after between new
+  pub all_told : AllTold old → AllTold between × AllTold new
 
 -- One turn: the wire is asked once what is ready, and that is done.
 pub record Turn {W : Type 0} (is_after : W → List Call → Type 0) (room : ℕ) (old new : Moment W) : Type 0 where

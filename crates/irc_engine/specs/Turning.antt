@@ -7,7 +7,7 @@ use Rattle.irc_server.specs.View.{View}
 use Rattle.irc_engine.specs.declared.engine.Engine.{Engine}
 use Rattle.irc_engine.specs.declared.engine.EngineFault.{EngineFault}
 use Rattle.irc_engine.specs.declared.engine.EngineFault.TheVariants.{Memory, Failed, Device}
-use Rattle.irc_engine.specs.Running.{Moment, Does, Turn}
+use Rattle.irc_engine.specs.Running.{Moment, AllTold, Does, Turn}
 use Rattle.irc_engine.specs.Loops.Desks.{moment_of}
 
 -- an engine that has served nobody
@@ -17,6 +17,8 @@ pub record IsNew {W : Type 0} (server : Option View) (wire : W) (room : ℕ) (en
   pub wire_is : engine.desk.board.wire ≡ wire
   pub room_is : engine.desk.client_room ≡ room
   pub no_seats : (conn : ℕ) → (moment_of engine.desk).seats conn ≡ None
+  pub none_lost : AllTold (moment_of engine.desk)
+  pub reads_at_most : (moment_of engine.desk).read_room ≡ 4096
 
 -- what is ready is done, and then outboxes are written; or memory ran out
 pub data Taken {W : Type 0} (is_after : W → List Call → Type 0) (room : ℕ) (report : Ready) (old : Moment W) (new : Engine W) : Result (Unit {0}) EngineFault → Type 0 where

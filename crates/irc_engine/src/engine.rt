@@ -1,8 +1,9 @@
 //! An engine: one server over a wire.
-ghost use Rattle.std.specs.Prelude.{◌≡◌, ◌≤◌, [], length, IfOk, OnOk};
+ghost use Rattle.std.specs.Prelude.{◌≡◌, ◌≤◌, [], ◌∷◌, length, take, IfOk, OnOk};
 ghost use Rattle.irc_engine.specs.Loops.Counts.{count_of};
-ghost use Rattle.irc_engine.specs.Loops.Desks.{came, moment_of};
-ghost use Rattle.irc_engine.specs.Running.{Answers, Connects, Does, Ran, Reads, RefusesLink};
+ghost use Rattle.irc_engine.specs.Loops.Desks.{came, moment_of, passed_on, KeepsTold};
+ghost use Rattle.irc_engine.specs.Running.{AllTold, Answers, Connects, Does, Ran, RanOn, Reads, RefusesLink};
+ghost use Rattle.irc_engine.specs.Hearing.{nothing_of, only_of};
 ghost use Rattle.irc_engine.specs.Turning.{IsNew, Taken, Turned, Turns};
 
 use crate::board::Board;
@@ -146,7 +147,8 @@ impl<W: Wire> Desk<W> {
 
     /// Does what is ready.
     fn answer(&mut self, ready: Ready) -> Result<(), AllocError>
-        ensures { OnOk result (Answers W.is_after self.old.client_room ready (moment_of self.old) (moment_of self.new)) }
+        ensures done { OnOk result (Answers W.is_after self.old.client_room ready (moment_of self.old) (moment_of self.new)) }
+        ensures told { OnOk result (KeepsTold self.old self.new) }
     {
         match ready {
             Ready::Idle | Ready::Writable(_) => Ok(()),
@@ -161,7 +163,8 @@ impl<W: Wire> Desk<W> {
 
     /// A client has connected. A number that is in use is passed over.
     fn connect(&mut self, conn: u64, host: Host) -> Result<(), AllocError>
-        ensures { OnOk result (Connects W.is_after self.old.client_room conn host (moment_of self.old) (moment_of self.new)) }
+        ensures done { OnOk result (Connects W.is_after self.old.client_room conn host (moment_of self.old) (moment_of self.new)) }
+        ensures told { OnOk result (KeepsTold self.old self.new) }
     {
         if self.board.seats.contains_key(&conn) {
             return Ok(());
@@ -172,7 +175,8 @@ impl<W: Wire> Desk<W> {
 
     /// A server is connected. Servers cannot be linked yet, so it is closed at once. A number that is in use is passed over.
     fn refuse_link(&mut self, conn: u64)
-        ensures { RefusesLink W.is_after conn (moment_of self.old) (moment_of self.new) }
+        ensures done { RefusesLink W.is_after conn (moment_of self.old) (moment_of self.new) }
+        ensures told { KeepsTold self.old self.new }
     {
         if !self.board.seats.contains_key(&conn) {
             self.board.wire.close(conn);
@@ -181,7 +185,8 @@ impl<W: Wire> Desk<W> {
 
     /// A connection has bytes, or has ended. One that the server has closed is read no more.
     fn read(&mut self, conn: u64) -> Result<(), AllocError>
-        ensures { OnOk result (Reads W.is_after conn (moment_of self.old) (moment_of self.new)) }
+        ensures done { OnOk result (Reads W.is_after conn (moment_of self.old) (moment_of self.new)) }
+        ensures told { OnOk result (KeepsTold self.old self.new) }
     {
         if !is_open(&self.board.seats, conn) {
             return Ok(());
@@ -198,7 +203,8 @@ impl<W: Wire> Desk<W> {
     /// Passes on each line that so many bytes at the front of the buffer complete, as long as the connection is open.
     fn take_lines(&mut self, conn: u64, count: usize) -> Result<(), AllocError>
         requires { count ≤ length self.old.buffer.items }
-        ensures { OnOk result (Ran W.is_after [] (moment_of self.old) (moment_of self.new)) }
+        ensures ran { OnOk result (Ran W.is_after [] [] (only_of conn (take count self.old.buffer.items)) (moment_of self.old) (moment_of self.new)) }
+        ensures told { OnOk result (KeepsTold self.old self.new) }
     {
         let mut used = 0;
         while used < count {
@@ -214,7 +220,8 @@ impl<W: Wire> Desk<W> {
 
     /// Passes on a line, if there is one.
     fn pass_line(&mut self, conn: u64, line: Option<Line>) -> Result<(), AllocError>
-        ensures ran { OnOk result (Ran W.is_after [] (moment_of self.old) (moment_of self.new)) }
+        ensures ran { OnOk result (Ran W.is_after [] (passed_on conn line) nothing_of (moment_of self.old) (moment_of self.new)) }
+        ensures told { OnOk result (KeepsTold self.old self.new) }
         ensures same { self.new.buffer ≡ self.old.buffer }
     {
         match line {
@@ -225,7 +232,8 @@ impl<W: Wire> Desk<W> {
 
     /// Passes an event on to the server, and does what it puts out. Then it is told of each connection that was lost by this.
     fn pass(&mut self, event: Event) -> Result<(), AllocError>
-        ensures ran { OnOk result (Ran W.is_after [] (moment_of self.old) (moment_of self.new)) }
+        ensures ran { OnOk result (Ran W.is_after [] (event ∷ []) nothing_of (moment_of self.old) (moment_of self.new)) }
+        ensures told { OnOk result (AllTold (moment_of self.new)) }
         ensures same { self.new.buffer ≡ self.old.buffer }
     {
         self.handle(event)?;
@@ -234,7 +242,8 @@ impl<W: Wire> Desk<W> {
 
     /// Tells the server of each connection that was lost, the lowest number first, until there is none.
     fn tell_losses(&mut self) -> Result<(), AllocError>
-        ensures ran { OnOk result (Ran W.is_after [] (moment_of self.old) (moment_of self.new)) }
+        ensures ran { OnOk result (RanOn W.is_after (moment_of self.old) (moment_of self.new)) }
+        ensures told { OnOk result (AllTold (moment_of self.new)) }
         ensures same { self.new.buffer ≡ self.old.buffer }
     {
         while let Some(conn) = self.board.lost.pop_first() {
@@ -246,7 +255,7 @@ impl<W: Wire> Desk<W> {
     /// Passes an event on to the server, and does what it puts out.
     fn handle(&mut self, event: Event) -> Result<(), AllocError>
         ensures count { OnOk result (count_of self.new.board ≤ count_of self.old.board) }
-        ensures ran { OnOk result (Ran W.is_after [] (moment_of self.old) (moment_of self.new)) }
+        ensures ran { OnOk result (Ran W.is_after [] (event ∷ []) nothing_of (moment_of self.old) (moment_of self.new)) }
         ensures same { self.new.buffer ≡ self.old.buffer }
     {
         self.out.clear();
@@ -258,7 +267,8 @@ impl<W: Wire> Desk<W> {
 
     /// Writes once from each outbox that is not empty, in order of number.
     fn flush(&mut self) -> Result<(), AllocError>
-        ensures { OnOk result (Ran W.is_after [] (moment_of self.old) (moment_of self.new)) }
+        ensures ran { OnOk result (RanOn W.is_after (moment_of self.old) (moment_of self.new)) }
+        ensures told { OnOk result (KeepsTold self.old self.new) }
     {
         let mut waiting = replace(&mut self.board.waiting, BTreeSet::new(self.alloc));
         while let Some(conn) = waiting.pop_first() {

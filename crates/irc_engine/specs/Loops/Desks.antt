@@ -1,14 +1,25 @@
 -- The engine's parts as one moment.
-use Rattle.std.specs.Prelude.{ℕ, Option, Some, None, Result, Ok, Err}
+use Rattle.std.specs.Prelude.{ℕ, Option, Some, None, Result, Ok, Err, List, [], ◌∷◌}
 use Rattle.irc_outbox.specs.declared.wire.Got.{Got}
 use Rattle.irc_outbox.specs.declared.wire.Got.TheVariants.{Bytes, Later, End}
 use Rattle.irc_outbox.specs.declared.wire.IoFault.{IoFault}
+use Rattle.std.specs.Vec.{vec_len}
+use Rattle.arrayvec.specs.ArrayVec.{ArrayVec}
+use Rattle.irc_server.specs.declared.event.Event.{Event}
+use Rattle.irc_server.specs.declared.event.Event.TheVariants.{Line}
 use Rattle.irc_engine.specs.declared.engine.Desk.{Desk}
-use Rattle.irc_engine.specs.Running.{Moment}
+use Rattle.irc_engine.specs.Running.{Moment, AllTold}
+use Rattle.irc_engine.specs.Loops.Boards.{has}
 use Rattle.irc_engine.specs.Loops.Seats.{seat_of}
 
 abbrev pub moment_of : {W : Type 0} → Desk W → Moment W
-moment_of desk = record { server = desk.server; wire = desk.board.wire; seats = seat_of desk.board.seats }
+moment_of desk = record {
+  server = desk.server;
+  wire = desk.board.wire;
+  seats = seat_of desk.board.seats;
+  lost = has desk.board.lost;
+  read_room = vec_len desk.buffer;
+}
 
 -- how many bytes a read gave; none, where it ended or failed
 abbrev pub came : Result Got IoFault → Option ℕ
@@ -16,3 +27,12 @@ came (Ok (Bytes n)) = Some n
 came (Ok Later) = Some 0
 came (Ok End) = None
 came (Err fault) = None
+
+-- the event by which a line is passed on, if there is one
+abbrev pub passed_on : ℕ → Option (ArrayVec ℕ) → List Event
+passed_on conn None = []
+passed_on conn (Some line) = Line conn line ∷ []
+
+-- the server has been told of each connection that was lost, if it had been before
+abbrev pub KeepsTold : {W : Type 0} → Desk W → Desk W → Type 0
+KeepsTold old new = AllTold (moment_of old) → AllTold (moment_of new)

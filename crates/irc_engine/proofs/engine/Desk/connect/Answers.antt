@@ -3,11 +3,14 @@ use Rattle.irc_engine.specs.Running.{in_use, takes_seat}
 use Rattle.irc_engine.proofs.RunLaws.{on_ok, ran_none, none_there}
 use Rattle.irc_engine.proofs.engine.Desk.connect.Goals as goal
 
-pub returns-then-contains_key : goal.returns-then-contains_key
-returns-then-contains_key g c = in_use (sym c.contains_key.ensures ∙ c.if-contains_key.true) (ran_none _ _)
+pub returns-then-contains_key-clause-done : goal.returns-then-contains_key-clause-done
+returns-then-contains_key-clause-done g c = in_use (sym c.contains_key.ensures ∙ c.if-contains_key.true) (ran_none _ _)
 
-pub returns : goal.returns
-returns g c =
+pub returns-clause-done : goal.returns-clause-done
+returns-clause-done g c =
     on_ok c.pass.result _ _
-    (λ ran. takes_seat _ (none_there _ (sym c.contains_key.ensures ∙ c.if-contains_key.false)) refl refl c.in_ok-give_seat.ensures ran)
+    (λ ran. takes_seat _ (none_there _ (sym c.contains_key.ensures ∙ c.if-contains_key.false)) refl refl refl refl c.in_ok-give_seat.ensures ran)
     c.pass.ensures.ran
+
+pub returns-clause-told : goal.returns-clause-told
+returns-clause-told g c = on_ok c.pass.result _ _ (λ told before. told) c.pass.ensures.told

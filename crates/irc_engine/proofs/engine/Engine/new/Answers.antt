@@ -1,0 +1,16 @@
+use Rattle.std.proofs.Common.{false, refl, ◌∙◌, ap}
+use Rattle.std.specs.Ordering.{nat_cmp}
+use Rattle.std.specs.List.{list_any}
+use Rattle.std.specs.BTreeMap.{is_at}
+use Rattle.irc_engine.proofs.engine.Engine.new.Goals as goal
+
+pub returns : goal.returns
+returns g c = record {
+  serves = refl;
+  server_is = refl;
+  wire_is = refl;
+  room_is = refl;
+  no_seats = c.no_seats.ensures;
+  none_lost = λ conn. ap (list_any (is_at (nat_cmp conn))) c.new-2.ensures.empty;
+  reads_at_most = c.in_ok-buffer.ensures.len;
+}

@@ -1,0 +1,58 @@
+-- What a server is told of one connection: the lines that its bytes complete, and once that it is gone.
+use Rattle.std.specs.Prelude.{◌≡◌, ℕ, Bool, true, false, nat_eq, Option, Some, None, List, [], ◌∷◌, ◌++◌, count_by, if◌then◌else◌}
+use Rattle.std.specs.List.{flat_map}
+use Rattle.irc_line.specs.Lines.{Begun, Takes}
+use Rattle.irc_server.specs.declared.event.Event.{Event}
+use Rattle.irc_server.specs.declared.event.Event.TheVariants.{Connect, Line, Gone}
+use Rattle.irc_engine.specs.declared.seat.Seat.{Seat}
+
+-- the lines of a connection among some events, in order
+abbrev pub line_by : ℕ → Event → List (List ℕ)
+line_by conn (Line from line) = if nat_eq from conn then line.items ∷ [] else []
+line_by conn (Connect which host) = []
+line_by conn (Gone which) = []
+
+abbrev pub lines_by : ℕ → List Event → List (List ℕ)
+lines_by conn events = flat_map (line_by conn) events
+
+abbrev pub is_gone_of : ℕ → Event → Bool
+is_gone_of conn (Gone which) = nat_eq which conn
+is_gone_of conn (Connect which host) = false
+is_gone_of conn (Line from line) = false
+
+-- how often the server is told that a connection is gone
+abbrev pub times_gone : ℕ → List Event → ℕ
+times_gone conn events = count_by (is_gone_of conn) events
+
+abbrev pub is_connect : Event → Bool
+is_connect (Connect conn host) = true
+is_connect (Line conn line) = false
+is_connect (Gone conn) = false
+
+-- what has come of the next line of a connection; nothing where it has no seat, or where the server has closed it
+abbrev pub begun_at : Option Seat → Option Begun
+begun_at None = None
+begun_at (Some seat) = seat.framer
+
+-- the bytes, as those of one connection
+abbrev pub only_of : ℕ → List ℕ → ℕ → List ℕ
+only_of conn bytes q = if nat_eq conn q then bytes else []
+
+abbrev pub nothing_of : ℕ → List ℕ
+nothing_of q = []
+
+-- These are the lines that a front of the bytes completes.
+pub record HearsFront (old : Begun) (came : List ℕ) (heard : List (List ℕ)) : Type 0 where
+  pub front : List ℕ
+  pub rest : List ℕ
+  pub new : Begun
+  pub came_is : came ≡ front ++ rest
+  pub takes : Takes old front heard new
+
+-- From one connection these bytes came, and these of its lines were passed on. While it is open, they are all lines that the bytes complete behind what had
+-- come before; of one that was closed or lost meanwhile, those that a front of the bytes completes; of one that was not open, none.
+abbrev pub Hears : Option Begun → List ℕ → List (List ℕ) → Option Begun → Type 0
+Hears None came heard None = heard ≡ []
+Hears None came heard (Some new) = ⊥
+Hears (Some old) came heard (Some new) = Takes old came heard new
+Hears (Some old) came heard None = HearsFront old came heard
