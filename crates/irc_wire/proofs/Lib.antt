@@ -1,2 +1,4 @@
 pub mod CutLaws
 pub mod ModeLines
+pub mod DigitsRead
+pub mod TextsRead
