@@ -1,19 +1,21 @@
 //! What is asked where a line is read that came by a link.
-ghost use Rattle.std.specs.Prelude.{◌≡◌, ◌∷◌, [], Ok, Err, true, false, is_some, if◌then◌else◌, option_to_list};
+ghost use Rattle.std.specs.Prelude.{◌≡◌, ◌∷◌, [], Ok, Err, false, is_some, if◌then◌else◌, option_to_list};
 ghost use Rattle.std.specs.List.{list_all};
 ghost use Rattle.std.specs.Option.{option_copied, option_map_or};
 ghost use Rattle.irc_names.specs.Fold.{key};
-ghost use Rattle.irc_names.specs.Tables.{row};
+ghost use Rattle.irc_room.specs.Readers.{channel_at};
 ghost use Rattle.irc_room.specs.Effects.{by_nick, needs_users, target_users};
 ghost use Rattle.irc_wire.specs.declared.fault.WireFault.TheVariants.{WrongDirection};
-ghost use Rattle.irc_wire.specs.Loops.Readings.{reader};
+ghost use Rattle.irc_wire.specs.Loops.Readings.{is_member_far, reader};
 ghost use Rattle.irc_wire.specs.Means.{if_there, is_distance_of};
 ghost use Rattle.irc_wire.specs.Reader.{may_come};
 
 use crate::WireFault;
+use irc_channels::Flags;
 use irc_names::{Nick, ServerName, is_nick, is_server};
 use irc_room::{By, Effect, Room, Target};
 use irc_routes::Routes;
+use irc_tables::Row;
 
 /// Where a line came, and by which link.
 #[derive(Clone, Copy)]
@@ -153,26 +155,26 @@ fn are_talkers_known(at: Arrival<'_>, by: &Nick, target: &Target) -> bool
 }
 
 /// Whether a channel is there, and all its members are behind the link.
+
 pub(crate) fn is_far_channel(at: Arrival<'_>, name: &[u8]) -> bool
     ensures { result ≡ (reader at.entry).is_far_channel name.now }
 {
-    match at.room.channel(name) {
-        Some(_) => are_members_far(at, name),
-        None => false,
-    }
+    has_channel(at, name) && are_members_far(at, at.room.members_of(name))
 }
 
-/// Whether all members of a channel are behind the link.
-fn are_members_far(at: Arrival<'_>, name: &[u8]) -> bool
-    requires { is_some (row at.room.now.room.channels (key name.now)) ≡ true }
-    ensures { result ≡ (reader at.entry).is_far_channel name.now }
+fn has_channel(at: Arrival<'_>, name: &[u8]) -> bool
+    ensures { result ≡ is_some (channel_at at.entry.room.now.room (key name.now)) }
 {
-    for row in at.room.members_of(name) {
-        if !is_member_far(at, row.name.as_slice()) {
-            return false;
-        }
-    }
-    true
+    at.room.channel(name).is_some()
+}
+
+/// Whether members are all behind the link.
+fn are_members_far(at: Arrival<'_>, members: &[Row<Flags>]) -> bool
+    ensures { result ≡ list_all (is_member_far (reader at.entry)) members.now }
+{
+    members
+        .iter()
+        .all(|member| is_member_far(at, member.name.as_slice()))
 }
 
 /// Whether the user under a fold is behind the link.

@@ -1,79 +1,29 @@
 //! Changes of modes, as the words of a MODE tell of them (RFC 2812 section 3.2.3).
-ghost use Rattle.std.specs.Prelude.{◌≡◌, ◌≤◌, drop, length, ◌++◌, ◌∷◌, true, IfOk, OnOk, option_to_list};
-ghost use Rattle.std.specs.List.{filter_map, list_all};
-ghost use Rattle.std.specs.Option.{IfSome, option_map};
-ghost use Rattle.std.specs.Cmp.Lexicographic.{pointwise};
-ghost use Rattle.std.specs.Str.{bytes_eq};
-ghost use Rattle.irc_line.specs.PartViews.{words_now};
+ghost use Rattle.std.specs.Prelude.{◌≡◌, ◌++◌, IfOk, OnOk, option_to_list};
+ghost use Rattle.std.specs.List.{list_all};
 ghost use Rattle.irc_modes.specs.ModeViews.{asked};
 ghost use Rattle.irc_modes.specs.ModeWritten.{letters_text};
 ghost use Rattle.irc_modes.specs.declared.modes.ModeChange.{ModeChange};
-ghost use Rattle.irc_wire.specs.Loops.Readings.{behind_word, HasChanges, IsKeptWord, IsWrittenSo};
-ghost use Rattle.irc_wire.specs.Words.{changes_of, is_mode_word, made};
+ghost use Rattle.irc_wire.specs.Loops.Readings.{IsKeptWord};
+ghost use Rattle.irc_wire.specs.Words.{is_mode_word, made};
 
-use crate::WireFault;
 use crate::mode_line::{letter_byte, sign_text};
 use crate::words::is_mode_word;
-use irc_modes::{ModeChange, ModeItem, read_modes};
-use irc_room::ModeChanges;
+use irc_modes::{ModeChange, ModeItem};
 use std::alloc::{AllocError, Global};
 
-/// The changes that words tell of, where these are what the changes are written as.
-pub(crate) fn read_changes(alloc: Global, words: &[&[u8]]) -> Result<ModeChanges, WireFault>
-    ensures { HasChanges (words_now words.now) result }
-{
-    let Some((letters, parameters)) = words.split_first() else {
-        return Err(WireFault::Parameters);
-    };
-    if !are_mode_words(words) {
-        return Err(WireFault::Parameters);
-    }
-    match read_kept(alloc, words) {
-        Ok(changes) => written_so(alloc, letters, parameters, changes),
-        Err(_) => Err(WireFault::Memory),
-    }
-}
-
-/// The changes, where they are written as these letters and parameters.
-fn written_so(
-    alloc: Global,
-    letters: &[u8],
-    parameters: &[&[u8]],
-    changes: Vec<ModeChange, Global>,
-) -> Result<ModeChanges, WireFault>
-    ensures { IsWrittenSo (letters.now ∷ words_now parameters.now) changes.items result }
-{
-    match letters_text(alloc, changes.as_slice()) {
-        Ok(text) if text.as_slice() == letters && are_words_of(changes.as_slice(), parameters) => {
-            Ok(ModeChanges::new(changes))
-        }
-        Ok(_) => Err(WireFault::Parameters),
-        Err(_) => Err(WireFault::Memory),
-    }
-}
-
 /// Whether each of the words can be one of a MODE.
-fn are_mode_words(words: &[&[u8]]) -> bool
+pub(crate) fn are_mode_words(words: &[&[u8]]) -> bool
     ensures { result ≡ list_all (λ word. is_mode_word word.now) words.now }
 {
     words.iter().all(|word| is_mode_word(word))
 }
 
-/// The changes that words of a MODE ask for, in order.
-fn read_kept(alloc: Global, words: &[&[u8]]) -> Result<Vec<ModeChange, Global>, AllocError>
-    requires { list_all (λ word. is_mode_word word.now) words.now ≡ true }
-    ensures { IfOk result (λ changes. changes.items ≡ changes_of (words_now words.now)) }
-{
-    let items = read_modes(alloc, words)?;
-    let mut changes = Vec::new(alloc);
-    for item in items.as_slice() {
-        push_made(&mut changes, *item)?;
-    }
-    Ok(changes)
-}
-
 /// Appends the change that is asked for, if it is one.
-fn push_made(changes: &mut Vec<ModeChange, Global>, item: ModeItem<'_>) -> Result<(), AllocError>
+pub(crate) fn push_made(
+    changes: &mut Vec<ModeChange, Global>,
+    item: ModeItem<'_>,
+) -> Result<(), AllocError>
     requires { IsKeptWord (asked item) }
     ensures { OnOk result (changes.new.items ≡ changes.old.items ++ option_to_list (made (asked item.entry))) }
 {
@@ -86,7 +36,10 @@ fn push_made(changes: &mut Vec<ModeChange, Global>, item: ModeItem<'_>) -> Resul
 }
 
 /// The letters of changes in order, with a sign before the first and wherever it differs from the one before.
-fn letters_text(alloc: Global, changes: &[ModeChange]) -> Result<Vec<u8, Global>, AllocError>
+pub(crate) fn letters_text(
+    alloc: Global,
+    changes: &[ModeChange],
+) -> Result<Vec<u8, Global>, AllocError>
     ensures { IfOk result (λ letters. letters.items ≡ letters_text changes.now) }
 {
     let mut letters = Vec::new(alloc);
@@ -97,31 +50,4 @@ fn letters_text(alloc: Global, changes: &[ModeChange]) -> Result<Vec<u8, Global>
         sign = Some(change.plus);
     }
     Ok(letters)
-}
-
-/// Whether words are the parameters of changes, in order.
-fn are_words_of(changes: &[ModeChange], words: &[&[u8]]) -> bool
-    ensures { result ≡ pointwise bytes_eq (filter_map (λ (c : ModeChange). c.word) changes.now) (words_now words.now) }
-{
-    let mut used = 0;
-    for change in changes {
-        let Some(more) = used_by(change, words, used) else {
-            return false;
-        };
-        used = more;
-    }
-    used == words.len()
-}
-
-/// How many words are used once a change has taken its parameter, where that is the next of them.
-fn used_by(change: &ModeChange, words: &[&[u8]], used: usize) -> Option<usize>
-    requires { used ≤ length words.now }
-    ensures words { option_map (λ n. drop n (words_now words.now)) result ≡ behind_word change.now.word (drop used (words_now words.now)) }
-    ensures within { IfSome result (λ n. n ≤ length words.now) }
-{
-    match &change.word {
-        None => Some(used),
-        Some(word) if used < words.len() && words[used] == word.as_bytes() => Some(used + 1),
-        Some(_) => None,
-    }
 }

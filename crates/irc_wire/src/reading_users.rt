@@ -1,7 +1,6 @@
 //! Lines of users (RFC 2813 section 4).
-ghost use Rattle.std.specs.Prelude.{◌≡◌, ◌∷◌, ◌||◌, [], None, Some, IsOk, true};
+ghost use Rattle.std.specs.Prelude.{◌≡◌, ◌∷◌, ◌||◌, [], Some, IsOk, true};
 ghost use Rattle.std.specs.Str.{bytes_eq};
-ghost use Rattle.irc_line.specs.MessageViews.{optional_now};
 ghost use Rattle.irc_line.specs.PartViews.{words_now};
 ghost use Rattle.irc_names.specs.Limits.{max_real_name};
 ghost use Rattle.irc_names.specs.Names.{fits};
@@ -111,21 +110,12 @@ fn invite(
     Ok(if_there(at, Effect::Invite { by, nick, channel }))
 }
 
-/// A user comes, or takes another nickname.
-pub(crate) fn nick_line(
+/// A user takes another nickname.
+pub(crate) fn rename_line(
     at: Arrival<'_>,
-    prefix: Option<&[u8]>,
+    nick: &[u8],
     params: &[&[u8]],
 ) -> Result<Option<Effect>, WireFault>
-    ensures { found result ≡ first_fault (nick_line (reader at.entry) (optional_now prefix.entry) (words_now params.now)) }
-{
-    match prefix {
-        Some(nick) => rename_line(at, nick, params),
-        None => introduction_line(at, params),
-    }
-}
-
-fn rename_line(at: Arrival<'_>, nick: &[u8], params: &[&[u8]]) -> Result<Option<Effect>, WireFault>
     ensures { found result ≡ first_fault (nick_line (reader at.entry) (Some nick.now) (words_now params.now)) }
 {
     let [new] = params else {
@@ -143,19 +133,9 @@ fn rename(at: Arrival<'_>, nick: &[u8], new: &[u8]) -> Result<Option<Effect>, Wi
     Ok(if_there(at, Effect::Rename { nick, new }))
 }
 
-/// The first words of the line that a user comes with.
-#[derive(Clone, Copy)]
-struct Start<'a> {
-    nick: &'a [u8],
-    distance: &'a [u8],
-    user: &'a [u8],
-    host: &'a [u8],
-    token: &'a [u8],
-}
-
 /// The words of the line that a user comes with.
 #[derive(Clone, Copy)]
-struct Newcomer<'a> {
+pub(crate) struct Newcomer<'a> {
     nick: &'a [u8],
     distance: &'a [u8],
     user: &'a [u8],
@@ -165,64 +145,11 @@ struct Newcomer<'a> {
     real: &'a [u8],
 }
 
-fn introduction_line(at: Arrival<'_>, params: &[&[u8]]) -> Result<Option<Effect>, WireFault>
-    ensures { found result ≡ first_fault (nick_line (reader at.entry) None (words_now params.now)) }
-{
-    let [nick, distance, user, rest @ ..] = params else {
-        return Err(WireFault::Parameters);
-    };
-    newcomer_line(at, nick, distance, user, rest)
-}
-
-/// The line that a user comes with, from the host on.
-fn newcomer_line<'a>(
+/// A user comes.
+pub(crate) fn introduction(
     at: Arrival<'_>,
-    nick: &'a [u8],
-    distance: &'a [u8],
-    user: &'a [u8],
-    rest: &[&'a [u8]],
+    words: Newcomer<'_>,
 ) -> Result<Option<Effect>, WireFault>
-    ensures { found result ≡ first_fault (nick_line (reader at.entry) None (nick.now ∷ distance.now ∷ user.now ∷ words_now rest.now)) }
-{
-    let [host, token, last @ ..] = rest else {
-        return Err(WireFault::Parameters);
-    };
-    let start = Start {
-        nick,
-        distance,
-        user,
-        host,
-        token,
-    };
-    last_words(at, start, last)
-}
-
-/// The line that a user comes with, whose last words these are.
-fn last_words(
-    at: Arrival<'_>,
-    start: Start<'_>,
-    last: &[&[u8]],
-) -> Result<Option<Effect>, WireFault>
-    ensures { found result ≡ first_fault (nick_line (reader at.entry) None (start.entry.nick.now ∷ start.entry.distance.now ∷ start.entry.user.now ∷ start.entry.host.now ∷ start.entry.token.now ∷ words_now last.now)) }
-{
-    let [mode, real] = last else {
-        return Err(WireFault::Parameters);
-    };
-    introduction(
-        at,
-        Newcomer {
-            nick: start.nick,
-            distance: start.distance,
-            user: start.user,
-            host: start.host,
-            token: start.token,
-            mode,
-            real,
-        },
-    )
-}
-
-fn introduction(at: Arrival<'_>, words: Newcomer<'_>) -> Result<Option<Effect>, WireFault>
     ensures { found result ≡ first_fault (introduction_of (reader at.entry) words.entry) }
 {
     let home = read_home(at, words)?;
