@@ -1,2 +1,5 @@
 pub mod CutLaws
 pub mod ModeLines
+pub mod DigitsRead
+pub mod TextsRead
+pub mod FarMembers

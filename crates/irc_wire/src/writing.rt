@@ -11,6 +11,7 @@ ghost use Rattle.irc_wire.specs.Written.{from, introduction, next_distance, wire
 
 use crate::asking::{by_name, stored_channel, stored_nick, target_name};
 use crate::mode_line::mode_line;
+use crate::words::OPERATOR_MARK;
 use arrayvec::ArrayVec;
 use irc_line::{Parts, Prefix, Text, write_message};
 use irc_names::{ChannelName, MAX_CHANNEL, Nick, ServerName, copied};
@@ -21,9 +22,6 @@ use itoa::Buffer;
 
 /// A channel's name, and room for what makes its first member an operator.
 type MarkedName = ArrayVec<u8, 52>;
-
-/// The byte 7 and `o` (RFC 2813 section 4.2.1).
-const OPERATOR_MARK: &[u8] = b"\x07o";
 
 /// The line that tells the server at the other end of a link of an effect (RFC 2813 section 4). It is the same for every link. It is to be written
 /// before the effect is applied. It takes no memory.
