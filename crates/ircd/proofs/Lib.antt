@@ -8,3 +8,4 @@ pub mod RunningOn
 pub mod OneRun
 pub mod CutShort
 pub mod LineBodies
+mod SettingUp
