@@ -9,3 +9,4 @@ pub mod OneRun
 pub mod CutShort
 pub mod LineBodies
 mod SettingUp
+mod GoingOn

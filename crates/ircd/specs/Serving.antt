@@ -25,9 +25,11 @@ abbrev pub IsNoAddress : List ℕ → Type 0
 IsNoAddress text = (address : SocketAddr) → ¬ (IsSocketText text address)
 
 -- the address that a text writes, where there is a text
-pub data IsAddress : Option (List ℕ) → Option SocketAddr → Type 0 where
-  none : IsAddress None None
-  written : {text : List ℕ} {address : SocketAddr} → IsSocketText text address → IsAddress (Some text) (Some address)
+abbrev pub IsAddress : Option (List ℕ) → Option SocketAddr → Type 0
+IsAddress None None = ⊤
+IsAddress (Some text) (Some address) = IsSocketText text address
+IsAddress None (Some address) = ⊥
+IsAddress (Some text) None = ⊥
 
 -- each peer that has an address to be called at has one that is an address
 pub data AreCalled : List PeerSettings → Type 0 where
@@ -114,9 +116,12 @@ abbrev pub ready_text : List ℕ
 ready_text = codes "ready\n"
 
 -- `ready` was printed, and all turns were taken; else a front of it was, and the program failed
-pub data Serves {W : Type 0} (is_after : W → List Call → Type 0) (turns : ℕ) (old new : Engine W) (printed printed_after : Option (List ℕ)) : Result (Unit {0}) Stop → Type 0 where
-  to_the_end : Appends printed printed_after ready_text → GoesOn is_after old turns new → Serves is_after turns old new printed printed_after (Ok tt)
-  cut_short : Tells printed printed_after ready_text → Serves is_after turns old new printed printed_after (Err Failed)
+abbrev pub Serves : {W : Type 0} → (W → List Call → Type 0) → ℕ → Engine W → Engine W → Option (List ℕ) → Option (List ℕ) → Result (Unit {0}) Stop → Type 0
+Serves is_after turns old new printed printed_after (Ok _) = Appends printed printed_after ready_text × GoesOn is_after old turns new
+Serves is_after turns old new printed printed_after (Err Failed) = Tells printed printed_after ready_text
+Serves is_after turns old new printed printed_after (Err BadConfiguration) = ⊥
+Serves is_after turns old new printed printed_after (Err Usage) = ⊥
+Serves is_after turns old new printed printed_after (Err (BadScript line)) = ⊥
 
 -- How serving by a text ends: `ready` was printed only where the text sets up a server; a bad text is refused, and nothing printed.
 abbrev pub ServesText : List ℕ → Result (Unit {0}) Stop → Option (List ℕ) → Option (List ℕ) → Type 0

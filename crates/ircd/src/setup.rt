@@ -110,7 +110,7 @@ fn optional_address(text: Option<&String>) -> Result<Option<SocketAddr>, Stop>
     ensures { FindsOptional (option_map (λ text. string_bytes text.now) text.entry) result }
 {
     match text {
-        Some(text) => address(text.as_str()).map(Some),
+        Some(text) => Ok(Some(address(text.as_str())?)),
         None => Ok(None),
     }
 }

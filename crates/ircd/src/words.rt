@@ -19,6 +19,7 @@ pub enum Task<'a> {
 
 impl<'a> Task<'a> {
     /// What the words behind the program's name ask for; none where they are no words of a task.
+    #[tactic(auto, unfolding(crate::specs::Limits::max_number))]
     pub fn read(words: &'a [String]) -> Option<Self>
         ensures { option_map errand result ≡ task_of (texts_of words.now) }
     {

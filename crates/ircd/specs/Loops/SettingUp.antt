@@ -1,5 +1,5 @@
 -- What the code finds in settings, part by part.
-use Rattle.std.specs.Prelude.{◌≡◌, ℕ, Option, Result, Ok, Err, List, Some}
+use Rattle.std.specs.Prelude.{◌≡◌, ℕ, Option, Result, Ok, Err, List, Some, None}
 use Rattle.std.specs.Net.Grammar.{IsSocketText}
 use Rattle.std.specs.declared.net.socket_addr.SocketAddr.{SocketAddr}
 use Rattle.irc_settings.specs.declared.settings.PeerSettings.{PeerSettings}
@@ -15,7 +15,8 @@ FindsAddress text (Err stop) = (stop ≡ BadConfiguration) × IsNoAddress text
 -- the same of a text that may be left out
 abbrev pub FindsOptional : Option (List ℕ) → Result (Option SocketAddr) Stop → Type 0
 FindsOptional text (Ok address) = IsAddress text address
-FindsOptional text (Err stop) = (written : List ℕ) × (text ≡ Some written) × (stop ≡ BadConfiguration) × IsNoAddress written
+FindsOptional (Some written) (Err stop) = (stop ≡ BadConfiguration) × IsNoAddress written
+FindsOptional None (Err stop) = ⊥
 
 -- whether all peers can be called
 abbrev pub ChecksCalls : List PeerSettings → Result (Unit {0}) Stop → Type 0
