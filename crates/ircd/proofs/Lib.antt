@@ -10,3 +10,4 @@ pub mod CutShort
 pub mod LineBodies
 mod SettingUp
 mod GoingOn
+mod Ready
