@@ -8,3 +8,6 @@ pub mod RunningOn
 pub mod OneRun
 pub mod CutShort
 pub mod LineBodies
+mod SettingUp
+mod GoingOn
+mod Ready

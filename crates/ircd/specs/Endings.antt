@@ -3,11 +3,11 @@ use Rattle.std.specs.Prelude.{◌≡◌, ℕ, Option, Result, List}
 use Rattle.ircd.specs.declared.fault.SimFault.{SimFault}
 use Rattle.ircd.specs.Runs.{Ran}
 use Rattle.ircd.specs.Sinks.{Tells}
-use Rattle.ircd.specs.Statuses.{exit_status, told_of}
+use Rattle.ircd.specs.Statuses.{ending_of, exit_status, told_of}
 
 -- the status is that of how the script's run ended, and so is what is said on standard error
 pub record EndsRun (status : ℕ) (remaining old new errors errors_after : Option (List ℕ)) : Type 0 where
   pub ending : Result (Unit {0}) SimFault
   pub ran : Ran remaining ending old new
-  pub status_is : status ≡ exit_status ending
-  pub tells : Tells errors errors_after (told_of ending)
+  pub status_is : status ≡ exit_status (ending_of ending)
+  pub tells : Tells errors errors_after (told_of (ending_of ending))

@@ -11,4 +11,5 @@ pub mod Runs
 pub mod RunLaws
 pub mod Loops
 pub mod Endings
+pub mod Serving
 pub mod Codes

@@ -1,5 +1,9 @@
 -- How the program ends: the exit status, and what it says on standard error.
 use Rattle.std.specs.Prelude.{ℕ, List, [], ◌++◌, codes, decimal, Result, Ok, Err}
+use Rattle.irc_settings.specs.declared.fault.SettingsFault.{SettingsFault}
+use Rattle.irc_settings.specs.declared.fault.SettingsFault.TheVariants as settings
+use Rattle.irc_server.specs.declared.config.ConfigFault.{ConfigFault}
+use Rattle.irc_server.specs.declared.config.ConfigFault.TheVariants as config
 use Rattle.ircd.specs.declared.fault.SimFault.{SimFault}
 use Rattle.ircd.specs.declared.fault.SimFault.TheVariants as fault
 use Rattle.ircd.specs.declared.fault.Trouble.{Trouble}
@@ -16,23 +20,44 @@ stop_of (fault.BadScript line) = stop.BadScript line
 stop_of fault.Failed = stop.Failed
 stop_of fault.Device = stop.Failed
 
+-- how the program ends where it cannot go on
+abbrev pub stopped : Stop
+stopped = stop.Failed
+
+-- of the configuration: a text that is none, and a server that is refused
+abbrev pub stop_of_settings : SettingsFault → Stop
+stop_of_settings settings.BadConfiguration = stop.BadConfiguration
+stop_of_settings settings.Memory = stop.Failed
+
+abbrev pub stop_of_config : ConfigFault → Stop
+stop_of_config config.BadName = stop.BadConfiguration
+stop_of_config config.DoubleName = stop.BadConfiguration
+stop_of_config config.Memory = stop.Failed
+
 -- the exit status
 abbrev pub status_of : Stop → ℕ
 status_of stop.Usage = 2
 status_of (stop.BadScript line) = 3
+status_of stop.BadConfiguration = 3
 status_of stop.Failed = 4
 
 -- the line that is written
 abbrev pub told : Stop → List ℕ
 told stop.Usage = codes "ircd: usage: ircd sim | ircd serve FILE [TURNS]\n"
 told (stop.BadScript line) = codes "ircd: line " ++ decimal line ++ codes ": bad script\n"
+told stop.BadConfiguration = codes "ircd: bad configuration\n"
 told stop.Failed = codes "ircd: failed\n"
 
-abbrev pub exit_status : Result (Unit {0}) SimFault → ℕ
+abbrev pub exit_status : Result (Unit {0}) Stop → ℕ
 exit_status (Ok _) = 0
-exit_status (Err fault) = status_of (stop_of fault)
+exit_status (Err stop) = status_of stop
 
--- what is said of a run: nothing where it came to its end
-abbrev pub told_of : Result (Unit {0}) SimFault → List ℕ
+-- what is said of an ending: nothing where the work is done
+abbrev pub told_of : Result (Unit {0}) Stop → List ℕ
 told_of (Ok _) = []
-told_of (Err fault) = told (stop_of fault)
+told_of (Err stop) = told stop
+
+-- how a script's run ends the program
+abbrev pub ending_of : Result (Unit {0}) SimFault → Result (Unit {0}) Stop
+ending_of (Ok _) = Ok tt
+ending_of (Err fault) = Err (stop_of fault)

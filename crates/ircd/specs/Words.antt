@@ -1,14 +1,28 @@
 -- What the words of the command line ask for.
-use Rattle.std.specs.Prelude.{ℕ, Option, Some, None, List, [], ◌∷◌, map, codes, string_bytes, String, if◌then◌else◌}
+use Rattle.std.specs.Prelude.{ℕ, Option, Some, None, List, [], ◌∷◌, map, option_map, codes, string_bytes, String, if◌then◌else◌}
 use Rattle.std.specs.Str.{bytes_eq}
 use Rattle.ircd.specs.declared.words.Task.{Task}
-use Rattle.ircd.specs.declared.words.Task.TheVariants.{Sim}
+use Rattle.ircd.specs.declared.words.Task.TheVariants as task
+use Rattle.ircd.specs.Limits.{max_number}
+use Rattle.ircd.specs.Numbers.{number_of}
 
--- `sim` alone is a task; that of serving is not built yet
-abbrev pub task_of : List (List ℕ) → Option Task
+-- what the program may be asked to do: to run a script, and to serve as a file says for so many turns
+pub data Errand : Type 0 where
+  runs_script : Errand
+  serves : (file : List ℕ) (turns : ℕ) → Errand
+
+-- what a task of the code is
+abbrev pub errand : Task → Errand
+errand task.Sim = runs_script
+errand (task.Serve file turns) = serves file.now turns
+
+-- `sim` alone; `serve FILE`, which takes as many turns as a number of 64 bits can say; `serve FILE TURNS`
+abbrev pub task_of : List (List ℕ) → Option Errand
 task_of [] = None
-task_of (word ∷ []) = if bytes_eq word (codes "sim") then Some Sim else None
-task_of (word ∷ next ∷ words) = None
+task_of (word ∷ []) = if bytes_eq word (codes "sim") then Some runs_script else None
+task_of (word ∷ file ∷ []) = if bytes_eq word (codes "serve") then Some (serves file max_number) else None
+task_of (word ∷ file ∷ turns ∷ []) = if bytes_eq word (codes "serve") then option_map (serves file) (number_of turns) else None
+task_of (word ∷ file ∷ turns ∷ next ∷ words) = None
 
 abbrev pub texts_of : {Z : Type 0} → List (String Z) → List (List ℕ)
 texts_of words = map string_bytes words

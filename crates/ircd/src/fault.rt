@@ -5,10 +5,12 @@ ghost use Rattle.ircd.specs.declared.fault.SimFault.TheVariants.{Failed};
 ghost use Rattle.ircd.specs.declared.fault.Stop.TheVariants.{BadScript};
 ghost use Rattle.ircd.specs.declared.fault.Trouble.TheVariants.{Memory};
 ghost use Rattle.ircd.specs.Sinks.{Tells};
-ghost use Rattle.ircd.specs.Statuses.{status_of, told, stop_of, fault_of};
+ghost use Rattle.ircd.specs.Statuses.{status_of, told, stop_of, stopped, stop_of_settings, stop_of_config, fault_of};
 
 use crate::sink::write_whole;
 use arrayvec::ArrayVec;
+use irc_server::ConfigFault;
+use irc_settings::SettingsFault;
 use itoa::Buffer;
 use std::alloc::AllocError;
 use std::io::Write;
@@ -71,7 +73,9 @@ pub enum Stop {
     Usage,
     /// This line of the script, counted from 1, is bad.
     BadScript(u64),
-    /// Memory ran out, or a read or a write failed.
+    /// The file is no configuration of a server.
+    BadConfiguration,
+    /// Memory ran out, a read or a write failed, or the system let nobody listen.
     Failed,
 }
 
@@ -86,11 +90,49 @@ impl From<SimFault> for Stop {
     }
 }
 
+impl From<AllocError> for Stop {
+    ghost from_gives = { λ _ stop. stop ≡ stopped };
+
+    fn from(_error: AllocError) -> Self {
+        Stop::Failed
+    }
+}
+
+impl From<Trouble> for Stop {
+    ghost from_gives = { λ _ stop. stop ≡ stopped };
+
+    fn from(_trouble: Trouble) -> Self {
+        Stop::Failed
+    }
+}
+
+impl From<SettingsFault> for Stop {
+    ghost from_gives = { λ fault stop. stop ≡ stop_of_settings fault };
+
+    fn from(fault: SettingsFault) -> Self {
+        match fault {
+            SettingsFault::BadConfiguration => Stop::BadConfiguration,
+            SettingsFault::Memory => Stop::Failed,
+        }
+    }
+}
+
+impl From<ConfigFault> for Stop {
+    ghost from_gives = { λ fault stop. stop ≡ stop_of_config fault };
+
+    fn from(fault: ConfigFault) -> Self {
+        match fault {
+            ConfigFault::BadName | ConfigFault::DoubleName => Stop::BadConfiguration,
+            ConfigFault::Memory => Stop::Failed,
+        }
+    }
+}
+
 /// The exit status where the words are wrong.
 const STATUS_OF_USAGE: u8 = 2;
 
-/// The exit status where the script is bad.
-const STATUS_OF_BAD_SCRIPT: u8 = 3;
+/// The exit status where the script, or the configuration, is bad.
+const STATUS_OF_BAD_INPUT: u8 = 3;
 
 /// The exit status where the program failed.
 const STATUS_OF_FAILURE: u8 = 4;
@@ -102,7 +144,7 @@ impl Stop {
     {
         match self {
             Stop::Usage => STATUS_OF_USAGE,
-            Stop::BadScript(_) => STATUS_OF_BAD_SCRIPT,
+            Stop::BadScript(_) | Stop::BadConfiguration => STATUS_OF_BAD_INPUT,
             Stop::Failed => STATUS_OF_FAILURE,
         }
     }
@@ -121,6 +163,7 @@ impl Stop {
                 errors,
             ),
             Stop::BadScript(line) => tell_bad_script(line, errors),
+            Stop::BadConfiguration => write_whole(b"ircd: bad configuration\n", errors),
             Stop::Failed => write_whole(b"ircd: failed\n", errors),
         }
     }

@@ -1,4 +1,4 @@
-//! `ircd sim` runs a script of clients on one IRC server.
+//! `ircd sim` runs a script of clients on one IRC server; `ircd serve` serves clients on TCP sockets.
 #![tactic(auto)]
 
 #[cfg(test)]
@@ -26,6 +26,10 @@ mod query_tests;
 #[cfg(test)]
 mod registration_tests;
 mod script;
+mod serve;
+#[cfg(test)]
+mod serve_tests;
+mod setup;
 mod sim;
 mod sink;
 mod stage;

@@ -1,21 +1,24 @@
 //! The program, on whatever streams it is given.
-ghost use Rattle.std.specs.Prelude.{◌≡◌, Some, None};
+ghost use Rattle.std.specs.Prelude.{◌≡◌, ℕ, List, Some, None};
 ghost use Rattle.ircd.specs.declared.fault.Stop.TheVariants.{Usage};
-ghost use Rattle.ircd.specs.declared.words.Task.TheVariants.{Sim};
 ghost use Rattle.ircd.specs.Endings.{EndsRun};
+ghost use Rattle.ircd.specs.Serving.{EndsServing};
 ghost use Rattle.ircd.specs.Sinks.{Tells};
-ghost use Rattle.ircd.specs.Statuses.{exit_status, status_of, told, told_of};
-ghost use Rattle.ircd.specs.Words.{task_of, texts_of};
+ghost use Rattle.ircd.specs.Statuses.{ending_of, exit_status, status_of, told, told_of};
+ghost use Rattle.ircd.specs.Words.{runs_script, serves, task_of, texts_of};
 
 use crate::fault::{SimFault, Stop};
+use crate::serve::serve;
 use crate::sim::run_sim;
 use crate::words::Task;
 use std::alloc::Global;
+use std::fs::Files;
 use std::io::{Read, Write};
+use std::net::Net;
 
 /// Does what the words behind the program's name ask for, and gives the exit status. Where that is not 0, the reason is written
 /// to `errors`. Wrong words are found before anything is read.
-pub fn run<T: AllocGlobal, R: Read, W: Write, E: Write>(
+pub fn run<T: AllocGlobal + Files + Net, R: Read, W: Write, E: Write>(
     rt: &T,
     words: &[String],
     input: &mut R,
@@ -26,10 +29,13 @@ pub fn run<T: AllocGlobal, R: Read, W: Write, E: Write>(
     ensures usage_told { task_of (texts_of words.now) ≡ None → Tells (E.contents errors.old) (E.contents errors.new) (told Usage) }
     ensures unread { task_of (texts_of words.now) ≡ None → input.new ≡ input.old }
     ensures unwritten { task_of (texts_of words.now) ≡ None → output.new ≡ output.old }
-    ensures sim { task_of (texts_of words.now) ≡ Some Sim → EndsRun result (R.remaining input.old) (W.contents output.old) (W.contents output.new) (E.contents errors.old) (E.contents errors.new) }
+    ensures sim { task_of (texts_of words.now) ≡ Some runs_script → EndsRun result (R.remaining input.old) (W.contents output.old) (W.contents output.new) (E.contents errors.old) (E.contents errors.new) }
+    ensures serve { (file : List ℕ) (turns : ℕ) → task_of (texts_of words.now) ≡ Some (serves file turns) → EndsServing result (W.contents output.old) (W.contents output.new) (E.contents errors.old) (E.contents errors.new) }
+    ensures serve_unread { (file : List ℕ) (turns : ℕ) → task_of (texts_of words.now) ≡ Some (serves file turns) → input.new ≡ input.old }
 {
     match Task::read(words) {
         Some(Task::Sim) => run_script(rt.alloc(), input, output, errors),
+        Some(Task::Serve(file, turns)) => run_server(rt, file, turns, output, errors),
         None => stop_with(Stop::Usage, errors),
     }
 }
@@ -43,17 +49,40 @@ fn run_script<R: Read, W: Write, E: Write>(
     ensures { EndsRun result (R.remaining input.old) (W.contents output.old) (W.contents output.new) (E.contents errors.old) (E.contents errors.new) }
 {
     let ended = run_sim(alloc, input, output);
+    end_with(stopped(ended), errors)
+}
+
+/// How the end of a script's run ends the program.
+fn stopped(ended: Result<(), SimFault>) -> Result<(), Stop>
+    ensures { result ≡ ending_of ended }
+{
+    match ended {
+        Ok(()) => Ok(()),
+        Err(fault) => Err(Stop::from(fault)),
+    }
+}
+
+fn run_server<T: AllocGlobal + Files + Net, W: Write, E: Write>(
+    rt: &T,
+    file: &str,
+    turns: u64,
+    output: &mut W,
+    errors: &mut E,
+) -> u8
+    ensures { EndsServing result (W.contents output.old) (W.contents output.new) (E.contents errors.old) (E.contents errors.new) }
+{
+    let ended = serve(rt, file, turns, output);
     end_with(ended, errors)
 }
 
-/// The exit status of a run. Where it did not come to its end, the reason is written.
-fn end_with<E: Write>(ended: Result<(), SimFault>, errors: &mut E) -> u8
+/// The exit status of an ending. Where the work was not done, the reason is written.
+fn end_with<E: Write>(ended: Result<(), Stop>, errors: &mut E) -> u8
     ensures status { result ≡ exit_status ended }
     ensures tells { Tells (E.contents errors.old) (E.contents errors.new) (told_of ended) }
 {
     match ended {
         Ok(()) => 0,
-        Err(fault) => stop_with(Stop::from(fault), errors),
+        Err(stop) => stop_with(stop, errors),
     }
 }
 

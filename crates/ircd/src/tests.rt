@@ -221,7 +221,7 @@ const USAGE: &[u8] = b"ircd: usage: ircd sim | ircd serve FILE [TURNS]\n";
 
 const PING: &[u8] = b"server a.net\nconnect a.net h\nsay 1 PING x";
 
-static RUNS: [Run; 9] = [
+static RUNS: [Run; 8] = [
     Run {
         words: &[],
         script: PING,
@@ -238,13 +238,6 @@ static RUNS: [Run; 9] = [
     },
     Run {
         words: &["sim", "sim"],
-        script: PING,
-        status: 2,
-        output: b"",
-        errors: USAGE,
-    },
-    Run {
-        words: &["serve", "file"],
         script: PING,
         status: 2,
         output: b"",
@@ -305,7 +298,11 @@ fn ends_so(rt: &HostRuntime, row: &Run) -> bool {
         && errors.as_slice() == row.errors
 }
 
-fn add_words(alloc: Global, texts: &[&str], words: &mut Vec<String>) -> Result<(), AllocError> {
+pub(crate) fn add_words(
+    alloc: Global,
+    texts: &[&str],
+    words: &mut Vec<String>,
+) -> Result<(), AllocError> {
     for text in texts {
         words.push(String::from_str(alloc, text)?)?;
     }

@@ -1,27 +1,49 @@
 //! What the words of the command line ask for.
-ghost use Rattle.std.specs.Prelude.{◌≡◌};
-ghost use Rattle.ircd.specs.Words.{task_of, texts_of};
+ghost use Rattle.std.specs.Prelude.{◌≡◌, option_map};
+ghost use Rattle.ircd.specs.Numbers.{number_of};
+ghost use Rattle.ircd.specs.Words.{errand, serves, task_of, texts_of};
 
 use crate::fault::Stop;
+use crate::number::read_number;
 use std::env::{Env, args};
 use std::io::ErrorKind;
 
 /// What the program is asked to do.
-#[derive(Clone, Copy, PartialEq, Eq)]
-pub enum Task {
+#[derive(Clone, Copy)]
+pub enum Task<'a> {
     /// To run the script on standard input.
     Sim,
+    /// To serve as this file says, for so many turns.
+    Serve(&'a str, u64),
 }
 
-impl Task {
+impl<'a> Task<'a> {
     /// What the words behind the program's name ask for; none where they are no words of a task.
-    pub fn read(words: &[String]) -> Option<Self>
-        ensures { result ≡ task_of (texts_of words.now) }
+    #[tactic(auto, unfolding(crate::specs::Limits::max_number))]
+    pub fn read(words: &'a [String]) -> Option<Self>
+        ensures { option_map errand result ≡ task_of (texts_of words.now) }
     {
         match words {
             [word] if word.as_str() == "sim" => Some(Task::Sim),
+            [word, file] if word.as_str() == "serve" => {
+                Some(Task::Serve(file.as_str(), u64::MAX))
+            }
+            [word, file, turns] if word.as_str() == "serve" => serve_for(
+                file.as_str(),
+                turns.as_bytes(),
+            ),
             _ => None,
         }
+    }
+}
+
+/// To serve as a file says, for as many turns as a word is a number of.
+fn serve_for<'a>(file: &'a str, turns: &[u8]) -> Option<Task<'a>>
+    ensures { option_map errand result ≡ option_map (serves file.now) (number_of turns.now) }
+{
+    match read_number(turns) {
+        Some(turns) => Some(Task::Serve(file, turns)),
+        None => None,
     }
 }
 

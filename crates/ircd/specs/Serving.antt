@@ -1,0 +1,147 @@
+-- What a configuration sets up, and how serving ends.
+use Rattle.std.specs.Prelude.{◌≡◌, ℕ, ◌+◌, Bool, true, false, Option, Some, None, Result, Ok, Err, List, [], ◌∷◌, map, option_map, is_some, codes, string_bytes, ⊤}
+use Rattle.std.specs.Io.KnownBytes.{Appends}
+use Rattle.std.specs.Net.Grammar.{IsSocketText}
+use Rattle.std.specs.declared.net.socket_addr.SocketAddr.{SocketAddr}
+use Rattle.irc_outbox.specs.Calls.{Call}
+use Rattle.irc_settings.specs.declared.settings.Settings.{Settings}
+use Rattle.irc_settings.specs.declared.settings.PeerSettings.{PeerSettings}
+use Rattle.irc_settings.specs.Configuration.{IsReadAs, is_configuration}
+use Rattle.irc_server.specs.declared.config.Config.{Config}
+use Rattle.irc_server.specs.Configuring.{config_fault, new_view}
+use Rattle.irc_server.specs.View.{View, KnownPeer, known_peer}
+use Rattle.irc_engine.specs.declared.engine.Engine.{Engine}
+use Rattle.irc_engine.specs.declared.engine.EngineFault.{EngineFault}
+use Rattle.irc_engine.specs.declared.engine.EngineFault.TheVariants as turn
+use Rattle.irc_engine.specs.Turning.{Turned}
+use Rattle.ircd.specs.declared.fault.Stop.{Stop}
+use Rattle.ircd.specs.declared.fault.Stop.TheVariants.{Usage, BadScript, BadConfiguration, Failed}
+use Rattle.ircd.specs.declared.setup.Setup.{Setup}
+use Rattle.ircd.specs.Sinks.{Tells}
+use Rattle.ircd.specs.Statuses.{exit_status, told_of}
+
+-- no address is written so
+abbrev pub IsNoAddress : List ℕ → Type 0
+IsNoAddress text = (address : SocketAddr) → ¬ (IsSocketText text address)
+
+-- the address that a text writes, where there is a text
+abbrev pub IsAddress : Option (List ℕ) → Option SocketAddr → Type 0
+IsAddress None None = ⊤
+IsAddress (Some text) (Some address) = IsSocketText text address
+IsAddress None (Some address) = ⊥
+IsAddress (Some text) None = ⊥
+
+-- each peer that has an address to be called at has one that is an address
+pub data AreCalled : List PeerSettings → Type 0 where
+  nobody : AreCalled []
+  somebody : {first : PeerSettings} {rest : List PeerSettings} (address : Option SocketAddr)
+      → IsAddress (option_map string_bytes first.connect) address → AreCalled rest → AreCalled (first ∷ rest)
+
+-- some peer has not
+pub data IsSomeUncalled : List PeerSettings → Type 0 where
+  this : {first : PeerSettings} {rest : List PeerSettings} {text : List ℕ}
+      → option_map string_bytes first.connect ≡ Some text → IsNoAddress text → IsSomeUncalled (first ∷ rest)
+  later : {first : PeerSettings} {rest : List PeerSettings} → IsSomeUncalled rest → IsSomeUncalled (first ∷ rest)
+
+-- a peer as the server knows it
+abbrev pub peer_set : PeerSettings → KnownPeer
+peer_set peer = record { name = string_bytes peer.name; password = string_bytes peer.password }
+
+-- what the server of the settings is configured to be
+pub record Configures (settings : Settings) (config : Config) : Type 0 where
+  pub name : config.own.name.items ≡ string_bytes settings.name
+  pub info : config.own.info.items ≡ string_bytes settings.info
+  pub created : config.own.created.items ≡ string_bytes settings.created
+  pub peers : map known_peer config.peers.items ≡ map peer_set settings.peers.items
+
+-- The server is made of the settings, without clients; where it listens and how much may wait is theirs; and each peer can be called.
+pub record IsSetUp (settings : Settings) (setup : Setup) : Type 0 where
+  pub config : Config
+  pub configures : Configures settings config
+  pub no_fault : config_fault config ≡ None
+  pub server_is : setup.server ≡ Some (new_view config)
+  pub clients : IsSocketText (string_bytes settings.listen) setup.clients
+  pub links : IsAddress (option_map string_bytes settings.listen_links) setup.links
+  pub called : AreCalled settings.peers.items
+  pub client_room : setup.client_room ≡ settings.client_room
+  pub link_room : setup.link_room ≡ settings.link_room
+
+-- why nothing is set up by settings: an address that is none, or a server that is refused
+pub data IsRefused (settings : Settings) : Type 0 where
+  clients : IsNoAddress (string_bytes settings.listen) → IsRefused settings
+  links : {text : List ℕ} → option_map string_bytes settings.listen_links ≡ Some text → IsNoAddress text → IsRefused settings
+  called : IsSomeUncalled settings.peers.items → IsRefused settings
+  server : (config : Config) → Configures settings config → is_some (config_fault config) ≡ true → IsRefused settings
+
+-- what comes of settings
+abbrev pub SetsUp : Settings → Result Setup Stop → Type 0
+SetsUp settings (Ok setup) = IsSetUp settings setup
+SetsUp settings (Err BadConfiguration) = IsRefused settings
+SetsUp settings (Err Failed) = ⊤
+SetsUp settings (Err Usage) = ⊥
+SetsUp settings (Err (BadScript line)) = ⊥
+
+-- what comes of a text: it is a configuration whose settings set this up; or it is none, or one whose settings are refused
+pub record IsTextOf (text : List ℕ) (setup : Setup) : Type 0 where
+  pub settings : Settings
+  pub read : IsReadAs text (Ok settings)
+  pub is_set_up : IsSetUp settings setup
+
+pub data IsBadText (text : List ℕ) : Type 0 where
+  unreadable : is_configuration text ≡ false → IsBadText text
+  refused : (settings : Settings) → IsReadAs text (Ok settings) → IsRefused settings → IsBadText text
+
+abbrev pub IsReadSetup : List ℕ → Result Setup Stop → Type 0
+IsReadSetup text (Ok setup) = IsTextOf text setup
+IsReadSetup text (Err BadConfiguration) = IsBadText text
+IsReadSetup text (Err Failed) = ⊤
+IsReadSetup text (Err Usage) = ⊥
+IsReadSetup text (Err (BadScript line)) = ⊥
+
+-- whether a turn that ended so is followed by others: one in which the device failed is
+abbrev pub goes_on : Result (Unit {0}) EngineFault → Bool
+goes_on (Ok _) = true
+goes_on (Err turn.Device) = true
+goes_on (Err turn.Memory) = false
+goes_on (Err turn.Failed) = false
+
+-- so many turns are asked for, one after another, and each goes on
+pub data GoesOn {W : Type 0} (is_after : W → List Call → Type 0) (old : Engine W) : ℕ → Engine W → Type 0 where
+  no_turn : GoesOn is_after old 0 old
+  one_more : (n : ℕ) (between new : Engine W) (ended : Result (Unit {0}) EngineFault) → GoesOn is_after old n between
+      → Turned is_after between new ended → goes_on ended ≡ true → GoesOn is_after old (n + 1) new
+
+-- what is printed once clients can connect
+abbrev pub ready_text : List ℕ
+ready_text = codes "ready\n"
+
+-- `ready` was printed, and all turns were taken; else a front of it was, and the program failed
+abbrev pub Serves : {W : Type 0} → (W → List Call → Type 0) → ℕ → Engine W → Engine W → Option (List ℕ) → Option (List ℕ) → Result (Unit {0}) Stop → Type 0
+Serves is_after turns old new printed printed_after (Ok _) = Appends printed printed_after ready_text × GoesOn is_after old turns new
+Serves is_after turns old new printed printed_after (Err Failed) = Tells printed printed_after ready_text
+Serves is_after turns old new printed printed_after (Err BadConfiguration) = ⊥
+Serves is_after turns old new printed printed_after (Err Usage) = ⊥
+Serves is_after turns old new printed printed_after (Err (BadScript line)) = ⊥
+
+-- How serving by a text ends: `ready` was printed only where the text sets up a server; a bad text is refused, and nothing printed.
+abbrev pub ServesText : List ℕ → Result (Unit {0}) Stop → Option (List ℕ) → Option (List ℕ) → Type 0
+ServesText text (Ok _) printed printed_after = (setup : Setup) × IsTextOf text setup × Appends printed printed_after ready_text
+ServesText text (Err BadConfiguration) printed printed_after = IsBadText text × (printed_after ≡ printed)
+ServesText text (Err Failed) printed printed_after = Tells printed printed_after ready_text
+ServesText text (Err Usage) printed printed_after = ⊥
+ServesText text (Err (BadScript line)) printed printed_after = ⊥
+
+-- How serving by a file ends. What the file holds no clause can tell: some text, or none where it cannot be read.
+abbrev pub ServesFile : Result (Unit {0}) Stop → Option (List ℕ) → Option (List ℕ) → Type 0
+ServesFile (Err BadConfiguration) printed printed_after = printed_after ≡ printed
+ServesFile (Err Failed) printed printed_after = Tells printed printed_after ready_text
+ServesFile (Err Usage) printed printed_after = ⊥
+ServesFile (Err (BadScript line)) printed printed_after = ⊥
+ServesFile (Ok _) printed printed_after = Appends printed printed_after ready_text
+
+-- the status is that of how serving ended, and so is what is said on standard error
+pub record EndsServing (status : ℕ) (printed printed_after errors errors_after : Option (List ℕ)) : Type 0 where
+  pub ending : Result (Unit {0}) Stop
+  pub served : ServesFile ending printed printed_after
+  pub status_is : status ≡ exit_status ending
+  pub tells : Tells errors errors_after (told_of ending)

@@ -1,0 +1,112 @@
+//! `ircd serve`: a server on TCP sockets.
+ghost use Rattle.std.specs.Prelude.{◌≡◌, IfErr};
+ghost use Rattle.ircd.specs.declared.fault.Stop.TheVariants.{Failed};
+ghost use Rattle.ircd.specs.Loops.Turns.{HasGone, IsOfFile, stop_after};
+ghost use Rattle.ircd.specs.Serving.{Serves, ServesFile, ServesText};
+
+use crate::fault::Stop;
+use crate::setup::{Setup, read_setup};
+use crate::sink::{flush, write_whole};
+use irc_engine::{Engine, EngineFault};
+use irc_outbox::Wire;
+use irc_sockets::MioWire;
+use std::alloc::Global;
+use std::fs::{Files, read_to_string};
+use std::io::{ErrorKind, Write};
+use std::net::Net;
+
+/// What is printed once clients can connect.
+const READY: &[u8] = b"ready\n";
+
+/// Serves as a file says, for so many turns. Says `ready` as soon as clients can connect.
+///
+/// # Errors
+/// - [`Stop::BadConfiguration`] where the file cannot be read, or is no configuration. Then nothing is printed.
+/// - [`Stop::Failed`] where the system lets nobody listen, `ready` cannot be written, or memory runs out.
+pub fn serve<T: AllocGlobal + Files + Net, W: Write>(
+    rt: &T,
+    file: &str,
+    turns: u64,
+    output: &mut W,
+) -> Result<(), Stop>
+    ensures { ServesFile result (W.contents output.old) (W.contents output.new) }
+{
+    let text = read_file(rt, file)?;
+    serve_text(rt, rt.alloc(), text.as_str(), turns, output)
+}
+
+/// All that a file holds.
+fn read_file<T: AllocGlobal + Files>(rt: &T, file: &str) -> Result<String, Stop>
+    ensures { IfErr result IsOfFile }
+{
+    match read_to_string(rt, file) {
+        Ok(text) => Ok(text),
+        Err(error) if error.kind() == ErrorKind::OutOfMemory => Err(Stop::Failed),
+        Err(_) => Err(Stop::BadConfiguration),
+    }
+}
+
+/// Serves as a text says.
+fn serve_text<T: Net, W: Write>(
+    net: &T,
+    alloc: Global,
+    text: &str,
+    turns: u64,
+    output: &mut W,
+) -> Result<(), Stop>
+    ensures { ServesText text.now result (W.contents output.old) (W.contents output.new) }
+{
+    let setup = read_setup(alloc, text)?;
+    let mut engine = open(net, alloc, setup)?;
+    run_engine(&mut engine, turns, output)
+}
+
+/// An engine that listens. Whoever connects where servers are listened for is closed by the engine: servers cannot be linked yet.
+fn open<T: Net>(net: &T, alloc: Global, setup: Setup) -> Result<Engine<MioWire>, Stop>
+    ensures { IfErr result (λ stop. stop ≡ Failed) }
+{
+    let Ok(wire) = MioWire::listen(net, alloc, setup.clients, setup.links) else {
+        return Err(Stop::Failed);
+    };
+    let engine = Engine::new(
+        alloc,
+        setup.server,
+        wire,
+        setup.client_room,
+        setup.link_room,
+    )?;
+    Ok(engine)
+}
+
+/// Says `ready`, and takes so many turns.
+fn run_engine<W: Wire, O: Write>(
+    engine: &mut Engine<W>,
+    turns: u64,
+    output: &mut O,
+) -> Result<(), Stop>
+    ensures { Serves W.is_after turns engine.old engine.new (O.contents output.old) (O.contents output.new) result }
+{
+    write_whole(READY, output)?;
+    flush(output)?;
+    take_turns(engine, turns)
+}
+
+/// Takes so many turns. One in which the device failed counts, and the next one is taken.
+fn take_turns<W: Wire>(engine: &mut Engine<W>, turns: u64) -> Result<(), Stop>
+    ensures { HasGone W.is_after engine.old turns engine.new result }
+{
+    for _turn in 0..turns {
+        go_on(engine.turn())?;
+    }
+    Ok(())
+}
+
+/// Whether turns are taken behind one that ended so.
+fn go_on(turn: Result<(), EngineFault>) -> Result<(), Stop>
+    ensures { result ≡ stop_after turn }
+{
+    match turn {
+        Ok(()) | Err(EngineFault::Device) => Ok(()),
+        Err(EngineFault::Memory | EngineFault::Failed) => Err(Stop::Failed),
+    }
+}

@@ -1,0 +1,126 @@
+//! What a configuration sets up: the server, and where it listens.
+ghost use Rattle.std.specs.Prelude.{◌≡◌, ◌++◌, ◌∷◌, [], IfOk, OnOk, map, option_map, string_bytes};
+ghost use Rattle.irc_server.specs.View.{known_peer};
+ghost use Rattle.ircd.specs.Serving.{Configures, IsReadSetup, SetsUp, peer_set};
+ghost use Rattle.ircd.specs.Loops.SettingUp.{ChecksCalls, FindsAddress, FindsOptional};
+
+use crate::fault::Stop;
+use irc_routes::Own;
+use irc_server::{Config, Peer, Server};
+use irc_settings::{PeerSettings, Settings, read_settings};
+use std::alloc::{AllocError, Global};
+use std::net::SocketAddr;
+
+/// What a configuration sets up.
+#[derive(Drop)]
+pub struct Setup {
+    /// The server, which nobody is connected to.
+    pub server: Server,
+    /// Where it listens for clients.
+    pub clients: SocketAddr,
+    /// Where it listens for servers, if it does.
+    pub links: Option<SocketAddr>,
+    /// How many bytes may wait for a client.
+    pub client_room: usize,
+    /// How many bytes may wait for a link.
+    pub link_room: usize,
+}
+
+/// What a text sets up. That the peers are to be called is read and not done: servers cannot be linked yet.
+///
+/// # Errors
+/// [`Stop::BadConfiguration`] where the text is no configuration, an address in it is none, or no server is made of it;
+/// [`Stop::Failed`] where memory runs out.
+pub fn read_setup(alloc: Global, text: &str) -> Result<Setup, Stop>
+    ensures { IsReadSetup text.now result }
+{
+    let settings = read_settings(alloc, text)?;
+    set_up(alloc, &settings)
+}
+
+/// What settings set up.
+fn set_up(alloc: Global, settings: &Settings) -> Result<Setup, Stop>
+    ensures { SetsUp settings.now result }
+{
+    check_calls(&settings.peers)?;
+    Ok(Setup {
+        clients: address(settings.listen.as_str())?,
+        links: optional_address(settings.listen_links.as_ref())?,
+        server: Server::new(alloc, config(alloc, settings)?)?,
+        client_room: settings.client_room,
+        link_room: settings.link_room,
+    })
+}
+
+/// What the server is configured to be.
+fn config(alloc: Global, settings: &Settings) -> Result<Config, AllocError>
+    ensures { IfOk result (λ config. Configures settings.now config) }
+{
+    let own = Own {
+        name: Vec::from_slice(alloc, settings.name.as_bytes())?,
+        info: Vec::from_slice(alloc, settings.info.as_bytes())?,
+        created: Vec::from_slice(alloc, settings.created.as_bytes())?,
+    };
+    Ok(Config {
+        own,
+        peers: peers(alloc, &settings.peers)?,
+    })
+}
+
+fn peers(alloc: Global, settings: &[PeerSettings]) -> Result<Vec<Peer, Global>, AllocError>
+    ensures { IfOk result (λ peers. map known_peer peers.items ≡ map peer_set settings.now) }
+{
+    let mut peers = Vec::new(alloc);
+    for peer in settings {
+        add(&mut peers, peer_of(alloc, peer)?)?;
+    }
+    Ok(peers)
+}
+
+fn add(peers: &mut Vec<Peer, Global>, peer: Peer) -> Result<(), AllocError>
+    ensures { OnOk result (peers.new.items ≡ peers.old.items ++ peer ∷ []) }
+{
+    peers.push(peer)?;
+    Ok(())
+}
+
+fn peer_of(alloc: Global, settings: &PeerSettings) -> Result<Peer, AllocError>
+    ensures { IfOk result (λ peer. known_peer peer ≡ peer_set settings.now) }
+{
+    Ok(Peer {
+        name: Vec::from_slice(alloc, settings.name.as_bytes())?,
+        password: Vec::from_slice(alloc, settings.password.as_bytes())?,
+    })
+}
+
+/// Sees to it that each address at which a peer is called is one.
+fn check_calls(peers: &[PeerSettings]) -> Result<(), Stop>
+    ensures { ChecksCalls peers.now result }
+{
+    let mut rest = peers;
+    while let Some((peer, more)) = rest.split_first() {
+        optional_address(peer.connect.as_ref())?;
+        rest = more;
+    }
+    Ok(())
+}
+
+/// The address that a text is, if there is a text.
+fn optional_address(text: Option<&String>) -> Result<Option<SocketAddr>, Stop>
+    ensures { FindsOptional (option_map (λ text. string_bytes text.now) text.entry) result }
+{
+    match text {
+        Some(text) => Ok(Some(address(text.as_str())?)),
+        None => Ok(None),
+    }
+}
+
+/// The address that a text is.
+fn address(text: &str) -> Result<SocketAddr, Stop>
+    ensures { FindsAddress text.now result }
+{
+    match text.parse::<SocketAddr>() {
+        Ok(address) => Ok(address),
+        Err(_) => Err(Stop::BadConfiguration),
+    }
+}

@@ -1,0 +1,32 @@
+//! A wire in memory that is lent to an engine, so that it can be looked at behind the engine's turns.
+ghost use Rattle.std.specs.Prelude.{⊤, ◌≤◌, length, IfOk};
+ghost use Rattle.irc_outbox.specs.Calls.{Call, asks, reads, writes, closes, bytes_got, Adds, FitsIn};
+
+use irc_outbox::{Got, IoFault, MemoryWire, Ready, Wire};
+
+/// A wire in memory, lent.
+#[derive(Drop)]
+pub(crate) struct Lent<'a> {
+    pub wire: &'a mut MemoryWire,
+}
+
+/// It keeps no account of what was asked.
+impl<'a> Wire for Lent<'a> {
+    ghost is_after = { λ wire calls. ⊤ };
+
+    fn ready(&mut self) -> Result<Ready, IoFault> {
+        self.wire.ready()
+    }
+
+    fn read(&mut self, conn: u64, buffer: &mut [u8]) -> Result<Got, IoFault> {
+        self.wire.read(conn, buffer)
+    }
+
+    fn write(&mut self, conn: u64, bytes: &[u8]) -> Result<usize, IoFault> {
+        self.wire.write(conn, bytes)
+    }
+
+    fn close(&mut self, conn: u64) {
+        self.wire.close(conn)
+    }
+}

@@ -1,0 +1,11 @@
+//! Tests of an engine: over TCP sockets, and over a wire in memory.
+#![tactic(auto)]
+
+#[cfg(test)]
+mod lent;
+#[cfg(test)]
+mod memory;
+#[cfg(test)]
+mod server;
+#[cfg(test)]
+mod sockets;
