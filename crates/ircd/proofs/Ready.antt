@@ -1,5 +1,5 @@
 -- How serving ends: before `ready` is printed, while it is, or behind it.
-use Rattle.std.proofs.Common.{◌≡◌, ◌∙◌, ℕ, Option, Result, Ok, Err, IsErrAnd, List, [], ◌⊎◌, inl, inr, refl, sym, subst, append-nil}
+use Rattle.std.proofs.Common.{◌≡◌, ◌∙◌, ℕ, Option, Result, Ok, Err, IsErrAnd, List, [], inl, inr, refl, sym, subst, append-nil}
 use Rattle.std.specs.Io.KnownBytes.{Appends, Keeps}
 use Rattle.irc_outbox.specs.Calls.{Call}
 use Rattle.irc_engine.specs.declared.engine.Engine.{Engine}
@@ -29,8 +29,8 @@ ready_cut is_after turns old new held after (Err stop) tells failed = subst (λ 
 pub ready_held : (held middle after : Option (List ℕ)) → Appends held middle ready_text → Keeps middle after → Tells held after ready_text
 ready_held held middle after appended keeps = tells_all held after ready_text (keeps_appended held middle after ready_text appended keeps)
 
-pub ready_said : {W : Type 0} (is_after : W → List Call → Type 0) (turns : ℕ) (old new : Engine W) (held middle after : Option (List ℕ)) (r : Result (Unit {0}) Stop)
-    → Appends held middle ready_text → Keeps middle after → HasGone is_after old turns new r → Serves is_after turns old new held after r
+pub ready_said : {W : Type 0} (is_after : W → List Call → Type 0) (turns : ℕ) (old new : Engine W) (held middle after : Option (List ℕ))
+    (r : Result (Unit {0}) Stop) → Appends held middle ready_text → Keeps middle after → HasGone is_after old turns new r → Serves is_after turns old new held after r
 ready_said is_after turns old new held middle after (Ok _) appended keeps gone = (keeps_appended held middle after ready_text appended keeps, gone)
 ready_said is_after turns old new held middle after (Err stop) appended keeps gone =
     ready_cut is_after turns old new held after (Err stop) (ready_held held middle after appended keeps) gone
@@ -42,19 +42,21 @@ stopped_by text Failed held bad = tells_nothing held ready_text
 stopped_by text Usage held bad = absurd bad
 stopped_by text (BadScript line) held bad = absurd bad
 
-pub text_refused : (text : List ℕ) (r : Result (Unit {0}) Stop) (stop : Stop) (held : Option (List ℕ)) → IsReadSetup text (Err stop) → IsErrAnd r (λ e. e ≡ stop)
-    → ServesText text r held held
+pub text_refused : (text : List ℕ) (r : Result (Unit {0}) Stop) (stop : Stop) (held : Option (List ℕ))
+    → IsReadSetup text (Err stop) → IsErrAnd r (λ e. e ≡ stop) → ServesText text r held held
 text_refused text (Ok _) stop held bad failed = absurd failed
 text_refused text (Err e) stop held bad failed = subst (λ s. ServesText text (Err s) held held) (sym failed) (stopped_by text stop held bad)
 
 -- nobody listens
-pub not_opened : (text : List ℕ) (r : Result (Unit {0}) Stop) (stop : Stop) (held : Option (List ℕ)) → stop ≡ Failed → IsErrAnd r (λ e. e ≡ stop) → ServesText text r held held
+pub not_opened : (text : List ℕ) (r : Result (Unit {0}) Stop) (stop : Stop) (held : Option (List ℕ))
+    → stop ≡ Failed → IsErrAnd r (λ e. e ≡ stop) → ServesText text r held held
 not_opened text (Ok _) stop held is failed = absurd failed
-not_opened text (Err e) stop held is failed = subst (λ s. ServesText text (Err s) held held) (sym (failed ∙ is)) (tells_nothing held ready_text)
+not_opened text (Err e) stop held is failed =
+    subst (λ s. ServesText text (Err s) held held) (sym (failed ∙ is)) (tells_nothing held ready_text)
 
 -- what it sets up is served
-pub text_served : {W : Type 0} (is_after : W → List Call → Type 0) (turns : ℕ) (old new : Engine W) (text : List ℕ) (setup : Setup) (held after : Option (List ℕ))
-    (r : Result (Unit {0}) Stop) → IsTextOf text setup → Serves is_after turns old new held after r → ServesText text r held after
+pub text_served : {W : Type 0} (is_after : W → List Call → Type 0) (turns : ℕ) (old new : Engine W) (text : List ℕ) (setup : Setup)
+    (held after : Option (List ℕ)) (r : Result (Unit {0}) Stop) → IsTextOf text setup → Serves is_after turns old new held after r → ServesText text r held after
 text_served is_after turns old new text setup held after (Ok _) is serves = (setup, is, serves.0)
 text_served is_after turns old new text setup held after (Err Failed) is serves = serves
 text_served is_after turns old new text setup held after (Err BadConfiguration) is serves = absurd serves

@@ -1,5 +1,5 @@
 -- What settings set up, or why they set up nothing.
-use Rattle.std.proofs.Common.{◌≡◌, ◌∙◌, ℕ, true, Option, Some, None, Result, Ok, Err, IsErrAnd, List, [], ◌∷◌, length, is_some, option_map, string_bytes, String, Bor, refl, ap, sym, subst}
+use Rattle.std.proofs.Common.{◌≡◌, ◌∙◌, ℕ, Option, Some, None, Result, Ok, Err, IsErrAnd, List, [], ◌∷◌, length, is_some, option_map, string_bytes, String, Bor, refl, ap, sym, subst}
 use Rattle.std.specs.Option.{option_copied}
 use Rattle.std.specs.declared.net.socket_addr.SocketAddr.{SocketAddr}
 use Rattle.std.proofs.lemmas.List.{nil_from_length}
@@ -14,7 +14,8 @@ use Rattle.ircd.specs.declared.fault.Stop.{Stop}
 use Rattle.ircd.specs.declared.fault.Stop.TheVariants.{Usage, BadScript, BadConfiguration, Failed}
 use Rattle.ircd.specs.declared.setup.Setup.{Setup}
 use Rattle.ircd.specs.Loops.SettingUp.{ChecksCalls, FindsOptional}
-use Rattle.ircd.specs.Serving.{AreCalled, Configures, IsAddress, IsNoAddress, IsReadSetup, IsRefused, IsSomeUncalled, SetsUp, nobody, somebody, this, later, links, server, refused}
+use Rattle.ircd.specs.Serving.{AreCalled, Configures, IsAddress, IsNoAddress, IsReadSetup, IsRefused, IsSomeUncalled, SetsUp}
+use Rattle.ircd.specs.Serving.{nobody, somebody, this, later, links, server, refused}
 use Rattle.ircd.specs.Statuses.{stop_of_config}
 
 -- all can be called where those that are left can, and one cannot where one of these cannot
@@ -29,7 +30,8 @@ lent_text (Some text) = refl
 
 pub found_in : {Z : Type 0} (lent : Option (Bor (String Z))) (setting : Option (String Z)) (found : Result (Option SocketAddr) Stop) → option_copied lent ≡ setting
     → FindsOptional (option_map (λ text. string_bytes text.now) lent) found → FindsOptional (option_map string_bytes setting) found
-found_in lent setting found is finds = subst (λ text. FindsOptional text found) (lent_text lent ∙ ap (λ some. option_map string_bytes some) is) finds
+found_in lent setting found is finds =
+    subst (λ text. FindsOptional text found) (lent_text lent ∙ ap (λ some. option_map string_bytes some) is) finds
 
 -- there is a text, and it is no address
 pub record NotFound (text : Option (List ℕ)) (stop : Stop) : Type 0 where
@@ -66,8 +68,8 @@ refused_by : (settings : Settings) (r : Result Setup Stop) (stop : Stop) → IsE
 refused_by settings (Ok _) stop failed is why = absurd failed
 refused_by settings (Err e) stop failed is why = subst (λ s. SetsUp settings (Err s)) (sym (failed ∙ is)) why
 
-pub links_refused : (settings : Settings) (r : Result Setup Stop) (stop : Stop) → FindsOptional (option_map string_bytes settings.listen_links) (Err stop)
-    → IsErrAnd r (λ e. e ≡ stop) → SetsUp settings r
+pub links_refused : (settings : Settings) (r : Result Setup Stop) (stop : Stop)
+    → FindsOptional (option_map string_bytes settings.listen_links) (Err stop) → IsErrAnd r (λ e. e ≡ stop) → SetsUp settings r
 links_refused settings r stop found failed =
     let none : NotFound (option_map string_bytes settings.listen_links) stop = not_found (option_map string_bytes settings.listen_links) stop found in
     refused_by settings r stop failed none.stop_is (links none.written_is none.is_none)
@@ -76,10 +78,12 @@ memory_out : (settings : Settings) (r : Result Setup Stop) → IsErrAnd r (λ e.
 memory_out settings (Ok _) failed = absurd failed
 memory_out settings (Err e) failed = subst (λ s. SetsUp settings (Err s)) (sym failed) tt
 
-pub server_refused : (settings : Settings) (config : Config) (r : Result Setup Stop) (fault : ConfigFault) → Configures settings config → IsMade config (Err fault)
-    → IsErrAnd r (λ e. e ≡ stop_of_config fault) → SetsUp settings r
-server_refused settings config r BadName configures made failed = refused_by settings r BadConfiguration failed refl (server config configures (ap is_some made))
-server_refused settings config r DoubleName configures made failed = refused_by settings r BadConfiguration failed refl (server config configures (ap is_some made))
+pub server_refused : (settings : Settings) (config : Config) (r : Result Setup Stop) (fault : ConfigFault)
+    → Configures settings config → IsMade config (Err fault) → IsErrAnd r (λ e. e ≡ stop_of_config fault) → SetsUp settings r
+server_refused settings config r BadName configures made failed =
+    refused_by settings r BadConfiguration failed refl (server config configures (ap is_some made))
+server_refused settings config r DoubleName configures made failed =
+    refused_by settings r BadConfiguration failed refl (server config configures (ap is_some made))
 server_refused settings config r Memory configures made failed = memory_out settings r failed
 
 -- what the settings of a text set up, the text does

@@ -4,7 +4,7 @@ use Rattle.std.specs.Net.Grammar.{IsSocketText}
 use Rattle.std.specs.declared.net.socket_addr.SocketAddr.{SocketAddr}
 use Rattle.irc_settings.specs.declared.settings.PeerSettings.{PeerSettings}
 use Rattle.ircd.specs.declared.fault.Stop.{Stop}
-use Rattle.ircd.specs.declared.fault.Stop.TheVariants.{Usage, BadScript, BadConfiguration, Failed}
+use Rattle.ircd.specs.declared.fault.Stop.TheVariants.{BadConfiguration}
 use Rattle.ircd.specs.Serving.{AreCalled, IsAddress, IsNoAddress, IsSomeUncalled}
 
 -- the address that a text is, or that it is none

@@ -3,7 +3,8 @@ use Rattle.ircd.proofs.serve.run_engine.Goals as goal
 
 pub returns-in_err-write_whole : goal.returns-in_err-write_whole
 returns-in_err-write_whole g c =
-    ready_cut g.W.Wire.is_after c.args.turns c.args.engine.now c.args.engine.now _ _ c.from_residual.result c.in_err-write_whole.ensures.front c.from_residual.ensures.1
+    ready_cut g.W.Wire.is_after c.args.turns c.args.engine.now c.args.engine.now _ _ c.from_residual.result
+    c.in_err-write_whole.ensures.front c.from_residual.ensures.1
 
 pub returns-in_err-flush : goal.returns-in_err-flush
 returns-in_err-flush g c =
@@ -12,4 +13,5 @@ returns-in_err-flush g c =
 
 pub returns : goal.returns
 returns g c =
-    ready_said g.W.Wire.is_after c.args.turns c.args.engine.now c.take_turns.new.engine _ _ _ c.take_turns.result c.in_ok-write_whole.ensures.whole c.flush.ensures c.take_turns.ensures
+    ready_said g.W.Wire.is_after c.args.turns c.args.engine.now c.take_turns.new.engine _ _ _ c.take_turns.result
+    c.in_ok-write_whole.ensures.whole c.flush.ensures c.take_turns.ensures

@@ -7,11 +7,13 @@ use Rattle.ircd.proofs.setup.set_up.Goals as goal
 pub returns-in_err-optional_address : goal.returns-in_err-optional_address
 returns-in_err-optional_address c =
     links_refused c.args.settings.now c.from_residual-in_err-optional_address.result c.in_err-optional_address.field-0.0
-    (found_in c.as_ref.result c.args.settings.now.listen_links (Err c.in_err-optional_address.field-0.0) c.as_ref.ensures.value c.in_err-optional_address.ensures) c.from_residual-in_err-optional_address.ensures.1
+    (found_in c.as_ref.result c.args.settings.now.listen_links (Err c.in_err-optional_address.field-0.0) c.as_ref.ensures.value c.in_err-optional_address.ensures)
+    c.from_residual-in_err-optional_address.ensures.1
 
 pub returns-in_err-new : goal.returns-in_err-new
 returns-in_err-new c =
-    server_refused c.args.settings.now c.in_ok-config.field-0 c.from_residual-in_err-new.result c.in_err-new.field-0.0 c.in_ok-config.ensures c.in_err-new.ensures
+    server_refused c.args.settings.now c.in_ok-config.field-0 c.from_residual-in_err-new.result c.in_err-new.field-0.0
+    c.in_ok-config.ensures c.in_err-new.ensures
     c.from_residual-in_err-new.ensures.1
 
 pub returns : goal.returns
@@ -21,7 +23,8 @@ returns c = record {
   no_fault = c.in_ok-new.ensures.0;
   server_is = c.in_ok-new.ensures.1;
   clients = subst (λ text. IsSocketText text c.in_ok-address.field-0) c.as_str.ensures.value c.in_ok-address.ensures;
-  links = found_in c.as_ref.result c.args.settings.now.listen_links (Ok c.in_ok-optional_address.field-0) c.as_ref.ensures.value c.in_ok-optional_address.ensures;
+  links = found_in c.as_ref.result c.args.settings.now.listen_links (Ok c.in_ok-optional_address.field-0) c.as_ref.ensures.value
+      c.in_ok-optional_address.ensures;
   called = subst (λ peers. AreCalled peers) c.deref.ensures.value c.in_ok-check_calls.ensures;
   client_room = refl;
   link_room = refl;
