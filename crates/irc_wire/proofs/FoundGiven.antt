@@ -1,12 +1,12 @@
 -- What is found of a line, as its contract says it.
-use Rattle.std.proofs.Common.{◌≡◌, ℕ, Bool, true, false, Option, Some, None, is_some, unwrap_or, Result, Ok, Err, List, [], ◌∷◌, if◌then◌else◌, refl, sym, ◌∙◌, ap}
+use Rattle.std.proofs.Common.{◌≡◌, ℕ, Bool, true, false, Option, Some, None, unwrap_or, Result, Ok, Err, List, [], ◌∷◌, if◌then◌else◌, sym, ◌∙◌, ap}
 use Rattle.irc_modes.specs.declared.modes.ModeChange.{ModeChange}
 use Rattle.irc_room.specs.declared.effect.Effect.{Effect}
 use Rattle.irc_room.specs.declared.effect.Effect.TheVariants.{ChangeModes}
 use Rattle.irc_wire.specs.declared.fault.WireFault.{WireFault}
 use Rattle.irc_wire.specs.declared.fault.WireFault.TheVariants.{UnknownCommand, Parameters, BadToken, WrongDirection, BadName, Memory}
 use Rattle.irc_wire.specs.Loops.Readings.{IsFound, channel_change, found, told_changes}
-use Rattle.irc_wire.specs.Means.{Checked, first_fault, mode_line, of_either, user_mode_line}
+use Rattle.irc_wire.specs.Means.{mode_line, of_either, user_mode_line}
 use Rattle.irc_wire.specs.Reader.{Reader}
 use Rattle.irc_wire.specs.Words.{are_changes, changes_of, is_for_channel}
 

@@ -1,5 +1,5 @@
 -- What words of a MODE ask for has no words but theirs.
-use Rattle.std.proofs.Common.{◌≡◌, ◌+◌, ◌<◌, ◌≤◌, ℕ, append_assoc, append-nil, option_to_list, Bool, true, false, ◌&&◌, Option, Some, None, List, [], ◌∷◌, ◌++◌, drop, length, get_or, map, nat_eq, if◌then◌else◌, not, refl, sym, ◌∙◌, ap, arith, suc, zero}
+use Rattle.std.proofs.Common.{◌≡◌, ◌+◌, ◌<◌, ◌≤◌, ℕ, append_assoc, append-nil, option_to_list, Bool, true, false, ◌&&◌, Option, Some, None, List, [], ◌∷◌, ◌++◌, drop, length, get_or, nat_eq, if◌then◌else◌, not, refl, sym, ◌∙◌, ap, arith, suc, zero}
 use Rattle.std.specs.List.{cons_option, filter_map, list_all}
 use Rattle.std.proofs.lemmas.List.{drop_all, drop_more}
 use Rattle.std.specs.Cmp.{first_so, second_so}
@@ -14,7 +14,6 @@ use Rattle.irc_modes.specs.declared.mode_words.ModeItem.{ModeItem}
 use Rattle.irc_modes.specs.declared.modes.ModeLetter.{ModeLetter}
 use Rattle.irc_modes.specs.declared.modes.ModeChange.{ModeChange}
 use Rattle.irc_modes.specs.declared.modes.ModeLetter.TheVariants as letter
-use Rattle.irc_modes.specs.Modes.{is_nil}
 use Rattle.irc_modes.specs.ModeViews.{all_asked, asked}
 use Rattle.irc_modes.specs.ModeWords.{Asked, Reading, change, counted, counts, is_sign, letter_asks, letters_read, list, mode_of, modes_read, next_word, no_word, reading, reading_of, unknown, words_after}
 use Rattle.irc_modes.specs.Letters.{plus_byte}
@@ -87,7 +86,8 @@ letters_kept plus (byte ∷ letters) words short =
     by_sign true one other first second = first
     by_sign false one other first second = second
 
-counted_kept : (earlier readings : List Reading) → list_all (λ (r : Reading). is_kept r.asked) readings ≡ true → list_all is_kept (counted earlier readings) ≡ true
+counted_kept : (earlier readings : List Reading) → list_all (λ (r : Reading). is_kept r.asked) readings ≡ true
+    → list_all is_kept (counted earlier readings) ≡ true
 counted_kept earlier [] kept = refl
 counted_kept earlier (reading ∷ later) kept =
     list_all-append is_kept (if counts earlier reading then reading.asked ∷ [] else []) (counted (earlier ++ reading ∷ []) later)
@@ -106,7 +106,8 @@ words_short (word ∷ words) so =
 
 pub modes_kept : (words : List (List ℕ)) → list_all is_mode_word words ≡ true → list_all is_kept (modes_read words) ≡ true
 modes_kept [] so = refl
-modes_kept (letters ∷ words) so = counted_kept [] (letters_read true letters words) (letters_kept true letters words (words_short words (second_so (is_mode_word letters) _ so)))
+modes_kept (letters ∷ words) so =
+    counted_kept [] (letters_read true letters words) (letters_kept true letters words (words_short words (second_so (is_mode_word letters) _ so)))
 
 kept_so : (a : Asked) → is_kept a ≡ true → IsKeptWord a
 kept_so (change plus letter None) so = tt
@@ -118,19 +119,16 @@ kept_so list so = tt
 kept_so no_word so = tt
 kept_so (unknown byte) so = tt
 
-pub kept_at : (items : List ModeItem) (i : ℕ) (d : ModeItem) → i < length items → list_all is_kept (all_asked items) ≡ true → IsKeptWord (asked (get_or items i d))
+pub kept_at : (items : List ModeItem) (i : ℕ) (d : ModeItem) → i < length items → list_all is_kept (all_asked items) ≡ true
+    → IsKeptWord (asked (get_or items i d))
 kept_at [] i d within so = absurd (omega (arith, within))
 kept_at (item ∷ items) zero d within so = kept_so (asked item) (first_so (is_kept (asked item)) _ so)
 kept_at (item ∷ items) (suc i) d within so = kept_at items i d (omega (arith, within)) (second_so (is_kept (asked item)) _ so)
 
 -- what is asked of each word's bytes
-pub mode_words_so : (words : List (Bor (List ℕ))) (so : Bool) → so ≡ list_all (λ word. is_mode_word word.now) words → so ≡ list_all is_mode_word (words_now words)
+pub mode_words_so : (words : List (Bor (List ℕ))) (so : Bool) → so ≡ list_all (λ word. is_mode_word word.now) words
+    → so ≡ list_all is_mode_word (words_now words)
 mode_words_so words so is = is ∙ sym (list_all-map is_mode_word (λ word. word.now) words)
-
--- an item of those that such words are read as
-pub kept_of : (words : List (List ℕ)) (items : List ModeItem) (i : ℕ) (d : ModeItem) → i < length items → all_asked items ≡ modes_read words
-    → list_all is_mode_word words ≡ true → IsKeptWord (asked (get_or items i d))
-kept_of words items i d within read so = kept_at items i d within (ap (list_all is_kept) read ∙ modes_kept words so)
 
 one_first : (o : Option ModeChange) (rest : List ModeChange) → option_to_list o ++ rest ≡ cons_option o rest
 one_first None rest = refl

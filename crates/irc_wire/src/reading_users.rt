@@ -5,7 +5,7 @@ ghost use Rattle.irc_line.specs.MessageViews.{optional_now};
 ghost use Rattle.irc_line.specs.PartViews.{words_now};
 ghost use Rattle.irc_names.specs.Limits.{max_real_name};
 ghost use Rattle.irc_names.specs.Names.{fits};
-ghost use Rattle.irc_wire.specs.Loops.Readings.{are_right, behind_number, found, home_now, home_or_fault, introduction_of, reader};
+ghost use Rattle.irc_wire.specs.Loops.Readings.{all_words, are_right, behind_number, found, home_now, home_or_fault, introduction_of, reader};
 ghost use Rattle.irc_wire.specs.Means.{first_fault, invite_line, is_itself_or_none, nick_line, quit_line, say_line, user_mode_line};
 ghost use Rattle.irc_wire.specs.Words.{is_user_name, with_i, without_i};
 
@@ -203,7 +203,7 @@ fn last_words(
     start: Start<'_>,
     last: &[&[u8]],
 ) -> Result<Option<Effect>, WireFault>
-    ensures { found result ≡ first_fault (nick_line (reader at.entry) None (start.entry.nick.now ∷ start.entry.distance.now ∷ start.entry.user.now ∷ start.entry.host.now ∷ start.entry.token.now ∷ words_now last.now)) }
+    ensures { found result ≡ first_fault (nick_line (reader at.entry) None (all_words start.entry (words_now last.now))) }
 {
     behind_number(at, start, last)
 }

@@ -157,6 +157,10 @@ behind_word (Some word) (first ∷ words) = if bytes_eq word first then Some wor
 abbrev pub is_member_far : Reader → TableRow Flags → Bool
 is_member_far reader member = option_map_or reader.is_far (reader.home member.name.items) false
 
+-- the words of an introduction, of which these are behind the number
+abbrev pub all_words : Start → List (List ℕ) → List (List ℕ)
+all_words start words = start.nick.now ∷ start.distance.now ∷ start.user.now ∷ start.host.now ∷ start.token.now ∷ words
+
 -- what is looked at in an introduction, by its words behind the number
 abbrev pub behind_number : Reader → Start → List (List ℕ) → Checked
 behind_number reader start (mode ∷ real ∷ []) =

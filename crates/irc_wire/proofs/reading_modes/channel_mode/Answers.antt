@@ -9,4 +9,5 @@ pub returns-in-Ok-Some : goal.returns-in-Ok-Some
 returns-in-Ok-Some c =
     is-found _ c.change_modes.result
     (c.change_modes.ensures
-    ∙ ap first_fault (modes-told (reader c.args.at) c.args.name.now c.args.target.now (words_now c.args.words.now) c.in-Ok-Some.changes c.requires (search rules)))
+    ∙ ap first_fault
+    (modes-told (reader c.args.at) c.args.name.now c.args.target.now (words_now c.args.words.now) c.in-Ok-Some.changes c.requires (search rules)))
