@@ -68,7 +68,8 @@ unfolding is_number
 number-digits digits h =
     let few = fits max_number_digits digits in
     let plain = not (begins_with_zero digits) in
-    first_so (list_all is_ascii_digit digits) few (first_so (list_all is_ascii_digit digits && few) plain (first_so (list_all is_ascii_digit digits && few && plain) _ h))
+    first_so (list_all is_ascii_digit digits) few
+    (first_so (list_all is_ascii_digit digits && few) plain (first_so (list_all is_ascii_digit digits && few && plain) _ h))
 
 pub number-few : (digits : List ℕ) → is_number digits ≡ true → length digits ≤ 10
 unfolding is_number

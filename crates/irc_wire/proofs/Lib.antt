@@ -3,3 +3,7 @@ pub mod ModeLines
 pub mod DigitsRead
 pub mod TextsRead
 pub mod FarMembers
+pub mod LastWords
+pub mod KeptWords
+pub mod WordsTaken
+pub mod FoundGiven

@@ -2,7 +2,7 @@
 -- the members of a channel, are no part of it: here their commands are unknown.
 use Rattle.std.specs.Prelude.{ℕ, Bool, true, false, not, ◌&&◌, ◌||◌, is_some, Option, Some, None, Result, Ok, Err, List, [], ◌∷◌, codes, nat_eq, unwrap_or, if◌then◌else◌}
 use Rattle.std.specs.List.{find, list_all}
-use Rattle.std.specs.Option.{option_and_then, option_map_or}
+use Rattle.std.specs.Option.{option_map_or}
 use Rattle.std.specs.Str.{bytes_eq}
 use Rattle.irc_line.specs.Limits.{max_line}
 use Rattle.irc_line.specs.Messages.{Parsed}

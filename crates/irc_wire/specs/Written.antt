@@ -1,6 +1,6 @@
 -- What is written on a link of an effect (RFC 2813 section 4). Users and channels that are there are written as stored, and the line is from
 -- a nickname or from a server alone. It is the same line for every link.
-use Rattle.std.specs.Prelude.{ℕ, suc, Bool, Option, Some, None, List, [], ◌∷◌, codes, decimal, unwrap_or, if◌then◌else◌}
+use Rattle.std.specs.Prelude.{ℕ, suc, Option, Some, None, List, [], ◌∷◌, codes, decimal, unwrap_or, if◌then◌else◌}
 use Rattle.irc_line.specs.Messages.{Written, nobody, named}
 use Rattle.irc_users.specs.declared.user.User.{User}
 use Rattle.irc_room.specs.declared.effect.By.{By}

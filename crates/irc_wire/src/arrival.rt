@@ -155,7 +155,6 @@ fn are_talkers_known(at: Arrival<'_>, by: &Nick, target: &Target) -> bool
 }
 
 /// Whether a channel is there, and all its members are behind the link.
-
 pub(crate) fn is_far_channel(at: Arrival<'_>, name: &[u8]) -> bool
     ensures { result ≡ (reader at.entry).is_far_channel name.now }
 {

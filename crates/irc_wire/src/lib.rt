@@ -11,11 +11,13 @@ mod mode_line;
 mod numbers;
 mod reading;
 mod reading_channels;
+mod reading_modes;
 mod reading_users;
 mod words;
 mod writing;
 
 pub use fault::WireFault;
+pub use reading::read_effect;
 pub use writing::write_effect;
 
 /// The greatest number in a line of a link (our own choice).

@@ -1,10 +1,11 @@
 //! Lines of users (RFC 2813 section 4).
-ghost use Rattle.std.specs.Prelude.{◌≡◌, ◌∷◌, ◌||◌, [], Some, IsOk, true};
+ghost use Rattle.std.specs.Prelude.{◌≡◌, ◌∷◌, ◌||◌, [], None, Some, IsOk, true};
 ghost use Rattle.std.specs.Str.{bytes_eq};
+ghost use Rattle.irc_line.specs.MessageViews.{optional_now};
 ghost use Rattle.irc_line.specs.PartViews.{words_now};
 ghost use Rattle.irc_names.specs.Limits.{max_real_name};
 ghost use Rattle.irc_names.specs.Names.{fits};
-ghost use Rattle.irc_wire.specs.Loops.Readings.{are_right, found, home_now, home_or_fault, introduction_of, reader};
+ghost use Rattle.irc_wire.specs.Loops.Readings.{all_words, are_right, behind_number, found, home_now, home_or_fault, introduction_of, reader};
 ghost use Rattle.irc_wire.specs.Means.{first_fault, invite_line, is_itself_or_none, nick_line, quit_line, say_line, user_mode_line};
 ghost use Rattle.irc_wire.specs.Words.{is_user_name, with_i, without_i};
 
@@ -110,12 +111,21 @@ fn invite(
     Ok(if_there(at, Effect::Invite { by, nick, channel }))
 }
 
-/// A user takes another nickname.
-pub(crate) fn rename_line(
+/// A user comes, or takes another nickname.
+pub(crate) fn nick_line(
     at: Arrival<'_>,
-    nick: &[u8],
+    prefix: Option<&[u8]>,
     params: &[&[u8]],
 ) -> Result<Option<Effect>, WireFault>
+    ensures { found result ≡ first_fault (nick_line (reader at.entry) (optional_now prefix.entry) (words_now params.now)) }
+{
+    match prefix {
+        Some(nick) => rename_line(at, nick, params),
+        None => introduction_line(at, params),
+    }
+}
+
+fn rename_line(at: Arrival<'_>, nick: &[u8], params: &[&[u8]]) -> Result<Option<Effect>, WireFault>
     ensures { found result ≡ first_fault (nick_line (reader at.entry) (Some nick.now) (words_now params.now)) }
 {
     let [new] = params else {
@@ -133,9 +143,19 @@ fn rename(at: Arrival<'_>, nick: &[u8], new: &[u8]) -> Result<Option<Effect>, Wi
     Ok(if_there(at, Effect::Rename { nick, new }))
 }
 
+/// The first words of the line that a user comes with.
+#[derive(Clone, Copy)]
+struct Start<'a> {
+    nick: &'a [u8],
+    distance: &'a [u8],
+    user: &'a [u8],
+    host: &'a [u8],
+    token: &'a [u8],
+}
+
 /// The words of the line that a user comes with.
 #[derive(Clone, Copy)]
-pub(crate) struct Newcomer<'a> {
+struct Newcomer<'a> {
     nick: &'a [u8],
     distance: &'a [u8],
     user: &'a [u8],
@@ -145,11 +165,78 @@ pub(crate) struct Newcomer<'a> {
     real: &'a [u8],
 }
 
-/// A user comes.
-pub(crate) fn introduction(
+fn introduction_line(at: Arrival<'_>, params: &[&[u8]]) -> Result<Option<Effect>, WireFault>
+    ensures { found result ≡ first_fault (nick_line (reader at.entry) None (words_now params.now)) }
+{
+    let [nick, distance, user, rest @ ..] = params else {
+        return Err(WireFault::Parameters);
+    };
+    newcomer_line(at, nick, distance, user, rest)
+}
+
+/// The line that a user comes with, from the host on.
+fn newcomer_line<'a>(
     at: Arrival<'_>,
-    words: Newcomer<'_>,
+    nick: &'a [u8],
+    distance: &'a [u8],
+    user: &'a [u8],
+    rest: &[&'a [u8]],
 ) -> Result<Option<Effect>, WireFault>
+    ensures { found result ≡ first_fault (nick_line (reader at.entry) None (nick.now ∷ distance.now ∷ user.now ∷ words_now rest.now)) }
+{
+    let [host, token, last @ ..] = rest else {
+        return Err(WireFault::Parameters);
+    };
+    let start = Start {
+        nick,
+        distance,
+        user,
+        host,
+        token,
+    };
+    last_words(at, start, last)
+}
+
+/// The line that a user comes with, whose last words these are.
+fn last_words(
+    at: Arrival<'_>,
+    start: Start<'_>,
+    last: &[&[u8]],
+) -> Result<Option<Effect>, WireFault>
+    ensures { found result ≡ first_fault (nick_line (reader at.entry) None (all_words start.entry (words_now last.now))) }
+{
+    behind_number(at, start, last)
+}
+
+/// The same, by the words behind the number.
+fn behind_number(
+    at: Arrival<'_>,
+    start: Start<'_>,
+    last: &[&[u8]],
+) -> Result<Option<Effect>, WireFault>
+    ensures { found result ≡ first_fault (behind_number (reader at.entry) start.entry (words_now last.now)) }
+{
+    let Some((mode, more)) = last.split_first() else {
+        return Err(WireFault::Parameters);
+    };
+    let [real] = more else {
+        return Err(WireFault::Parameters);
+    };
+    introduction(
+        at,
+        Newcomer {
+            nick: start.nick,
+            distance: start.distance,
+            user: start.user,
+            host: start.host,
+            token: start.token,
+            mode,
+            real,
+        },
+    )
+}
+
+fn introduction(at: Arrival<'_>, words: Newcomer<'_>) -> Result<Option<Effect>, WireFault>
     ensures { found result ≡ first_fault (introduction_of (reader at.entry) words.entry) }
 {
     let home = read_home(at, words)?;

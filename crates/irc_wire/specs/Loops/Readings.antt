@@ -2,6 +2,8 @@
 use Rattle.std.specs.Prelude.{◌≡◌, ℕ, Bool, true, false, not, ◌&&◌, ⊤, Option, Some, None, Result, Ok, Err, List, [], ◌∷◌, codes, option_to_list, if◌then◌else◌}
 use Rattle.std.specs.Borrow.{Bor}
 use Rattle.std.specs.Global.{Vec}
+use Rattle.std.specs.Cmp.Lexicographic.{pointwise}
+use Rattle.std.specs.Str.{bytes_eq}
 use Rattle.std.specs.Option.{option_map_or}
 use Rattle.arrayvec.specs.ArrayVec.{ArrayVec}
 use Rattle.irc_names.specs.Limits.{max_real_name}
@@ -10,6 +12,7 @@ use Rattle.irc_tables.specs.declared.table.Row.{Row as TableRow}
 use Rattle.irc_channels.specs.declared.flags.Flags.{Flags}
 use Rattle.irc_modes.specs.declared.modes.ModeChange.{ModeChange}
 use Rattle.irc_modes.specs.ModeWords.{Asked, change}
+use Rattle.irc_modes.specs.ModeWritten.{changes_written}
 use Rattle.irc_modes.specs.Texts.{IsKept}
 use Rattle.irc_room.specs.declared.effect.By.{By}
 use Rattle.irc_room.specs.declared.effect.By.TheVariants as by
@@ -19,13 +22,14 @@ use Rattle.irc_room.specs.declared.effect.Target.{Target}
 use Rattle.irc_room.specs.declared.effect.Target.TheVariants as target
 use Rattle.irc_wire.specs.declared.arrival.Arrival.{Arrival}
 use Rattle.irc_wire.specs.declared.reading_users.Newcomer.{Newcomer}
+use Rattle.irc_wire.specs.declared.reading_users.Start.{Start}
 use Rattle.irc_wire.specs.declared.commands.Command.{Command}
 use Rattle.irc_wire.specs.declared.commands.Command.TheVariants as command
 use Rattle.irc_wire.specs.declared.fault.WireFault.{WireFault}
 use Rattle.irc_wire.specs.declared.fault.WireFault.TheVariants.{BadName, BadToken, Memory, Parameters}
 use Rattle.irc_wire.specs.Reader.{Reader, reader_of}
-use Rattle.irc_wire.specs.Means.{Checked, Row, line, if_there, home_of, introduction_line, is_come_mode, nick_line, quit_line, join_line, part_line, kick_line, mode_line, topic_line, say_line, invite_line}
-use Rattle.irc_wire.specs.Words.{is_for_channel, is_user_name}
+use Rattle.irc_wire.specs.Means.{Checked, Row, line, malformed, if_there, home_of, introduction_line, is_come_mode, nick_line, of_either, quit_line, join_line, part_line, kick_line, mode_line, topic_line, say_line, invite_line}
+use Rattle.irc_wire.specs.Words.{are_changes, changes_of, is_for_channel, is_user_name}
 
 -- what is looked at where a line came
 abbrev pub reader : Arrival → Reader
@@ -35,6 +39,12 @@ reader at = reader_of at.room.now.room at.routes.now at.link
 abbrev pub found : Result (Option Effect) WireFault → Result (List Effect) WireFault
 found (Ok effect) = Ok (option_to_list effect)
 found (Err fault) = Err fault
+
+-- what is read, where memory did not run out
+abbrev pub IsFound : Result (List Effect) WireFault → Result (Option Effect) WireFault → Type 0
+IsFound meant (Err Memory) = ⊤
+IsFound meant (Err fault) = meant ≡ Err fault
+IsFound meant (Ok effect) = meant ≡ Ok (option_to_list effect)
 
 -- a text as the code keeps it
 abbrev pub line_of : List ℕ → ArrayVec ℕ
@@ -64,6 +74,12 @@ abbrev pub telling_table : List Row
 telling_table =
     line (codes "TOPIC") topic_line ∷ line (codes "PRIVMSG") (say_line false) ∷ line (codes "NOTICE") (say_line true)
     ∷ line (codes "INVITE") invite_line ∷ []
+
+-- What is read of a line is what it means, or its fault; the want of memory alone can come in place of either.
+abbrev pub IsMeant : Result (List Effect) WireFault → Result (Vec Effect) WireFault → Type 0
+IsMeant meant (Ok effects) = meant ≡ Ok (effects.items)
+IsMeant meant (Err Memory) = ⊤
+IsMeant meant (Err fault) = meant ≡ Err fault
 
 -- who changes a channel, or that no name is read
 abbrev pub doer_or_fault : List ℕ → Result By WireFault
@@ -114,11 +130,39 @@ IsListed effect (Ok effects) = effects.items ≡ option_to_list effect
 IsListed effect (Err Memory) = ⊤
 IsListed effect (Err fault) = ⊥
 
+-- changes, where these are the words that they are written as
+abbrev pub if_written : List ModeChange → List (List ℕ) → Option (List ModeChange)
+if_written changes words = if pointwise bytes_eq (changes_written changes) words then Some changes else None
+
+-- the changes that words of a MODE tell of
+abbrev pub told_changes : List (List ℕ) → Option (List ModeChange)
+told_changes words = if are_changes words then Some (changes_of words) else None
+
+-- what is looked at in a line of changes of a channel, once these are read
+abbrev pub channel_change : Reader → List ℕ → List ℕ → List ModeChange → Checked
+channel_change reader name channel changes = of_either reader name true channel (λ doer. ChangeModes doer channel changes)
+
 -- the word of a change that is asked for is no longer than any mode takes
 abbrev pub IsKeptWord : Asked → Type 0
 IsKeptWord (change plus letter word) = IsKept word
 IsKeptWord other = ⊤
 
+-- the words behind the parameter of a change, where it is the first one
+abbrev pub behind_word : Option (List ℕ) → List (List ℕ) → Option (List (List ℕ))
+behind_word None words = Some words
+behind_word (Some word) [] = None
+behind_word (Some word) (first ∷ words) = if bytes_eq word first then Some words else None
+
 -- whether a member is behind the link
 abbrev pub is_member_far : Reader → TableRow Flags → Bool
 is_member_far reader member = option_map_or reader.is_far (reader.home member.name.items) false
+
+-- the words of an introduction, of which these are behind the number
+abbrev pub all_words : Start → List (List ℕ) → List (List ℕ)
+all_words start words = start.nick.now ∷ start.distance.now ∷ start.user.now ∷ start.host.now ∷ start.token.now ∷ words
+
+-- what is looked at in an introduction, by its words behind the number
+abbrev pub behind_number : Reader → Start → List (List ℕ) → Checked
+behind_number reader start (mode ∷ real ∷ []) =
+    introduction_line reader start.nick.now start.distance.now start.user.now start.host.now start.token.now mode real
+behind_number reader start _ = malformed

@@ -1,0 +1,185 @@
+//! Lines of a link, each with the effects that it tells of or why it is refused (RFC 2813 section 4).
+ghost use Rattle.std.specs.Prelude.{◌≡◌};
+ghost use Rattle.irc_room.specs.Effects.{brings_free};
+
+use crate::shown::{Shown, show, show_fault};
+use arrayvec::ArrayVec;
+use irc_line::parse;
+use irc_names::{ChannelName, Host, Nick, ServerName, is_server};
+use irc_room::{Effect, Room};
+use irc_routes::{Info, Own, Routes};
+use irc_users::{RealName, User, UserName};
+use irc_wire::read_effect;
+use std::alloc::Global;
+use std::process::Abort;
+use std::test::Fail;
+
+/// The link of a line, the line, and what is read of it. The effects are done, so that the next line meets them.
+type Row = (u64, &'static [u8], &'static [u8]);
+
+/// Users come, and are heard of.
+const USERS: [Row; 15] = [
+    (1, b"NICK bo 1 u h 1 + :Bo", b" adds bo u h Bo b.net no"),
+    (1, b"nick bi 1 u h 1 +i :B I", b" adds bi u h B I b.net yes"),
+    (1, b":bo MODE bo +i", b" hides bo yes"),
+    (1, b":bo MODE BO -i", b" hides bo no"),
+    (1, b":bi NICK by", b" renames bi by"),
+    (1, b":bo PRIVMSG al :hi there", b" says bo no al hi there"),
+    (1, b":bo NOTICE #d :hi", b" says bo yes #d hi"),
+    (1, b":bo INVITE al #d", b" invites bo al #d"),
+    (1, b":by QUIT :bye bye", b" quits by bye bye"),
+    (1, b":by QUIT :bye bye", b""),
+    (1, b":zz QUIT :x", b""),
+    (1, b"NICK dd 1 u h 01 + :D", b" parameters"),
+    (1, b"NICK dd 2 u h 1 + :D", b" parameters"),
+    (1, b"NICK dd 1 u h 9 + :D", b" bad token"),
+    (1, b"NICK 9d 1 u h 1 + :D", b" bad name"),
+];
+
+/// A channel of users behind the link, and one of a user who is not.
+const CHANNELS: [Row; 14] = [
+    (1, b":bo JOIN #c\x07o", b" joins bo #c yes"),
+    (1, b"NICK bi 1 u h 1 + :B", b" adds bi u h B b.net no"),
+    (1, b":bi JOIN #c", b" joins bi #c no"),
+    (
+        1,
+        b":bo MODE #c +mv-v bi bo",
+        b" modes bo #c yes m yes v bi no v bo",
+    ),
+    (1, b":bo MODE #c +lk 5 pw", b" modes bo #c yes l 5 yes k pw"),
+    (1, b":bo MODE #c +b a!*@*", b" modes bo #c yes b a!*@*"),
+    (1, b":bo TOPIC #c :hello there", b" topic bo #c hello there"),
+    (1, b":b.net TOPIC #c :x", b" topic * #c x"),
+    (1, b":b.net MODE #c -m", b" modes * #c no m"),
+    (1, b":b.net TOPIC #d :x", b""),
+    (1, b":b.net MODE #d +m", b""),
+    (1, b":bo KICK #c bi :out", b" kicks bo #c bi out"),
+    (1, b":bi PART #c :gone", b" parts bi #c gone"),
+    (1, b":bo PART #c :gone", b" parts bo #c gone"),
+];
+
+/// Lines that are refused, each for the first cause.
+const REFUSED: [Row; 22] = [
+    (1, b"FOO", b" unknown command"),
+    (1, b":b.net SQUIT b.net :x", b" unknown command"),
+    (1, b":bo PART #c", b" parameters"),
+    (1, b"QUIT :x", b" parameters"),
+    (1, b":bo QUIT", b" parameters"),
+    (1, b":bo JOIN #c #d", b" parameters"),
+    (1, b":bo MODE #c", b" parameters"),
+    (1, b":bo MODE #c v bo", b" parameters"),
+    (1, b":bo MODE #c +v", b" parameters"),
+    (1, b":bo MODE #c ++m", b" parameters"),
+    (1, b":bo MODE #c +m bo", b" parameters"),
+    (1, b":bo MODE #c +x", b" parameters"),
+    (1, b":bo MODE al +i", b" parameters"),
+    (1, b":bo MODE bo i", b" parameters"),
+    (1, b"NICK dd 1 u h 1 i :D", b" parameters"),
+    (2, b":bo QUIT :x", b" wrong direction"),
+    (2, b":bo MODE #c +m", b" wrong direction"),
+    (1, b":al QUIT :x", b" wrong direction"),
+    (1, b":c.net TOPIC #c :x", b" wrong direction"),
+    (1, b":bo NICK 9d", b" bad name"),
+    (1, b":bo JOIN c", b" bad name"),
+    (1, b":bo MODE #a:b +m", b" bad name"),
+];
+
+/// Whether the nickname that an effect brings is free, as whoever applies one has to know.
+fn brings_free(room: &Room, effect: &Effect) -> bool
+    ensures { result ≡ brings_free room.now.room effect.now }
+{
+    match effect {
+        Effect::AddUser(user) => room.user(user.nick.as_bytes()).is_none(),
+        Effect::Rename { nick, new } => room.user(new.as_bytes()).is_none() || nick == new,
+        _ => true,
+    }
+}
+
+fn apply(alloc: Global, room: &mut Room, effect: &Effect) {
+    if brings_free(room, effect) {
+        let _ = room.apply(effect, &mut Vec::new(alloc));
+    }
+}
+
+/// Shows what is read of a line, and does it.
+fn show_line(alloc: Global, room: &mut Room, routes: &Routes, link: u64, line: &[u8]) -> Shown {
+    let mut shown = ArrayVec::new();
+    let Ok(message) = parse(line) else {
+        return shown;
+    };
+    match read_effect(alloc, &message, room, routes, link) {
+        Ok(effects) => {
+            for effect in effects.as_slice() {
+                show(effect, &mut shown);
+                apply(alloc, room, effect);
+            }
+        }
+        Err(fault) => show_fault(fault, &mut shown),
+    }
+    shown
+}
+
+/// Whether of each line is read what its row says.
+fn rows_hold(alloc: Global, room: &mut Room, routes: &Routes, rows: &[Row]) -> bool {
+    let mut all = true;
+    for (link, line, want) in rows {
+        all &= show_line(alloc, room, routes, *link, line).as_slice() == *want;
+    }
+    all
+}
+
+fn nick(rt: &impl Abort) -> Nick {
+    Nick::read(b"al").expect(rt, "a nickname")
+}
+
+/// The room of a.net, with `al` there and alone in #d.
+fn stand(rt: &impl Abort, alloc: Global) -> Room {
+    let home = ServerName::read(b"a.net").expect(rt, "a name");
+    let mut room = Room::new(alloc, home.copy());
+    let user = User {
+        nick: nick(rt),
+        user: UserName::clean(b"u"),
+        host: Host::read(b"h").expect(rt, "a host"),
+        real: RealName::cut(b"Al"),
+        home,
+        invisible: false,
+    };
+    apply(alloc, &mut room, &Effect::AddUser(user));
+    let channel = ChannelName::read(b"#d").expect(rt, "a channel's name");
+    apply(
+        alloc,
+        &mut room,
+        &Effect::Join {
+            nick: nick(rt),
+            channel,
+            op: true,
+        },
+    );
+    room
+}
+
+/// Of a server, b.net: behind link 1, one link away, with the number 1 there.
+fn add_neighbour(rt: &impl Abort, routes: &mut Routes) {
+    let home = ServerName::read(b"a.net").expect(rt, "a name");
+    let info = Info::read(b"B").expect(rt, "a description");
+    if routes.token_in(1, 1).is_none() {
+        let _ = routes.add_server(1, &home, b"b.net", 1, 1, &info);
+    }
+}
+
+#[test]
+fn lines_are_read_as_effects(rt: HostRuntime) -> Result<(), Fail> {
+    let own = Own {
+        name: Vec::from_slice(rt.alloc(), b"a.net")?,
+        info: Vec::new(rt.alloc()),
+        created: Vec::new(rt.alloc()),
+    };
+    assert!(rt; is_server(&own.name));
+    let mut routes = Routes::new(own);
+    add_neighbour(&rt, &mut routes);
+    let mut room = stand(&rt, rt.alloc());
+    assert!(rt; rows_hold(rt.alloc(), &mut room, &routes, &USERS));
+    assert!(rt; rows_hold(rt.alloc(), &mut room, &routes, &CHANNELS));
+    assert!(rt; rows_hold(rt.alloc(), &mut room, &routes, &REFUSED));
+    Ok(())
+}
