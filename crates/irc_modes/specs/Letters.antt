@@ -1,5 +1,5 @@
 -- The bytes that the letters of modes and their signs are written as (RFC 2811 section 4, RFC 2812 section 3.2.3).
-use Rattle.std.specs.Prelude.{ℕ, Bool, if◌then◌else◌}
+use Rattle.std.specs.Prelude.{ℕ, Bool, true, false, if◌then◌else◌}
 use Rattle.irc_modes.specs.declared.modes.ModeLetter.{ModeLetter}
 use Rattle.irc_modes.specs.declared.modes.ModeLetter.TheVariants as letter
 
@@ -28,3 +28,9 @@ minus_byte = 0x2D
 -- `+` where a mode is set, `-` where it is taken away
 abbrev pub sign_byte : Bool → ℕ
 sign_byte plus = if plus then plus_byte else minus_byte
+
+-- whether the parameter of a letter is the nickname of a member
+abbrev pub names_member : ModeLetter → Bool
+names_member letter.Operator = true
+names_member letter.Voice = true
+names_member other = false

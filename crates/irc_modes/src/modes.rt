@@ -1,6 +1,7 @@
 //! A channel's modes, and a change of one.
 ghost use Rattle.std.specs.Prelude.{◌≡◌};
 ghost use Rattle.std.specs.Option.{option_copied, SomeIff};
+ghost use Rattle.irc_modes.specs.Letters.{letter_byte, names_member, sign_byte};
 ghost use Rattle.irc_modes.specs.Texts.{IsKept};
 
 use crate::bans::BanList;
@@ -64,6 +65,41 @@ pub enum ModeLetter {
     Operator,
     /// `v`
     Voice,
+}
+
+impl ModeLetter {
+    /// The letter as it is written.
+    pub fn byte(self) -> u8
+        ensures { result ≡ letter_byte self }
+    {
+        match self {
+            ModeLetter::InviteOnly => b'i',
+            ModeLetter::Moderated => b'm',
+            ModeLetter::NoOutside => b'n',
+            ModeLetter::TopicLocked => b't',
+            ModeLetter::Private => b'p',
+            ModeLetter::Secret => b's',
+            ModeLetter::Key => b'k',
+            ModeLetter::Limit => b'l',
+            ModeLetter::Ban => b'b',
+            ModeLetter::Operator => b'o',
+            ModeLetter::Voice => b'v',
+        }
+    }
+
+    /// Whether its parameter is the nickname of a member.
+    pub fn names_member(self) -> bool
+        ensures { result ≡ names_member self }
+    {
+        matches!(self, ModeLetter::Operator | ModeLetter::Voice)
+    }
+}
+
+/// The sign that is written before a letter: `+` for a mode that is set, `-` for one that is taken away.
+pub fn sign_byte(plus: bool) -> u8
+    ensures { result ≡ sign_byte plus }
+{
+    if plus { b'+' } else { b'-' }
 }
 
 /// A change of one mode as a command asks for it (RFC 2811 section 4): its parameter is one of the command's, whole.

@@ -8,10 +8,9 @@ use Rattle.irc_names.specs.Tables.{row}
 use Rattle.irc_line.specs.Messages.{Sender, Written, named, full, text}
 use Rattle.irc_users.specs.declared.user.User.{User}
 use Rattle.irc_modes.specs.declared.modes.ModeChange.{ModeChange}
-use Rattle.irc_modes.specs.declared.modes.ModeLetter.{ModeLetter}
-use Rattle.irc_modes.specs.declared.modes.ModeLetter.TheVariants as letter
 use Rattle.irc_channels.specs.declared.channel.Channel.{Channel}
 use Rattle.irc_channels.specs.Channels.{has_member}
+pub use Rattle.irc_modes.specs.Letters.{names_member}
 use Rattle.irc_modes.specs.ModeWritten.{letters_text}
 use Rattle.irc_room.specs.declared.effect.By.{By}
 use Rattle.irc_room.specs.declared.effect.By.TheVariants as by
@@ -47,12 +46,6 @@ stored_nick room nick = option_map_or (λ (user : User). user.nick) (row room.us
 
 abbrev pub stored_channel : Room → List ℕ → List ℕ
 stored_channel room channel = option_map_or (λ (c : Channel). c.name) (row room.channels (key channel)) channel
-
--- the letters whose parameter is a member's nickname
-abbrev pub names_member : ModeLetter → Bool
-names_member letter.Operator = true
-names_member letter.Voice = true
-names_member other = false
 
 -- a change's parameter as it is written: behind o and v the nickname as stored, however it was given
 abbrev pub written_word : Room → ModeChange → Option (List ℕ)

@@ -3,41 +3,14 @@ ghost use Rattle.std.specs.Prelude.{◌≡◌, [], ◌∷◌, ◌++◌, IfOk, On
 ghost use Rattle.std.specs.List.{filter_map};
 ghost use Rattle.irc_line.specs.MessageViews.{optional_now};
 ghost use Rattle.irc_line.specs.PartViews.{words_now};
-ghost use Rattle.irc_modes.specs.Letters.{letter_byte, sign_byte};
 ghost use Rattle.irc_modes.specs.ModeWritten.{letters_text};
 ghost use Rattle.irc_room.specs.Loops.RoomParts.{room_of};
-ghost use Rattle.irc_room.specs.Seen.{names_member, written_word};
+ghost use Rattle.irc_room.specs.Seen.{written_word};
 ghost use Rattle.irc_room.specs.Loops.Signs.{sign_between};
 
 use crate::room_parts::{RoomParts, stored_nick};
-use irc_modes::{ModeChange, ModeLetter};
+use irc_modes::{ModeChange, sign_byte};
 use std::alloc::{AllocError, Global};
-
-/// The letter that a mode is written as.
-fn letter_byte(letter: ModeLetter) -> u8
-    ensures { result ≡ letter_byte letter }
-{
-    match letter {
-        ModeLetter::InviteOnly => b'i',
-        ModeLetter::Moderated => b'm',
-        ModeLetter::NoOutside => b'n',
-        ModeLetter::TopicLocked => b't',
-        ModeLetter::Private => b'p',
-        ModeLetter::Secret => b's',
-        ModeLetter::Key => b'k',
-        ModeLetter::Limit => b'l',
-        ModeLetter::Ban => b'b',
-        ModeLetter::Operator => b'o',
-        ModeLetter::Voice => b'v',
-    }
-}
-
-/// `+` for a mode that is set, `-` for one that is taken away.
-fn sign_byte(plus: bool) -> u8
-    ensures { result ≡ sign_byte plus }
-{
-    if plus { b'+' } else { b'-' }
-}
 
 /// The letters of changes in order, with a sign before the first and wherever it differs from the one before.
 pub(crate) fn letters_text(
@@ -50,7 +23,7 @@ pub(crate) fn letters_text(
     let mut sign = None;
     for change in changes {
         push_sign(&mut letters, sign, change.plus)?;
-        letters.push(letter_byte(change.letter))?;
+        letters.push(change.letter.byte())?;
         sign = Some(change.plus);
     }
     Ok(letters)
@@ -109,15 +82,8 @@ fn written_word<'a>(parts: RoomParts<'a>, change: &'a ModeChange) -> Option<&'a 
     ensures { optional_now result ≡ written_word (room_of parts.entry) change.now }
 {
     match &change.word {
-        Some(word) if names_member(change.letter) => Some(stored_nick(parts, word.as_bytes())),
+        Some(word) if change.letter.names_member() => Some(stored_nick(parts, word.as_bytes())),
         Some(word) => Some(word.as_bytes()),
         None => None,
     }
-}
-
-/// Whether a letter's parameter is a member's nickname.
-fn names_member(letter: ModeLetter) -> bool
-    ensures { result ≡ names_member letter }
-{
-    matches!(letter, ModeLetter::Operator | ModeLetter::Voice)
 }
