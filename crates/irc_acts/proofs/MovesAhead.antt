@@ -26,7 +26,7 @@ use Rattle.irc_room.specs.Effects.{is_member}
 use Rattle.irc_room.specs.Readers.{flags_at}
 use Rattle.irc_room.specs.After.{after, alter_channel}
 use Rattle.irc_room.specs.InTurnLaws.{each-keeps}
-use Rattle.irc_room.proofs.Rows.{some_key}
+use Rattle.irc_room.specs.Lemmas.Rows.{some_key}
 use Rattle.irc_acts.specs.declared.act.Act.{Act}
 use Rattle.irc_acts.specs.declared.act.Act.TheVariants.{Answer, Raw, Do}
 use Rattle.irc_acts.specs.Acts.{effects_among}

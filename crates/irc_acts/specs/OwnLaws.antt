@@ -12,8 +12,8 @@ use Rattle.irc_room.specs.Room.{Room, IsWellFormed}
 use Rattle.irc_room.specs.Effects.{IsPossible, has_user, has_channel}
 use Rattle.irc_room.specs.After.{after}
 use Rattle.irc_room.specs.InTurn.{EachInTurn}
-use Rattle.irc_room.proofs.ModesKept.{same_rows}
-use Rattle.irc_room.proofs.WellFormedLaw.{after_is_well_formed}
+use Rattle.irc_room.specs.Lemmas.ModesKept.{same_rows}
+use Rattle.irc_room.specs.Lemmas.WellFormedLaw.{after_is_well_formed}
 use Rattle.irc_acts.specs.declared.act.Act.{Act}
 use Rattle.irc_acts.specs.declared.act.Act.TheVariants.{Answer, Raw, Do}
 use Rattle.irc_acts.specs.Acts.{effects_among}

@@ -15,8 +15,8 @@ use Rattle.irc_names.specs.TableLaws.{row-alter_same}
 use Rattle.irc_tables.specs.declared.table.Row.{Row}
 use Rattle.irc_tables.specs.FoldedRows.{IsInFoldedOrder, StandsAt, BelongsAt}
 use Rattle.irc_tables.specs.RowViews.{row_entry}
-use Rattle.irc_tables.proofs.OrderedEntries.{put-between}
-use Rattle.irc_tables.proofs.RowsAsTable.{row-table_of, stands-present}
+use Rattle.irc_tables.specs.Lemmas.OrderedEntries.{put-between}
+use Rattle.irc_tables.specs.Lemmas.RowsAsTable.{row-table_of, stands-present}
 use Rattle.irc_users.specs.declared.user.User.{User}
 use Rattle.irc_channels.specs.declared.flags.Flags.{Flags}
 use Rattle.irc_channels.specs.declared.channel.Channel.{Channel}
@@ -27,7 +27,7 @@ use Rattle.irc_acts.specs.declared.act.Act.{Act}
 use Rattle.irc_answers.specs.Names.{listed, name_line, name_lines, names_of}
 use Rattle.irc_answers.specs.Loops.FilledLines.{Came}
 use Rattle.irc_answers.specs.Loops.NameLines.{is_shown}
-use Rattle.irc_answers.proofs.CameLines.{more_came, all_came}
+use Rattle.irc_answers.specs.Lemmas.CameLines.{more_came, all_came}
 
 told : (b : Bool) → T b → b ≡ true
 told true h = refl

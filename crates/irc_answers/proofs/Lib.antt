@@ -1,3 +1,1 @@
-pub mod NameChunks
-pub mod CameLines
 pub mod JoinersPlace

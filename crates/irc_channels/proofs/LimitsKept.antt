@@ -4,7 +4,7 @@ use Rattle.irc_channels.specs.declared.channel.Channel.{Channel}
 use Rattle.irc_channels.specs.ModeLaws.{NewIsWithinLimits, ChangedIsWithinLimits}
 use Rattle.irc_modes.specs.ModesSet.{AreWithinLimits}
 use Rattle.irc_channels.proofs.ChangesParted.{all_parted}
-use Rattle.irc_modes.proofs.LimitsKept.{modes_are_within_limits}
+use Rattle.irc_modes.specs.Lemmas.LimitsKept.{modes_are_within_limits}
 
 pub changed_is_within_limits : ChangedIsWithinLimits
 changed_is_within_limits changes channel h =

@@ -8,7 +8,7 @@ use Rattle.irc_line.specs.Bytes.{is_space, is_colon, is_nul, has_nul, begins, co
 use Rattle.irc_line.specs.Messages.{Parsed, Written, prefix_of, prefix_text, middle_text, last_text, joined_text, line_text, message_of, IsPlainWord, IsPlain}
 use Rattle.irc_line.specs.Grammar.{is_word_byte, HasNoSpace, EndsWord, ReadsParams, no_more, behind_colon, the_rest, one_word, CommandAt, Reads, plain, prefixed}
 use Rattle.irc_line.specs.Laws.{WrittenIsRead}
-use Rattle.irc_line.proofs.CutLaws.{cut_all}
+use Rattle.irc_line.specs.Lemmas.CutLaws.{cut_all}
 
 -- the text of parameters begins with a space, or is nothing
 words_end_word : (words : List (List ℕ)) (more : List ℕ) → EndsWord more → EndsWord (middle_text words ++ more)

@@ -8,7 +8,7 @@ use Rattle.irc_line.specs.Limits.{max_line}
 use Rattle.irc_line.specs.Bytes.{is_line_end, is_nul, has_nul, cut}
 use Rattle.irc_line.specs.Lines.{is_empty, line_of, nothing_begun, tail, lines, Begun, begun_of, HasTaken, stream_for, Takes, EndsNoLine, IsLine}
 use Rattle.irc_line.specs.Loops.Framing.{line_begun, go_on, IsReady}
-use Rattle.irc_line.proofs.CutLaws.{cut-cut_append}
+use Rattle.irc_line.specs.Lemmas.CutLaws.{cut-cut_append}
 use Rattle.irc_line.proofs.Pieces.{tail-run, lines-run, tail-end, lines-end, tail_has_no_end, tail_alone, Grows, lines_grow}
 
 is_empty-cut : (xs : List ℕ) → is_empty (cut xs) ≡ is_empty xs

@@ -9,7 +9,7 @@ use Rattle.irc_line.specs.Limits.{max_line}
 use Rattle.irc_line.specs.Bytes.{cut, space, crlf}
 use Rattle.irc_line.specs.Messages.{Written, prefix_of, prefix_text, middle_text, last_text, line_text, text}
 use Rattle.irc_line.specs.PartViews.{words_now}
-use Rattle.irc_line.proofs.CutLaws.{cut_two, cut_all}
+use Rattle.irc_line.specs.Lemmas.CutLaws.{cut_two, cut_all}
 
 -- one word more
 one_word_more : (words : List (Bor (List ℕ))) (i : ℕ) (d : Bor (List ℕ)) → i < length words

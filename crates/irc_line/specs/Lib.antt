@@ -10,3 +10,4 @@ pub mod MessageViews
 pub mod PartViews
 pub mod Loops
 pub mod Laws
+pub mod Lemmas

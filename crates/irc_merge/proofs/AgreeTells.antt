@@ -14,7 +14,7 @@ use Rattle.irc_modes.specs.declared.modes.Modes.{Modes}
 use Rattle.irc_modes.specs.declared.modes.Privacy.{Privacy}
 use Rattle.irc_modes.specs.declared.modes.Privacy.TheVariants.{Public, Private, Secret}
 use Rattle.irc_channels.specs.declared.channel.Channel.{Channel}
-use Rattle.irc_room.proofs.Rows.{same_some, not_none}
+use Rattle.irc_room.specs.Lemmas.Rows.{same_some, not_none}
 use Rattle.irc_merge.specs.Merge.{AreAlike, Agree, without}
 use Rattle.irc_merge.specs.Agreeing.{same_flag, same_privacy, same_key, same_limit, same_modes, are_alike, AgreeTells}
 use Rattle.irc_merge.proofs.TableWords.{true_is, entries_all}

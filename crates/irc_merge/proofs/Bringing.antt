@@ -22,7 +22,7 @@ use Rattle.irc_room.specs.Effects.{is_member}
 use Rattle.irc_room.specs.After.{after, alter_channel}
 use Rattle.irc_room.specs.InTurn.{after_all}
 use Rattle.irc_room.specs.InTurnLaws.{after_all-append}
-use Rattle.irc_room.proofs.Rows.{alter_same}
+use Rattle.irc_room.specs.Lemmas.Rows.{alter_same}
 use Rattle.irc_merge.specs.Deeds.{brings, sets, tops, flag_given, member_comes, after_deed, after_deeds}
 use Rattle.irc_modes.specs.ModesSet.{set_changes, ban_changes}
 use Rattle.irc_merge.specs.Bursts.{in_lines, members_a_line, bans_a_line, home_passes, stored_members, settings_line, topic_line, channel_deeds}

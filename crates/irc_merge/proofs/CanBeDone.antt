@@ -21,8 +21,8 @@ use Rattle.irc_room.specs.Effects.{has_user, has_channel, is_member}
 use Rattle.irc_room.specs.After.{after}
 use Rattle.irc_room.specs.InTurn.{after_all, EachInTurn}
 use Rattle.irc_room.specs.InTurnLaws.{each-append, each-keeps, after_all-append}
-use Rattle.irc_room.proofs.Rows.{is_some_map}
-use Rattle.irc_room.proofs.WellFormedLaw.{after_is_well_formed}
+use Rattle.irc_room.specs.Lemmas.Rows.{is_some_map}
+use Rattle.irc_room.specs.Lemmas.WellFormedLaw.{after_is_well_formed}
 use Rattle.irc_merge.specs.Quits.{collision_text}
 use Rattle.irc_merge.specs.Deeds.{Deed, does, kills, brings, sets, tops, flag_given, member_comes, effects_of, after_deed, after_deeds}
 use Rattle.irc_merge.specs.Bursts.{home_passes}

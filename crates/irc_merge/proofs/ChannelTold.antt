@@ -15,7 +15,7 @@ use Rattle.irc_modes.specs.declared.modes.ModeChange.{ModeChange}
 use Rattle.irc_channels.specs.declared.channel.Channel.{Channel}
 use Rattle.irc_modes.specs.Modes.{is_nil, no_modes, mode_step, modes_after}
 use Rattle.irc_channels.specs.Channels.{new_channel, while_members, all_changed, with_topic}
-use Rattle.irc_room.proofs.Rows.{not_true, some_key, some_row, no_row, alter_same}
+use Rattle.irc_room.specs.Lemmas.Rows.{not_true, some_key, some_row, no_row, alter_same}
 use Rattle.irc_merge.specs.Bursts.{in_lines, members_a_line, bans_a_line, stored_member, stored_members}
 use Rattle.irc_modes.specs.ModesSet.{set_changes, ban_changes}
 use Rattle.irc_merge.specs.Merge.{either, joined_channel}

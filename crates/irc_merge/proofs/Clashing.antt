@@ -5,7 +5,7 @@ use Rattle.irc_names.specs.Fold.{key}
 use Rattle.irc_names.specs.Tables.{row}
 use Rattle.irc_users.specs.declared.user.User.{User}
 use Rattle.irc_room.specs.Room.{Room, IsWellFormed}
-use Rattle.irc_room.proofs.Rows.{not_true}
+use Rattle.irc_room.specs.Lemmas.Rows.{not_true}
 use Rattle.irc_merge.specs.Quits.{collision_text}
 use Rattle.irc_merge.specs.Merge.{clash, without}
 use Rattle.irc_merge.proofs.Quitting.{among, users_left, quits_well, thinned, channels_left, among_values}

@@ -19,10 +19,10 @@ use Rattle.irc_room.specs.declared.effect.Effect.{Effect}
 use Rattle.irc_room.specs.declared.effect.Effect.TheVariants.{AddUser}
 use Rattle.irc_room.specs.Effects.{has_user}
 use Rattle.irc_room.specs.Examples.{room_after, flags_of}
-use Rattle.irc_room.proofs.Listed.{table_of, row_listed}
-use Rattle.irc_room.proofs.ListedRooms.{room_of, all_listed, no_list}
-use Rattle.irc_room.proofs.ListedSeen.{user_listed, channel_listed}
-use Rattle.irc_room.proofs.ExampleRooms.{list_room}
+use Rattle.irc_room.specs.Lemmas.Listed.{table_of, row_listed}
+use Rattle.irc_room.specs.Lemmas.ListedRooms.{room_of, all_listed, no_list}
+use Rattle.irc_room.specs.Lemmas.ListedSeen.{user_listed, channel_listed}
+use Rattle.irc_room.specs.Lemmas.ExampleRooms.{list_room}
 use Rattle.irc_merge.specs.Deeds.{does, kills, tops}
 use Rattle.irc_merge.specs.Bursts.{in_lines, burst, home_passes}
 use Rattle.irc_merge.specs.BurstRead.{read_deed}

@@ -9,7 +9,7 @@ use Rattle.std.specs.FinMap.Entries.{below_all}
 use Rattle.irc_names.specs.Fold.{key}
 use Rattle.irc_names.specs.Tables.{Table, fold_cmp, row, each, both}
 use Rattle.irc_names.specs.TableLaws.{same_fold, one_fold, same_table, row-alter}
-use Rattle.irc_tables.proofs.OrderedEntries.{turned}
+use Rattle.irc_tables.specs.Lemmas.OrderedEntries.{turned}
 use Rattle.irc_users.specs.declared.user.User.{User}
 use Rattle.irc_channels.specs.declared.channel.Channel.{Channel}
 use Rattle.irc_channels.specs.Channels.{without_user}
@@ -18,9 +18,9 @@ use Rattle.irc_room.specs.Room.{Room, IsWellFormed}
 use Rattle.irc_room.specs.After.{after}
 use Rattle.irc_room.specs.InTurn.{after_all}
 use Rattle.irc_room.specs.Loops.Viewing.{users_under}
-use Rattle.irc_room.proofs.FoundInTurn.{table_chooses}
-use Rattle.irc_room.proofs.ViewerLaws.{IsNamed, table_named}
-use Rattle.irc_room.proofs.WellFormedLaw.{after_is_well_formed}
+use Rattle.irc_room.specs.Lemmas.FoundInTurn.{table_chooses}
+use Rattle.irc_room.specs.Lemmas.ViewerLaws.{IsNamed, table_named}
+use Rattle.irc_room.specs.Lemmas.WellFormedLaw.{after_is_well_formed}
 use Rattle.irc_merge.specs.Quits.{quits, collision_text}
 use Rattle.irc_merge.specs.Deeds.{Deed, does, kills, after_deed, after_deeds}
 use Rattle.irc_merge.specs.Bursts.{user_deeds}

@@ -6,8 +6,8 @@ use Rattle.irc_names.specs.TableLaws.{same_table, row-both}
 use Rattle.irc_users.specs.declared.user.User.{User}
 use Rattle.irc_channels.specs.declared.channel.Channel.{Channel}
 use Rattle.irc_room.specs.Room.{Room, IsWellFormed, IsSoundRow}
-use Rattle.irc_room.proofs.Rows.{not_true, same_some, some_row, some_key}
-use Rattle.irc_room.proofs.SoundRows.{IsWithin, sound_more}
+use Rattle.irc_room.specs.Lemmas.Rows.{not_true, same_some, some_row, some_key}
+use Rattle.irc_room.specs.Lemmas.SoundRows.{IsWithin, sound_more}
 use Rattle.irc_merge.specs.Merge.{AreAlike, either, one_channel, joined_channel, union, merge, without}
 use Rattle.irc_merge.specs.Laws.{MergeIsEven, MergeIsWellFormed}
 use Rattle.irc_merge.proofs.Clashing.{without_well, held_apart}

@@ -8,7 +8,7 @@ use Rattle.irc_channels.specs.declared.channel.Channel.{Channel}
 use Rattle.irc_modes.specs.Modes.{is_nil}
 use Rattle.irc_room.specs.Room.{Room, IsWellFormed}
 use Rattle.irc_room.specs.InTurn.{after_all}
-use Rattle.irc_room.proofs.Rows.{not_none, same_some}
+use Rattle.irc_room.specs.Lemmas.Rows.{not_none, same_some}
 use Rattle.irc_merge.specs.Quits.{quits, collision_text}
 use Rattle.irc_merge.specs.Merge.{AreAlike, clash, without, either, one_channel, joined_channel, merge}
 use Rattle.irc_merge.specs.Split.{split, lost_users}

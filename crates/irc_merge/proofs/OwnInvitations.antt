@@ -15,7 +15,7 @@ use Rattle.irc_channels.specs.Channels.{has_member, without_user}
 use Rattle.irc_room.specs.declared.effect.Effect.TheVariants.{Quit}
 use Rattle.irc_room.specs.Room.{Room, IsWellFormed, IsSoundRow}
 use Rattle.irc_room.specs.After.{after}
-use Rattle.irc_room.proofs.Rows.{not_none, not_true, same_some, alter_same}
+use Rattle.irc_room.specs.Lemmas.Rows.{not_none, not_true, same_some, alter_same}
 use Rattle.irc_room.specs.Seen.{full_sender, line_of}
 use Rattle.irc_room.specs.Viewers.{shows_to}
 use Rattle.irc_merge.specs.ShownAlong.{shown_along}

@@ -17,9 +17,9 @@ use Rattle.irc_room.specs.declared.effect.Effect.TheVariants.{Quit}
 use Rattle.irc_room.specs.Room.{Room, IsWellFormed, IsSoundRow}
 use Rattle.irc_room.specs.After.{after}
 use Rattle.irc_room.specs.InTurn.{after_all}
-use Rattle.irc_room.proofs.Rows.{not_none, not_true, no_row, some_key}
-use Rattle.irc_room.proofs.SoundRows.{without_sound}
-use Rattle.irc_room.proofs.ViewerLaws.{IsNamed, table_named}
+use Rattle.irc_room.specs.Lemmas.Rows.{not_none, not_true, no_row, some_key}
+use Rattle.irc_room.specs.Lemmas.SoundRows.{without_sound}
+use Rattle.irc_room.specs.Lemmas.ViewerLaws.{IsNamed, table_named}
 use Rattle.irc_merge.specs.Quits.{quits}
 use Rattle.irc_merge.proofs.TableWords.{true_is, row-kept, absent}
 

@@ -14,7 +14,7 @@ use Rattle.irc_channels.specs.declared.channel.Channel.{Channel}
 use Rattle.irc_modes.specs.Modes.{no_modes, modes_after}
 use Rattle.irc_room.specs.Room.{Room, IsWellFormed, IsSoundRow}
 use Rattle.irc_room.specs.After.{alter_channel}
-use Rattle.irc_room.proofs.Rows.{not_none, not_true, same_some}
+use Rattle.irc_room.specs.Lemmas.Rows.{not_none, not_true, same_some}
 use Rattle.irc_merge.specs.Deeds.{Deed}
 use Rattle.irc_modes.specs.ModesSet.{set_changes, ban_changes}
 use Rattle.irc_merge.specs.Bursts.{burst, user_deeds, channel_deeds, home_passes}

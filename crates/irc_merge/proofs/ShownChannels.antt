@@ -23,8 +23,8 @@ use Rattle.irc_room.specs.Room.{Room}
 use Rattle.irc_room.specs.Effects.{is_member}
 use Rattle.irc_room.specs.After.{after, alter_channel}
 use Rattle.irc_room.specs.Seen.{full_sender, line_of, names_member, shown_line}
-use Rattle.irc_room.proofs.Rows.{not_true}
-use Rattle.irc_room.proofs.ModesKept.{same_rows}
+use Rattle.irc_room.specs.Lemmas.Rows.{not_true}
+use Rattle.irc_room.specs.Lemmas.ModesKept.{same_rows}
 use Rattle.irc_room.specs.Viewers.{shows_to, line_for}
 use Rattle.irc_merge.specs.ShownAlong.{shown_along}
 use Rattle.irc_merge.specs.Deeds.{flag_given, member_comes}

@@ -18,7 +18,7 @@ use Rattle.irc_room.specs.Room.{Room}
 use Rattle.irc_room.specs.Effects.{is_member}
 use Rattle.irc_room.specs.After.{alter_channel}
 use Rattle.irc_room.specs.InTurn.{after_all}
-use Rattle.irc_room.proofs.Rows.{not_true}
+use Rattle.irc_room.specs.Lemmas.Rows.{not_true}
 use Rattle.irc_merge.specs.ShownAlong.{shown_along}
 use Rattle.irc_merge.specs.Deeds.{brings, sets, tops, member_comes, shown_by, shown_by_all}
 use Rattle.irc_modes.specs.ModesSet.{set_changes, ban_changes}

@@ -13,7 +13,7 @@ use Rattle.irc_channels.specs.declared.channel.Channel.{Channel}
 use Rattle.irc_channels.specs.Channels.{has_member}
 use Rattle.irc_modes.specs.Modes.{is_nil}
 use Rattle.irc_room.specs.Room.{Room, IsWellFormed, IsSoundRow}
-use Rattle.irc_room.proofs.Rows.{not_true}
+use Rattle.irc_room.specs.Lemmas.Rows.{not_true}
 use Rattle.irc_merge.specs.Quits.{quits, collision_text}
 use Rattle.irc_merge.specs.ShownAlong.{shown_along}
 use Rattle.irc_merge.specs.Bursts.{burst, user_deeds, channel_deeds, home_passes, stored_members}

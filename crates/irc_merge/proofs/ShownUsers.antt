@@ -17,8 +17,8 @@ use Rattle.irc_room.specs.Room.{Room, IsWellFormed}
 use Rattle.irc_room.specs.After.{after}
 use Rattle.irc_room.specs.Seen.{full_sender, line_of}
 use Rattle.irc_room.specs.Loops.Viewing.{users_under}
-use Rattle.irc_room.proofs.Rows.{not_true}
-use Rattle.irc_room.proofs.ViewerLaws.{IsNamed, table_named}
+use Rattle.irc_room.specs.Lemmas.Rows.{not_true}
+use Rattle.irc_room.specs.Lemmas.ViewerLaws.{IsNamed, table_named}
 use Rattle.irc_room.specs.Viewers.{shows_to, line_for}
 use Rattle.irc_merge.specs.ShownAlong.{shown_along}
 use Rattle.irc_merge.specs.Quits.{quits, collision_text}

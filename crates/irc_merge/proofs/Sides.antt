@@ -8,7 +8,7 @@ use Rattle.irc_users.specs.declared.user.User.{User}
 use Rattle.irc_channels.specs.declared.channel.Channel.{Channel}
 use Rattle.irc_modes.specs.Modes.{is_nil, no_modes, modes_after}
 use Rattle.irc_room.specs.Room.{Room, IsSoundRow}
-use Rattle.irc_room.proofs.Rows.{not_none, not_true, same_some}
+use Rattle.irc_room.specs.Lemmas.Rows.{not_none, not_true, same_some}
 use Rattle.irc_modes.specs.ModesSet.{set_changes, ban_changes}
 use Rattle.irc_merge.specs.Bursts.{home_passes, user_passes, channel_side, side_of}
 use Rattle.irc_merge.specs.Laws.{CanBeTold, WholeSide, SideIsWellFormed, SideReadIsMerge}

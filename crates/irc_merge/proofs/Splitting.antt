@@ -16,7 +16,7 @@ use Rattle.irc_room.specs.Room.{Room, IsWellFormed}
 use Rattle.irc_room.specs.After.{after}
 use Rattle.irc_room.specs.InTurn.{after_all}
 use Rattle.irc_room.specs.InTurnLaws.{after_all-append}
-use Rattle.irc_room.proofs.Rows.{not_true}
+use Rattle.irc_room.specs.Lemmas.Rows.{not_true}
 use Rattle.irc_room.specs.Viewers.{shows_to}
 use Rattle.irc_merge.specs.ShownAlong.{shown_along}
 use Rattle.irc_merge.specs.Quits.{quits, users_at}

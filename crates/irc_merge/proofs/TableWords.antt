@@ -11,8 +11,8 @@ use Rattle.std.specs.FinMap.{entries, entries_sorted, values, retain_keys, find,
 use Rattle.std.specs.FinMap.Entries.{below_all, same_entries, is_sorted-where_key, find-where_key}
 use Rattle.irc_names.specs.Tables.{Table, fold_cmp, row, alter, each}
 use Rattle.irc_names.specs.TableLaws.{same_fold, same_fold-refl, one_fold, same_table, row-alter, row-alter_same, row-each}
-use Rattle.irc_room.proofs.Rows.{not_true}
-use Rattle.irc_tables.proofs.OrderedEntries.{above-is, find-above}
+use Rattle.irc_room.specs.Lemmas.Rows.{not_true}
+use Rattle.irc_tables.specs.Lemmas.OrderedEntries.{above-is, find-above}
 
 pub order : IsTotalOrder fold_cmp
 order = nat_list_cmp_total

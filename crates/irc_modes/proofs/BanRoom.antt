@@ -10,7 +10,7 @@ use Rattle.irc_modes.specs.declared.modes.ModeChange.{ModeChange}
 use Rattle.irc_modes.specs.Bans.{before, rises}
 use Rattle.irc_modes.specs.Modes.{adds_ban, ban_mask, is_new, with_ban, without_ban}
 use Rattle.irc_modes.specs.Loops.ManyChanges.{bans_by_mask, ban_step}
-use Rattle.irc_modes.proofs.BanPlaces.{Side, low, level, high, side, placed, is_placed, unchanged}
+use Rattle.irc_modes.specs.Lemmas.BanPlaces.{Side, low, level, high, side, placed, is_placed, unchanged}
 
 -- how many of the bans at the start are not there now
 abbrev pub gone : List (List ℕ) → List (List ℕ) → ℕ

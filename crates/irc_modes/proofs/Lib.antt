@@ -1,13 +1,6 @@
 pub mod SettingsParted
-pub mod BanPlaces
 pub mod BanRoom
-pub mod DigitSteps
 pub mod ModeSteps
-pub mod LetterReading
 pub mod WrittenRead
-pub mod FewRead
-pub mod LimitText
-pub mod LimitsKept
-pub mod SetAgain
 pub mod SetReadable
 pub mod Reworded

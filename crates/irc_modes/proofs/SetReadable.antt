@@ -18,7 +18,7 @@ use Rattle.irc_modes.specs.ModeLaws.{SetIsReadable, BansAreReadable}
 use Rattle.irc_modes.specs.ModesSet.{AreWithinLimits, IsLimit, set, flag_set, privacy_set, key_set, limit_set, set_changes, ban_changes}
 use Rattle.irc_modes.specs.Readable.{IsOnce, has_its_word, has_parameter, is_of, is_worded}
 use Rattle.irc_modes.specs.Texts.{IsKey}
-use Rattle.irc_modes.proofs.LimitText.{written_limit}
+use Rattle.irc_modes.specs.Lemmas.LimitText.{written_limit}
 
 -- how many changes are of one letter, at most, if they are all of another
 abbrev one_if : ModeLetter → ModeLetter → ℕ

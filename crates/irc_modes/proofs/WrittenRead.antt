@@ -12,7 +12,7 @@ use Rattle.irc_modes.specs.ModeLaws.{WrittenIsRead, asked_for}
 use Rattle.irc_modes.specs.ModeWords.{Reading, is_once_with, counts, counted, letters_read, words_after, once}
 use Rattle.irc_modes.specs.ModeWritten.{letters_behind, letters_text}
 use Rattle.irc_modes.specs.Readable.{IsOnce, has_its_word, is_of, is_worded}
-use Rattle.irc_modes.proofs.LetterReading.{letter_no_sign, read_with, IsReadBack, read_back}
+use Rattle.irc_modes.specs.Lemmas.LetterReading.{letter_no_sign, read_with, IsReadBack, read_back}
 use Rattle.irc_modes.proofs.ModeSteps.{letter_read}
 
 abbrev pub read_as : ModeChange → Reading

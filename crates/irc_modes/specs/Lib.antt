@@ -10,3 +10,4 @@ pub mod Readable
 pub mod ModesSet
 pub mod ModeLaws
 pub mod Loops
+pub mod Lemmas

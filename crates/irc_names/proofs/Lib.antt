@@ -1,4 +1,2 @@
-pub mod FoldsByRanges
 pub mod MaskSteps
-pub mod RuleFacts
 pub mod LengthsApart

@@ -8,3 +8,4 @@ pub mod Spellings
 pub mod Loops
 pub mod Tables
 pub mod TableLaws
+pub mod Lemmas

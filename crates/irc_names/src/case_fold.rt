@@ -7,7 +7,7 @@ use std::cmp::Ordering;
 
 /// The lower case of a byte of a name (RFC 2812, section 2.2): that of a letter, and for `[`, `]`, `\` and `~` the bytes `{`, `}`,
 /// `|` and `^`.
-#[tactic(auto, using(crate::proofs::FoldsByRanges::folds))]
+#[tactic(auto, using(crate::specs::Lemmas::FoldsByRanges::folds))]
 pub fn fold(byte: u8) -> u8
     ensures { result ≡ fold byte }
 {

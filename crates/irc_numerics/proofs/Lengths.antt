@@ -6,7 +6,7 @@ use Rattle.std.proofs.lemmas.Fmt.{length-decimal-le}
 use Rattle.irc_line.specs.Limits.{max_line}
 use Rattle.irc_line.specs.Bytes.{space, colon, crlf}
 use Rattle.irc_line.specs.Messages.{joined_text, line_text, middle_text, last_text, prefix_text, prefix_of, named}
-use Rattle.irc_line.proofs.CutLaws.{cut_all}
+use Rattle.irc_line.specs.Lemmas.CutLaws.{cut_all}
 use Rattle.irc_names.specs.Limits.{max_nick, max_channel, max_server}
 use Rattle.irc_numerics.specs.declared.replies.Mark.{Mark}
 use Rattle.irc_numerics.specs.declared.replies.Mark.TheVariants.{Plain, Voiced, Operator}

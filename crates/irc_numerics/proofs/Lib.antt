@@ -1,4 +1,2 @@
 pub mod ByVariant
-pub mod Cutting
-pub mod Entries
 pub mod Lengths

@@ -3,3 +3,4 @@ pub mod Laws
 pub mod Loops
 pub mod Blanks
 pub mod Replies
+pub mod Lemmas

@@ -5,7 +5,7 @@ use Rattle.irc_tables.specs.declared.table.Row.{Row}
 use Rattle.irc_tables.specs.RowViews.{row_entry}
 use Rattle.irc_channels.specs.declared.flags.Flags.{Flags}
 use Rattle.irc_acts.specs.declared.act.Act.{Act}
-use Rattle.irc_answers.proofs.CameLines.{rows_more}
+use Rattle.irc_answers.specs.Lemmas.CameLines.{rows_more}
 
 -- the steps of some rows, and that of the next
 pub found_more : (find : List ℕ × Flags → Option Act) (rows : List (Row Flags)) (i : ℕ) (row : Row Flags) → i < length rows → row ≡ get_or rows i row

@@ -131,8 +131,8 @@ fn named_among(room: &Room, all: bool, members: &[Row<Flags>]) -> usize
 fn is_named(room: &Room, near: &mut usize, all: bool, member: &Row<Flags>) -> bool
     ensures { result ≡ is_some (listed room.now.room.users (is_shown all) (row_entry member.now)) }
 {
-    match room.user_near(near, member.name.as_slice()) {
-        Some(user) => all || !user.invisible,
+    match room.is_visible_near(near, member.name.as_slice()) {
+        Some(visible) => all || visible,
         None => false,
     }
 }

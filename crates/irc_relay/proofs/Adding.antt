@@ -3,7 +3,7 @@ use Rattle.std.proofs.Common.{◌≡◌, ◌≢◌, ℕ, zero, suc, List, [], �
 use Rattle.std.proofs.lemmas.List.{append-nil}
 use Rattle.irc_relay.specs.Links.{Name, Link}
 use Rattle.irc_relay.specs.Relay.{Machine, Net, Streams, after, passed_on, shown_upon, under_way, coming_within, coming, final, told, TakesFrom, AreHarmless}
-use Rattle.irc_relay.proofs.TellingNames.{alike, unlike, tell}
+use Rattle.irc_relay.specs.Lemmas.TellingNames.{alike, unlike, tell}
 use Rattle.irc_relay.proofs.Flowing.{IsFlow}
 use Rattle.irc_relay.proofs.Delivering.{after-append, passed_on-append, shown_upon-append, after_harmless, passed_on_harmless, shown_upon_harmless, coming_from_still}
 

@@ -11,7 +11,7 @@ use Rattle.irc_relay.specs.declared.news.Edge.{Edge}
 use Rattle.irc_relay.specs.declared.news.Sent.{Sent}
 use Rattle.irc_relay.specs.declared.news.Shown.{Shown}
 use Rattle.irc_relay.specs.declared.news.News.{News}
-use Rattle.irc_relay.proofs.TellingNames.{Telling, alike, unlike, tell, same_unless}
+use Rattle.irc_relay.specs.Lemmas.TellingNames.{Telling, alike, unlike, tell, same_unless}
 use Rattle.irc_relay.proofs.GoingToward.{distance_self, linked_back, next_hop, distance_zero}
 use Rattle.irc_relay.proofs.Flowing.{one_covers, source_is_one, covers_flows}
 use Rattle.irc_relay.proofs.Delivering.{comes_in_turn}

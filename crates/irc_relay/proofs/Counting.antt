@@ -3,7 +3,7 @@ use Rattle.std.proofs.Common.{◌≡◌, ◌≢◌, ℕ, zero, suc, ◌+◌, ◌
 use Rattle.std.proofs.lemmas.List.Sums.{sum_by-cons, sum_by-append}
 use Rattle.irc_relay.specs.Links.{Name, same, Link}
 use Rattle.irc_relay.specs.Relay.{Machine, Net, Streams, coming, TakesFrom, GoesAway, Delivers, Relays, ComesOn, lines_coming, lines_pending, AnswersOnce, IsCounted}
-use Rattle.irc_relay.proofs.TellingNames.{Telling, alike, unlike, tell}
+use Rattle.irc_relay.specs.Lemmas.TellingNames.{Telling, alike, unlike, tell}
 use Rattle.irc_relay.proofs.Flowing.{IsFlow}
 use Rattle.irc_relay.proofs.Returning.{taker_from, delivery_comes}
 

@@ -3,7 +3,7 @@ use Rattle.std.proofs.Common.{◌≡◌, ◌≢◌, ℕ, zero, suc, List, [], �
 use Rattle.std.proofs.lemmas.List.{append-nil}
 use Rattle.irc_relay.specs.Links.{Name, Link}
 use Rattle.irc_relay.specs.Relay.{Machine, Net, Streams, after, passed_on, shown_upon, under_way, coming_within, coming, ComesInTurn, at_source, from_source, from_parent, final, told, IsAtRest, TakesFrom, AreHarmless, Delivers}
-use Rattle.irc_relay.proofs.TellingNames.{alike, unlike, tell}
+use Rattle.irc_relay.specs.Lemmas.TellingNames.{alike, unlike, tell}
 use Rattle.irc_relay.proofs.Flowing.{IsFlow}
 
 -- runs of lines, one after another

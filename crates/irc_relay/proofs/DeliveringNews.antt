@@ -12,7 +12,7 @@ use Rattle.irc_relay.specs.declared.news.Sent.{Sent}
 use Rattle.irc_relay.specs.declared.news.Edge.{Edge}
 use Rattle.irc_relay.specs.declared.news.Shown.{Shown}
 use Rattle.irc_relay.specs.declared.news.News.{News}
-use Rattle.irc_relay.proofs.TellingNames.{Telling, alike, unlike, tell, same_when, same_unless}
+use Rattle.irc_relay.specs.Lemmas.TellingNames.{Telling, alike, unlike, tell, same_when, same_unless}
 use Rattle.irc_relay.proofs.Flowing.{covers_flows, one_covers, from_source_goes_away, source_is_one}
 use Rattle.irc_relay.proofs.GoingToward.{linked_joined}
 use Rattle.irc_relay.proofs.Returning.{delivery_outcome}

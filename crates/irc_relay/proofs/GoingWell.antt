@@ -3,7 +3,7 @@ use Rattle.std.proofs.Common.{◌≡◌, ◌≢◌, ℕ, zero, suc, List, [], �
 use Rattle.irc_relay.specs.Links.{Name, Link, IsForest, toward}
 use Rattle.irc_relay.specs.Relay.{Machine, Net, Streams, streams_from, Covers, TakesFrom, GoesAway, Delivers, Relays, ComesOn, after, coming, final}
 use Rattle.irc_relay.specs.Following.{Fact, AllAlong, GoesWell}
-use Rattle.irc_relay.proofs.TellingNames.{alike, unlike, tell}
+use Rattle.irc_relay.specs.Lemmas.TellingNames.{alike, unlike, tell}
 use Rattle.irc_relay.proofs.Flowing.{IsFlow, covers_flows}
 use Rattle.irc_relay.proofs.Returning.{taker_from, delivery_comes}
 

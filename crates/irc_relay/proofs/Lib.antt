@@ -1,4 +1,3 @@
-pub mod TellingNames
 pub mod JoiningParts
 pub mod GoingToward
 pub mod TakingOut

@@ -8,7 +8,7 @@ use Rattle.std.proofs.lemmas.List.Elements.{filter-append}
 use Rattle.std.proofs.lemmas.List.Quantifiers.{position-Some}
 use Rattle.irc_relay.specs.Links.{Name, same}
 use Rattle.irc_relay.specs.Queue.{Reading, goes, queue_of, IsOldest}
-use Rattle.irc_relay.proofs.TellingNames.{Telling, alike, unlike, tell}
+use Rattle.irc_relay.specs.Lemmas.TellingNames.{Telling, alike, unlike, tell}
 
 -- the first that passes is the head of those that pass
 filter_first : {X : Type 0} (p : X → Bool) (xs : List X) (i : ℕ) (s : X) → i < length xs → p (get_or xs i s) ≡ true → ((k : ℕ) → k < i → p (get_or xs k s) ≡ false) → filter p xs ≡ get_or xs i s ∷ filter p (remove xs i)

@@ -8,7 +8,7 @@ use Rattle.irc_relay.specs.NewsNet.{name, number, link_of, links_of, reading, se
 use Rattle.irc_relay.specs.Loops.Taking.{is_between, TakesOldest}
 use Rattle.irc_relay.specs.declared.news.Sent.{Sent}
 use Rattle.irc_relay.specs.declared.news.Edge.{Edge}
-use Rattle.irc_relay.proofs.TellingNames.{alike, unlike, tell, same_when, same_unless}
+use Rattle.irc_relay.specs.Lemmas.TellingNames.{alike, unlike, tell, same_when, same_unless}
 use Rattle.irc_relay.proofs.Queueing.{first_is_oldest, none_is_empty, sent_is_behind, goes_tells}
 use Rattle.irc_relay.proofs.Running.{Begins, in_front, behind, begins}
 

@@ -3,7 +3,7 @@ use Rattle.std.proofs.Common.{◌≡◌, ◌≢◌, ℕ, zero, suc, true, false,
 use Rattle.std.proofs.lemmas.List.{append-nil}
 use Rattle.irc_relay.specs.Links.{Name, same, Link}
 use Rattle.irc_relay.specs.Relay.{Machine, Net, Streams, passed_on, under_way, coming_within, coming, final, TakesFrom, GoesAway, AreHarmless, Delivers, Relays, SameOutcome, ComesOn, Pays}
-use Rattle.irc_relay.proofs.TellingNames.{Telling, alike, unlike, tell, same_when}
+use Rattle.irc_relay.specs.Lemmas.TellingNames.{Telling, alike, unlike, tell, same_when}
 use Rattle.irc_relay.proofs.Flowing.{IsFlow}
 use Rattle.irc_relay.proofs.Delivering.{Takes}
 use Rattle.irc_relay.proofs.Delivering

@@ -3,7 +3,7 @@ use Rattle.std.proofs.Common.{◌≡◌, ◌≢◌, ℕ, zero, suc, List, [], �
 use Rattle.std.proofs.lemmas.List.{append-nil}
 use Rattle.irc_relay.specs.Links.{Name, Link, AreLinked}
 use Rattle.irc_relay.specs.Relay.{Machine, Net, Streams, after, shown_upon, under_way, coming, final, told, IsAtRest, TakesFrom, GoesAway, Delivers, Relays, SameOutcome, Reaches, stays, goes_on, IsFront, IsOnTheWay}
-use Rattle.irc_relay.proofs.TellingNames.{Telling, alike, unlike, tell}
+use Rattle.irc_relay.specs.Lemmas.TellingNames.{Telling, alike, unlike, tell}
 use Rattle.irc_relay.proofs.Flowing.{IsFlow}
 use Rattle.irc_relay.proofs.Delivering.{coming_at_rest}
 use Rattle.irc_relay.proofs.Returning.{taker_from, delivery_outcome}

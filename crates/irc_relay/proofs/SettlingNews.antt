@@ -11,7 +11,7 @@ use Rattle.irc_relay.specs.Loops.Settling.{ends_of, items_coming, IsSettling}
 use Rattle.irc_relay.specs.declared.news.Sent.{Sent}
 use Rattle.irc_relay.specs.declared.news.Edge.{Edge}
 use Rattle.irc_relay.specs.declared.news.News.{News}
-use Rattle.irc_relay.proofs.TellingNames.{same_when}
+use Rattle.irc_relay.specs.Lemmas.TellingNames.{same_when}
 use Rattle.irc_relay.proofs.GoingToward.{next_hop, distance_self, linked_other}
 use Rattle.irc_relay.proofs.Flowing.{covers_flows, one_covers}
 use Rattle.irc_relay.proofs.Running.{rest_final, rest_told}

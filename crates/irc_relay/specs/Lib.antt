@@ -5,3 +5,4 @@ pub mod Queue
 pub mod Laws
 pub mod NewsNet
 pub mod Loops
+pub mod Lemmas

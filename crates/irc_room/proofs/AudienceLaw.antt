@@ -9,7 +9,7 @@ use Rattle.irc_room.specs.Room.{Room}
 use Rattle.irc_room.specs.Effects.{is_idle}
 use Rattle.irc_room.specs.Loops.Viewing.{viewers}
 use Rattle.irc_room.specs.Seen.{Showing, seen, shown_to, shown_line, sees}
-use Rattle.irc_room.proofs.Rows.{not_true}
+use Rattle.irc_room.specs.Lemmas.Rows.{not_true}
 
 abbrev pub nicks : List Showing → List (List ℕ)
 nicks = map (λ (s : Showing). s.viewer)

@@ -14,8 +14,8 @@ use Rattle.irc_names.specs.Fold.{key, same}
 use Rattle.irc_names.specs.FoldLaws.{same-tells}
 use Rattle.irc_names.specs.Tables.{Table, fold_cmp, row, alter, moved, put_row}
 use Rattle.irc_names.specs.TableLaws.{same_fold, same_fold-refl, one_fold, row-alter, row-alter_same, same_table}
-use Rattle.irc_tables.proofs.OrderedEntries.{less_is}
-use Rattle.irc_tables.proofs.RowsAsTable.{alter_alike, alter-absent}
+use Rattle.irc_tables.specs.Lemmas.OrderedEntries.{less_is}
+use Rattle.irc_tables.specs.Lemmas.RowsAsTable.{alter_alike, alter-absent}
 use Rattle.irc_users.specs.declared.user.User.{User}
 use Rattle.irc_users.specs.UserTable.{is_home, with_nick, with_invisible}
 use Rattle.irc_room.specs.declared.effect.Effect.{Effect}
@@ -24,7 +24,7 @@ use Rattle.irc_room.specs.Room.{Room}
 use Rattle.irc_room.specs.After.{after}
 use Rattle.irc_room.specs.Effects.{brings_free}
 use Rattle.irc_room.specs.Loops.HomeCount.{home_count, one_of, gone, come}
-use Rattle.irc_room.proofs.Rows.{not_true, alter_same}
+use Rattle.irc_room.specs.Lemmas.Rows.{not_true, alter_same}
 
 told : (b : Bool) → T b → b ≡ true
 told true h = refl

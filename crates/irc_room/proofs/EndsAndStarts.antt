@@ -14,7 +14,7 @@ use Rattle.irc_modes.specs.Modes.{is_nil}
 use Rattle.irc_room.specs.declared.effect.Effect.TheVariants.{AddUser, Rename, Quit, Join, Part, Kick, ChangeModes, SetTopic, Say, Invite, UserMode}
 use Rattle.irc_room.specs.After.{after}
 use Rattle.irc_room.specs.Laws.{LastMemberEndsChannel, JoinMakesChannel, InvitationUsedUp}
-use Rattle.irc_room.proofs.Rows.{no_row, if_not}
+use Rattle.irc_room.specs.Lemmas.Rows.{no_row, if_not}
 
 absent : {X : Type 0} (o : Option X) → is_some o ≡ false → o ≡ None
 absent None e = refl

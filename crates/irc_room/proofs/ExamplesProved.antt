@@ -10,7 +10,7 @@ use Rattle.irc_room.specs.declared.effect.By.TheVariants as by
 use Rattle.irc_room.specs.declared.effect.Target.TheVariants as target
 use Rattle.irc_room.specs.declared.effect.Effect.TheVariants.{AddUser, Rename, Quit, Join, Part, Kick, ChangeModes, SetTopic, Say, Invite}
 use Rattle.irc_room.specs.Examples.{comes, somebody, two_members, set, clear, viewers_of, NickTakenByFold, OwnSpellingIsFree, RenameCarriesMembership, KickShownToKicked, InvitationGoneWithChannel, QuitHiddenFromDoer, SayShownToOthers, SecondMemberIsNoOperator, SecretStaysSecret, ChangesWritten, BanStandsOnce, ChannelMadeAnew, PartWrittenAsStored, JoinOnceMoreShowsNothing, EachSeesItsOwnServer, RenameShownOnce, JoinShownToAll, InviteToNoChannelIsToldOnly}
-use Rattle.irc_room.proofs.ExampleRooms.{user_is, member_is, flags_is, invited_is, part_is, channel_is, seen_is}
+use Rattle.irc_room.specs.Lemmas.ExampleRooms.{user_is, member_is, flags_is, invited_is, part_is, channel_is, seen_is}
 
 pub nick_taken_by_fold : NickTakenByFold
 unfolding fold fold_table

@@ -14,7 +14,7 @@ use Rattle.irc_room.specs.declared.effect.Effect.TheVariants.{AddUser, Rename, Q
 use Rattle.irc_room.specs.Room.{Room}
 use Rattle.irc_room.specs.After.{after, alter_channel}
 use Rattle.irc_room.specs.Invitations.{is_at, with_invited, of_home, HomeFollows}
-use Rattle.irc_room.proofs.Rows.{not_true, alter_same}
+use Rattle.irc_room.specs.Lemmas.Rows.{not_true, alter_same}
 use Rattle.irc_room.proofs.InvitingOnly.{keeping, left_only, joined_only, changed_only, topic_only, invited_only, invited_elsewhere, without_only, renamed_only}
 use Rattle.irc_room.proofs.InvitationsMoved.{invited_moved}
 

@@ -8,7 +8,7 @@ use Rattle.irc_channels.specs.declared.channel.Channel.{Channel}
 use Rattle.irc_room.specs.Room.{Room, IsSoundRow}
 use Rattle.irc_room.specs.After.{after}
 use Rattle.irc_room.specs.Invitations.{is_at, inviting_only, of_home, HomeIsWellFormed, HomeOfHome}
-use Rattle.irc_room.proofs.Rows.{not_none, not_true, same_some}
+use Rattle.irc_room.specs.Lemmas.Rows.{not_none, not_true, same_some}
 use Rattle.irc_room.proofs.InvitingOnly.{keeping}
 
 pub row-of_home : (home : List ℕ) (room : Room) (fold : List ℕ)

@@ -9,7 +9,7 @@ use Rattle.irc_room.specs.declared.effect.Effect.TheVariants.{AddUser, Rename, Q
 use Rattle.irc_room.specs.Room.{Room}
 use Rattle.irc_room.specs.After.{after, alter_channel}
 use Rattle.irc_room.specs.Laws.{IdleChangesNothing}
-use Rattle.irc_room.proofs.Rows.{alter_same, not_true, if_true, if_not}
+use Rattle.irc_room.specs.Lemmas.Rows.{alter_same, not_true, if_true, if_not}
 
 is_in : (nick : List ℕ) (op : Bool) (name : List ℕ) (channel : Option Channel) → option_map_or (has_member nick) channel false ≡ true
     → Some (joined nick op (unwrap_or channel (new_channel name))) ≡ channel

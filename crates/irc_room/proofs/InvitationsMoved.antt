@@ -8,7 +8,7 @@ use Rattle.irc_names.specs.TableLaws.{same_fold, one_fold, same_table, row-moved
 use Rattle.irc_users.specs.declared.user.User.{User}
 use Rattle.irc_users.specs.UserTable.{is_home, with_nick}
 use Rattle.irc_room.specs.Invitations.{is_at}
-use Rattle.irc_room.proofs.Rows.{not_none, not_true}
+use Rattle.irc_room.specs.Lemmas.Rows.{not_none, not_true}
 
 -- Whoever is invited is a user, and nobody but the user itself has the new nickname.
 module _ (home old new nick : List ℕ) (users : Table User) (invited : Table (Unit {0}))

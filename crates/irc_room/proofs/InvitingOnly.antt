@@ -11,7 +11,7 @@ use Rattle.irc_channels.specs.declared.channel.Channel.{Channel}
 use Rattle.irc_channels.specs.Channels.{has_member, new_channel, joined, left, without_user, renamed, invited_too, with_topic, letter_changed, changed, all_changed}
 use Rattle.irc_modes.specs.Modes.{is_nil}
 use Rattle.irc_room.specs.Invitations.{inviting_only}
-use Rattle.irc_room.proofs.Rows.{alter_same}
+use Rattle.irc_room.specs.Lemmas.Rows.{alter_same}
 
 -- the channel with the invitations of those alone who pass a test, as a row that stays
 abbrev pub keeping : (List ℕ → Bool) → Channel → Option Channel

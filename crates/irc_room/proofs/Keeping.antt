@@ -8,7 +8,7 @@ use Rattle.irc_channels.specs.declared.fault.ChannelsFault.{ChannelsFault}
 use Rattle.irc_channels.specs.declared.fault.ChannelsFault.TheVariants.{NoSuchChannel, NotMember, Memory}
 use Rattle.irc_channels.specs.Channels.{has_member, left}
 use Rattle.irc_channels.specs.ChannelTable.{channel_fault, leaving_fault, IsOwedOrMemory}
-use Rattle.irc_room.proofs.Rows.{not_none, if_true, if_not}
+use Rattle.irc_room.specs.Lemmas.Rows.{not_none, if_true, if_not}
 
 -- whichever way a call went, the table is as the change makes it, where a refusal means that it makes nothing of it
 pub either_way : {U X : Type 0} (result : Result U ChannelsFault) (new old changed : X) → OnOk result (new ≡ changed) → OnErr result (new ≡ old)

@@ -23,8 +23,8 @@ use Rattle.irc_room.specs.Sendable.{IsNameFor, IsSentWord, IsSentChange}
 use Rattle.irc_room.specs.Seen.{names_member}
 use Rattle.irc_room.specs.After.{after}
 use Rattle.irc_room.specs.Laws.{NoRoomIsWithinLimits, AfterIsWithinLimits, SentKeepsLimits}
-use Rattle.irc_room.proofs.Rows.{not_none, same_some}
-use Rattle.irc_room.proofs.ModesWithin.{same_within, changes_within}
+use Rattle.irc_room.specs.Lemmas.Rows.{not_none, same_some}
+use Rattle.irc_room.specs.Lemmas.ModesWithin.{same_within, changes_within}
 
 -- ---- tables of which each row is something
 

@@ -18,9 +18,9 @@ use Rattle.irc_room.specs.declared.effect.Effect.TheVariants.{Rename}
 use Rattle.irc_room.specs.Effects.{brings_free}
 use Rattle.irc_room.specs.Room.{IsWellFormed}
 use Rattle.irc_room.specs.Indexes.{Names, Index, is_among, stands, holds, Tells, Adds, Drops, IsFreeOf}
-use Rattle.irc_room.proofs.Rows.{some_key, if_true, alter_same}
+use Rattle.irc_room.specs.Lemmas.Rows.{some_key, if_true, alter_same}
 use Rattle.irc_room.proofs.IndexChanges.{forgotten, stands-moved}
-use Rattle.irc_room.proofs.ModesKept.{letter_folk}
+use Rattle.irc_room.specs.Lemmas.ModesKept.{letter_folk}
 
 -- ---- a test of the channels
 

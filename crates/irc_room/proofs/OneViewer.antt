@@ -11,8 +11,8 @@ use Rattle.irc_users.specs.declared.user.User.{User}
 use Rattle.irc_room.specs.declared.effect.Effect.{Effect}
 use Rattle.irc_room.specs.Room.{Room, IsWellFormed}
 use Rattle.irc_room.specs.Seen.{Showing, seen, shown_to, sees, shown_line}
-use Rattle.irc_room.proofs.Rows.{not_none}
-use Rattle.irc_room.proofs.ViewerLaws.{both_true, below_none, IsNamed, table_named, IsOwn, own_showing}
+use Rattle.irc_room.specs.Lemmas.Rows.{not_none}
+use Rattle.irc_room.specs.Lemmas.ViewerLaws.{both_true, below_none, IsNamed, table_named, IsOwn, own_showing}
 use Rattle.irc_room.specs.Effects.{is_idle}
 use Rattle.irc_room.specs.Viewers.{line_for, shows_to, OneViewersLines}
 

@@ -13,7 +13,7 @@ use Rattle.irc_room.specs.declared.effect.Effect.TheVariants.{Quit}
 use Rattle.irc_room.specs.Room.{Room, IsWellFormed}
 use Rattle.irc_room.specs.Seen.{Showing, seen, shown_to, sees, share_channel, full_sender, line_of}
 use Rattle.irc_room.specs.Laws.{quit_line, QuitSeenOnce}
-use Rattle.irc_room.proofs.Rows.{if_true}
+use Rattle.irc_room.specs.Lemmas.Rows.{if_true}
 use Rattle.irc_room.proofs.OneViewer.{shown_to_one}
 
 -- in a well-formed room, what is shown to a user is all that it is shown

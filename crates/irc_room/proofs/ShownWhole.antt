@@ -4,11 +4,11 @@ use Rattle.std.specs.Option.{option_map_or, IfSome}
 use Rattle.irc_line.specs.Limits.{max_line}
 use Rattle.irc_line.specs.Bytes.{crlf}
 use Rattle.irc_line.specs.Messages.{Written, named, joined_text, line_text, prefix_text, prefix_of, text}
-use Rattle.irc_line.proofs.CutLaws.{cut_all}
-use Rattle.irc_line.proofs.Lengths.{words_size, last_size, length-joined_text, length-named, length-full}
+use Rattle.irc_line.specs.Lemmas.CutLaws.{cut_all}
+use Rattle.irc_line.specs.Lemmas.Lengths.{words_size, last_size, length-joined_text, length-named, length-full}
 use Rattle.irc_names.specs.Fold.{key}
 use Rattle.irc_names.specs.Tables.{row}
-use Rattle.irc_names.proofs.RuleFacts.{nick-fits, channel-fits, host-fits}
+use Rattle.irc_names.specs.Lemmas.RuleFacts.{nick-fits, channel-fits, host-fits}
 use Rattle.irc_users.specs.declared.user.User.{User}
 use Rattle.irc_channels.specs.declared.channel.Channel.{Channel}
 use Rattle.irc_room.specs.declared.effect.By.TheVariants as by
@@ -20,7 +20,7 @@ use Rattle.irc_room.specs.Limits.{IsCarriedText, IsUserWithin, IsWithinLimits}
 use Rattle.irc_room.specs.Sendable.{IsStoredNick, IsStoredChannel, IsNameFor, IsChannelOrNew, IsSentTarget, IsSentText, target_word, said_parts}
 use Rattle.irc_room.specs.Seen.{full_sender, from_nick, parts_of, stored_nick, stored_channel, target_name, changes_words, shown_parts}
 use Rattle.irc_room.specs.Laws.{IsWhole, whole_text, SentFitsItsLine, SentIsShownWhole, NamedIsWholeToo}
-use Rattle.irc_room.proofs.Rows.{not_none, same_some}
+use Rattle.irc_room.specs.Lemmas.Rows.{not_none, same_some}
 use Rattle.irc_room.proofs.ChangesFit.{nick_as_stored, changes_short}
 
 -- ---- names as they are written

@@ -8,7 +8,7 @@ use Rattle.std.specs.FinMap.{entries, entries_sorted, values, find, is_sorted, g
 use Rattle.arrayvec.specs.ArrayVec.{ArrayVec}
 use Rattle.irc_names.specs.Fold.{key}
 use Rattle.irc_names.specs.Tables.{Table, fold_cmp, row}
-use Rattle.irc_tables.proofs.OrderedEntries.{find-there, sorted-below}
+use Rattle.irc_tables.specs.Lemmas.OrderedEntries.{find-there, sorted-below}
 use Rattle.irc_users.specs.declared.user.User.{User}
 use Rattle.irc_users.specs.UserTable.{is_home}
 use Rattle.irc_room.specs.declared.effect.Effect.{Effect}

@@ -19,7 +19,7 @@ use Rattle.irc_channels.specs.Channels.{has_member}
 use Rattle.irc_channels.specs.ChannelTable.{members_in}
 use Rattle.irc_room.specs.Loops.Telling.{AreNamed}
 use Rattle.irc_room.specs.Loops.Viewing.{joins_both, users_who, users_under, Gains}
-use Rattle.irc_room.proofs.FoundInTurn.{entries_choose, table_chooses}
+use Rattle.irc_room.specs.Lemmas.FoundInTurn.{entries_choose, table_chooses}
 
 -- ---- names put into a table
 

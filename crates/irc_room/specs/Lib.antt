@@ -16,3 +16,4 @@ pub mod Sendable
 pub mod Invitations
 pub mod Viewers
 pub mod OtherInvitations
+pub mod Lemmas

@@ -1,5 +1,5 @@
 //! One room.
-ghost use Rattle.std.specs.Prelude.{◌≡◌, ◌++◌, false, true, filter, length, map, option_to_list, IfOk, OnOk};
+ghost use Rattle.std.specs.Prelude.{◌≡◌, ◌++◌, false, true, not, filter, length, map, option_to_list, IfOk, OnOk};
 ghost use Rattle.std.specs.Option.{option_copied, option_map};
 ghost use Rattle.std.specs.FinMap.{empty, entries, values};
 ghost use Rattle.irc_names.specs.Fold.{key};
@@ -91,12 +91,12 @@ impl Room {
         self.users.find_named(name)
     }
 
-    /// The user that [`Room::user`] finds for these bytes. It is looked for near a place first, as [`irc_users::Users::find_near`] has it, so
-    /// a walk over nicknames in folded order finds neighbours at once.
-    pub fn user_near(&self, near: &mut usize, name: &[u8]) -> Option<&User>
-        ensures { option_copied result ≡ user_at self.now.room (key name.now) }
+    /// Whether the user that [`Room::user`] finds for these bytes is without mode i. It is looked for near a place first, as
+    /// [`irc_users::Users::is_visible_near`] has it, so a walk over nicknames in folded order finds neighbours at once.
+    pub fn is_visible_near(&self, near: &mut usize, name: &[u8]) -> Option<bool>
+        ensures { result ≡ option_map (λ user. not user.invisible) (user_at self.now.room (key name.now)) }
     {
-        self.users.find_near(near, name)
+        self.users.is_visible_near(near, name)
     }
 
     /// The channel whose name is the same as these bytes under the fold, which may be no channel's name themselves.

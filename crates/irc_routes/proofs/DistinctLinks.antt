@@ -13,7 +13,7 @@ use Rattle.std.specs.Cmp.{Equal-is, eq_by_cmp_equiv, nat_cmp_total}
 use Rattle.std.specs.FinMap.{FinMap, find, from_entries, from_sorted, keys, same_map, get-from_entries, get-from_sorted, entries-from_sorted, is_sorted, nat_cmp-IsAntisymmetric}
 use Rattle.std.specs.FinMap.Entries.{below_all}
 use Rattle.irc_routes.specs.Known.{link_key}
-use Rattle.irc_routes.proofs.TableRows.{held}
+use Rattle.irc_routes.specs.Lemmas.TableRows.{held}
 
 marks_below : (x : ℕ) (xs : List ℕ) → AllByRecursion (λ y. nat_cmp x y ≡ Less) xs → below_all nat_cmp x (map link_key xs) ≡ true
 marks_below x [] less = refl

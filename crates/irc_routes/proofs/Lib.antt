@@ -5,4 +5,3 @@ pub mod ServersCounted
 pub mod Numbered
 pub mod RouteLaws
 pub mod SmallestFree
-pub mod TableRows

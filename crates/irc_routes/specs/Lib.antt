@@ -5,3 +5,4 @@ pub mod Laws
 pub mod Limits
 pub mod Loops
 pub mod Place
+pub mod Lemmas

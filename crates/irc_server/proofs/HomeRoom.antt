@@ -18,7 +18,7 @@ use Rattle.irc_room.specs.Effects.{IsPossible, is_idle, has_user, has_channel, n
 use Rattle.irc_room.specs.After.{after}
 use Rattle.irc_room.specs.Applying.{Kept, room_fault, is_own, handed, shown_here}
 use Rattle.irc_room.specs.Seen.{Showing, seen, shown_to}
-use Rattle.irc_room.proofs.ViewerLaws.{both_true, below_none, own_showing}
+use Rattle.irc_room.specs.Lemmas.ViewerLaws.{both_true, below_none, own_showing}
 use Rattle.irc_server.specs.declared.clients.Client.TheVariants.{Registered}
 use Rattle.irc_server.specs.declared.event.Out.{Out}
 use Rattle.irc_server.specs.RoomMachine.{Clients, RoomMachine, client_of}

@@ -5,14 +5,14 @@ use Rattle.std.specs.Ordering.{nat_cmp}
 use Rattle.irc_names.specs.Fold.{key, same}
 use Rattle.irc_names.specs.Tables.{Table, row, alter, moved, fold_cmp}
 use Rattle.irc_names.specs.TableLaws.{same_fold, same_fold-refl, one_fold, row-alter, row-moved}
-use Rattle.irc_room.proofs.Rows.{same_some}
+use Rattle.irc_room.specs.Lemmas.Rows.{same_some}
 use Rattle.irc_server.specs.declared.clients.Client.{Client}
 use Rattle.irc_server.specs.declared.clients.Client.TheVariants.{Registering, Registered}
 use Rattle.irc_server.specs.RoomMachine.{Clients, each_client}
 use Rattle.irc_server.specs.Handle.{renamed_in}
 use Rattle.irc_server.specs.Loops.Stage.{entered, departed, IsIndex, IsNamed, IsNoUser, IsFreeFor, IsFreeOf}
-use Rattle.irc_server.proofs.Numbers.{same_number, one_number, same_number-refl, same_clients, get-with, get-without, get-each}
-use Rattle.irc_server.proofs.Matching.{nick_in, never_registered, same_by_key, key_by_same, left_client, new_client}
+use Rattle.irc_server.specs.Lemmas.Numbers.{same_number, one_number, same_number-refl, same_clients, get-with, get-without, get-each}
+use Rattle.irc_server.specs.Lemmas.Matching.{nick_in, never_registered, same_by_key, key_by_same, left_client, new_client}
 
 pub at_it : (clients : Clients) (conn q : ℕ) (client : Client) → q ≡ conn → get (insert clients conn client) q ≡ Some client
 at_it clients conn q client is =

@@ -1,6 +1,3 @@
-pub mod Numbers
-pub mod Matching
-pub mod MatchedEvents
 pub mod Index
 pub mod Growing
 pub mod Showings

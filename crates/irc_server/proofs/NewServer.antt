@@ -7,7 +7,7 @@ use Rattle.irc_users.specs.declared.user.User.{User}
 use Rattle.irc_room.specs.Room.{Room}
 use Rattle.irc_room.specs.Applying.{Kept}
 use Rattle.irc_room.specs.Laws.{no_room}
-use Rattle.irc_room.proofs.WellFormedLaw.{no_room_is_well_formed}
+use Rattle.irc_room.specs.Lemmas.WellFormedLaw.{no_room_is_well_formed}
 use Rattle.irc_server.specs.declared.clients.Client.{Client}
 use Rattle.irc_server.specs.declared.stage.Stage.{Stage}
 use Rattle.irc_server.specs.RoomMachine.{RoomMachine}

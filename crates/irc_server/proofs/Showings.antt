@@ -9,8 +9,8 @@ use Rattle.arrayvec.specs.ArrayVec.{ArrayVec}
 use Rattle.irc_names.specs.Fold.{key, same}
 use Rattle.irc_names.specs.Tables.{Table, row}
 use Rattle.irc_room.specs.Seen.{Showing}
-use Rattle.irc_room.proofs.Rows.{same_some}
-use Rattle.irc_room.proofs.ViewerLaws.{both_true}
+use Rattle.irc_room.specs.Lemmas.Rows.{same_some}
+use Rattle.irc_room.specs.Lemmas.ViewerLaws.{both_true}
 use Rattle.irc_acts.specs.Acts.{kept}
 use Rattle.irc_server.specs.declared.clients.Client.{Client}
 use Rattle.irc_server.specs.declared.clients.Client.TheVariants.{Registering, Registered}
@@ -19,8 +19,8 @@ use Rattle.irc_server.specs.declared.event.Out.TheVariants.{ToClient}
 use Rattle.irc_server.specs.RoomMachine.{Clients}
 use Rattle.irc_server.specs.Handle.{is_client, to_viewer}
 use Rattle.irc_server.specs.Loops.Stage.{all_shown, shown_of, IsIndex}
-use Rattle.irc_server.proofs.Numbers.{here, later, none_behind, same_number}
-use Rattle.irc_server.proofs.Matching.{same_by_key, key_by_same}
+use Rattle.irc_server.specs.Lemmas.Numbers.{here, later, none_behind, same_number}
+use Rattle.irc_server.specs.Lemmas.Matching.{same_by_key, key_by_same}
 use Rattle.irc_server.proofs.Index.{differs, named_is}
 
 abbrev Entry : Type 0

@@ -12,7 +12,7 @@ use Rattle.irc_line.specs.MessageViews.{optional_now}
 use Rattle.irc_channels.specs.Texts.{cut_words}
 use Rattle.irc_users.specs.declared.user.User.{User}
 use Rattle.irc_room.specs.Room.{IsWellFormed}
-use Rattle.irc_room.proofs.Rows.{same_some}
+use Rattle.irc_room.specs.Lemmas.Rows.{same_some}
 use Rattle.irc_acts.specs.declared.act.Act.{Act}
 use Rattle.irc_commands.specs.Decide.{decide}
 use Rattle.irc_server.specs.declared.clients.Client.{Client}

@@ -8,3 +8,4 @@ pub mod Served
 pub mod Happening
 pub mod Owed
 pub mod Loops
+pub mod Lemmas

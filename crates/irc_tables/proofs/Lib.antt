@@ -1,4 +1,0 @@
-pub mod OrderedEntries
-pub mod RowsAsTable
-pub mod SearchedRows
-pub mod ChangedRows

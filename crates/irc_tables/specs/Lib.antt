@@ -1,3 +1,4 @@
 pub mod FoldedRows
 pub mod RowViews
 pub mod Loops
+pub mod Lemmas

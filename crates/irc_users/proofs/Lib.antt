@@ -1,3 +1,3 @@
-pub mod CleanNames
+pub mod Heads
 pub mod Renamings
 pub mod UserRows

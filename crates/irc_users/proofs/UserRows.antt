@@ -5,7 +5,7 @@ use Rattle.std.specs.Option.{option_map}
 use Rattle.irc_names.specs.Fold.{key}
 use Rattle.irc_names.specs.Tables.{Table, row, alter}
 use Rattle.irc_tables.specs.FoldedRows.{table_of, IsInFoldedOrder, StandsAt}
-use Rattle.irc_tables.proofs.RowsAsTable.{entries-table_of, row-stands, replaced-table, replaced-sorted, alter_alike, alter-absent}
+use Rattle.irc_tables.specs.Lemmas.RowsAsTable.{entries-table_of, row-stands, replaced-table, replaced-sorted, alter_alike, alter-absent}
 use Rattle.irc_users.specs.declared.user.User.{User}
 use Rattle.irc_users.specs.UserTable.{entry, with_invisible}
 

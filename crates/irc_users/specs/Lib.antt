@@ -1,2 +1,4 @@
 pub mod Users
 pub mod UserTable
+pub mod Rosters
+pub mod Lemmas

@@ -1,12 +1,14 @@
 //! The users of a room, by nickname.
-ghost use Rattle.std.specs.Prelude.{◌≡◌, ℕ, ◌<◌, ◌≤◌, ◌↔◌, List, Result, is_some, is_ok, IsTrue, OnOk, OnErr, OnSome, IfNone, IsErrOf, IfOk, filter, map, length, vec_len, vec_capacity};
+ghost use Rattle.std.specs.Prelude.{◌≡◌, ℕ, ◌<◌, ◌≤◌, ◌↔◌, List, Result, Some, None, not, is_some, is_ok, IsTrue, OnOk, OnErr, OnSome, IsOk, IfNone, IsErrOf, IfOk, filter, map, length, vec_len, vec_capacity};
 ghost use Rattle.std.specs.Option.{option_copied, option_map};
 ghost use Rattle.std.specs.Result.{result_err};
 ghost use Rattle.std.specs.FinMap.{empty, keys, values};
 ghost use Rattle.irc_names.specs.Fold.{key};
 ghost use Rattle.irc_names.specs.Tables.{row, alter, moved};
-ghost use Rattle.irc_tables.specs.FoldedRows.{table_of, IsInFoldedOrder, IsPlaceOf, StandsAt};
+ghost use Rattle.irc_tables.specs.FoldedRows.{table_of, BelongsAt, IsPlaceOf, StandsAt};
 ghost use Rattle.irc_users.specs.UserTable.{entry, with_nick, with_invisible, is_taken, rename_fault, is_home, is_found_by};
+ghost use Rattle.irc_users.specs.declared.user.User.{User};
+ghost use Rattle.irc_users.specs.Rosters.{head, head_entry, IsRoster};
 
 use crate::fault::{RenameFault, UsersFault};
 use crate::user::User;
@@ -14,18 +16,41 @@ use irc_names::{Nick, ServerName, compare, same};
 use std::alloc::{AllocError, Global};
 use std::marker::Model;
 
-/// Users, no two of which have one nickname by the fold.
+/// What a user is found by.
+#[derive(Drop)]
+pub(crate) struct Head {
+    /// Its nickname.
+    pub nick: Nick,
+    /// Whether it has set mode i.
+    pub invisible: bool,
+}
+
+impl Head {
+    /// That of a user.
+    fn of(user: &User) -> Self
+        ensures { result ≡ head user.now }
+    {
+        Head {
+            nick: user.nick.copy(),
+            invisible: user.invisible,
+        }
+    }
+}
+
+/// Users, no two of which have one nickname by the fold. What they are found by lies beside them, so that a search reads little memory.
 #[derive(Drop)]
 pub struct Users {
     rows: Vec<User, Global>,
+    heads: Vec<Head, Global>,
 }
 
 /// In a clause it is the table of its users, each under the fold of its nickname.
 impl Model for Users {
     ghost use Rattle.irc_names.specs.Tables.{Table};
     ghost use Rattle.irc_users.specs.declared.user.User.{User};
-    ghost use Rattle.irc_tables.specs.FoldedRows.{coded_name, table_of, IsInFoldedOrder};
+    ghost use Rattle.irc_tables.specs.FoldedRows.{coded_name, table_of};
     ghost use Rattle.irc_users.specs.UserTable.{user_code, entry};
+    ghost use Rattle.irc_users.specs.Rosters.{IsRoster};
     ghost use Rattle.std.specs.FinMap.{code};
 
     ghost Value = { Table User };
@@ -34,7 +59,7 @@ impl Model for Users {
 
     ghost view = { λ users. table_of entry users.rows.items };
 
-    ghost invariant = { λ users. IsInFoldedOrder entry users.rows.items };
+    ghost invariant = { λ users. IsRoster users.rows.items users.heads.items };
 }
 
 impl Users {
@@ -44,6 +69,7 @@ impl Users {
     {
         Users {
             rows: Vec::new(alloc),
+            heads: Vec::new(alloc),
         }
     }
 
@@ -60,10 +86,10 @@ impl Users {
         ensures ok { OnOk result (self.new ≡ alter (key user.nick) (λ _. Some user) self.old) }
         ensures refused { OnErr result (self.new ≡ self.old) }
     {
-        let Err(place) = place_of(&self.rows, &user.nick) else {
+        let Err(place) = place_of(&self.heads, &user.nick) else {
             return Err(UsersFault::Taken);
         };
-        match self.rows.insert(place, user) {
+        match insert_at(&mut self.rows, &mut self.heads, place, user) {
             Ok(()) => Ok(()),
             Err(_) => Err(UsersFault::Memory),
         }
@@ -75,14 +101,14 @@ impl Users {
         ensures ok { OnOk result (self.new ≡ moved (key nick.now) (key new.now) (with_nick new.now) self.old) }
         ensures refused { OnErr result (self.new ≡ self.old) }
     {
-        if is_taken(&self.rows, nick, new) {
+        if is_taken(&self.heads, nick, new) {
             return Err(RenameFault::Taken);
         }
-        let Some(mut user) = take_out(&mut self.rows, nick) else {
+        let Some(mut user) = take_out(&mut self.rows, &mut self.heads, nick) else {
             return Err(RenameFault::NoSuchUser);
         };
         user.nick = new.copy();
-        put_back(&mut self.rows, user);
+        put_back(&mut self.rows, &mut self.heads, user);
         Ok(())
     }
 
@@ -91,8 +117,11 @@ impl Users {
     pub fn set_invisible(&mut self, nick: &Nick, invisible: bool)
         ensures { self.new ≡ alter (key nick.now) (option_map (with_invisible invisible)) self.old }
     {
-        match place_of(&self.rows, nick) {
-            Ok(place) => self.rows[place].invisible = invisible,
+        match place_of(&self.heads, nick) {
+            Ok(place) => {
+                self.rows[place].invisible = invisible;
+                self.heads[place].invisible = invisible;
+            }
             Err(_) => {}
         }
     }
@@ -102,7 +131,7 @@ impl Users {
         ensures value { result ≡ row self.old (key nick.now) }
         ensures after { self.new ≡ alter (key nick.now) (λ _. None) self.old }
     {
-        take_out(&mut self.rows, nick)
+        take_out(&mut self.rows, &mut self.heads, nick)
     }
 
     /// The user with a nickname, if there is one.
@@ -116,7 +145,7 @@ impl Users {
     pub fn find_named(&self, name: &[u8]) -> Option<&User>
         ensures { option_copied result ≡ row self.now (key name.now) }
     {
-        match place_named(&self.rows, name) {
+        match place_named(&self.heads, name) {
             Ok(place) => Some(&self.rows[place]),
             Err(_) => None,
         }
@@ -128,10 +157,26 @@ impl Users {
     pub fn find_near(&self, near: &mut usize, name: &[u8]) -> Option<&User>
         ensures { option_copied result ≡ row self.now (key name.now) }
     {
-        match place_near(&self.rows, *near, name) {
+        match place_near(&self.heads, *near, name) {
             Ok(place) => {
                 *near = place;
                 Some(&self.rows[place])
+            }
+            Err(place) => {
+                *near = place;
+                None
+            }
+        }
+    }
+
+    /// Whether the user that [`Users::find_named`] finds for these bytes is without mode i, looked for as [`Users::find_near`] does.
+    pub fn is_visible_near(&self, near: &mut usize, name: &[u8]) -> Option<bool>
+        ensures { result ≡ option_map (λ user. not user.invisible) (row self.now (key name.now)) }
+    {
+        match place_near(&self.heads, *near, name) {
+            Ok(place) => {
+                *near = place;
+                Some(!self.heads[place].invisible)
             }
             Err(place) => {
                 *near = place;
@@ -198,81 +243,108 @@ fn matched_by<'a>(
 }
 
 /// Whether another user than the one with the first nickname has the second.
-fn is_taken(rows: &[User], nick: &Nick, new: &Nick) -> bool
-    requires { IsInFoldedOrder entry rows.now }
-    ensures { result ≡ is_taken (table_of entry rows.now) nick.now new.now }
+fn is_taken(heads: &[Head], nick: &Nick, new: &Nick) -> bool
+    ensures { (users : List User) → IsRoster users heads.now → result ≡ is_taken (table_of entry users) nick.now new.now }
 {
-    nick != new && place_of(rows, new).is_ok()
+    nick != new && place_of(heads, new).is_ok()
+}
+
+/// Puts in a user whose nickname is free, at the place where it belongs. Where there is no memory nothing has changed.
+fn insert_at(
+    rows: &mut Vec<User, Global>,
+    heads: &mut Vec<Head, Global>,
+    place: usize,
+    user: User,
+) -> Result<(), AllocError>
+    requires roster { IsRoster rows.old.items heads.old.items }
+    requires gap { BelongsAt entry rows.old.items (key user.nick) place }
+    ensures ok { OnOk result (table_of entry rows.new.items ≡ alter (key user.nick) (λ _. Some user) (table_of entry rows.old.items)) }
+    ensures refused { OnErr result (rows.new.items ≡ rows.old.items) }
+    ensures roster { IsRoster rows.new.items heads.new.items }
+    ensures room { vec_len rows.old < vec_capacity rows.old → vec_len heads.old < vec_capacity heads.old → IsOk result }
+{
+    if heads.insert(place, Head::of(&user)).is_err() {
+        return Err(AllocError);
+    }
+    match rows.insert(place, user) {
+        Ok(()) => Ok(()),
+        Err(_) => {
+            heads.remove(place);
+            Err(AllocError)
+        }
+    }
 }
 
 /// Takes out the user with a nickname, if there is one; there is then room for another.
-fn take_out(rows: &mut Vec<User, Global>, nick: &Nick) -> Option<User>
-    requires { IsInFoldedOrder entry rows.old.items }
+fn take_out(
+    rows: &mut Vec<User, Global>,
+    heads: &mut Vec<Head, Global>,
+    nick: &Nick,
+) -> Option<User>
+    requires { IsRoster rows.old.items heads.old.items }
     ensures value { result ≡ row (table_of entry rows.old.items) (key nick.now) }
     ensures after { table_of entry rows.new.items ≡ alter (key nick.now) (λ _. None) (table_of entry rows.old.items) }
-    ensures ordered { IsInFoldedOrder entry rows.new.items }
+    ensures roster { IsRoster rows.new.items heads.new.items }
     ensures same { IfNone result (rows.new.items ≡ rows.old.items) }
-    ensures room { OnSome result (vec_len rows.new < vec_capacity rows.new) }
+    ensures room { OnSome result (vec_len rows.new < vec_capacity rows.new × vec_len heads.new < vec_capacity heads.new) }
 {
-    match place_of(rows, nick) {
-        Ok(place) => Some(rows.remove(place)),
+    match place_of(heads, nick) {
+        Ok(place) => {
+            heads.remove(place);
+            Some(rows.remove(place))
+        }
         Err(_) => None,
     }
 }
 
 /// Puts in a user whose nickname is free, where there is room for it.
-fn put_back(rows: &mut Vec<User, Global>, user: User)
-    requires ordered { IsInFoldedOrder entry rows.old.items }
+fn put_back(rows: &mut Vec<User, Global>, heads: &mut Vec<Head, Global>, user: User)
+    requires roster { IsRoster rows.old.items heads.old.items }
     requires free { row (table_of entry rows.old.items) (key user.nick) ≡ None }
-    requires room { vec_len rows.old < vec_capacity rows.old }
+    requires room { vec_len rows.old < vec_capacity rows.old × vec_len heads.old < vec_capacity heads.old }
     ensures after { table_of entry rows.new.items ≡ alter (key user.nick) (λ _. Some user) (table_of entry rows.old.items) }
-    ensures ordered { IsInFoldedOrder entry rows.new.items }
+    ensures roster { IsRoster rows.new.items heads.new.items }
 {
-    match place_of(rows, &user.nick) {
+    match place_of(heads, &user.nick) {
         Ok(_) => unreachable!(),
-        Err(place) => rows.insert(place, user).unwrap(),
+        Err(place) => insert_at(rows, heads, place, user).unwrap(),
     }
 }
 
 /// Where the user with a nickname stands, or where it would stand.
-fn place_of(users: &[User], nick: &Nick) -> Result<usize, usize>
-    requires { IsInFoldedOrder entry users.now }
-    ensures place { IsPlaceOf entry users.now (key nick.now) result }
-    ensures known { is_ok result ≡ is_some (row (table_of entry users.now) (key nick.now)) }
+fn place_of(heads: &[Head], nick: &Nick) -> Result<usize, usize>
+    ensures { (users : List User) → IsRoster users heads.now → IsPlaceOf entry users (key nick.now) result }
 {
-    place_named(users, nick.as_bytes())
+    place_named(heads, nick.as_bytes())
 }
 
 /// Where the user with these bytes for a nickname stands, by the fold, or where it would stand.
-fn place_named(users: &[User], name: &[u8]) -> Result<usize, usize>
-    requires { IsInFoldedOrder entry users.now }
-    ensures place { IsPlaceOf entry users.now (key name.now) result }
-    ensures known { is_ok result ≡ is_some (row (table_of entry users.now) (key name.now)) }
+fn place_named(heads: &[Head], name: &[u8]) -> Result<usize, usize>
+    ensures { (users : List User) → IsRoster users heads.now → IsPlaceOf entry users (key name.now) result }
 {
-    users.binary_search_by(|user| compare(user.nick.as_bytes(), name))
+    heads.binary_search_by(|head| compare(head.nick.as_bytes(), name))
 }
 
 /// Where the user with these bytes for a nickname stands, or where it would stand: looked for first at a place and the one after it.
-fn place_near(users: &[User], near: usize, name: &[u8]) -> Result<usize, usize>
-    requires { IsInFoldedOrder entry users.now }
-    ensures { IsPlaceOf entry users.now (key name.now) result }
+fn place_near(heads: &[Head], near: usize, name: &[u8]) -> Result<usize, usize>
+    ensures { (users : List User) → IsRoster users heads.now → IsPlaceOf entry users (key name.now) result }
 {
     let next = near.saturating_add(1);
-    if is_named(users, near, name) {
+    if is_named(heads, near, name) {
         Ok(near)
-    } else if is_named(users, next, name) {
+    } else if is_named(heads, next, name) {
         Ok(next)
     } else {
-        place_named(users, name)
+        place_named(heads, name)
     }
 }
 
 /// Whether the user with these bytes for a nickname stands at a place.
-fn is_named(users: &[User], place: usize, name: &[u8]) -> bool
-    ensures { IsTrue result → StandsAt entry users.now (key name.now) place }
+fn is_named(heads: &[Head], place: usize, name: &[u8]) -> bool
+    ensures { IsTrue result → StandsAt head_entry heads.now (key name.now) place }
 {
-    match users.get(place) {
-        Some(user) => same(user.nick.as_bytes(), name),
+    match heads.get(place) {
+        Some(head) => same(head.nick.as_bytes(), name),
         None => false,
     }
 }

@@ -4,14 +4,14 @@ use Rattle.std.proofs.lemmas.List.{append-nil}
 use Rattle.std.specs.FinMap.{get}
 use Rattle.irc_relay.specs.Links.{Name, Link, part, joined, AreJoined, IsMade, within, over, back}
 use Rattle.irc_relay.specs.Laws.{LinkBetweenParts}
-use Rattle.irc_relay.proofs.TellingNames.{alike, unlike, tell, same_when}
+use Rattle.irc_relay.specs.Lemmas.TellingNames.{alike, unlike, tell, same_when}
 use Rattle.irc_room.specs.Room.{Room}
-use Rattle.irc_room.proofs.Rows.{same_some}
+use Rattle.irc_room.specs.Lemmas.Rows.{same_some}
 use Rattle.irc_merge.specs.Agreeing.{agree, AgreeTells}
 use Rattle.irc_merge.specs.Laws.{MergeIsEven}
 use Rattle.irc_merge.specs.Merge.{Agree, merge}
 use Rattle.irc_server.specs.declared.clients.Client.{Client}
-use Rattle.irc_server.proofs.Numbers.{same_clients}
+use Rattle.irc_server.specs.Lemmas.Numbers.{same_clients}
 use Rattle.irc_world.specs.World.{Setting, Hall, World, is_server}
 use Rattle.irc_world.specs.Stepping.{link, step, merged, linked, clashes_in, meeting_lines}
 use Rattle.irc_world.specs.Refused.{Refusal, refused, password_for, are_equal, are_peers, no_such_server, link_refused, disagree}

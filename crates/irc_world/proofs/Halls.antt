@@ -1,7 +1,7 @@
 -- One hall for all servers that are joined.
 use Rattle.std.proofs.Common.{◌≡◌, refl, sym, ◌∙◌, subst, if◌then◌else◌}
 use Rattle.irc_relay.specs.Links.{Name, part, joined, AreJoined}
-use Rattle.irc_relay.proofs.TellingNames.{Telling, alike, unlike, tell}
+use Rattle.irc_relay.specs.Lemmas.TellingNames.{Telling, alike, unlike, tell}
 use Rattle.irc_world.specs.World.{Hall, World, with_hall}
 
 -- what holds of the hall that a part is given, and of the other halls

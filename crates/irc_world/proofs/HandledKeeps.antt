@@ -10,7 +10,7 @@ use Rattle.irc_room.specs.declared.effect.Effect.{Effect}
 use Rattle.irc_room.specs.declared.effect.Effect.TheVariants.{AddUser, Rename, Quit, Join, Part, Kick, ChangeModes, SetTopic, Say, Invite, UserMode}
 use Rattle.irc_room.specs.Room.{IsWellFormed}
 use Rattle.irc_room.specs.Effects.{IsPossible}
-use Rattle.irc_room.proofs.WellFormedLaw.{after_is_well_formed}
+use Rattle.irc_room.specs.Lemmas.WellFormedLaw.{after_is_well_formed}
 use Rattle.irc_acts.specs.declared.act.Act.{Act}
 use Rattle.irc_acts.specs.declared.act.Act.TheVariants.{Answer, Raw, Do}
 use Rattle.irc_acts.specs.Possible.{ArePossible}
@@ -21,8 +21,8 @@ use Rattle.irc_server.specs.declared.clients.Client.{Client}
 use Rattle.irc_server.specs.declared.clients.Client.TheVariants.{Registering, Registered}
 use Rattle.irc_server.specs.RoomMachine.{Clients, RoomMachine, client_of, with_client, without_client}
 use Rattle.irc_server.specs.Handle.{Happening, connects, says, goes, Handled, handled, renamed_in, clients_after, with_effect, stepped, all_stepped, unchanged, closing, client_after, fresh, user_decided, said_by, user_of, quits, lost_text}
-use Rattle.irc_server.proofs.Numbers.{same_number, one_number, get-with, get-without, get-each}
-use Rattle.irc_server.proofs.MatchedEvents.{quit_possible}
+use Rattle.irc_server.specs.Lemmas.Numbers.{same_number, one_number, get-with, get-without, get-each}
+use Rattle.irc_server.specs.Lemmas.MatchedEvents.{quit_possible}
 
 -- a machine has the place that another had, a well-formed room, and clients that may be there
 pub record Keeps (start : RoomMachine) (May : ℕ → Type 0) (now : RoomMachine) : Type 0 where

@@ -7,7 +7,7 @@ use Rattle.irc_names.specs.Tables.{row, fold_cmp}
 use Rattle.irc_line.specs.Reading.{read_of}
 use Rattle.irc_users.specs.declared.user.User.{User}
 use Rattle.irc_relay.specs.Links.{Name, Link, same, without}
-use Rattle.irc_relay.proofs.TellingNames.{Telling, alike, unlike, tell}
+use Rattle.irc_relay.specs.Lemmas.TellingNames.{Telling, alike, unlike, tell}
 use Rattle.irc_merge.specs.Laws.{MergeHasNothingNew, SplitHasNothingNew}
 use Rattle.irc_routes.specs.Place.{alone}
 use Rattle.irc_server.specs.Handle.{Happening, connects, says, goes, handled}

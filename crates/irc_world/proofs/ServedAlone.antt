@@ -8,17 +8,17 @@ use Rattle.std.specs.FinMap.{get, empty, values, get-empty, get-from_entries}
 use Rattle.irc_names.specs.Tables.{fold_cmp, put, tabulate}
 use Rattle.irc_names.specs.TableLaws.{same_fold, same_table, row-put}
 use Rattle.irc_tables.specs.FoldedRows.{table_of, IsInFoldedOrder}
-use Rattle.irc_tables.proofs.RowsAsTable.{nothing-table, nothing-sorted}
+use Rattle.irc_tables.specs.Lemmas.RowsAsTable.{nothing-table, nothing-sorted}
 use Rattle.irc_line.specs.Reading.{read_of}
 use Rattle.irc_relay.specs.Links.{Name, part, distance}
 use Rattle.irc_relay.specs.Links.{linked as are_linked}
-use Rattle.irc_relay.proofs.TellingNames.{alike, unlike, tell, same_when}
+use Rattle.irc_relay.specs.Lemmas.TellingNames.{alike, unlike, tell, same_when}
 use Rattle.irc_room.specs.Room.{Room}
 use Rattle.irc_routes.specs.declared.server_row.ServerRow.{ServerRow}
 use Rattle.irc_routes.specs.Known.{others, alone_known, by_name, place_of}
 use Rattle.irc_routes.specs.Laws.{AloneIsAlone}
 use Rattle.irc_routes.specs.Place.{KnownServer, Place, alone}
-use Rattle.irc_routes.proofs.TableRows.{values-table_of}
+use Rattle.irc_routes.specs.Lemmas.TableRows.{values-table_of}
 use Rattle.irc_server.specs.declared.clients.Client.{Client}
 use Rattle.irc_server.specs.RoomMachine.{Clients, RoomMachine, client_of}
 use Rattle.irc_server.specs.View.{View, machine_of}

@@ -9,17 +9,17 @@ use Rattle.std.specs.FinMap.{get, empty, get-empty, find, entries, retain_keys, 
 use Rattle.irc_relay.specs.Links.{Name, Link, part, joined, without, AreJoined, AreLinked, IsLeft, IsMade, within, over, back, still, parted, turned}
 use Rattle.irc_relay.specs.Links.{linked as are_linked}
 use Rattle.irc_relay.specs.Laws.{TestsTell, LinkBetweenParts, LinkTakenOut, JoinedOverLink}
-use Rattle.irc_relay.proofs.TellingNames.{alike, unlike, tell, same_when}
+use Rattle.irc_relay.specs.Lemmas.TellingNames.{alike, unlike, tell, same_when}
 use Rattle.irc_line.specs.Reading.{read_of}
 use Rattle.irc_room.specs.Room.{Room, IsWellFormed}
-use Rattle.irc_room.proofs.Rows.{same_some}
-use Rattle.irc_room.proofs.WellFormedLaw.{no_room_is_well_formed}
+use Rattle.irc_room.specs.Lemmas.Rows.{same_some}
+use Rattle.irc_room.specs.Lemmas.WellFormedLaw.{no_room_is_well_formed}
 use Rattle.irc_commands.specs.Possible.{DecidedIsPossible, RegisteringIsPossible}
 use Rattle.irc_merge.specs.Laws.{MergeIsWellFormed, SplitIsWellFormed}
 use Rattle.irc_merge.specs.Agreeing.{agree}
 use Rattle.irc_server.specs.declared.clients.Client.{Client}
 use Rattle.irc_server.specs.RoomMachine.{Clients}
-use Rattle.irc_server.proofs.Numbers.{same_number}
+use Rattle.irc_server.specs.Lemmas.Numbers.{same_number}
 use Rattle.irc_server.specs.Handle.{Happening, connects, says, goes, handled}
 use Rattle.irc_world.specs.World.{Setting, Hall, World, new_world, is_server, home_in, home_of, machine_at, with_hall}
 use Rattle.irc_world.specs.Stepping.{Item, connect, line, gone, link, cut, step, still as unmoved, by_machine, by_client, merged, linked, remaining, parted as cut_apart, surviving, clashes_in, split_text, side_of}

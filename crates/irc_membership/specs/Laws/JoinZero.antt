@@ -17,7 +17,7 @@ use Rattle.irc_channels.specs.Texts.{cut_words}
 use Rattle.irc_room.specs.declared.effect.Effect.TheVariants.{Part}
 use Rattle.irc_room.specs.Room.{Room, IsWellFormed}
 use Rattle.irc_room.specs.After.{after}
-use Rattle.irc_room.proofs.ViewerLaws.{both_true}
+use Rattle.irc_room.specs.Lemmas.ViewerLaws.{both_true}
 use Rattle.irc_acts.specs.ByTest.{by_test}
 use Rattle.irc_acts.specs.Moves.{own_channels}
 use Rattle.irc_acts.specs.Own.{parts, AreOwn}

@@ -8,7 +8,7 @@ use Rattle.irc_names.specs.Fold.{fold, fold_table, key, same}
 use Rattle.irc_names.specs.FoldLaws.{same-tells, key-length}
 use Rattle.irc_names.specs.Limits.{max_ban_mask}
 use Rattle.irc_names.specs.Names.{is_ban_mask_byte, starts_without_colon, is_ban_mask}
-use Rattle.irc_names.proofs.FoldsByRanges.{agree_below, agree_at}
+use Rattle.irc_names.specs.Lemmas.FoldsByRanges.{agree_below, agree_at}
 
 -- whether a byte is this one, as a number
 abbrev told : ℕ → ℕ → ℕ

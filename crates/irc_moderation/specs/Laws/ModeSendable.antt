@@ -16,13 +16,13 @@ use Rattle.irc_modes.specs.ModeWords.{Asked, change, list, no_word, unknown, mod
 use Rattle.irc_modes.specs.Readable.{is_written_limit, has_its_word, AreSomeAsked}
 use Rattle.irc_modes.specs.Readable as some
 use Rattle.irc_modes.specs.Texts.{IsKey}
-use Rattle.irc_modes.proofs.DigitSteps.{limit-digits}
-use Rattle.irc_modes.proofs.FewRead.{some_asked_are_readable}
-use Rattle.irc_modes.proofs.LimitText.{plain_limit}
+use Rattle.irc_modes.specs.Lemmas.DigitSteps.{limit-digits}
+use Rattle.irc_modes.specs.Lemmas.FewRead.{some_asked_are_readable}
+use Rattle.irc_modes.specs.Lemmas.LimitText.{plain_limit}
 use Rattle.irc_room.specs.Limits.{IsChannelWithin, IsWithinLimits, IsBanCarried}
 use Rattle.irc_room.specs.Room.{Room, IsWellFormed}
 use Rattle.irc_room.specs.Sendable.{IsSentChange}
-use Rattle.irc_room.proofs.ModesWithin.{changes_within}
+use Rattle.irc_room.specs.Lemmas.ModesWithin.{changes_within}
 use Rattle.irc_acts.specs.CarriedWords.{key_carried, digits_carried}
 use Rattle.irc_acts.specs.Sendable.{AreSendable, AreSentWhole, CarriesSendable, CarrySendable}
 use Rattle.irc_acts.specs.SendableLaws.{nick_stored, own_are_sendable}

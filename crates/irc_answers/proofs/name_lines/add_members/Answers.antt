@@ -7,7 +7,7 @@ use Rattle.irc_numerics.specs.declared.replies.Listed.{Listed}
 use Rattle.irc_answers.specs.Names.{listed, name_line}
 use Rattle.irc_answers.specs.Loops.FilledLines.{Came}
 use Rattle.irc_answers.specs.Loops.NameLines.{is_shown}
-use Rattle.irc_answers.proofs.CameLines.{more_came, rows_more}
+use Rattle.irc_answers.specs.Lemmas.CameLines.{more_came, rows_more}
 use Rattle.irc_answers.proofs.name_lines.add_members.Goals as goal
 
 pub loop-row-preserved : goal.loop-row-preserved

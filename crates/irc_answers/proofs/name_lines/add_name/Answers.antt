@@ -2,7 +2,7 @@ use Rattle.std.proofs.Common.{◌∷◌, [], ◌++◌, ◌∙◌, sym, ap, arith
 use Rattle.std.proofs.lemmas.Bool.{eqb-true}
 use Rattle.irc_numerics.specs.Limits.{max_names}
 use Rattle.irc_answers.specs.Names.{name_line}
-use Rattle.irc_answers.proofs.CameLines.{one_came, one_came_later}
+use Rattle.irc_answers.specs.Lemmas.CameLines.{one_came, one_came_later}
 use Rattle.irc_answers.proofs.name_lines.add_name.Goals as goal
 use Rattle.irc_answers.proofs.name_lines.add_name.Goals.{then-is_full+in_ok-put, else-is_full}
 

@@ -1,10 +1,10 @@
 use Rattle.std.proofs.Common.{◌≤◌, List, [], ◌∷◌, ◌++◌, length, eqb, sym, ◌∙◌, ap, subst}
 use Rattle.std.proofs.lemmas.Bool.{eqb-true}
-use Rattle.irc_tables.proofs.RowsAsTable.{ok_also}
+use Rattle.irc_tables.specs.Lemmas.RowsAsTable.{ok_also}
 use Rattle.irc_numerics.specs.Limits.{max_names}
 use Rattle.irc_numerics.specs.declared.replies.Listed.{Listed}
 use Rattle.irc_answers.specs.Names.{name_line}
-use Rattle.irc_answers.proofs.CameLines.{nothing_held, last_held}
+use Rattle.irc_answers.specs.Lemmas.CameLines.{nothing_held, last_held}
 use Rattle.irc_answers.proofs.name_lines.finish.Goals as goal
 
 pub returns-then-is_empty : goal.returns-then-is_empty

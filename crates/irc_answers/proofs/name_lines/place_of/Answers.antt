@@ -2,7 +2,7 @@ use Rattle.std.proofs.Common.{rules, ◌≡◌, refl}
 use Rattle.irc_names.specs.Fold.{key}
 use Rattle.irc_names.specs.Tables.{fold_cmp}
 use Rattle.irc_tables.specs.RowViews.{row_entry}
-use Rattle.irc_tables.proofs.SearchedRows.{answers_kept, place_found}
+use Rattle.irc_tables.specs.Lemmas.SearchedRows.{answers_kept, place_found}
 use Rattle.irc_answers.proofs.name_lines.place_of.Goals as goal
 
 pub returns : goal.returns

@@ -1,6 +1,6 @@
 use Rattle.std.proofs.Common.{map}
 use Rattle.irc_tables.specs.RowViews.{row_entry}
-use Rattle.irc_tables.proofs.RowsAsTable.{ok_also}
+use Rattle.irc_tables.specs.Lemmas.RowsAsTable.{ok_also}
 use Rattle.irc_answers.proofs.JoinersPlace.{joiner_came}
 use Rattle.irc_answers.proofs.names.put_joiner_names.Goals as goal
 

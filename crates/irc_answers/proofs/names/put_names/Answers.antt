@@ -2,13 +2,13 @@ use Rattle.std.proofs.Common.{ℕ, Bool, List, ◌++◌, ◌∙◌, map, ap}
 use Rattle.std.specs.List.{filter_map}
 use Rattle.irc_names.specs.Fold.{key}
 use Rattle.irc_tables.specs.RowViews.{row_entry}
-use Rattle.irc_tables.proofs.RowsAsTable.{ok_also}
+use Rattle.irc_tables.specs.Lemmas.RowsAsTable.{ok_also}
 use Rattle.irc_channels.specs.declared.flags.Flags.{Flags}
 use Rattle.irc_channels.specs.Channels.{has_member}
 use Rattle.irc_numerics.specs.Limits.{max_names}
 use Rattle.irc_answers.specs.Names.{listed, name_line, name_lines}
 use Rattle.irc_answers.specs.Loops.NameLines.{is_shown}
-use Rattle.irc_answers.proofs.CameLines.{all_came}
+use Rattle.irc_answers.specs.Lemmas.CameLines.{all_came}
 use Rattle.irc_answers.proofs.names.put_names.Goals as goal
 
 pub returns : goal.returns

@@ -1,4 +1,4 @@
-use Rattle.irc_line.proofs.CutLaws.{cut_two}
+use Rattle.irc_line.specs.Lemmas.CutLaws.{cut_two}
 use Rattle.irc_line.proofs.writing.push_full.Goals as goal
 
 pub returns-clause-pushed : goal.returns-clause-pushed

@@ -2,7 +2,7 @@ use Rattle.std.proofs.Common.{◌++◌, sym, ◌∙◌, ap}
 use Rattle.irc_line.specs.Bytes.{cut}
 use Rattle.irc_line.specs.Messages.{last_text}
 use Rattle.irc_line.specs.MessageViews.{optional_now}
-use Rattle.irc_line.proofs.CutLaws.{cut_two}
+use Rattle.irc_line.specs.Lemmas.CutLaws.{cut_two}
 use Rattle.irc_line.proofs.writing.push_last.Goals as goal
 
 pub returns-in-Some-clause-pushed : goal.returns-in-Some-clause-pushed

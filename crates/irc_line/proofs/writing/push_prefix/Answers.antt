@@ -2,7 +2,7 @@ use Rattle.std.proofs.Common.{[], ◌∷◌, ◌++◌, sym, ◌∙◌, ap}
 use Rattle.irc_line.specs.Bytes.{cut, colon, space}
 use Rattle.irc_line.specs.Messages.{prefix_text, prefix_of, full_name}
 use Rattle.irc_line.specs.PartViews.{sender}
-use Rattle.irc_line.proofs.CutLaws.{cut_two}
+use Rattle.irc_line.specs.Lemmas.CutLaws.{cut_two}
 use Rattle.irc_line.proofs.writing.push_prefix.Goals as goal
 
 pub returns-in-Name-clause-pushed : goal.returns-in-Name-clause-pushed

@@ -1,7 +1,7 @@
 use Rattle.std.proofs.Common.{◌∙◌, ◌++◌, List, ℕ, sym, ap, subst}
 use Rattle.irc_names.specs.Fold.{key}
 use Rattle.irc_names.specs.Tables.{row}
-use Rattle.irc_tables.proofs.RowsAsTable.{ok_also}
+use Rattle.irc_tables.specs.Lemmas.RowsAsTable.{ok_also}
 use Rattle.irc_room.specs.Effects.{is_member}
 use Rattle.irc_acts.specs.Moves.{AreOwnJoins}
 use Rattle.irc_acts.specs.MoveLaws.{own_joins_are_moves}

@@ -2,7 +2,7 @@ use Rattle.std.proofs.Common.{◌≡◌, false, cond, ◌∙◌, ap}
 use Rattle.std.specs.List.{list_any, insert}
 use Rattle.irc_names.specs.Fold.{same}
 use Rattle.irc_modes.specs.Bans.{rises}
-use Rattle.irc_modes.proofs.BanPlaces.{set_new, set_rises}
+use Rattle.irc_modes.specs.Lemmas.BanPlaces.{set_new, set_rises}
 use Rattle.irc_modes.proofs.ban_changing.set.Goals as goal
 
 pub returns-clause-value : goal.returns-clause-value

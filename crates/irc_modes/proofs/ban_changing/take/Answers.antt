@@ -2,7 +2,7 @@ use Rattle.std.proofs.Common.{◌≡◌, Some, None, ◌∙◌, ap}
 use Rattle.std.specs.List.{position}
 use Rattle.irc_names.specs.Fold.{same}
 use Rattle.irc_modes.specs.Bans.{rises}
-use Rattle.irc_modes.proofs.BanPlaces.{taken_out, none_out}
+use Rattle.irc_modes.specs.Lemmas.BanPlaces.{taken_out, none_out}
 use Rattle.irc_modes.proofs.ban_changing.take.Goals as goal
 
 pub returns-in-Some-clause-value : goal.returns-in-Some-clause-value

@@ -1,4 +1,4 @@
-use Rattle.irc_modes.proofs.FewRead.{read_changes_are_few}
+use Rattle.irc_modes.specs.Lemmas.FewRead.{read_changes_are_few}
 use Rattle.irc_modes.proofs.laws.read_changes_are_few.Goals as goal
 
 pub returns : goal.returns

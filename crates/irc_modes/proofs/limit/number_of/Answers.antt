@@ -1,5 +1,5 @@
 use Rattle.std.proofs.Common.{◌∙◌, ◌<◌, sym, ap, refl, arith, ◌+◌, ◌-◌, ◌*◌, get_or}
-use Rattle.irc_modes.proofs.DigitSteps.{number_more, below_first, below_next}
+use Rattle.irc_modes.specs.Lemmas.DigitSteps.{number_more, below_first, below_next}
 use Rattle.irc_modes.proofs.limit.number_of.Goals as goal
 
 pub loop-digit-init : goal.loop-digit-init

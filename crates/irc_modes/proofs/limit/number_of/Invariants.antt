@@ -1,6 +1,6 @@
 use Rattle.std.proofs.Common.{◌≡◌, take}
 use Rattle.irc_modes.specs.Modes.{number_of}
-use Rattle.irc_modes.proofs.DigitSteps.{Below}
+use Rattle.irc_modes.specs.Lemmas.DigitSteps.{Below}
 use Rattle.irc_modes.proofs.limit.number_of.Given as goal
 
 abbrev pub invariant-loop-digit : goal.invariant-loop-digit

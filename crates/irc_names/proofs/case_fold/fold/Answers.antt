@@ -1,5 +1,5 @@
 use Rattle.std.proofs.Common.{rules}
-use Rattle.irc_names.proofs.FoldsByRanges.{folds}
+use Rattle.irc_names.specs.Lemmas.FoldsByRanges.{folds}
 use Rattle.irc_names.proofs.case_fold.fold.Goals as goal
 
 pub returns-in-126 : goal.returns-in-126

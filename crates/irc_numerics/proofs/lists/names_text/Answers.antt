@@ -1,8 +1,8 @@
 use Rattle.std.proofs.Common.{◌∷◌, ◌++◌, ◌∙◌, ap}
 use Rattle.irc_line.specs.Bytes.{cut, space}
 use Rattle.irc_numerics.specs.Replies.{mark_text, listed}
-use Rattle.irc_numerics.proofs.Cutting.{cut-nil}
-use Rattle.irc_numerics.proofs.Entries.{entry_goes_on}
+use Rattle.irc_numerics.specs.Lemmas.Cutting.{cut-nil}
+use Rattle.irc_numerics.specs.Lemmas.Entries.{entry_goes_on}
 use Rattle.irc_numerics.proofs.lists.names_text.Goals as goal
 
 pub loop-i-init : goal.loop-i-init

@@ -1,5 +1,5 @@
 use Rattle.std.proofs.Common.{◌∙◌}
-use Rattle.irc_numerics.proofs.Cutting.{cut-nil, piece_goes_on}
+use Rattle.irc_numerics.specs.Lemmas.Cutting.{cut-nil, piece_goes_on}
 use Rattle.irc_numerics.proofs.writing.joined.Goals as goal
 
 pub loop-piece-init : goal.loop-piece-init

@@ -1,6 +1,6 @@
 use Rattle.std.proofs.Common.{[], ◌∷◌, ◌++◌}
 use Rattle.irc_line.specs.Bytes.{space}
-use Rattle.irc_line.proofs.CutLaws.{cut_two}
+use Rattle.irc_line.specs.Lemmas.CutLaws.{cut_two}
 use Rattle.irc_numerics.specs.Replies.{mark_text}
 use Rattle.irc_numerics.proofs.writing.push_entry.Goals as goal
 

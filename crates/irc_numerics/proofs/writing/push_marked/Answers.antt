@@ -1,6 +1,6 @@
 use Rattle.std.proofs.Common.{◌++◌, ◌∙◌, ap}
 use Rattle.irc_line.specs.Bytes.{cut}
-use Rattle.irc_line.proofs.CutLaws.{cut_two}
+use Rattle.irc_line.specs.Lemmas.CutLaws.{cut_two}
 use Rattle.irc_numerics.proofs.writing.push_marked.Goals as goal
 
 pub returns : goal.returns

@@ -3,8 +3,8 @@ use Rattle.std.specs.Borrow.{Bor}
 use Rattle.irc_line.specs.Bytes.{cut, space}
 use Rattle.irc_users.specs.declared.user.User.{User}
 use Rattle.irc_numerics.specs.Replies.{spaced}
-use Rattle.irc_numerics.proofs.Cutting.{cut-nil}
-use Rattle.irc_numerics.proofs.Entries.{entry_goes_on}
+use Rattle.irc_numerics.specs.Lemmas.Cutting.{cut-nil}
+use Rattle.irc_numerics.specs.Lemmas.Entries.{entry_goes_on}
 use Rattle.irc_queries.proofs.MappedTwice.{mapped_twice}
 use Rattle.irc_queries.proofs.ison.nicks_text.Goals as goal
 

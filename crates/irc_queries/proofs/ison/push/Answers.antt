@@ -1,7 +1,7 @@
 use Rattle.std.proofs.Common.{◌≤◌, length, arith}
 use Rattle.std.proofs.lemmas.Grind.{common_steps}
 use Rattle.irc_line.specs.Limits.{max_line}
-use Rattle.irc_line.proofs.CutLaws.{cut-append}
+use Rattle.irc_line.specs.Lemmas.CutLaws.{cut-append}
 use Rattle.irc_queries.proofs.ison.push.Goals as goal
 
 pub returns : goal.returns

@@ -1,6 +1,6 @@
 use Rattle.std.proofs.Common.{[], ◌∷◌}
 use Rattle.irc_line.specs.Bytes.{space}
-use Rattle.irc_line.proofs.CutLaws.{cut_two}
+use Rattle.irc_line.specs.Lemmas.CutLaws.{cut_two}
 use Rattle.irc_queries.proofs.ison.push_nick.Goals as goal
 
 pub returns-else-place-eq0-clause-later : goal.returns-else-place-eq0-clause-later

@@ -2,7 +2,7 @@ use Rattle.std.proofs.Common.{◌∙◌, ap, sym, ◌++◌}
 use Rattle.std.proofs.lemmas.List.{append-nil}
 use Rattle.irc_room.specs.Room.{Room}
 use Rattle.irc_room.proofs.IdleLaw.{idle_changes_nothing}
-use Rattle.irc_room.proofs.Rows.{not_true}
+use Rattle.irc_room.specs.Lemmas.Rows.{not_true}
 use Rattle.irc_room.proofs.ToldLaw.{idle_tells_nothing}
 use Rattle.irc_room.proofs.changing.perform.Goals as goal
 

@@ -3,7 +3,7 @@ use Rattle.irc_names.specs.Fold.{key}
 use Rattle.irc_names.specs.Tables.{row}
 use Rattle.irc_channels.specs.Channels.{all_changed}
 use Rattle.irc_room.proofs.Keeping.{owed_stays, none_is_memory}
-use Rattle.irc_room.proofs.Rows.{alter_same}
+use Rattle.irc_room.specs.Lemmas.Rows.{alter_same}
 use Rattle.irc_room.proofs.indexed_channels.change_modes.Goals as goal
 
 pub returns-in-Err-NoSuchChannel-clause-ok : goal.returns-in-Err-NoSuchChannel-clause-ok

@@ -1,7 +1,7 @@
 use Rattle.std.proofs.Common.{◌∙◌, sym}
 use Rattle.irc_names.specs.Fold.{key}
 use Rattle.irc_room.proofs.Keeping.{either_way, left_stays}
-use Rattle.irc_room.proofs.Rows.{alter_same}
+use Rattle.irc_room.specs.Lemmas.Rows.{alter_same}
 use Rattle.irc_room.proofs.indexed_channels.leave.Goals as goal
 
 pub returns : goal.returns

@@ -2,7 +2,7 @@ use Rattle.std.proofs.Common.{◌∙◌, sym}
 use Rattle.irc_names.specs.Fold.{key}
 use Rattle.irc_channels.specs.Channels.{with_topic}
 use Rattle.irc_room.proofs.Keeping.{either_way, absent_stays}
-use Rattle.irc_room.proofs.Rows.{alter_same}
+use Rattle.irc_room.specs.Lemmas.Rows.{alter_same}
 use Rattle.irc_room.proofs.indexed_channels.set_topic.Goals as goal
 
 pub returns : goal.returns

@@ -1,6 +1,6 @@
 use Rattle.irc_names.specs.Fold.{key}
 use Rattle.irc_names.specs.Tables.{row}
-use Rattle.irc_tables.proofs.RowsAsTable.{ok_also}
+use Rattle.irc_tables.specs.Lemmas.RowsAsTable.{ok_also}
 use Rattle.irc_room.proofs.WhoSees.{gains_alike, channel_rows}
 use Rattle.irc_room.proofs.viewers.put_members.Goals as goal
 

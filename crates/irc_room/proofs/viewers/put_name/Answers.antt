@@ -1,5 +1,5 @@
 use Rattle.irc_names.specs.Fold.{key}
-use Rattle.irc_tables.proofs.RowsAsTable.{ok_also}
+use Rattle.irc_tables.specs.Lemmas.RowsAsTable.{ok_also}
 use Rattle.irc_room.proofs.WhoSees.{put_gains}
 use Rattle.irc_room.proofs.viewers.put_name.Goals as goal
 

@@ -1,7 +1,7 @@
 use Rattle.std.proofs.Common.{◌∙◌, ap, ℕ, List}
 use Rattle.std.specs.List.{list_any}
 use Rattle.irc_names.specs.Fold.{key}
-use Rattle.irc_tables.proofs.RowsAsTable.{ok_also}
+use Rattle.irc_tables.specs.Lemmas.RowsAsTable.{ok_also}
 use Rattle.irc_channels.specs.Channels.{has_member}
 use Rattle.irc_room.specs.Indexes.{holds}
 use Rattle.irc_room.proofs.WhoSees.{gains_alike}

@@ -4,7 +4,7 @@ use Rattle.irc_server.specs.RoomMachine.{without_client}
 use Rattle.irc_server.specs.Handle.{quits, unchanged, with_effect}
 use Rattle.irc_server.specs.Loops.Stage.{behind, machine_at, IsFit}
 use Rattle.irc_server.proofs.Steps.{nothing_behind}
-use Rattle.irc_server.proofs.MatchedEvents.{gone_fit}
+use Rattle.irc_server.specs.Lemmas.MatchedEvents.{gone_fit}
 use Rattle.irc_server.proofs.Growing.{on_ok}
 use Rattle.irc_server.proofs.WhatEventsDo.{lost_is_whole}
 use Rattle.irc_server.proofs.acting.go.Goals as goal

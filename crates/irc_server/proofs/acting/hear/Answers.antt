@@ -1,6 +1,6 @@
 use Rattle.irc_line.specs.MessageViews.{parsed}
 use Rattle.irc_server.specs.Loops.Stage.{machine_at}
-use Rattle.irc_server.proofs.MatchedEvents.{registering_fit, registering_free}
+use Rattle.irc_server.specs.Lemmas.MatchedEvents.{registering_fit, registering_free}
 use Rattle.irc_server.proofs.acting.hear.Goals as goal
 
 pub settle-requires-clause-free : goal.settle-requires-clause-free

@@ -4,7 +4,7 @@ use Rattle.irc_names.specs.Fold.{key}
 use Rattle.irc_names.specs.Tables.{row}
 use Rattle.irc_commands.specs.Decisions.{Decided}
 use Rattle.irc_server.specs.Loops.Stage.{behind, machine_at}
-use Rattle.irc_server.proofs.MatchedEvents.{decided_fit}
+use Rattle.irc_server.specs.Lemmas.MatchedEvents.{decided_fit}
 use Rattle.irc_server.proofs.Growing.{on_ok}
 use Rattle.irc_server.proofs.WhatEventsDo.{carried, decided_by_name}
 use Rattle.irc_server.proofs.acting.obey.Goals as goal

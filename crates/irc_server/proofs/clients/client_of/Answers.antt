@@ -1,5 +1,5 @@
 use Rattle.std.proofs.Common.{sym, ◌∙◌}
-use Rattle.irc_server.proofs.Numbers.{get-numbered}
+use Rattle.irc_server.specs.Lemmas.Numbers.{get-numbered}
 use Rattle.irc_server.proofs.clients.client_of.Goals as goal
 
 pub returns : goal.returns

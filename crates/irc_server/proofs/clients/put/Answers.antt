@@ -1,4 +1,4 @@
-use Rattle.irc_server.proofs.Numbers.{put-numbered}
+use Rattle.irc_server.specs.Lemmas.Numbers.{put-numbered}
 use Rattle.irc_server.proofs.clients.put.Goals as goal
 
 pub returns-in-Ok : goal.returns-in-Ok

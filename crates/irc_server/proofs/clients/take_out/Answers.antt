@@ -1,6 +1,6 @@
 use Rattle.std.proofs.Common.{sym, ◌∙◌}
 use Rattle.irc_server.specs.Loops.Stage.{clients_of, numbered}
-use Rattle.irc_server.proofs.Numbers.{get-numbered, taken-numbered}
+use Rattle.irc_server.specs.Lemmas.Numbers.{get-numbered, taken-numbered}
 use Rattle.irc_server.proofs.Index.{left_indexed}
 use Rattle.irc_server.proofs.clients.take_out.Goals as goal
 

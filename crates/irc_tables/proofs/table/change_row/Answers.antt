@@ -3,7 +3,7 @@ use Rattle.std.specs.Option.{option_and_then}
 use Rattle.irc_names.specs.Fold.{key}
 use Rattle.irc_tables.specs.FoldedRows.{table_of, IsInFoldedOrder}
 use Rattle.irc_tables.specs.RowViews.{row_entry}
-use Rattle.irc_tables.proofs.RowsAsTable.{replaced-table, replaced-sorted, removed-table, removed-sorted, remove_changed, row-present, alter_alike, said_goes, said_stays}
+use Rattle.irc_tables.specs.Lemmas.RowsAsTable.{replaced-table, replaced-sorted, removed-table, removed-sorted, remove_changed, row-present, alter_alike, said_goes, said_stays}
 use Rattle.irc_tables.proofs.table.change_row.Goals as goal
 
 pub returns-then-not-stays-clause-after : goal.returns-then-not-stays-clause-after

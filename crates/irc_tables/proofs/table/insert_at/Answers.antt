@@ -3,7 +3,7 @@ use Rattle.std.specs.List.{insert}
 use Rattle.irc_names.specs.Fold.{key}
 use Rattle.irc_tables.specs.FoldedRows.{table_of, IsInFoldedOrder}
 use Rattle.irc_tables.specs.RowViews.{row_entry}
-use Rattle.irc_tables.proofs.RowsAsTable.{added-table, added-sorted}
+use Rattle.irc_tables.specs.Lemmas.RowsAsTable.{added-table, added-sorted}
 use Rattle.irc_tables.proofs.table.insert_at.Goals as goal
 use Rattle.irc_tables.proofs.table.insert_at.Goals.{in-Ok, in-Err}
 

@@ -3,8 +3,8 @@ use Rattle.irc_names.specs.Fold.{key}
 use Rattle.irc_names.specs.Tables.{fold_cmp}
 use Rattle.irc_tables.specs.FoldedRows.{IsPlaceOf}
 use Rattle.irc_tables.specs.RowViews.{row_entry}
-use Rattle.irc_tables.proofs.RowsAsTable.{place-known}
-use Rattle.irc_tables.proofs.SearchedRows.{answers_kept, place_found}
+use Rattle.irc_tables.specs.Lemmas.RowsAsTable.{place-known}
+use Rattle.irc_tables.specs.Lemmas.SearchedRows.{answers_kept, place_found}
 use Rattle.irc_tables.proofs.table.place_of.Goals as goal
 
 pub returns : goal.returns

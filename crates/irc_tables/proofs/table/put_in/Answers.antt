@@ -2,7 +2,7 @@ use Rattle.std.proofs.Common.{◌∙◌, ap, subst}
 use Rattle.irc_names.specs.Fold.{key}
 use Rattle.irc_tables.specs.FoldedRows.{StandsAt}
 use Rattle.irc_tables.specs.RowViews.{row_entry}
-use Rattle.irc_tables.proofs.RowsAsTable.{replaced-table, replaced-sorted}
+use Rattle.irc_tables.specs.Lemmas.RowsAsTable.{replaced-table, replaced-sorted}
 use Rattle.irc_tables.proofs.table.put_in.Goals as goal
 
 pub returns-in-Ok-clause-after : goal.returns-in-Ok-clause-after

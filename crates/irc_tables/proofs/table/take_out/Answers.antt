@@ -2,7 +2,7 @@ use Rattle.std.proofs.Common.{◌∙◌, ap, sym, subst}
 use Rattle.irc_names.specs.Fold.{key}
 use Rattle.irc_tables.specs.FoldedRows.{table_of, IsInFoldedOrder, StandsAt, BelongsAt}
 use Rattle.irc_tables.specs.RowViews.{row_entry}
-use Rattle.irc_tables.proofs.RowsAsTable.{row-stands, row-absent, removed-table, removed-sorted, alter-absent}
+use Rattle.irc_tables.specs.Lemmas.RowsAsTable.{row-stands, row-absent, removed-table, removed-sorted, alter-absent}
 use Rattle.irc_tables.proofs.table.take_out.Goals as goal
 
 pub returns-in-Ok-clause-value : goal.returns-in-Ok-clause-value

@@ -2,7 +2,7 @@ use Rattle.std.proofs.Common.{false, IsTrue, ◌∙◌, ap, sym, subst, Some}
 use Rattle.std.specs.Option.{option_map, option_map_or}
 use Rattle.irc_names.specs.Fold.{key}
 use Rattle.irc_tables.specs.RowViews.{row_entry}
-use Rattle.irc_tables.proofs.RowsAsTable.{replaced-table, replaced-sorted, row-present, alter_alike, ok_also}
+use Rattle.irc_tables.specs.Lemmas.RowsAsTable.{replaced-table, replaced-sorted, row-present, alter_alike, ok_also}
 use Rattle.irc_tables.proofs.table.try_row.Goals as goal
 
 pub returns-clause-ok : goal.returns-clause-ok

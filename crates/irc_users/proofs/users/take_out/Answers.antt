@@ -1,30 +1,41 @@
-use Rattle.std.proofs.Common.{◌∙◌, ap, sym, subst}
+use Rattle.std.proofs.Common.{◌∙◌, ap, sym, subst, map}
+use Rattle.std.specs.List.{remove}
 use Rattle.irc_names.specs.Fold.{key}
-use Rattle.irc_tables.specs.FoldedRows.{table_of, IsInFoldedOrder, StandsAt, BelongsAt}
+use Rattle.irc_tables.specs.FoldedRows.{table_of, IsInFoldedOrder}
 use Rattle.irc_users.specs.UserTable.{entry}
-use Rattle.irc_tables.proofs.RowsAsTable.{row-stands, row-absent, removed-table, removed-sorted, alter-absent}
+use Rattle.irc_users.specs.Rosters.{head}
+use Rattle.irc_tables.specs.Lemmas.RowsAsTable.{row-stands, row-absent, removed-table, removed-sorted, alter-absent}
+use Rattle.irc_users.proofs.Heads.{of_slice, remove-heads}
 use Rattle.irc_users.proofs.users.take_out.Goals as goal
 
 pub returns-in-Ok-clause-value : goal.returns-in-Ok-clause-value
 returns-in-Ok-clause-value c =
-    let at = subst (λ users. StandsAt entry users (key c.args.nick.now) c.in-Ok.place) c.deref.ensures.value c.in-Ok.ensures.place in
-    sym (row-stands entry _ _ c.in-Ok.place _ c.requires at c.remove.ensures.value)
+    let at = c.in-Ok.ensures _ (of_slice _ _ _ c.requires c.deref.ensures.value) in
+    sym (row-stands entry _ _ c.in-Ok.place _ c.requires.ordered at c.remove-in-Ok.ensures.value)
 
 pub returns-in-Ok-clause-after : goal.returns-in-Ok-clause-after
 returns-in-Ok-clause-after c =
-    let at = subst (λ users. StandsAt entry users (key c.args.nick.now) c.in-Ok.place) c.deref.ensures.value c.in-Ok.ensures.place in
-    ap (table_of entry) c.remove.ensures.items
-    ∙ removed-table entry _ (key c.args.nick.now) c.in-Ok.place _ c.remove.result c.requires at.within c.remove.ensures.value
-    (ap (λ k. (k, c.remove.result)) (ap (λ u. key u.nick) c.remove.ensures.value ∙ at.named _))
+    let at = c.in-Ok.ensures _ (of_slice _ _ _ c.requires c.deref.ensures.value) in
+    ap (table_of entry) c.remove-in-Ok.ensures.items
+    ∙ removed-table entry _ (key c.args.nick.now) c.in-Ok.place _ c.remove-in-Ok.result c.requires.ordered at.within c.remove-in-Ok.ensures.value
+    (ap (λ k. (k, c.remove-in-Ok.result)) (ap (λ u. key u.nick) c.remove-in-Ok.ensures.value ∙ at.named _))
 
-pub returns-in-Ok-clause-ordered : goal.returns-in-Ok-clause-ordered
-returns-in-Ok-clause-ordered c =
-    let at = subst (λ users. StandsAt entry users (key c.args.nick.now) c.in-Ok.place) c.deref.ensures.value c.in-Ok.ensures.place in
-    subst (λ users. IsInFoldedOrder entry users) (sym c.remove.ensures.items)
-    (removed-sorted entry _ (key c.args.nick.now) c.in-Ok.place _ c.remove.result c.requires at.within c.remove.ensures.value
-    (ap (λ k. (k, c.remove.result)) (ap (λ u. key u.nick) c.remove.ensures.value ∙ at.named _)))
+pub returns-in-Ok-clause-roster : goal.returns-in-Ok-clause-roster
+returns-in-Ok-clause-roster c =
+    let at = c.in-Ok.ensures _ (of_slice _ _ _ c.requires c.deref.ensures.value) in
+    record {
+      ordered =
+          subst (λ users. IsInFoldedOrder entry users) (sym c.remove-in-Ok.ensures.items)
+          (removed-sorted entry _ (key c.args.nick.now) c.in-Ok.place _ c.remove-in-Ok.result c.requires.ordered at.within c.remove-in-Ok.ensures.value
+          (ap (λ k. (k, c.remove-in-Ok.result)) (ap (λ u. key u.nick) c.remove-in-Ok.ensures.value ∙ at.named _)));
+      beside =
+          c.remove.ensures.items ∙ ap (λ hs. remove hs c.in-Ok.place) c.requires.beside ∙ remove-heads c.args.rows.now.items c.in-Ok.place
+          ∙ ap (map head) (sym c.remove-in-Ok.ensures.items);
+    }
+
+pub returns-in-Err-clause-value : goal.returns-in-Err-clause-value
+returns-in-Err-clause-value c = sym (row-absent entry _ _ _ (c.in-Err.ensures _ (of_slice _ _ _ c.requires c.deref.ensures.value)))
 
 pub returns-in-Err-clause-after : goal.returns-in-Err-clause-after
 returns-in-Err-clause-after c =
-    let gap = subst (λ users. BelongsAt entry users (key c.args.nick.now) c.in-Err.field-0) c.deref.ensures.value c.in-Err.ensures.place in
-    sym (alter-absent _ _ (row-absent entry _ _ _ gap))
+    sym (alter-absent _ _ (row-absent entry _ _ _ (c.in-Err.ensures _ (of_slice _ _ _ c.requires c.deref.ensures.value))))

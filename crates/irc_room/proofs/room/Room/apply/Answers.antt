@@ -6,8 +6,8 @@ use Rattle.irc_room.specs.Loops.HomeCount.{home_count}
 use Rattle.irc_room.specs.Loops.Telling.{shown_at}
 use Rattle.irc_room.proofs.CountedUsers.{still_counted}
 use Rattle.irc_room.proofs.Refusals.{refused, served, kept_changed, kept_refused, idle_stays, not_done}
-use Rattle.irc_room.proofs.Rows.{not_none}
-use Rattle.irc_room.proofs.WellFormedLaw.{after_is_well_formed}
+use Rattle.irc_room.specs.Lemmas.Rows.{not_none}
+use Rattle.irc_room.specs.Lemmas.WellFormedLaw.{after_is_well_formed}
 use Rattle.irc_room.proofs.room.Room.apply.Goals as goal
 
 pub returns-in-Some-clause-applied : goal.returns-in-Some-clause-applied

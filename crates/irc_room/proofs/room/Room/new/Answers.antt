@@ -2,7 +2,7 @@ use Rattle.std.proofs.Common.{◌∙◌, ap, sym, subst}
 use Rattle.std.specs.FinMap.{empty}
 use Rattle.irc_room.specs.Room.{IsWellFormed}
 use Rattle.irc_room.proofs.CountedUsers.{none_home}
-use Rattle.irc_room.proofs.WellFormedLaw.{no_room_is_well_formed}
+use Rattle.irc_room.specs.Lemmas.WellFormedLaw.{no_room_is_well_formed}
 use Rattle.irc_room.proofs.room.Room.new.Goals as goal
 
 pub invariant_of-result : goal.invariant_of-result

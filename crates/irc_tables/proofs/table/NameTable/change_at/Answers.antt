@@ -4,7 +4,7 @@ use Rattle.irc_names.specs.Fold.{key}
 use Rattle.irc_names.specs.Tables.{row}
 use Rattle.irc_tables.specs.FoldedRows.{BelongsAt}
 use Rattle.irc_tables.specs.RowViews.{row_entry}
-use Rattle.irc_tables.proofs.RowsAsTable.{row-absent, alter-absent, alter_alike}
+use Rattle.irc_tables.specs.Lemmas.RowsAsTable.{row-absent, alter-absent, alter_alike}
 use Rattle.irc_tables.proofs.table.NameTable.change_at.Goals as goal
 
 pub returns-in-Err : goal.returns-in-Err

@@ -1,7 +1,7 @@
 use Rattle.std.proofs.Common.{rules, ◌≡◌, refl, ◌∙◌, ap}
 use Rattle.irc_names.specs.Tables.{each}
 use Rattle.irc_tables.specs.RowViews.{row_entry}
-use Rattle.irc_tables.proofs.ChangedRows.{retained-sorted, retained-table}
+use Rattle.irc_tables.specs.Lemmas.ChangedRows.{retained-sorted, retained-table}
 use Rattle.irc_tables.proofs.table.NameTable.change_each.Goals as goal
 
 pub invariant_of-self : goal.invariant_of-self

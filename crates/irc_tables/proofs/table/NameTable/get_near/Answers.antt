@@ -3,7 +3,7 @@ use Rattle.irc_names.specs.Fold.{key}
 use Rattle.irc_names.specs.Tables.{row}
 use Rattle.irc_tables.specs.FoldedRows.{StandsAt, BelongsAt}
 use Rattle.irc_tables.specs.RowViews.{row_entry}
-use Rattle.irc_tables.proofs.RowsAsTable.{row-stands, row-absent}
+use Rattle.irc_tables.specs.Lemmas.RowsAsTable.{row-stands, row-absent}
 use Rattle.irc_tables.proofs.table.NameTable.get_near.Goals as goal
 
 pub returns-in-Ok : goal.returns-in-Ok

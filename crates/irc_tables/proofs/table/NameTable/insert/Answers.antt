@@ -3,7 +3,7 @@ use Rattle.irc_names.specs.Fold.{key}
 use Rattle.irc_names.specs.Tables.{alter}
 use Rattle.irc_tables.specs.FoldedRows.{StandsAt}
 use Rattle.irc_tables.specs.RowViews.{row_entry}
-use Rattle.irc_tables.proofs.RowsAsTable.{replaced-table, replaced-sorted}
+use Rattle.irc_tables.specs.Lemmas.RowsAsTable.{replaced-table, replaced-sorted}
 use Rattle.irc_tables.proofs.table.NameTable.insert.Goals as goal
 
 pub invariant_of-self : goal.invariant_of-self

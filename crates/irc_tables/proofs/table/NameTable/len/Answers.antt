@@ -1,7 +1,7 @@
 use Rattle.std.proofs.Common.{◌∙◌, ap, sym, length}
 use Rattle.std.specs.FinMap.{keys}
 use Rattle.irc_tables.specs.RowViews.{row_entry}
-use Rattle.irc_tables.proofs.RowsAsTable.{length-keys}
+use Rattle.irc_tables.specs.Lemmas.RowsAsTable.{length-keys}
 use Rattle.irc_tables.proofs.table.NameTable.len.Goals as goal
 
 pub returns : goal.returns

@@ -1,7 +1,7 @@
 use Rattle.std.proofs.Common.{◌∙◌, ap}
 use Rattle.irc_names.specs.Fold.{key}
 use Rattle.irc_names.specs.Tables.{moved}
-use Rattle.irc_tables.proofs.RowsAsTable.{moved_there, moved_not}
+use Rattle.irc_tables.specs.Lemmas.RowsAsTable.{moved_there, moved_not}
 use Rattle.irc_tables.proofs.table.NameTable.rename.Goals as goal
 
 pub returns-in-Some : goal.returns-in-Some

@@ -1,5 +1,5 @@
 use Rattle.std.proofs.Common.{◌∙◌}
-use Rattle.irc_users.proofs.CleanNames.{clean_name, clean_whole}
+use Rattle.irc_users.specs.Lemmas.CleanNames.{clean_name, clean_whole}
 use Rattle.irc_users.proofs.texts.UserName.clean.Goals as goal
 
 pub invariant_of-result : goal.invariant_of-result

@@ -4,4 +4,4 @@ use Rattle.irc_users.proofs.UserRows.{values-table_of}
 use Rattle.irc_users.proofs.users.Users.as_slice.Goals as goal
 
 pub returns : goal.returns
-returns c = c.as_slice.ensures.value ∙ sym (values-table_of _ c.self.invariant) ∙ ap values c.self.view_is
+returns c = c.as_slice.ensures.value ∙ sym (values-table_of _ c.self.invariant.ordered) ∙ ap values c.self.view_is

@@ -1,14 +1,19 @@
-use Rattle.std.proofs.Common.{◌∙◌, ap, sym, subst}
+use Rattle.std.proofs.Common.{◌∙◌, ap, sym}
 use Rattle.irc_names.specs.Fold.{key}
 use Rattle.irc_names.specs.Tables.{row}
-use Rattle.irc_tables.specs.FoldedRows.{StandsAt}
 use Rattle.irc_users.specs.UserTable.{entry}
-use Rattle.irc_tables.proofs.RowsAsTable.{row-stands}
+use Rattle.irc_tables.specs.Lemmas.RowsAsTable.{row-stands, row-absent}
+use Rattle.irc_users.proofs.Heads.{of_slice}
 use Rattle.irc_users.proofs.users.Users.find_named.Goals as goal
 
 pub returns-in-Ok : goal.returns-in-Ok
 returns-in-Ok c =
     let fold = key c.args.name.now in
+    let at = c.in-Ok.ensures _ (of_slice _ _ _ c.self.invariant c.deref.ensures.value) in
     sym (ap (λ table. row table fold) (sym c.self.view_is)
-    ∙ row-stands entry _ fold c.in-Ok.place _ c.self.invariant
-    (subst (λ users. StandsAt entry users fold c.in-Ok.place) c.deref.ensures.value c.in-Ok.ensures.place) c.index.ensures)
+    ∙ row-stands entry _ fold c.in-Ok.place _ c.self.invariant.ordered at c.index.ensures)
+
+pub returns-in-Err : goal.returns-in-Err
+returns-in-Err c =
+    let gap = c.in-Err.ensures _ (of_slice _ _ _ c.self.invariant c.deref.ensures.value) in
+    sym (ap (λ table. row table (key c.args.name.now)) (sym c.self.view_is) ∙ row-absent entry _ _ _ gap)

@@ -3,13 +3,14 @@ use Rattle.irc_names.specs.Tables.{moved}
 use Rattle.irc_names.specs.Fold.{key}
 use Rattle.irc_tables.specs.FoldedRows.{table_of}
 use Rattle.irc_users.specs.UserTable.{entry, is_taken, with_nick}
+use Rattle.irc_users.proofs.Heads.{of_slice}
 use Rattle.irc_users.proofs.Renamings.{free_then, moved_in_steps}
 use Rattle.irc_users.proofs.users.Users.rename.Goals as goal
 
 pub put_back-requires-clause-free : goal.put_back-requires-clause-free
 put_back-requires-clause-free c =
     let free : is_taken (table_of entry c.self.inside.rows.items) c.args.nick.now c.args.new.now ≡ false =
-    sym (c.if-is_taken.ensures ∙ ap (λ users. is_taken (table_of entry users) c.args.nick.now c.args.new.now) c.deref.ensures.value) in
+    sym (c.if-is_taken.ensures _ (of_slice _ _ _ c.self.invariant c.deref.ensures.value)) in
     free_then _ _ c.args.nick.now c.args.new.now _ free c.take_out.ensures.after c.copy-user.ensures
 
 pub returns-clause-ok : goal.returns-clause-ok

@@ -1,0 +1,8 @@
+-- Lemmas, with their proofs, that the crates above cite too. No rule stands here.
+pub mod BanPlaces
+pub mod DigitSteps
+pub mod FewRead
+pub mod LetterReading
+pub mod LimitText
+pub mod LimitsKept
+pub mod SetAgain

@@ -1,0 +1,5 @@
+-- Lemmas, with their proofs, that the crates above cite too. No rule stands here.
+pub mod ChangedRows
+pub mod OrderedEntries
+pub mod RowsAsTable
+pub mod SearchedRows
