@@ -7,3 +7,8 @@ pub mod LastWords
 pub mod KeptWords
 pub mod WordsTaken
 pub mod FoundGiven
+pub mod NameKinds
+pub mod StoredNames
+pub mod EffectsRead
+pub mod MeaningsBack
+pub mod LinesBack

@@ -4,3 +4,4 @@ pub mod Written
 pub mod Reader
 pub mod Means
 pub mod Loops
+pub mod ReadBack
