@@ -77,7 +77,8 @@ target_back (target.User nick) named = ap (λ b. if b then target.Channel nick e
 target_back (target.Channel channel) named = ap (λ b. if b then target.Channel channel else target.User channel) (channel-for_channel channel named)
 
 said_read : (reader : Reader) (nick : List ℕ) (notice : Bool) (to : Target) (text : ArrayVec ℕ) → IsExpected reader nick (Say nick notice to text)
-    → IsTarget to → length text.items ≤ max_line → first_fault (say_line notice reader (Some nick) (target_word to ∷ text.items ∷ [])) ≡ Ok (Say nick notice to text ∷ [])
+    → IsTarget to → length text.items ≤ max_line
+    → first_fault (say_line notice reader (Some nick) (target_word to ∷ text.items ∷ [])) ≡ Ok (Say nick notice to text ∷ [])
 said_read reader nick notice to text is named short =
     let names : Bool = if is_for_channel (target_word to) then is_channel (target_word to) else is_nick (target_word to) in
     ap (λ whom. first_fault (of_user reader nick (fits max_line text.items) names (Say nick notice whom text))) (target_back to named)
@@ -149,7 +150,8 @@ user_mode_read reader nick false is =
 -- a text, for a user or for a channel
 pub text_read : (reader : Reader) (nick : List ℕ) (notice : Bool) (to : Target) (text : ArrayVec ℕ) → IsExpected reader nick (Say nick notice to text)
     → IsTarget to → length text.items ≤ max_line
-    → read_by reader (message_of (from nick (if notice then codes "NOTICE" else codes "PRIVMSG") (target_word to ∷ []) (Some (text.items)))) ≡ Ok (Say nick notice to text ∷ [])
+    → read_by reader (message_of (from nick (if notice then codes "NOTICE" else codes "PRIVMSG") (target_word to ∷ []) (Some (text.items))))
+    ≡ Ok (Say nick notice to text ∷ [])
 text_read reader nick true to text is named short = said_read reader nick true to text is named short
 text_read reader nick false to text is named short = said_read reader nick false to text is named short
 

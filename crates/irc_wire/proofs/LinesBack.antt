@@ -204,8 +204,8 @@ join_whole : (name channel : List ℕ) (op : Bool) → length name ≤ max_nick 
 join_whole name channel op short fits =
     let word = marked channel op in
     join_size (length (joined_text (from name (codes "JOIN") (word ∷ []) None))) (length (prefix_text (Some name))) (length (middle_text (word ∷ [])))
-    (length name) (length word) (four_lengths (prefix_text (Some name)) (codes "JOIN") (middle_text (word ∷ [])) []) (named_length name) (word_length word) short
-    (marked_short channel op fits)
+    (length name) (length word) (four_lengths (prefix_text (Some name)) (codes "JOIN") (middle_text (word ∷ [])) []) (named_length name) (word_length word)
+    short (marked_short channel op fits)
 
 wire_whole : SentFitsItsLine → NamedIsWholeToo → (room : Room) (known : Known) (effect : Effect) → IsPlainEffect effect → IsWithinLimits room
     → IsSendable room effect → IsWhole (wire room known effect)
