@@ -12,3 +12,7 @@ pub mod StoredNames
 pub mod EffectsRead
 pub mod MeaningsBack
 pub mod LinesBack
+pub mod NumberText
+pub mod IntroductionRead
+pub mod ModeWords
+pub mod ModesRead

@@ -5,3 +5,5 @@ pub mod Reader
 pub mod Means
 pub mod Loops
 pub mod ReadBack
+pub mod Introductions
+pub mod ModesTaken

@@ -1,0 +1,26 @@
+//! What holds of introductions, and of changes of modes, that one server writes and another reads. Each law is a function that does
+//! nothing, and its contract is the law: the check proves it, and a crate above may cite it.
+ghost use Rattle.irc_wire.specs.Introductions.{IntroducedIsRead};
+ghost use Rattle.irc_wire.specs.ModesTaken.{OtherwiseWrittenIsRefused, TakenIsReadAgain, TakenIsWrittenSo, WrittenChangesAreRead};
+
+/// A user who keeps the limits is read of the line by which a server introduces it (RFC 2813 section 4.1.3), where the reader finds the user's
+/// server under the writer's number, and takes it to be one link further away than the writer does, or knows no distance.
+pub fn introduced_is_read()
+    ensures { IntroducedIsRead }
+{}
+
+/// Changes of a channel's modes that a user makes are read of the line that tells of them, as they are.
+pub fn written_changes_are_read()
+    ensures { WrittenChangesAreRead }
+{
+    irc_modes::laws::written_is_read();
+    irc_room::laws::names_are_line_words();
+}
+
+/// A line of changes of a channel's modes is taken only where what is read of it is written as it is, and refused wherever something else
+/// would be written. Who hands such changes on writes the same words, and they are read again as the same changes.
+pub fn taken_is_written_so()
+    ensures taken { TakenIsWrittenSo }
+    ensures refused { OtherwiseWrittenIsRefused }
+    ensures again { TakenIsReadAgain }
+{}
