@@ -16,3 +16,4 @@ pub mod NumberText
 pub mod IntroductionRead
 pub mod ModeWords
 pub mod ModesRead
+pub mod WholeLines

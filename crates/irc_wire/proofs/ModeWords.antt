@@ -122,6 +122,12 @@ letters_short : (changes : List ModeChange) → length (letters_text changes) �
 letters_short [] = omega arith
 letters_short (change ∷ changes) = let short = behind_short change.plus changes in omega (arith, short)
 
+letters_size : (letters count : ℕ) → letters ≤ 2 * count → count ≤ 11 → letters ≤ 22
+letters_size letters count twice few = omega arith
+
+pub letters_few : (changes : List ModeChange) → AreReadable changes → length (letters_text changes) ≤ 22
+letters_few changes readable = letters_size (length (letters_text changes)) (length changes) (letters_short changes) (few_changes changes readable)
+
 abbrev no_spaces : List ℕ → Bool
 no_spaces bytes = list_all (λ b. not (is_space b)) bytes
 
@@ -156,9 +162,8 @@ letters_word : (changes : List ModeChange) → AreReadable changes → is_mode_w
 letters_word [] readable = not_true (sym readable.filled)
 letters_word (change ∷ changes) readable =
     let letters = letters_text (change ∷ changes) in
-    let few = few_changes (change ∷ changes) readable in
-    let twice = letters_short (change ∷ changes) in
-    let short : length letters ≤ 90 = omega (arith, few, twice) in
+    let few = letters_few (change ∷ changes) readable in
+    let short : length letters ≤ 90 = omega (arith, few) in
     let rest : no_spaces (letter_byte change.letter ∷ letters_behind change.plus changes) ≡ true =
     and_from (not (is_space (letter_byte change.letter))) _ (letter_no_space change.letter) (behind_no_space change.plus changes) in
     and_from (starts_without_colon letters && no_spaces letters) (fits max_mode_word letters)

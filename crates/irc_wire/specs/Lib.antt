@@ -7,3 +7,4 @@ pub mod Loops
 pub mod ReadBack
 pub mod Introductions
 pub mod ModesTaken
+pub mod WholeLines

@@ -2,6 +2,7 @@
 //! nothing, and its contract is the law: the check proves it, and a crate above may cite it.
 ghost use Rattle.irc_wire.specs.Introductions.{IntroducedIsRead};
 ghost use Rattle.irc_wire.specs.ModesTaken.{OtherwiseWrittenIsRefused, TakenIsReadAgain, TakenIsWrittenSo, WrittenChangesAreRead};
+ghost use Rattle.irc_wire.specs.WholeLines.{ToldFitsItsLine, ToldIsWhole};
 
 /// A user who keeps the limits is read of the line by which a server introduces it (RFC 2813 section 4.1.3), where the reader finds the user's
 /// server under the writer's number, and takes it to be one link further away than the writer does, or knows no distance.
@@ -24,3 +25,13 @@ pub fn taken_is_written_so()
     ensures refused { OtherwiseWrittenIsRefused }
     ensures again { TakenIsReadAgain }
 {}
+
+/// No line that tells another server of an effect is cut (RFC 2812 section 2.3: 510 bytes before CR LF), where the effect can be sent, or is one by which
+/// the server itself sets modes or the topic of a channel.
+pub fn told_is_whole()
+    ensures fits { ToldFitsItsLine }
+    ensures whole { ToldIsWhole }
+{
+    irc_room::laws::names_are_line_words();
+    irc_room::laws::sent_is_shown_whole();
+}
