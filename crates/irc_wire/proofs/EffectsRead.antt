@@ -41,7 +41,7 @@ all_right true true false effects p d n = cc n
 there : (reader : Reader) (effect : Effect) → list_all (λ nick. is_some (reader.home nick)) (needs_users effect) ≡ true → if_there reader effect ≡ effect ∷ []
 there reader effect known = ap (λ b. if b then effect ∷ [] else []) known
 
-far_may_come : (reader : Reader) (nick : List ℕ) → IsNick nick → is_user_far reader nick ≡ true → may_come reader nick ≡ true
+pub far_may_come : (reader : Reader) (nick : List ℕ) → IsNick nick → is_user_far reader nick ≡ true → may_come reader nick ≡ true
 far_may_come reader nick named far =
     ap (λ b. if b then reader.is_far nick else (if is_nick nick then option_map_or reader.is_far (reader.home nick) true else true)) (nick-no_server nick named)
     ∙ ap (λ b. if b then option_map_or reader.is_far (reader.home nick) true else true) named

@@ -17,3 +17,4 @@ pub mod IntroductionRead
 pub mod ModeWords
 pub mod ModesRead
 pub mod WholeLines
+pub mod EachBack

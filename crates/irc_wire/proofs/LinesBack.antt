@@ -44,14 +44,14 @@ rest_carried : (first rest : Bool) → (first && rest) ≡ true → rest ≡ tru
 rest_carried true rest h = h
 rest_carried false rest h = cc h
 
-carried_no_nul : (text : List ℕ) → IsCarried text → has_nul text ≡ false
+pub carried_no_nul : (text : List ℕ) → IsCarried text → has_nul text ≡ false
 carried_no_nul [] is = refl
 carried_no_nul (byte ∷ bytes) is =
     ap (λ b. b || has_nul bytes) (byte_no_nul (is_nul byte) _ (is_carried bytes) is) ∙ carried_no_nul bytes (rest_carried _ (is_carried bytes) is)
 
 -- ---- words that are read again as they were written
 
-command_plain : (first : ℕ) (rest : List ℕ) → list_all (λ b. not (is_space b)) (first ∷ rest) ≡ true → is_colon first ≡ false → has_nul (first ∷ rest) ≡ false
+pub command_plain : (first : ℕ) (rest : List ℕ) → list_all (λ b. not (is_space b)) (first ∷ rest) ≡ true → is_colon first ≡ false → has_nul (first ∷ rest) ≡ false
     → IsPlainWord (first ∷ rest)
 command_plain first rest no_space no_colon no_nul = record { is_some = λ e. cc e; no_space = no_space; no_colon = no_colon; no_nul = no_nul }
 
@@ -75,7 +75,7 @@ marked_plain channel true is = record {
     first_kept [] back some none = absurd (some refl)
     first_kept (x ∷ front) back some none = none
 
-from_plain : (name command : List ℕ) (middle : List (List ℕ)) (last : Option (List ℕ)) → IsPlainWord name → IsPlainWord command
+pub from_plain : (name command : List ℕ) (middle : List (List ℕ)) (last : Option (List ℕ)) → IsPlainWord name → IsPlainWord command
     → AllByRecursion IsPlainWord middle → has_nul (unwrap_or last []) ≡ false → length (middle ++ option_to_list last) ≤ max_parameters
     → IsPlain (from name command middle last)
 from_plain name command middle last named commanded words last_is few = record {
@@ -155,10 +155,10 @@ wire_plain names room known (UserMode nick invisible) plain within sent =
 -- ---- nothing of the line is cut: with more in front of it, as clients are shown it, it is not
 
 -- anybody who is shown a line
-viewer : User
+pub viewer : User
 viewer = record { nick = []; user = []; host = []; real = []; home = []; invisible = false }
 
-by_nickname : NamedIsWholeToo → (room : Room) (nick command : List ℕ) (middle : List (List ℕ)) (last : Option (List ℕ)) → IsStoredNick room nick
+pub by_nickname : NamedIsWholeToo → (room : Room) (nick command : List ℕ) (middle : List (List ℕ)) (last : Option (List ℕ)) → IsStoredNick room nick
     → IfSome (parts_of command middle last (from_nick room nick)) IsWhole → IsWhole (from (stored_nick room nick) command middle last)
 by_nickname shorter room nick command middle last stored fits = by (row room.users (key nick)) stored fits
   where
@@ -169,14 +169,14 @@ by_nickname shorter room nick command middle last stored fits = by (row room.use
 
 -- who joins has a word with a mark behind it, which clients are not shown
 
-four_lengths : (one two three four : List ℕ) → length (one ++ two ++ three ++ four) ≡ length one + (length two + (length three + length four))
+pub four_lengths : (one two three four : List ℕ) → length (one ++ two ++ three ++ four) ≡ length one + (length two + (length three + length four))
 four_lengths one two three four =
     let first = length-append one two in
     let second = length-append (one ++ two) three in
     let third = length-append (one ++ two ++ three) four in
     omega (arith, first, second, third)
 
-named_length : (name : List ℕ) → length (prefix_text (Some name)) ≡ length name + 2
+pub named_length : (name : List ℕ) → length (prefix_text (Some name)) ≡ length name + 2
 named_length name = let behind = length-append name (space ∷ []) in omega (arith, behind)
 
 word_length : (word : List ℕ) → length (middle_text (word ∷ [])) ≡ length word + 1
@@ -186,12 +186,12 @@ marked_short : (channel : List ℕ) (op : Bool) → length channel ≤ max_chann
 marked_short channel false short = omega (arith, short)
 marked_short channel true short = let both = length-append channel op_mark in omega (arith, short, both)
 
-nick_short : (nick : List ℕ) → IsNick nick → length nick ≤ max_nick
+pub nick_short : (nick : List ℕ) → IsNick nick → length nick ≤ max_nick
 unfolding is_nick
 nick_short [] is = grind (arith, nat_tests)
 nick_short (byte ∷ bytes) is = grind (arith, nat_tests)
 
-channel_short : (name : List ℕ) → IsChannel name → length name ≤ max_channel
+pub channel_short : (name : List ℕ) → IsChannel name → length name ≤ max_channel
 unfolding is_channel
 channel_short [] is = grind (arith, nat_tests)
 channel_short (byte ∷ bytes) is = grind (arith, nat_tests)
@@ -207,7 +207,7 @@ join_whole name channel op short fits =
     (length name) (length word) (four_lengths (prefix_text (Some name)) (codes "JOIN") (middle_text (word ∷ [])) []) (named_length name) (word_length word)
     short (marked_short channel op fits)
 
-wire_whole : SentFitsItsLine → NamedIsWholeToo → (room : Room) (known : Known) (effect : Effect) → IsPlainEffect effect → IsWithinLimits room
+pub wire_whole : SentFitsItsLine → NamedIsWholeToo → (room : Room) (known : Known) (effect : Effect) → IsPlainEffect effect → IsWithinLimits room
     → IsSendable room effect → IsWhole (wire room known effect)
 wire_whole shown shorter room known (AddUser user) plain within sent = absurd plain
 wire_whole shown shorter room known (ChangeModes by channel changes) plain within sent = absurd plain
@@ -250,7 +250,7 @@ pub record IsKnownBelow : Type 0 where
   pub shown : SentFitsItsLine
   pub shorter : NamedIsWholeToo
 
-read_again : IsKnownBelow → (parts : Written) → IsPlain parts → IsWhole parts → read_of (line_text parts) ≡ Ok (message_of parts)
+pub read_again : IsKnownBelow → (parts : Written) → IsPlain parts → IsWhole parts → read_of (line_text parts) ≡ Ok (message_of parts)
 read_again below parts plain whole = sym (below.alone (line_text parts) (Ok (message_of parts)) (below.written parts plain whole))
 
 pub line_back : IsKnownBelow → (room : Room) (known : Known) (effect : Effect) → IsPlainEffect effect → IsWithinLimits room → IsSendable room effect

@@ -1,17 +1,15 @@
 -- What is written of changes of a channel's modes is read as them, and a line of which something else would be written is refused.
-use Rattle.std.proofs.Common.{◌≡◌, ℕ, Bool, true, false, not, ◌&&◌, ◌||◌, ◌++◌, is_some, Option, Some, None, Ok, Err, List, [], ◌∷◌, map, nat_eq, if◌then◌else◌, codes, append-nil, subst, refl, sym, ◌∙◌, ap}
-use Rattle.std.proofs.lemmas.Bool.{and_from, eqb-true, false_from_ne_true, or_from, or_left, true≢false}
-use Rattle.std.specs.List.{list_all, list_any, cons_option, filter_map, AllByRecursion}
+use Rattle.std.proofs.Common.{◌≡◌, ℕ, Bool, true, false, not, ◌&&◌, ◌||◌, ◌++◌, is_some, Option, Some, None, Ok, Err, List, [], ◌∷◌, map, if◌then◌else◌, codes, append-nil, subst, refl, sym, ◌∙◌, ap}
+use Rattle.std.proofs.lemmas.Bool.{and_from, false_from_ne_true, or_left}
+use Rattle.std.specs.List.{list_all, cons_option, filter_map, AllByRecursion}
 use Rattle.std.specs.Option.{IfSome, option_map, option_map_or}
-use Rattle.std.specs.Char.{is_ascii_alphabetic}
-use Rattle.std.specs.Cmp.{first_so, second_so}
+use Rattle.std.specs.Cmp.{second_so}
 use Rattle.std.specs.Cmp.Lexicographic.{pointwise, pointwise_decides}
 use Rattle.std.specs.Str.{bytes_eq}
 use Rattle.std.proofs.lemmas.Slice.Eq.{bytes_eq-Decides}
 use Rattle.irc_line.specs.Messages.{Parsed}
 use Rattle.irc_names.specs.Fold.{key}
-use Rattle.irc_names.specs.Limits.{max_server}
-use Rattle.irc_names.specs.Names.{fits, is_channel, is_channel_byte, is_nick, is_nick_byte, is_server, is_server_byte, is_special}
+use Rattle.irc_names.specs.Names.{is_channel, is_nick, is_server}
 use Rattle.irc_names.specs.Tables.{row}
 use Rattle.irc_users.specs.declared.user.User.{User}
 use Rattle.irc_channels.specs.declared.channel.Channel.{Channel}
@@ -33,6 +31,7 @@ use Rattle.irc_wire.specs.ModesTaken.{AreTold, OtherwiseWrittenIsRefused, TakenI
 use Rattle.irc_wire.specs.Reader.{Reader, may_come}
 use Rattle.irc_wire.specs.Words.{are_changes, changes_of, is_for_channel, is_mode_word, made}
 use Rattle.irc_wire.proofs.IntroductionRead.{no_fault}
+use Rattle.irc_wire.proofs.NameKinds.{channel-for_channel, nick-no_server}
 use Rattle.irc_wire.proofs.ModeWords.{mode_words}
 
 not_true : {A : Type 0} → false ≡ true → A
@@ -144,39 +143,6 @@ otherwise_written_is_refused reader name channel words is other =
     ∙ ap (λ b. first_fault (of_either reader name b channel (λ doer. ChangeModes doer channel (changes_of words))))
     (false_from_ne_true (are_changes words) (λ taken. other (rewritten words taken)))
 
--- ---- names
-
-channel_first : (channel : List ℕ) → is_channel channel ≡ true → is_for_channel channel ≡ true
-unfolding is_channel
-channel_first [] is = not_true is
-channel_first (byte ∷ bytes) is = first_so (nat_eq byte 0x23) _ (first_so (nat_eq byte 0x23 && list_all is_channel_byte bytes) _ is)
-
--- a byte that a rule refuses is no byte that keeps it
-other_byte : (allows : ℕ → Bool) (refused byte : ℕ) → allows refused ≡ false → allows byte ≡ true → nat_eq refused byte ≡ false
-other_byte allows refused byte out is =
-    false_from_ne_true (nat_eq refused byte) (λ same. true≢false (sym is ∙ sym (ap allows (eqb-true refused byte same)) ∙ out))
-
-lacks : (allows : ℕ → Bool) (refused : ℕ) → allows refused ≡ false → (bytes : List ℕ) → list_all allows bytes ≡ true
-    → list_any (nat_eq refused) bytes ≡ false
-lacks allows refused out [] all = refl
-lacks allows refused out (byte ∷ bytes) all =
-    or_from (nat_eq refused byte) _ (other_byte allows refused byte out (first_so (allows byte) (list_all allows bytes) all))
-    (lacks allows refused out bytes (second_so (allows byte) (list_all allows bytes) all))
-
-no_dot : (nick : List ℕ) → is_nick nick ≡ true → list_any (nat_eq 0x2E) nick ≡ false
-unfolding is_nick
-no_dot [] is = refl
-no_dot (byte ∷ bytes) is =
-    let first = is_ascii_alphabetic byte || is_special byte in
-    let both = first_so (first && list_all is_nick_byte bytes) _ is in
-    or_from (nat_eq 0x2E byte) _ (other_byte (λ b. is_ascii_alphabetic b || is_special b) 0x2E byte refl (first_so first _ both))
-    (lacks is_nick_byte 0x2E refl bytes (second_so first _ both))
-
--- a nickname is no server's name
-no_server : (nick : List ℕ) → is_nick nick ≡ true → is_server nick ≡ false
-unfolding is_server
-no_server nick is = ap (λ b. b && list_all is_server_byte nick && fits max_server nick) (no_dot nick is)
-
 -- ---- what is written is read
 
 user_told : (server far there : Bool) (one other : List Effect) → server ≡ false → there ≡ true
@@ -188,11 +154,11 @@ read_so : (reader : Reader) (nick channel : List ℕ) (words : List (List ℕ)) 
     → read_by reader (mode_message nick channel words) ≡ Ok (ChangeModes (by.User nick) channel changes ∷ [])
 read_so reader nick channel words changes nick_is channel_is there comes taken same =
     let effect : By → Effect = λ doer. ChangeModes doer channel (changes_of words) in
-    for_channel reader nick channel words (channel_first channel channel_is)
+    for_channel reader nick channel words (channel-for_channel channel channel_is)
     ∙ no_fault (of_either reader nick (are_changes words) channel effect) taken refl comes
     (and_from (is_nick nick || is_server nick) _ (or_left (is_nick nick) _ nick_is) channel_is)
     ∙ ap Ok (user_told (is_server nick) (reader.is_far_channel channel) (is_some (reader.home nick)) (effect by.Home ∷ []) (effect (by.User nick) ∷ [])
-    (no_server nick nick_is) there)
+    (nick-no_server nick nick_is) there)
     ∙ ap (λ cs. Ok (ChangeModes (by.User nick) channel cs ∷ [])) same
 
 abbrev mode_of_words : List ℕ → List ℕ → List (List ℕ) → Parsed

@@ -8,3 +8,4 @@ pub mod ReadBack
 pub mod Introductions
 pub mod ModesTaken
 pub mod WholeLines
+pub mod EachReadBack

@@ -8,7 +8,6 @@ mod commands;
 mod cutting;
 mod fault;
 pub mod laws;
-pub mod link_laws;
 mod mode_line;
 mod numbers;
 mod reading;

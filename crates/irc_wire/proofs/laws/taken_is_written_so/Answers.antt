@@ -1,5 +1,5 @@
 use Rattle.irc_wire.proofs.ModesRead.{otherwise_written_is_refused, taken_is_read_again, taken_is_written_so}
-use Rattle.irc_wire.proofs.link_laws.taken_is_written_so.Goals as goal
+use Rattle.irc_wire.proofs.laws.taken_is_written_so.Goals as goal
 
 pub returns-clause-taken : goal.returns-clause-taken
 returns-clause-taken c = taken_is_written_so

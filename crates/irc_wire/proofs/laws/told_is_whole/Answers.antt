@@ -1,5 +1,5 @@
 use Rattle.irc_wire.proofs.WholeLines.{told_fits_its_line, told_is_whole}
-use Rattle.irc_wire.proofs.link_laws.told_is_whole.Goals as goal
+use Rattle.irc_wire.proofs.laws.told_is_whole.Goals as goal
 
 pub returns-clause-fits : goal.returns-clause-fits
 returns-clause-fits c =
