@@ -7,3 +7,14 @@ pub mod LastWords
 pub mod KeptWords
 pub mod WordsTaken
 pub mod FoundGiven
+pub mod NameKinds
+pub mod StoredNames
+pub mod EffectsRead
+pub mod MeaningsBack
+pub mod LinesBack
+pub mod NumberText
+pub mod IntroductionRead
+pub mod ModeWords
+pub mod ModesRead
+pub mod WholeLines
+pub mod EachBack

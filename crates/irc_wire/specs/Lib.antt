@@ -4,3 +4,8 @@ pub mod Written
 pub mod Reader
 pub mod Means
 pub mod Loops
+pub mod ReadBack
+pub mod Introductions
+pub mod ModesTaken
+pub mod WholeLines
+pub mod EachReadBack

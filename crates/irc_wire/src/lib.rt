@@ -7,6 +7,7 @@ mod changes;
 mod commands;
 mod cutting;
 mod fault;
+pub mod laws;
 mod mode_line;
 mod numbers;
 mod reading;

@@ -1,0 +1,16 @@
+use Rattle.irc_wire.proofs.LinesBack.{line_back}
+use Rattle.irc_wire.proofs.MeaningsBack.{meant_back}
+use Rattle.irc_wire.specs.Reader.{reader_of}
+use Rattle.irc_wire.proofs.laws.written_is_read_back.Goals as goal
+
+pub returns : goal.returns
+returns c room known other others link effect plain is = record {
+  line = line_back (record {
+    written = c.written_is_read.ensures;
+    alone = c.every_line_is_read.ensures.alone;
+    names = c.names_are_line_words.ensures;
+    shown = c.sent_is_shown_whole.ensures.fits;
+    shorter = c.sent_is_shown_whole.ensures.by_nickname;
+  }) room known effect plain is.room_within is.sendable;
+  meaning = meant_back room known (reader_of other others link) effect plain is;
+}

@@ -1,0 +1,65 @@
+//! What holds of what servers write to each other and read. Each law is a function that does nothing, and its contract is the law: the check
+//! proves it, and a crate above may cite it.
+ghost use Rattle.irc_wire.specs.EachReadBack.{EachIsReadBack};
+ghost use Rattle.irc_wire.specs.Introductions.{IntroducedIsRead};
+ghost use Rattle.irc_wire.specs.ModesTaken.{OtherwiseWrittenIsRefused, TakenIsReadAgain, TakenIsWrittenSo, WrittenChangesAreRead};
+ghost use Rattle.irc_wire.specs.ReadBack.{WrittenIsReadBack};
+ghost use Rattle.irc_wire.specs.WholeLines.{ToldFitsItsLine, ToldIsWhole};
+
+/// What is written on a link of an effect, but for a user who comes and for changes of a channel's modes, is one line, and it is read as just that
+/// effect: by a server that knows the users whom it names, where the server of the user whom it is from is behind the link.
+pub fn written_is_read_back()
+    ensures { WrittenIsReadBack }
+{
+    irc_line::laws::written_is_read();
+    irc_line::laws::every_line_is_read();
+    irc_room::laws::names_are_line_words();
+    irc_room::laws::sent_is_shown_whole();
+}
+
+/// A user who keeps the limits is read of the line by which a server introduces it (RFC 2813 section 4.1.3), where the reader finds the user's
+/// server under the writer's number, and takes it to be one link further away than the writer does, or knows no distance.
+pub fn introduced_is_read()
+    ensures { IntroducedIsRead }
+{}
+
+/// Changes of a channel's modes that a user makes are read of the line that tells of them, as they are.
+pub fn written_changes_are_read()
+    ensures { WrittenChangesAreRead }
+{
+    irc_modes::laws::written_is_read();
+    irc_room::laws::names_are_line_words();
+}
+
+/// A line of changes of a channel's modes is taken only where what is read of it is written as it is, and refused wherever something else
+/// would be written. Who hands such changes on writes the same words, and they are read again as the same changes.
+pub fn taken_is_written_so()
+    ensures taken { TakenIsWrittenSo }
+    ensures refused { OtherwiseWrittenIsRefused }
+    ensures again { TakenIsReadAgain }
+{}
+
+/// No line that tells another server of an effect is cut (RFC 2812 section 2.3: 510 bytes before CR LF), where the effect can be sent, or is one by which
+/// the server itself sets modes or the topic of a channel.
+pub fn told_is_whole()
+    ensures fits { ToldFitsItsLine }
+    ensures whole { ToldIsWhole }
+{
+    irc_room::laws::names_are_line_words();
+    irc_room::laws::sent_is_shown_whole();
+}
+
+/// What is written on a link of any effect that can be sent is one line, and it is read as just that effect: by a server that knows the users whom it
+/// names, where the server of the user whom it is from is behind the link, and where both agree on the server of a user who comes.
+pub fn each_is_read_back()
+    ensures { EachIsReadBack }
+{
+    irc_line::laws::written_is_read();
+    irc_line::laws::every_line_is_read();
+    irc_room::laws::names_are_line_words();
+    irc_room::laws::sent_is_shown_whole();
+    written_is_read_back();
+    introduced_is_read();
+    written_changes_are_read();
+    told_is_whole();
+}
