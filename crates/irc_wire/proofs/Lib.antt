@@ -1,4 +1,4 @@
-pub mod CutLaws
+pub mod CutPieces
 pub mod ModeLines
 pub mod DigitsRead
 pub mod TextsRead

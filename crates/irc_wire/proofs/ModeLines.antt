@@ -10,7 +10,8 @@ use Rattle.irc_modes.specs.Letters.{letter_byte, sign_byte}
 use Rattle.irc_modes.specs.ModeWritten.{letters_behind, letters_text}
 use Rattle.irc_wire.specs.Loops.Families.{sign_between}
 use Rattle.irc_wire.specs.Written.{from}
-use Rattle.irc_wire.proofs.CutLaws.{cut_two, cut_all, piece_on}
+use Rattle.irc_line.specs.Lemmas.CutLaws.{cut_two, cut_all}
+use Rattle.irc_wire.proofs.CutPieces.{piece_on}
 
 -- the letters from a sign on, or those that no sign is before
 abbrev pub letters_from : Option Bool → List ModeChange → List ℕ

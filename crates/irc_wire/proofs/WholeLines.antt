@@ -23,7 +23,7 @@ use Rattle.irc_routes.specs.Known.{Known}
 use Rattle.irc_wire.specs.WholeLines.{IsToldUser, ToldFitsItsLine, ToldIsWhole}
 use Rattle.irc_wire.specs.Words.{is_mode_word, no_mode, with_i}
 use Rattle.irc_wire.specs.Written.{from, introduction, next_distance, wire, written_token}
-use Rattle.irc_wire.proofs.CutLaws.{cut_all}
+use Rattle.irc_line.specs.Lemmas.CutLaws.{cut_all}
 use Rattle.irc_wire.proofs.LinesBack.{by_nickname, channel_short, four_lengths, named_length, nick_short, viewer, wire_whole}
 use Rattle.irc_wire.proofs.ModesRead.{words_written}
 use Rattle.irc_wire.proofs.StoredNames.{channel_kept, channel_there}

@@ -11,7 +11,7 @@ ghost use Rattle.irc_modes.specs.declared.modes.ModeChange.{ModeChange};
 ghost use Rattle.irc_wire.specs.Loops.Readings.{IsKeptWord, behind_word, if_written, told_changes};
 ghost use Rattle.irc_wire.specs.Words.{changes_of, is_mode_word, made};
 
-use crate::mode_line::{letter_byte, sign_text};
+use crate::mode_line::sign_text;
 use crate::words::is_mode_word;
 use irc_modes::{ModeChange, ModeItem, read_modes};
 use irc_room::ModeChanges;
@@ -105,7 +105,7 @@ fn letters_text(alloc: Global, changes: &[ModeChange]) -> Result<Vec<u8, Global>
     let mut sign = None;
     for change in changes {
         letters.extend_from_slice(sign_text(sign, change.plus))?;
-        letters.push(letter_byte(change.letter))?;
+        letters.push(change.letter.byte())?;
         sign = Some(change.plus);
     }
     Ok(letters)

@@ -6,16 +6,16 @@ ghost use Rattle.irc_line.specs.Bytes.{cut};
 ghost use Rattle.irc_line.specs.Limits.{max_line};
 ghost use Rattle.irc_line.specs.Messages.{middle_text, text};
 ghost use Rattle.irc_line.specs.MessageViews.{optional_now};
-ghost use Rattle.irc_modes.specs.Letters.{letter_byte, sign_byte};
+ghost use Rattle.irc_modes.specs.Letters.{letter_byte};
 ghost use Rattle.irc_modes.specs.ModeWritten.{letters_text};
-ghost use Rattle.irc_room.specs.Seen.{changes_words, names_member, written_word};
+ghost use Rattle.irc_room.specs.Seen.{changes_words, written_word};
 ghost use Rattle.irc_wire.specs.Loops.Families.{sign_between};
 ghost use Rattle.irc_wire.specs.Written.{from};
 
 use crate::asking::stored_nick;
 use crate::cutting::push_cut;
 use irc_line::Text;
-use irc_modes::{ModeChange, ModeLetter};
+use irc_modes::ModeChange;
 use irc_room::Room;
 
 /// The line of changes of a channel's modes (RFC 2812 section 3.2.3).
@@ -64,7 +64,7 @@ fn push_change(line: &mut Text, sign: Option<bool>, change: &ModeChange)
     ensures still_cut { array_vec_len line.new ≤ max_line }
 {
     push_cut(line, sign_text(sign, change.plus));
-    push_cut(line, &[letter_byte(change.letter)]);
+    push_cut(line, &[change.letter.byte()]);
 }
 
 /// The parameters of changes in order, each after a space.
@@ -109,34 +109,8 @@ fn written_word<'a>(room: &'a Room, change: &'a ModeChange) -> Option<&'a [u8]>
     ensures { optional_now result ≡ written_word room.now.room change.now }
 {
     match &change.word {
-        Some(word) if names_member(change.letter) => Some(stored_nick(room, word.as_bytes())),
+        Some(word) if change.letter.names_member() => Some(stored_nick(room, word.as_bytes())),
         Some(word) => Some(word.as_bytes()),
         None => None,
-    }
-}
-
-/// Whether a letter's parameter is a member's nickname.
-fn names_member(letter: ModeLetter) -> bool
-    ensures { result ≡ names_member letter }
-{
-    matches!(letter, ModeLetter::Operator | ModeLetter::Voice)
-}
-
-/// The letter that a mode is written as.
-pub(crate) fn letter_byte(letter: ModeLetter) -> u8
-    ensures { result ≡ letter_byte letter }
-{
-    match letter {
-        ModeLetter::InviteOnly => b'i',
-        ModeLetter::Moderated => b'm',
-        ModeLetter::NoOutside => b'n',
-        ModeLetter::TopicLocked => b't',
-        ModeLetter::Private => b'p',
-        ModeLetter::Secret => b's',
-        ModeLetter::Key => b'k',
-        ModeLetter::Limit => b'l',
-        ModeLetter::Ban => b'b',
-        ModeLetter::Operator => b'o',
-        ModeLetter::Voice => b'v',
     }
 }

@@ -1,6 +1,6 @@
 use Rattle.std.proofs.Common.{arith}
 use Rattle.std.proofs.lemmas.Grind.{common_steps}
-use Rattle.irc_wire.proofs.CutLaws.{cut-append}
+use Rattle.irc_line.specs.Lemmas.CutLaws.{cut-append}
 use Rattle.irc_wire.proofs.cutting.push_cut.Goals as goal
 
 pub returns-clause-appended : goal.returns-clause-appended

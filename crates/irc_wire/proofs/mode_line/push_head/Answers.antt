@@ -1,6 +1,6 @@
 use Rattle.std.proofs.Common.{[], ◌++◌, ◌∙◌, ap, codes}
 use Rattle.irc_line.specs.Bytes.{cut}
-use Rattle.irc_wire.proofs.CutLaws.{cut_two}
+use Rattle.irc_line.specs.Lemmas.CutLaws.{cut_two}
 use Rattle.irc_wire.proofs.mode_line.push_head.Goals as goal
 
 pub returns-clause-head : goal.returns-clause-head

@@ -1,5 +1,5 @@
 use Rattle.std.proofs.Common.{[], refl, arith}
-use Rattle.irc_wire.proofs.CutLaws.{piece_on}
+use Rattle.irc_wire.proofs.CutPieces.{piece_on}
 use Rattle.irc_wire.proofs.ModeLines.{letters_on, letters_done}
 use Rattle.irc_wire.proofs.mode_line.push_letters.Goals as goal
 

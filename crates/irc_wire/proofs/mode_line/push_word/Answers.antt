@@ -2,7 +2,7 @@ use Rattle.std.proofs.Common.{◌∷◌, ◌++◌, sym, ◌∙◌, ap, append-ni
 use Rattle.irc_line.specs.Bytes.{cut}
 use Rattle.irc_line.specs.Messages.{middle_text}
 use Rattle.irc_line.specs.MessageViews.{optional_now}
-use Rattle.irc_wire.proofs.CutLaws.{cut_two}
+use Rattle.irc_line.specs.Lemmas.CutLaws.{cut_two}
 use Rattle.irc_wire.proofs.mode_line.push_word.Goals as goal
 
 pub returns-in-Some-clause-pushed : goal.returns-in-Some-clause-pushed

@@ -3,7 +3,7 @@ use Rattle.irc_line.specs.Bytes.{cut}
 use Rattle.irc_line.specs.Messages.{middle_text}
 use Rattle.irc_modes.specs.declared.modes.ModeChange.{ModeChange}
 use Rattle.irc_room.specs.Seen.{written_word}
-use Rattle.irc_wire.proofs.CutLaws.{piece_on}
+use Rattle.irc_wire.proofs.CutPieces.{piece_on}
 use Rattle.irc_wire.proofs.ModeLines.{words_next, words_done}
 use Rattle.irc_wire.proofs.mode_line.push_words.Goals as goal
 
