@@ -119,7 +119,8 @@ modes_back below room known other others link nick channel changes is =
     let sent = is.sendable in
     let doer = nick_kept room nick is.room_within sent.by_stored in
     let name = channel_kept room channel is.room_within (channel_there room channel sent.channel_stored) in
-    let parts = line_as (stored_nick room nick) nick (stored_channel room channel) channel (changes_words room changes) (changes_written changes) doer.as_is name.as_is
+    let parts = line_as (stored_nick room nick) nick (stored_channel room channel) channel (changes_words room changes) (changes_written changes)
+    doer.as_is name.as_is
     (words_written room changes sent.words_sent) in
     let far = subst (λ n. is_user_far reader n ≡ true) doer.as_is is.doer_far in
     record {

@@ -30,7 +30,9 @@ no_fault checked parameters token direction names = rw (parameters, token, direc
 
 named_so : (word : List ℕ) → IsUserName word → word ≢ [] → is_user_name word ≡ true
 named_so [] is some = absurd (some refl)
-named_so (byte ∷ bytes) is some = let short : length (byte ∷ bytes) ≤ 10 = is.fits in and_from (list_all is_user_byte (byte ∷ bytes)) _ is.clean (grind (arith, nat_tests))
+named_so (byte ∷ bytes) is some =
+    let short : length (byte ∷ bytes) ≤ 10 = is.fits in
+    and_from (list_all is_user_byte (byte ∷ bytes)) _ is.clean (grind (arith, nat_tests))
 
 real_so : (text : List ℕ) → IsRealName text → fits max_real_name text ≡ true
 real_so text short = let few : length text ≤ 50 = short in grind (arith, nat_tests)
@@ -67,20 +69,23 @@ parameters_so : (distance name token mode real there : Bool) → distance ≡ tr
     → (distance && name && token && mode && real && there) ≡ true
 parameters_so distance name token mode real there one two three four five six = rw (one, two, three, four, five, six)
 
+abbrev with_home : User → Option (List ℕ) → Bool → User
+with_home user found mode =
+    record { nick = user.nick; user = user.user; host = user.host; real = user.real; home = unwrap_or found []; invisible = mode }
+
 -- the user that the line makes, of the server that was found
 user_made : (user : User) (found : Option (List ℕ)) (mode : Bool) → found ≡ Some user.home → mode ≡ user.invisible
-    → AddUser (record { nick = user.nick; user = user.user; host = user.host; real = user.real; home = unwrap_or found []; invisible = mode }) ∷ []
-    ≡ AddUser user ∷ []
+    → AddUser (with_home user found mode) ∷ [] ≡ AddUser user ∷ []
 user_made user found mode is same =
-    ap (λ (o : Option (List ℕ)). AddUser (record { nick = user.nick; user = user.user; host = user.host; real = user.real; home = unwrap_or o []; invisible = mode }) ∷ []) is
-    ∙ ap (λ (b : Bool). AddUser (record { nick = user.nick; user = user.user; host = user.host; real = user.real; home = user.home; invisible = b }) ∷ []) same
+    ap (λ o. AddUser (with_home user o mode) ∷ []) is ∙ ap (λ b. AddUser (with_home user (Some user.home) b) ∷ []) same
 
 introduced : (known : Known) (reader : Reader) (user : User) (links number : ℕ) → IsUserWithin user → 1 ≤ links → links ≤ 4294967295 → 1 ≤ number
     → number ≤ 4294967295 → reader.server number ≡ Some user.home → IfSome (reader.distance user.home) (λ there. there ≡ links)
     → first_fault (introduction_line reader user.nick (decimal links) user.user user.host (decimal number)
     (if user.invisible then with_i else no_mode) user.real) ≡ Ok (AddUser user ∷ [])
 introduced known reader user links number within links_some links_most number_some number_most found far =
-    let checked = introduction_line reader user.nick (decimal links) user.user user.host (decimal number) (if user.invisible then with_i else no_mode) user.real in
+    let mode : List ℕ = if user.invisible then with_i else no_mode in
+    let checked = introduction_line reader user.nick (decimal links) user.user user.host (decimal number) mode user.real in
     let home = home_found reader number user.home number_most found in
     no_fault checked
     (parameters_so (is_number (decimal links)) (is_user_name user.user) (is_number (decimal number)) _ _ _ (number_taken links links_some links_most)

@@ -51,7 +51,8 @@ carried_no_nul (byte ∷ bytes) is =
 
 -- ---- words that are read again as they were written
 
-pub command_plain : (first : ℕ) (rest : List ℕ) → list_all (λ b. not (is_space b)) (first ∷ rest) ≡ true → is_colon first ≡ false → has_nul (first ∷ rest) ≡ false
+pub command_plain : (first : ℕ) (rest : List ℕ) → list_all (λ b. not (is_space b)) (first ∷ rest) ≡ true → is_colon first ≡ false
+    → has_nul (first ∷ rest) ≡ false
     → IsPlainWord (first ∷ rest)
 command_plain first rest no_space no_colon no_nul = record { is_some = λ e. cc e; no_space = no_space; no_colon = no_colon; no_nul = no_nul }
 

@@ -82,7 +82,8 @@ any_first [] change changes = refl
 any_first (l ∷ letters) change changes =
     joined (of_any (l ∷ letters) (change ∷ changes)) (count_by (is_of l) (change ∷ changes)) (of_any letters (change ∷ changes))
     (cond (is_of l change) 1 0) (count_by (is_of l) changes) (is_any letters change) (of_any letters changes)
-    (sum_by-cons (λ (m : ModeLetter). count_by (is_of m) (change ∷ changes)) l letters) (counted_first (is_of l) change changes) (any_first letters change changes)
+    (sum_by-cons (λ (m : ModeLetter). count_by (is_of m) (change ∷ changes)) l letters) (counted_first (is_of l) change changes)
+    (any_first letters change changes)
     ∙ both (sum_by-cons (λ (m : ModeLetter). cond (is_of m change) 1 0) l letters) (sum_by-cons (λ (m : ModeLetter). count_by (is_of m) changes) l letters)
   where
     both : {a b c d : ℕ} → a ≡ b → c ≡ d → b + d ≡ a + c
@@ -366,8 +367,9 @@ parameter_plain names room letter.TopicLocked word is sent = not_true is
 parameter_plain names room letter.Private word is sent = not_true is
 parameter_plain names room letter.Secret word is sent = not_true is
 
-one_plain : NamesAreLineWords → (room : Room) (plus : Bool) (which : ModeLetter) (word : Option (List ℕ)) (rest : List (List ℕ)) → word_fits plus which word ≡ true
-    → IfSome word (IsSentWord room (names_member which)) → AllByRecursion IsPlainWord rest → AllByRecursion IsPlainWord (cons_option word rest)
+one_plain : NamesAreLineWords → (room : Room) (plus : Bool) (which : ModeLetter) (word : Option (List ℕ)) (rest : List (List ℕ))
+    → word_fits plus which word ≡ true → IfSome word (IsSentWord room (names_member which))
+    → AllByRecursion IsPlainWord rest → AllByRecursion IsPlainWord (cons_option word rest)
 one_plain names room plus which None rest fits sent so = so
 one_plain names room plus which (Some word) rest fits sent so = (parameter_plain names room which word (second_so _ _ fits) sent, so)
 

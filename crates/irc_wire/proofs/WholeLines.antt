@@ -71,7 +71,8 @@ mode_short false = lit≤ tt
 six_words : (all one two three four five six a b c d e f : ℕ) → one ≡ 1 + a + two → two ≡ 1 + b + three → three ≡ 1 + c + four → four ≡ 1 + d + five
     → five ≡ 1 + e + six → six ≡ 1 + f + 0 → a ≤ 9 → b ≤ 10 → c ≤ 10 → d ≤ 63 → e ≤ 10 → f ≤ 2 → (real : ℕ) → real ≤ 50
     → all ≡ 0 + (4 + (one + suc (suc real))) → all ≤ 510
-six_words all one two three four five six a b c d e f one_is two_is three_is four_is five_is six_is a_fits b_fits c_fits d_fits e_fits f_fits real real_fits all_is =
+six_words all one two three four five six a b c d e f one_is two_is three_is four_is five_is six_is a_fits b_fits c_fits d_fits e_fits f_fits real real_fits
+    all_is =
     omega arith
 
 introduced_fits : (nick distance name host token mode real : List ℕ) → length nick ≤ 9 → length distance ≤ 10 → length name ≤ 10 → length host ≤ 63
