@@ -1,8 +1,8 @@
 #!/usr/bin/env python3
 """Loads a server on loopback, and prints for each part how much processor time and how many system calls a line costs the server.
 
-load.py PORT PID PART: PART is register, pairs, paced, flooded or idle. Processor time is that of /proc/PID/stat (user and system), calls
-are counted by `strace -c` in a run of their own (CALLS=1), since that slows the server down."""
+load.py PORT PID PART: PART is register, pairs, paced, flooded or idle. Processor time is that of /proc/PID/schedstat, in nanoseconds (the
+server has one thread); calls are counted by `strace -c` in a run of their own (CALLS=1), since that slows the server down."""
 import os
 import resource
 import selectors
@@ -12,15 +12,13 @@ import subprocess
 import sys
 import time
 
-TICKS = os.sysconf("SC_CLK_TCK")
 PORT, PID, PART = int(sys.argv[1]), int(sys.argv[2]), sys.argv[3]
 COUNTS_CALLS = os.environ.get("CALLS") == "1"
 
 
 def seconds():
-    with open(f"/proc/{PID}/stat", encoding="ascii") as file:
-        fields = file.read().rsplit(")", 1)[1].split()
-    return int(fields[11]) / TICKS, int(fields[12]) / TICKS
+    with open(f"/proc/{PID}/schedstat", encoding="ascii") as file:
+        return int(file.read().split()[0]) / 1e9
 
 
 def kilobytes():
@@ -87,7 +85,7 @@ class Measured:
 
     def __exit__(self, *_):
         end = seconds()
-        self.user, self.system = end[0] - self.start[0], end[1] - self.start[1]
+        self.seconds = end - self.start
         self.calls = 0
         if self.tracer:
             self.tracer.send_signal(signal.SIGINT)
@@ -100,7 +98,7 @@ class Measured:
         if COUNTS_CALLS:
             print(f"{PART} calls_per_line={self.calls / lines:.3f} lines={lines}")
         else:
-            print(f"{PART} us_per_line={(self.user + self.system) / lines * 1e6:.2f} user={self.user:.2f} system={self.system:.2f} lines={lines}")
+            print(f"{PART} us_per_line={self.seconds / lines * 1e6:.2f} lines={lines}")
 
 
 def register():
@@ -148,7 +146,7 @@ def idle():
     after = kilobytes()
     with Measured() as measured:
         time.sleep(5)
-    print(f"idle kB_per_client={(after - before) / len(clients):.2f} busy_percent={(measured.user + measured.system) / 5 * 100:.2f} calls={measured.calls}")
+    print(f"idle kB_per_client={(after - before) / len(clients):.2f} busy_percent={measured.seconds / 5 * 100:.2f} calls={measured.calls}")
 
 
 parts = {"register": register, "pairs": pairs, "paced": lambda: fan_out(True, 500 if not COUNTS_CALLS else 100),

@@ -96,6 +96,13 @@ impl IndexedChannels {
         self.joined.names(nick)
     }
 
+    /// The same names, looked for near a place first: about where the user stands among all users, since most are members of some channel.
+    pub fn names_near(&self, near: &mut usize, nick: &[u8]) -> &[Row<()>]
+        ensures { map row_entry result.now ≡ own_names (key nick.now) self.now }
+    {
+        self.joined.names_near(near, nick)
+    }
+
     /// A user joins a channel, which is made where it is not there.
     ///
     /// # Errors

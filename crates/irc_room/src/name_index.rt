@@ -39,6 +39,16 @@ impl NameIndex {
         }
     }
 
+    /// The names by a nickname, in folded order. They are looked for near a place first, as [`NameTable::get_near`] has it.
+    pub fn names_near(&self, near: &mut usize, nick: &[u8]) -> &[Row<()>]
+        ensures { map row_entry result.now ≡ names_in (row self.now.rows (key nick.now)) }
+    {
+        match self.rows.get_near(near, nick) {
+            Some(names) => names.as_slice(),
+            None => &[],
+        }
+    }
+
     /// Puts a name by a nickname; where it stands there already nothing changes.
     ///
     /// # Errors

@@ -178,7 +178,10 @@ impl Room {
     pub fn channels_of(&self, nick: &[u8]) -> Result<Vec<&Row<Channel>, Global>, AllocError>
         ensures { IfOk result (λ found. map (λ row. row_entry row.now) found.items ≡ filter (λ e. has_member (key nick.now) e.1) (entries self.now.room.channels)) }
     {
-        with_names(&self.channels, self.alloc, self.channels.names_of(nick))
+        let mut near = 0;
+        let _ = self.users.find_near(&mut near, nick);
+        let names = self.channels.names_near(&mut near, nick);
+        with_names(&self.channels, self.alloc, names)
     }
 
     /// How many channels the user of a nickname is a member of. No channel is looked at.
