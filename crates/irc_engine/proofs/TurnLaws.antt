@@ -14,9 +14,9 @@ use Rattle.irc_engine.specs.Turning.{Taken, takes_it, runs_out, Turned, takes_tu
 
 module _ {W : Type 0} (is_after : W → List Call → Type 0) (old new : Engine W) (ready : Ready) (asked : W) where
   pub turned_from : (result : Result (Unit {0}) EngineFault) → old.failed ≡ false → Adds is_after old.desk.board.wire (asks (Ok ready)) asked
-      → Taken is_after old.desk.client_room ready (record (moment_of old.desk) { wire = asked }) new result → Turned is_after old new result
-  turned_from (Ok done) serves account (takes_it still does) =
-      takes_turn serves still (record { report = ready; wire = asked; account = account; does = does })
+      → Taken is_after old.client_room ready (record (moment_of old.desk) { wire = asked }) new result → Turned is_after old new result
+  turned_from (Ok done) serves account (takes_it still same does) =
+      takes_turn serves still same (record { report = ready; wire = asked; account = account; does = does })
   turned_from (Err fault) serves account (runs_out failed busy) =
       wants_memory ready asked serves failed account
       (λ order idle. busy (record { all_told = order.all_told; noted = order.noted; none_done = order.none_done })

@@ -17,7 +17,7 @@ pub record IsNew {W : Type 0} (server : Option View) (wire : W) (room : ℕ) (en
   pub serves : engine.failed ≡ false
   pub server_is : engine.desk.server ≡ server
   pub wire_is : engine.desk.board.wire ≡ wire
-  pub room_is : engine.desk.client_room ≡ room
+  pub room_is : engine.client_room ≡ room
   pub no_seats : (conn : ℕ) → (moment_of engine.desk).seats conn ≡ None
   pub in_order : IsInOrder (moment_of engine.desk)
   pub reads_at_most : (moment_of engine.desk).read_room ≡ 4096
@@ -34,15 +34,18 @@ pub record IsNothingToDo {W : Type 0} (report : Ready) (now : Moment W) : Type 0
   pub nothing_left : (conn : ℕ) → has_some_at (now.seats conn) ≡ false
 
 -- What is ready is done, and then outboxes are written; or memory ran out, which it does not where there is nothing to do.
-pub data Taken {W : Type 0} (is_after : W → List Call → Type 0) (room : ℕ) (report : Ready) (old : Moment W) (new : Engine W) : Result (Unit {0}) EngineFault → Type 0 where
-  takes_it : new.failed ≡ false → Does is_after room report old (moment_of new.desk) → Taken is_after room report old new (Ok tt)
+pub data Taken {W : Type 0} (is_after : W → List Call → Type 0) (room : ℕ) (report : Ready) (old : Moment W) (new : Engine W)
+    : Result (Unit {0}) EngineFault → Type 0 where
+  takes_it : new.failed ≡ false → new.client_room ≡ room → Does is_after room report old (moment_of new.desk) → Taken is_after room report old new (Ok tt)
   runs_out : new.failed ≡ true → (IsInOrder old → ¬ (IsNothingToDo report old)) → Taken is_after room report old new (Err Memory)
 
--- A turn is taken; or the wire could not tell what is ready, and nothing else has happened; or memory ran out, where there was something to do; or it ran out before.
+-- A turn is taken; or the wire could not tell what is ready, and nothing else has happened; or memory ran out, where there was something to do; or it ran out
+-- before. The room of a client's outbox stays what it was.
 pub data Turned {W : Type 0} (is_after : W → List Call → Type 0) (old : Engine W) (new : Engine W) : Result (Unit {0}) EngineFault → Type 0 where
-  takes_turn : old.failed ≡ false → new.failed ≡ false → Turn is_after old.desk.client_room (moment_of old.desk) (moment_of new.desk)
-      → Turned is_after old new (Ok tt)
-  device_failed : (fault : IoFault) → old.failed ≡ false → new.failed ≡ false → Adds is_after old.desk.board.wire (asks (Err fault)) new.desk.board.wire
+  takes_turn : old.failed ≡ false → new.failed ≡ false → new.client_room ≡ old.client_room
+      → Turn is_after old.client_room (moment_of old.desk) (moment_of new.desk) → Turned is_after old new (Ok tt)
+  device_failed : (fault : IoFault) → old.failed ≡ false → new.failed ≡ false → new.client_room ≡ old.client_room
+      → Adds is_after old.desk.board.wire (asks (Err fault)) new.desk.board.wire
       → moment_of new.desk ≡ record (moment_of old.desk) { wire = new.desk.board.wire } → Turned is_after old new (Err Device)
   wants_memory : (report : Ready) (wire : W) → old.failed ≡ false → new.failed ≡ true → Adds is_after old.desk.board.wire (asks (Ok report)) wire
       → (IsInOrder (moment_of old.desk) → ¬ (IsNothingToDo report (moment_of old.desk))) → Turned is_after old new (Err Memory)

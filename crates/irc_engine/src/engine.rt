@@ -39,6 +39,8 @@ pub enum EngineFault {
 #[derive(Drop)]
 pub struct Engine<W: Wire> {
     failed: bool,
+    /// How many bytes the outbox of a client holds.
+    client_room: usize,
     desk: Desk<W>,
 }
 
@@ -51,8 +53,6 @@ pub(crate) struct Desk<W: Wire> {
     pub out: Vec<Out, Global>,
     /// Where bytes are read to.
     pub buffer: Vec<u8, Global>,
-    /// How many bytes the outbox of a client holds.
-    pub client_room: usize,
     pub alloc: Global,
 }
 
@@ -74,6 +74,7 @@ impl<W: Wire + Drop> Engine<W> {
         let buffer = vec![in alloc; 0u8; READ_SIZE]?;
         Ok(Engine {
             failed: false,
+            client_room,
             desk: Desk {
                 server,
                 board: Board {
@@ -84,7 +85,6 @@ impl<W: Wire + Drop> Engine<W> {
                 },
                 out: Vec::new(alloc),
                 buffer,
-                client_room,
                 alloc,
             },
         })
@@ -111,10 +111,10 @@ impl<W: Wire> Engine<W> {
 
     /// Does what is ready, and writes.
     fn take(&mut self, ready: Ready) -> Result<(), EngineFault>
-        ensures { Taken W.is_after self.old.desk.client_room ready (moment_of self.old.desk) self.new result }
+        ensures { Taken W.is_after self.old.client_room ready (moment_of self.old.desk) self.new result }
     {
         self.failed = true;
-        match self.desk.turn(ready) {
+        match self.desk.turn(ready, self.client_room) {
             Ok(()) => {
                 self.failed = false;
                 Ok(())
@@ -139,24 +139,24 @@ impl<W: Wire> Engine<W> {
 
 impl<W: Wire> Desk<W> {
     /// Does what is ready, and writes.
-    fn turn(&mut self, ready: Ready) -> Result<(), AllocError>
-        ensures done { OnOk result (Does W.is_after self.old.client_room ready (moment_of self.old) (moment_of self.new)) }
+    fn turn(&mut self, ready: Ready, client_room: usize) -> Result<(), AllocError>
+        ensures done { OnOk result (Does W.is_after client_room ready (moment_of self.old) (moment_of self.new)) }
         ensures quiet { brings_nothing ready ≡ true → IsNobodyNoted self.old → result ≡ Ok tt }
     {
-        self.answer(ready)?;
+        self.answer(ready, client_room)?;
         self.flush()
     }
 
     /// Does what is ready.
-    fn answer(&mut self, ready: Ready) -> Result<(), AllocError>
-        ensures done { OnOk result (Answers W.is_after self.old.client_room ready (moment_of self.old) (moment_of self.new)) }
+    fn answer(&mut self, ready: Ready, client_room: usize) -> Result<(), AllocError>
+        ensures done { OnOk result (Answers W.is_after client_room ready (moment_of self.old) (moment_of self.new)) }
         ensures told { OnOk result (KeepsTold self.old self.new) }
         ensures notes { OnOk result (KeepsNotes self.old.board self.new.board) }
         ensures quiet { brings_nothing ready ≡ true → (result ≡ Ok tt) × (self.new ≡ self.old) }
     {
         match ready {
             Ready::Idle | Ready::Writable(_) => Ok(()),
-            Ready::Client(conn, host) => self.connect(conn, host),
+            Ready::Client(conn, host) => self.connect(conn, host, client_room),
             Ready::Linked(conn, _) => {
                 self.refuse_link(conn);
                 Ok(())
@@ -166,15 +166,15 @@ impl<W: Wire> Desk<W> {
     }
 
     /// A client has connected. A number that is in use is passed over.
-    fn connect(&mut self, conn: u64, host: Host) -> Result<(), AllocError>
-        ensures done { OnOk result (Connects W.is_after self.old.client_room conn host (moment_of self.old) (moment_of self.new)) }
+    fn connect(&mut self, conn: u64, host: Host, client_room: usize) -> Result<(), AllocError>
+        ensures done { OnOk result (Connects W.is_after client_room conn host (moment_of self.old) (moment_of self.new)) }
         ensures told { OnOk result (KeepsTold self.old self.new) }
         ensures notes { OnOk result (KeepsNotes self.old.board self.new.board) }
     {
         if self.board.seats.contains_key(&conn) {
             return Ok(());
         }
-        give_seat(self.alloc, &mut self.board.seats, conn, self.client_room)?;
+        give_seat(self.alloc, &mut self.board.seats, conn, client_room)?;
         self.pass(Event::Connect(conn, host))
     }
 

@@ -3,7 +3,7 @@ use Rattle.irc_engine.specs.Turning.{takes_it, runs_out}
 use Rattle.irc_engine.proofs.engine.Engine.take.Goals as goal
 
 pub returns-in-Ok : goal.returns-in-Ok
-returns-in-Ok g c = takes_it refl c.in-Ok.ensures.done
+returns-in-Ok g c = takes_it refl refl c.in-Ok.ensures.done
 
 pub returns-in-Err : goal.returns-in-Err
 returns-in-Err g c = runs_out refl (λ order idle.
