@@ -1,24 +1,21 @@
 -- Each step of the board, as what becomes of every connection.
-use Rattle.std.proofs.Common.{◌≡◌, ℕ, ◌+◌, ◌<◌, ◌≤◌, Bool, true, false, not, ◌&&◌, ◌||◌, cond, nat_eq, is_some, Option, Some, None, Result, Ok, Err, List, [], ◌∷◌, ◌++◌, length, refl, sym, ◌∙◌, ap, subst, append_assoc, append-nil, arith, length-append}
-use Rattle.std.specs.List.{list_any}
-use Rattle.std.proofs.lemmas.List.Folds.{list_any-append}
-use Rattle.std.specs.BTreeMap.{BTreeMap, btree_map_len}
+use Rattle.std.proofs.Common.{◌≡◌, ℕ, ◌+◌, ◌<◌, ◌≤◌, Bool, true, false, ◌&&◌, ◌||◌, cond, nat_eq, is_some, Option, Some, None, Result, Ok, Err, List, [], ◌∷◌, ◌++◌, length, refl, sym, ◌∙◌, ap, subst, append_assoc, append-nil, arith, length-append}
+use Rattle.std.specs.BTreeMap.{btree_map_len}
 use Rattle.std.specs.BTreeSet.{BTreeSet, btree_set_len}
 use Rattle.arrayvec.specs.ArrayVec.{ArrayVec}
-use Rattle.irc_outbox.specs.declared.outbox.Overflow.{Overflow}
 use Rattle.irc_outbox.specs.declared.wire.IoFault.{IoFault}
-use Rattle.irc_outbox.specs.Calls.{Call, writes, closes, bytes_taken, is_some_bytes, Adds}
+use Rattle.irc_outbox.specs.Calls.{Call, writes, closes, bytes_taken}
 use Rattle.irc_server.specs.declared.event.Out.{Out}
 use Rattle.irc_server.specs.declared.event.Out.TheVariants.{ToClient, CloseClient}
 use Rattle.irc_engine.specs.declared.board.Board.{Board}
 use Rattle.irc_engine.specs.declared.seat.Seat.{Seat}
-use Rattle.irc_engine.specs.Carrying.{answers, owed, is_open_at, is_lost_after, is_taking, AddsAll, Silent, Stays, Why, finished, cut_off, overflowed, Leaves, Fate, Passage}
+use Rattle.irc_engine.specs.Carrying.{owed, is_open_at, AddsAll, cut_off, overflowed, Passage}
 use Rattle.irc_engine.specs.Loops.Counts.{count_of}
-use Rattle.irc_engine.specs.Loops.Seats.{seat_of, is_done_at, IsSet, AreSame, Through, at_seat, no_seat, IsOffered, IsOfferedAt, IsShutAt, IsWritten, IsWrittenAt}
-use Rattle.irc_engine.specs.Loops.Boards.{has, IsNoted, Ends, Loses, Settles, ended, stayed, Carries}
+use Rattle.irc_engine.specs.Loops.Seats.{seat_of, IsSet}
+use Rattle.irc_engine.specs.Loops.Boards.{has, IsNoted, Ends, Loses, Carries}
 use Rattle.irc_engine.proofs.SeatLaws.{one_number, nat_eq-refl}
 use Rattle.irc_engine.proofs.HearingLaws.{hears_gone}
-use Rattle.irc_engine.proofs.CarryingLaws.{IsElsewhere, untouched, passage_on, elsewhere_both, kept_none, kept_some}
+use Rattle.irc_engine.proofs.CarryingLaws.{IsElsewhere, untouched, elsewhere_both}
 
 -- accounts
 
@@ -124,6 +121,7 @@ module _ {W : Type 0} (is_after : W → List Call → Type 0) (conn : ℕ) (old 
         seats = ends.seats;
         lost = λ q. noted q ∙ noted_or (nat_eq conn q) (has done.lost q) (is_open_at (seat_of old.seats conn)) unshut
             ∙ ap (λ l. has l q || (nat_eq conn q && is_open_at (seat_of old.seats conn))) ends.lost;
+        waiting = ends.waiting;
         count = omega (arith, ap btree_set_len ends.lost);
       }
 
@@ -141,6 +139,7 @@ module _ {W : Type 0} (is_after : W → List Call → Type 0) (conn : ℕ) (old 
     account = ends.account;
     seats = ends.seats;
     lost = λ q. ap (λ l. has l q) ends.lost ∙ never_or (nat_eq conn q) (has old.lost q) (is_open_at (seat_of old.seats conn)) shut;
+    waiting = ends.waiting;
     count = ends_fewer ends;
   }
 
@@ -168,7 +167,7 @@ apart_lost false t o is = ap (λ u. u && o) is
 module _ {W : Type 0} (is_after : W → List Call → Type 0) (conn : ℕ) (old new : Board W) (seat : Seat) where
   -- a line that does not fit its outbox
   pub line_drops : (text : ArrayVec ℕ) → is_some seat.framer ≡ true → seat.outbox.room < length seat.outbox.bytes + length text.items
-      → Drops is_after conn seat [] old new → Carries is_after old (ToClient conn text ∷ []) new
+      → Drops is_after conn seat [] old new → Carries is_after [] old (ToClient conn text ∷ []) new
   line_drops text unshut more drops =
       let outs : List Out = ToClient conn text ∷ [] in
       let owes : owed (is_some seat.framer) conn outs ≡ text.items =
@@ -197,12 +196,12 @@ module _ {W : Type 0} (is_after : W → List Call → Type 0) (conn : ℕ) (old 
               lost_is = drops.lost conn ∙ at_last (has old.lost conn) (nat_eq conn conn) (is_some seat.framer) (nat_eq-refl conn);
               hears_none = hears_gone seat.framer;
             })));
-        takes_none = refl;
+        exchanged = refl;
         count = drops.count;
       }
 
   -- a write that fails
-  pub write_drops : (front : List ℕ) (fault : IoFault) → Drops is_after conn seat (writes conn front (Err fault) ∷ []) old new → Carries is_after old [] new
+  pub write_drops : (front : List ℕ) (fault : IoFault) → Drops is_after conn seat (writes conn front (Err fault) ∷ []) old new → Carries is_after (writes conn front (Err fault) ∷ []) old [] new
   write_drops front fault drops =
       let calls : List Call = writes conn front (Err fault) ∷ closes conn ∷ [] in
       record {
@@ -224,6 +223,6 @@ module _ {W : Type 0} (is_after : W → List Call → Type 0) (conn : ℕ) (old 
               lost_is = drops.lost conn ∙ at_last (has old.lost conn) (nat_eq conn conn) (is_some seat.framer) (nat_eq-refl conn);
               hears_none = hears_gone seat.framer;
             })));
-        takes_none = refl;
+        exchanged = refl;
         count = drops.count;
       }

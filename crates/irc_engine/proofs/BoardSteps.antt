@@ -1,13 +1,12 @@
 -- What the parts of the board's functions do together.
-use Rattle.std.proofs.Common.{◌≡◌, ℕ, ◌+◌, ◌≤◌, Bool, true, false, not, ◌&&◌, ◌||◌, cond, nat_eq, is_some, Option, Some, None, Result, Ok, Err, List, [], ◌∷◌, ◌++◌, length, refl, sym, ◌∙◌, ap, subst, append_assoc, append-nil, arith}
-use Rattle.std.specs.List.{list_any}
-use Rattle.std.proofs.lemmas.List.Folds.{list_any-append}
-use Rattle.std.specs.BTreeMap.{BTreeMap, btree_map_len}
+use Rattle.std.proofs.Common.{◌≡◌, ℕ, ◌≤◌, Bool, true, false, not, ◌&&◌, ◌||◌, cond, nat_eq, is_some, Option, Some, None, Result, Ok, Err, List, [], ◌∷◌, ◌++◌, length, refl, sym, ◌∙◌, ap, subst, append-nil, arith}
+use Rattle.std.specs.List.{filter}
+use Rattle.std.proofs.lemmas.List.Elements.{filter-append}
+use Rattle.std.specs.BTreeMap.{btree_map_len}
 use Rattle.std.specs.BTreeSet.{BTreeSet}
 use Rattle.arrayvec.specs.ArrayVec.{ArrayVec}
 use Rattle.irc_outbox.specs.declared.outbox.Overflow.{Overflow}
-use Rattle.irc_outbox.specs.declared.wire.IoFault.{IoFault}
-use Rattle.irc_outbox.specs.Calls.{Call, writes, closes, bytes_taken, is_some_bytes}
+use Rattle.irc_outbox.specs.Calls.{Call, closes, is_some_bytes}
 use Rattle.irc_server.specs.declared.event.Out.{Out}
 use Rattle.irc_server.specs.declared.event.Out.TheVariants.{ToClient, CloseClient}
 use Rattle.irc_engine.specs.declared.board.Board.{Board}
@@ -15,44 +14,45 @@ use Rattle.irc_engine.specs.declared.seat.Seat.{Seat}
 use Rattle.irc_line.specs.Lines.{Begun}
 use Rattle.irc_engine.specs.Hearing.{Hears}
 use Rattle.irc_engine.proofs.HearingLaws.{hears_gone, hears_same}
-use Rattle.irc_engine.specs.Carrying.{owed, is_open_at, is_lost_after, is_taking, AddsAll, Passage, finished}
+use Rattle.irc_engine.specs.Carrying.{owed, is_open_at, is_exchange, AddsAll, Passage, finished}
 use Rattle.irc_engine.specs.Loops.Counts.{count_of}
-use Rattle.irc_engine.specs.Loops.Seats.{seat_of, is_done_at, IsSet, AreSame, at_seat, no_seat, IsOfferedAt, IsShutAt, IsWrittenAt}
+use Rattle.irc_engine.specs.Loops.Seats.{seat_of, is_done_at, AreSame, at_seat, no_seat, IsOfferedAt, IsShutAt}
 use Rattle.irc_engine.specs.Loops.Boards.{has, IsNoted, Ends, Loses, Settles, ended, stayed, Carries}
 use Rattle.irc_engine.proofs.SeatLaws.{nat_eq-refl}
 use Rattle.irc_engine.proofs.CarryingLaws.{IsElsewhere, nothing_owed, passage_on, untouched, still, kept_none, kept_some}
-use Rattle.irc_engine.proofs.BoardLaws.{adds_none, adds_both, at_once, by_number, set_here, set_other, nothing_else, write_elsewhere, close_elsewhere, line_elsewhere, shut_elsewhere, ends_fewer, last_close, Drops, line_drops, write_drops}
+use Rattle.irc_engine.proofs.BoardLaws.{adds_none, adds_both, at_once, by_number, set_here, set_other, nothing_else, close_elsewhere, line_elsewhere, shut_elsewhere, ends_fewer, last_close, line_drops}
 
 and_false : (o : Bool) → (o && false) ≡ false
 and_false true = refl
 and_false false = refl
 
 module _ {W : Type 0} (is_after : W → List Call → Type 0) where
-  pub carries_on : (old mid new : Board W) (x y : List Out) → Carries is_after old x mid → Carries is_after mid y new → Carries is_after old (x ++ y) new
-  carries_on old mid new x y one other = record {
+  pub carries_on : (old mid new : Board W) (a b : List Call) (x y : List Out) → Carries is_after a old x mid → Carries is_after b mid y new
+      → Carries is_after (a ++ b) old (x ++ y) new
+  carries_on old mid new a b x y one other = record {
     calls = one.calls ++ other.calls;
     account = adds_both is_after old.wire mid.wire new.wire one.calls other.calls one.account other.account;
     passage = λ conn. passage_on conn one.calls other.calls x y (seat_of old.seats conn) (seat_of mid.seats conn) (seat_of new.seats conn)
         (has old.lost conn) (has mid.lost conn) (has new.lost conn) (one.passage conn) (other.passage conn);
-    takes_none = list_any-append is_taking one.calls other.calls ∙ ap (λ t. t || list_any is_taking other.calls) one.takes_none ∙ other.takes_none;
+    exchanged = filter-append is_exchange one.calls other.calls ∙ ap (λ cs. cs ++ filter is_exchange other.calls) one.exchanged ∙ ap (λ cs. a ++ cs) other.exchanged;
     count = omega (arith, one.count, other.count);
   }
 
   -- nothing has happened
   pub carries_none : (old new : Board W) → new.wire ≡ old.wire → AreSame (seat_of old.seats) (seat_of new.seats) → new.lost ≡ old.lost → count_of new ≤ count_of old
-      → Carries is_after old [] new
+      → Carries is_after [] old [] new
   carries_none old new wire same lost count = record {
     calls = [];
     account = adds_none is_after old.wire new.wire wire;
     passage = λ conn. untouched conn [] [] (nothing_else conn) (seat_of old.seats conn) (seat_of new.seats conn) (has old.lost conn) (has new.lost conn)
         (same conn) (ap (λ l. has l conn) lost);
-    takes_none = refl;
+    exchanged = refl;
     count = count;
   }
 
   module _ (conn : ℕ) (old new : Board W) where
     -- one connection alone has another seat
-    one_seat : (calls : List Call) (outs : List Out) (was now : Option Seat) → seat_of old.seats conn ≡ was → seat_of new.seats conn ≡ now
+    pub one_seat : (calls : List Call) (outs : List Out) (was now : Option Seat) → seat_of old.seats conn ≡ was → seat_of new.seats conn ≡ now
         → ((q : ℕ) → nat_eq conn q ≡ false → seat_of new.seats q ≡ seat_of old.seats q) → ((q : ℕ) → nat_eq conn q ≡ false → has new.lost q ≡ has old.lost q)
         → ((q : ℕ) → nat_eq conn q ≡ false → IsElsewhere q calls outs) → Passage conn was (has old.lost conn) calls outs now (has new.lost conn)
         → (q : ℕ) → Passage q (seat_of old.seats q) (has old.lost q) calls outs (seat_of new.seats q) (has new.lost q)
@@ -67,12 +67,12 @@ module _ {W : Type 0} (is_after : W → List Call → Type 0) where
 
       -- a line that its outbox takes
       pub line_taken : (result : Result Bool Overflow) → result ≡ Ok true → IsOfferedAt conn text.items old.seats result new.seats
-          → Carries is_after old (ToClient conn text ∷ []) new
+          → Carries is_after [] old (ToClient conn text ∷ []) new
       line_taken result is offered = by (subst (λ r. IsOfferedAt conn text.items old.seats r new.seats) is offered)
         where
-          by : IsOfferedAt conn text.items old.seats (Ok true) new.seats → Carries is_after old (ToClient conn text ∷ []) new
+          by : IsOfferedAt conn text.items old.seats (Ok true) new.seats → Carries is_after [] old (ToClient conn text ∷ []) new
           by (no_seat none same never) = cc never
-          by (at_seat seat now was set (unshut, fits, now_is)) =
+          by (at_seat seat now was set (unshut, some, fits, now_is)) =
               let outs : List Out = ToClient conn text ∷ [] in
               let owes : owed (is_some seat.framer) conn outs ≡ text.items =
               ap (λ t. owed t conn outs) unshut ∙ ap (λ xs. xs ++ []) (at_once conn text.items []) ∙ append-nil text.items in
@@ -92,33 +92,37 @@ module _ {W : Type 0} (is_after : W → List Call → Type 0) where
                       lost_is = same_lost conn ∙ kept_some (has old.lost conn) (is_some seat.framer);
                       hears_none = hears_same seat.framer now.framer (ap (λ (s : Seat). s.framer) now_is);
                     });
-                takes_none = refl;
+                exchanged = refl;
                 count = count;
               }
 
-      -- a line to a connection that the server has closed, or that has no seat
+      none_owed : (unshut : Bool) → (unshut ≡ true → text.items ≡ []) → owed unshut conn (ToClient conn text ∷ []) ≡ []
+      none_owed true never = ap (λ xs. xs ++ []) (at_once conn text.items []) ∙ append-nil text.items ∙ never refl
+      none_owed false never = refl
+
+      -- a line of nothing, or to a connection that the server has closed, or that has no seat
       pub line_passed : (result : Result Bool Overflow) → result ≡ Ok false → IsOfferedAt conn text.items old.seats result new.seats
-          → Carries is_after old (ToClient conn text ∷ []) new
+          → Carries is_after [] old (ToClient conn text ∷ []) new
       line_passed result is offered = by (subst (λ r. IsOfferedAt conn text.items old.seats r new.seats) is offered)
         where
-          by : IsOfferedAt conn text.items old.seats (Ok false) new.seats → Carries is_after old (ToClient conn text ∷ []) new
+          by : IsOfferedAt conn text.items old.seats (Ok false) new.seats → Carries is_after [] old (ToClient conn text ∷ []) new
           by (no_seat none same never) = record {
             calls = [];
             account = adds_none is_after old.wire new.wire wire;
             passage = one_seat [] (ToClient conn text ∷ []) None None none (same conn ∙ none) (λ q two. same q) (λ q two. same_lost q)
                 (λ q two. line_elsewhere conn q text two)
                 (record { fate = record { nothing = refl; never = refl }; lost_is = same_lost conn ∙ kept_none (has old.lost conn); hears_none = refl });
-            takes_none = refl;
+            exchanged = refl;
             count = count;
           }
-          by (at_seat seat now was set (shut, now_is)) = record {
+          by (at_seat seat now was set (never, now_is)) = record {
             calls = [];
             account = adds_none is_after old.wire new.wire wire;
             passage = one_seat [] (ToClient conn text ∷ []) (Some seat) (Some now) was (set_here (seat_of old.seats) (seat_of new.seats) conn (Some now) set)
                 (set_other (seat_of old.seats) (seat_of new.seats) conn (Some now) set) (λ q two. same_lost q) (λ q two. line_elsewhere conn q text two)
                 (record {
                   fate = record {
-                    carried = ap (λ t. seat.outbox.bytes ++ owed t conn (ToClient conn text ∷ [])) shut ∙ append-nil seat.outbox.bytes
+                    carried = ap (λ xs. seat.outbox.bytes ++ xs) (none_owed (is_some seat.framer) never) ∙ append-nil seat.outbox.bytes
                         ∙ sym (ap (λ (s : Seat). s.outbox.bytes) now_is);
                     same_room = ap (λ (s : Seat). s.outbox.room) now_is;
                     still_open = ap (λ (s : Seat). is_some s.framer) now_is ∙ still (is_some seat.framer) false refl;
@@ -128,7 +132,7 @@ module _ {W : Type 0} (is_after : W → List Call → Type 0) where
                   lost_is = same_lost conn ∙ kept_some (has old.lost conn) (is_some seat.framer);
                   hears_none = hears_same seat.framer now.framer (ap (λ (s : Seat). s.framer) now_is);
                 });
-            takes_none = refl;
+            exchanged = refl;
             count = count;
           }
 
@@ -137,7 +141,7 @@ module _ {W : Type 0} (is_after : W → List Call → Type 0) where
 
     -- the server has closed a connection
     pub shut_now : IsShutAt conn old.seats new.seats → IsNoted old.lost conn false new.lost → new.wire ≡ old.wire → count_of new ≤ count_of old
-        → Carries is_after old (CloseClient conn ∷ []) new
+        → Carries is_after [] old (CloseClient conn ∷ []) new
     shut_now shut forgotten wire count = by shut
       where
         others_lost : (q : ℕ) → nat_eq conn q ≡ false → has new.lost q ≡ has old.lost q
@@ -146,13 +150,13 @@ module _ {W : Type 0} (is_after : W → List Call → Type 0) where
         not_lost : has new.lost conn ≡ false
         not_lost = forgotten conn ∙ at_once conn false (has old.lost conn)
 
-        by : IsShutAt conn old.seats new.seats → Carries is_after old (CloseClient conn ∷ []) new
+        by : IsShutAt conn old.seats new.seats → Carries is_after [] old (CloseClient conn ∷ []) new
         by (no_seat none same so) = record {
           calls = [];
           account = adds_none is_after old.wire new.wire wire;
           passage = one_seat [] (CloseClient conn ∷ []) None None none (same conn ∙ none) (λ q two. same q) others_lost (λ q two. shut_elsewhere conn q two)
               (record { fate = record { nothing = refl; never = refl }; lost_is = not_lost ∙ sym (closed_now _); hears_none = refl });
-          takes_none = refl;
+          exchanged = refl;
           count = count;
         }
         by (at_seat seat now was set now_is) = record {
@@ -172,7 +176,7 @@ module _ {W : Type 0} (is_after : W → List Call → Type 0) where
                 lost_is = not_lost ∙ sym (closed_now _);
                 hears_none = subst (λ (b : Option Begun). Hears seat.framer [] [] b) (sym (ap (λ (s : Seat). s.framer) now_is)) (hears_gone seat.framer);
               });
-          takes_none = refl;
+          exchanged = refl;
           count = count;
         }
 
@@ -187,10 +191,10 @@ module _ {W : Type 0} (is_after : W → List Call → Type 0) where
     shut_lost false false is = refl
 
     -- a connection that the server has closed ends, once nothing is left
-    pub ends_done : is_done_at (seat_of old.seats conn) ≡ true → Ends is_after conn old new → Carries is_after old [] new
+    pub ends_done : is_done_at (seat_of old.seats conn) ≡ true → Ends is_after conn old new → Carries is_after [] old [] new
     ends_done done ends = by (seat_of old.seats conn) refl done
       where
-        by : (s : Option Seat) → seat_of old.seats conn ≡ s → is_done_at s ≡ true → Carries is_after old [] new
+        by : (s : Option Seat) → seat_of old.seats conn ≡ s → is_done_at s ≡ true → Carries is_after [] old [] new
         by None was never = cc never
         by (Some seat) was is =
             let parts = shut_and_empty (is_some seat.framer) seat.outbox.bytes is in
@@ -210,55 +214,22 @@ module _ {W : Type 0} (is_after : W → List Call → Type 0) where
                     lost_is = ap (λ l. has l conn) ends.lost ∙ shut_lost (has old.lost conn) (is_some seat.framer) parts.0;
                     hears_none = hears_gone seat.framer;
                   });
-              takes_none = refl;
+              exchanged = refl;
               count = ends_fewer is_after conn old new ends;
             }
 
-    -- a write that does not fail
-    pub written_now : (n : ℕ) (result : Result ℕ IoFault) → result ≡ Ok n → IsWrittenAt is_after conn old.seats old.wire result new.seats new.wire
-        → new.lost ≡ old.lost → count_of new ≤ count_of old → Carries is_after old [] new
-    written_now n result is written lost count = by (subst (λ r. IsWrittenAt is_after conn old.seats old.wire r new.seats new.wire) is written)
-      where
-        by : IsWrittenAt is_after conn old.seats old.wire (Ok n) new.seats new.wire → Carries is_after old [] new
-        by (no_seat none same so) = carries_none old new so.1 same lost count
-        by (at_seat seat now was set so) =
-            let w = so.writes_some in
-            record {
-              calls = writes conn w.front (Ok n) ∷ [];
-              account = w.account;
-              passage = one_seat (writes conn w.front (Ok n) ∷ []) [] (Some seat) (Some now) was
-                  (set_here (seat_of old.seats) (seat_of new.seats) conn (Some now) set)
-                  (set_other (seat_of old.seats) (seat_of new.seats) conn (Some now) set) (λ q two. ap (λ l. has l q) lost)
-                  (λ q two. write_elsewhere conn q w.front (Ok n) two)
-                  (record {
-                    fate = record {
-                      carried = ap (λ xs. seat.outbox.bytes ++ xs) (nothing_owed (is_some seat.framer) conn [] refl) ∙ append-nil seat.outbox.bytes ∙ w.left
-                          ∙ ap (λ xs. xs ++ now.outbox.bytes)
-                          (sym (append-nil (bytes_taken w.front (Ok n))) ∙ ap (λ xs. xs ++ []) (sym (at_once conn (bytes_taken w.front (Ok n)) [])));
-                      same_room = w.same_room;
-                      still_open = ap is_some so.same_framer ∙ still (is_some seat.framer) false refl;
-                      never = refl;
-                      never_cut = refl;
-                    };
-                    lost_is = ap (λ l. has l conn) lost ∙ kept_some (has old.lost conn) (is_some seat.framer);
-                    hears_none = hears_same seat.framer now.framer so.same_framer;
-                  });
-              takes_none = refl;
-              count = count;
-            }
-
-  pub settled : (conn : ℕ) (old new : Board W) → Settles is_after conn old new → Carries is_after old [] new
+  pub settled : (conn : ℕ) (old new : Board W) → Settles is_after conn old new → Carries is_after [] old [] new
   settled conn old new (ended done ends) = ends_done conn old new done ends
-  settled conn old new (stayed undone wire seats lost) =
+  settled conn old new (stayed undone wire seats lost noted) =
       carries_none old new wire (λ q. ap (λ s. seat_of s q) seats) lost (omega (arith, ap btree_map_len seats, ap (λ (s : BTreeSet ℕ). length s.keys) lost))
 
   module _ (conn : ℕ) (old mid new : Board W) (loses : Loses is_after conn mid new) (lost : mid.lost ≡ old.lost) (count : count_of mid ≤ count_of old) where
     -- a line does not fit, and the connection is lost
     pub line_lost : (text : ArrayVec ℕ) (overflow : Overflow) (result : Result Bool Overflow) → result ≡ Err overflow
-        → IsOfferedAt conn text.items old.seats result mid.seats → mid.wire ≡ old.wire → Carries is_after old (ToClient conn text ∷ []) new
+        → IsOfferedAt conn text.items old.seats result mid.seats → mid.wire ≡ old.wire → Carries is_after [] old (ToClient conn text ∷ []) new
     line_lost text overflow result is offered wire = by (subst (λ r. IsOfferedAt conn text.items old.seats r mid.seats) is offered)
       where
-        by : IsOfferedAt conn text.items old.seats (Err overflow) mid.seats → Carries is_after old (ToClient conn text ∷ []) new
+        by : IsOfferedAt conn text.items old.seats (Err overflow) mid.seats → Carries is_after [] old (ToClient conn text ∷ []) new
         by (no_seat none same never) = cc never
         by (at_seat seat now was set (unshut, more, now_is)) =
             line_drops is_after conn old new seat text unshut more (record {
@@ -268,31 +239,6 @@ module _ {W : Type 0} (is_after : W → List Call → Type 0) where
               lost = λ q. loses.lost q
                   ∙ ap (λ l. has l q || (nat_eq conn q && is_open_at (seat_of mid.seats conn))) lost
                   ∙ ap (λ (s : Option Seat). has old.lost q || (nat_eq conn q && is_open_at s)) (set_here (seat_of old.seats) (seat_of mid.seats) conn (Some now) set ∙ ap Some now_is);
-              count = omega (arith, loses.count, count);
-            })
-          where
-            over : (q : ℕ) (t : Bool) → nat_eq conn q ≡ t → seat_of mid.seats q ≡ cond (nat_eq conn q) (Some now) (seat_of old.seats q)
-                → cond (nat_eq conn q) None (seat_of mid.seats q) ≡ cond (nat_eq conn q) None (seat_of old.seats q)
-            over q true e is = ap (λ t. cond t None (seat_of mid.seats q)) e ∙ sym (ap (λ t. cond t None (seat_of old.seats q)) e)
-            over q false e is = ap (λ s. cond (nat_eq conn q) None s) (is ∙ ap (λ t. cond t (Some now) (seat_of old.seats q)) e)
-
-    -- a write fails, and the connection is lost
-    pub write_lost : (fault : IoFault) (result : Result ℕ IoFault) → result ≡ Err fault → IsWrittenAt is_after conn old.seats old.wire result mid.seats mid.wire
-        → Carries is_after old [] new
-    write_lost fault result is written = by (subst (λ r. IsWrittenAt is_after conn old.seats old.wire r mid.seats mid.wire) is written)
-      where
-        by : IsWrittenAt is_after conn old.seats old.wire (Err fault) mid.seats mid.wire → Carries is_after old [] new
-        by (no_seat none same never) = cc never.0
-        by (at_seat seat now was set so) =
-            let w = so.writes_some in
-            write_drops is_after conn old new seat w.front fault (record {
-              was = was;
-              account = adds_both is_after old.wire mid.wire new.wire (writes conn w.front (Err fault) ∷ []) (closes conn ∷ []) w.account loses.account;
-              seats = λ q. loses.seats q ∙ over q (nat_eq conn q) refl (set q);
-              lost = λ q. loses.lost q
-                  ∙ ap (λ l. has l q || (nat_eq conn q && is_open_at (seat_of mid.seats conn))) lost
-                  ∙ ap (λ (s : Option Seat). has old.lost q || (nat_eq conn q && is_open_at s)) (set_here (seat_of old.seats) (seat_of mid.seats) conn (Some now) set)
-                  ∙ ap (λ t. has old.lost q || (nat_eq conn q && t)) (ap is_some so.same_framer);
               count = omega (arith, loses.count, count);
             })
           where

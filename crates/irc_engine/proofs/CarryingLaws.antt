@@ -1,6 +1,5 @@
 -- What becomes of connections, step by step: two stretches are one, and what a call or a line of one connection is to the others.
 use Rattle.std.proofs.Common.{◌≡◌, ℕ, ◌+◌, ◌<◌, Bool, true, false, not, ◌&&◌, ◌||◌, cond, nat_eq, is_some, Option, Some, None, List, [], ◌∷◌, ◌++◌, length, refl, sym, ◌∙◌, ap, subst, append_assoc, append-nil, arith, length-append}
-use Rattle.std.specs.List.{list_any, flat_map}
 use Rattle.std.proofs.lemmas.Grind.{flat_map-append}
 use Rattle.std.proofs.lemmas.List.Folds.{list_any-append}
 use Rattle.std.proofs.lemmas.List.Sums.{sum_by-append}
@@ -10,7 +9,7 @@ use Rattle.irc_server.specs.declared.event.Out.TheVariants.{ToClient, CloseClien
 use Rattle.irc_engine.specs.declared.seat.Seat.{Seat}
 use Rattle.irc_engine.specs.Hearing.{begun_at}
 use Rattle.irc_engine.proofs.HearingLaws.{hears_on, hears_kept}
-use Rattle.irc_engine.specs.Carrying.{answers, is_closing, is_closed_by, owed, is_open_at, ends_at, is_cut_off, Silent, Stays, Why, finished, cut_off, overflowed, Leaves, Fate, is_lost_after, Passage}
+use Rattle.irc_engine.specs.Carrying.{answers, is_closing, is_closed_by, owed, ends_at, is_cut_off, Silent, Stays, Why, finished, cut_off, overflowed, Leaves, Fate, is_lost_after, Passage}
 
 pub written-append : (conn : ℕ) (a b : List Call) → written conn (a ++ b) ≡ written conn a ++ written conn b
 written-append conn a b = flat_map-append (written_by conn) a b

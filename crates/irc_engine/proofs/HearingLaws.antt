@@ -1,12 +1,10 @@
 -- What the server is told of a connection, over two stretches.
-use Rattle.std.proofs.Common.{◌≡◌, ℕ, ◌+◌, ◌≤◌, Bool, true, false, not, ◌&&◌, ◌||◌, cond, nat_eq, is_some, Option, Some, None, List, [], ◌∷◌, ◌++◌, refl, sym, ◌∙◌, ap, subst, append_assoc, append-nil, arith}
+use Rattle.std.proofs.Common.{◌≡◌, ℕ, ◌+◌, cond, Option, Some, None, List, [], ◌++◌, refl, sym, ◌∙◌, ap, subst, append_assoc, append-nil}
 use Rattle.std.proofs.lemmas.Grind.{flat_map-append}
 use Rattle.std.proofs.lemmas.List.Sums.{sum_by-append}
 use Rattle.irc_line.specs.Lines.{Begun, HasTaken, lines, Takes}
 use Rattle.irc_server.specs.declared.event.Event.{Event}
-use Rattle.irc_server.specs.declared.event.Out.{Out}
-use Rattle.irc_engine.specs.declared.seat.Seat.{Seat}
-use Rattle.irc_engine.specs.Hearing.{line_by, lines_by, is_gone_of, times_gone, begun_at, HearsFront, Hears}
+use Rattle.irc_engine.specs.Hearing.{line_by, lines_by, is_gone_of, times_gone, Hears}
 
 pub lines_by-append : (conn : ℕ) (a b : List Event) → lines_by conn (a ++ b) ≡ lines_by conn a ++ lines_by conn b
 lines_by-append conn a b = flat_map-append (line_by conn) a b

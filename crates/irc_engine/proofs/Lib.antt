@@ -3,5 +3,8 @@ pub mod SeatLaws
 pub mod CarryingLaws
 pub mod BoardLaws
 pub mod BoardSteps
+pub mod MarkLaws
+pub mod WriteSteps
+pub mod FlushLaws
 pub mod RunLaws
 pub mod TurnLaws

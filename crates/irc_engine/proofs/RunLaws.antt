@@ -2,6 +2,7 @@
 use Rattle.std.proofs.Common.{◌≡◌, ℕ, ◌+◌, ◌-◌, ◌<◌, ◌≤◌, Bool, true, false, not, ◌&&◌, ◌||◌, cond, nat_eq, is_some, Option, Some, None, Result, Ok, Err, OnOk, List, [], ◌∷◌, ◌++◌, refl, sym, ◌∙◌, ap, subst, append_assoc, append-nil, arith, take, drop, length, length-append}
 use Rattle.std.specs.List.{filter, list_any, slice_range}
 use Rattle.std.specs.BTreeMap.{BTreeMap}
+use Rattle.std.specs.BTreeSet.{BTreeSet}
 use Rattle.std.proofs.Math.Seq.{take-add}
 use Rattle.std.proofs.lemmas.List.{take-append-le, take-append-drop, length-take}
 use Rattle.std.proofs.lemmas.List.Folds.{drop_split}
@@ -18,12 +19,13 @@ use Rattle.irc_server.specs.View.{View}
 use Rattle.irc_server.specs.Happening.{IsHandled}
 use Rattle.irc_engine.specs.declared.board.Board.{Board}
 use Rattle.irc_engine.specs.declared.seat.Seat.{Seat}
-use Rattle.irc_engine.specs.Carrying.{is_taking, owed, is_open_at, is_cut_off, is_closed_by, is_lost_after, AddsAll, Fate, Passage, cut_off}
-use Rattle.irc_server.specs.declared.event.Event.TheVariants.{Line, Gone}
-use Rattle.irc_line.specs.Lines.{Begun, Takes}
+use Rattle.irc_engine.specs.Carrying.{is_exchange, owed, is_open_at, is_cut_off, is_closed_by, AddsAll, Fate, Passage, cut_off}
+use Rattle.irc_server.specs.declared.event.Event.TheVariants.{Gone}
+use Rattle.irc_line.specs.Lines.{Begun}
 use Rattle.irc_line.specs.Framed.{found_in}
-use Rattle.irc_engine.specs.Hearing.{begun_at, is_connect, line_by, lines_by, times_gone, nothing_of, only_of, Hears}
-use Rattle.irc_engine.specs.Running.{Moment, AskedFirst, AreAsked, Ran, RanOn, Standing, standing_of, is_known, IsApart, IsTold, Tells, one_if, AllTold}
+use Rattle.irc_engine.specs.Hearing.{begun_at, is_connect, lines_by, times_gone, nothing_of, only_of, Hears}
+use Rattle.irc_engine.specs.Running.{Moment, AreAsked, Ran, RanOn, Standing, standing_of, Tells}
+use Rattle.irc_engine.specs.Writing.{one_if}
 use Rattle.irc_engine.proofs.HearingLaws.{lines_by-append, times_gone-append, hears_on, hears_kept, hears_same, hears_gone, hears_deaf}
 use Rattle.irc_engine.specs.Loops.Seats.{seat_of, at_seat, no_seat, FramesAt}
 use Rattle.irc_engine.specs.Loops.Boards.{has, Carries, Loses}
@@ -40,14 +42,6 @@ on_ok (Err fault) P Q so holds = tt
 pub none_there : (seat : Option Seat) → is_some seat ≡ false → seat ≡ None
 none_there None none = refl
 none_there (Some seat) none = cc none
-
-none_pass : (p : Call → Bool) (calls : List Call) → list_any p calls ≡ false → filter p calls ≡ []
-none_pass p [] none = refl
-none_pass p (call ∷ calls) none = by (p call) refl none (none_pass p calls)
-  where
-    by : (t : Bool) → p call ≡ t → (t || list_any p calls) ≡ false → (list_any p calls ≡ false → filter p calls ≡ []) → filter p (call ∷ calls) ≡ []
-    by true is never rest = cc never
-    by false is none' rest = ap (λ t. cond t (call ∷ filter p calls) (filter p calls)) is ∙ rest none'
 
 pub asked_on : (old mid new : Option View) (a b : List Event) (x y : List Out) → AreAsked old a x mid → AreAsked mid b y new → AreAsked old (a ++ b) (x ++ y) new
 asked_on old mid new [] b x y one other =
@@ -257,19 +251,19 @@ front_after (Err fault) xs rest n room len is fits same long = cc is
 
 -- the engine's board, and what else there is of it, at one moment
 abbrev pub at_board : {W : Type 0} → Option View → ℕ → Board W → Moment W
-at_board server room board = record { server = server; wire = board.wire; seats = seat_of board.seats; lost = has board.lost; read_room = room }
+at_board server room board = record { server = server; wire = board.wire; seats = seat_of board.seats; lost = has board.lost; waiting = has board.waiting; read_room = room }
 
 module _ {W : Type 0} (is_after : W → List Call → Type 0) where
-  pub ran_then : (takings : List Call) (first : List Event) (f g h : ℕ → List ℕ) (old mid new : Moment W) → ((q : ℕ) → h q ≡ f q ++ g q)
-      → Ran is_after takings first f old mid → Ran is_after [] [] g mid new → Ran is_after takings first h old new
-  ran_then takings first f g h old mid new is one other = record {
+  pub ran_both : (a b : List Call) (first : List Event) (f g h : ℕ → List ℕ) (old mid new : Moment W) → ((q : ℕ) → h q ≡ f q ++ g q)
+      → Ran is_after a first f old mid → Ran is_after b [] g mid new → Ran is_after (a ++ b) first h old new
+  ran_both a b first f g h old mid new is one other = record {
     events = one.events ++ other.events;
     outs = one.outs ++ other.outs;
     calls = one.calls ++ other.calls;
     are_asked = subst (λ (es : List Event). AreAsked old.server es (one.outs ++ other.outs) new.server) (append_assoc first one.events other.events)
         (asked_on old.server mid.server new.server (first ++ one.events) other.events one.outs other.outs one.are_asked other.are_asked);
     account = adds_both is_after old.wire mid.wire new.wire one.calls other.calls one.account other.account;
-    takes = filter-append is_taking one.calls other.calls ∙ ap (λ cs. filter is_taking one.calls ++ cs) other.takes ∙ append-nil (filter is_taking one.calls) ∙ one.takes;
+    exchanged = filter-append is_exchange one.calls other.calls ∙ ap (λ cs. cs ++ filter is_exchange other.calls) one.exchanged ∙ ap (λ cs. a ++ cs) other.exchanged;
     fates = λ conn. fate_on conn one.calls other.calls one.outs other.outs (old.seats conn) (mid.seats conn) (new.seats conn) (one.fates conn) (other.fates conn);
     no_connect = list_any-append is_connect one.events other.events ∙ ap (λ t. t || list_any is_connect other.events) one.no_connect ∙ other.no_connect;
     hears = λ conn. subst (λ (bs : List ℕ). Hears (begun_at (old.seats conn)) bs (lines_by conn (one.events ++ other.events)) (begun_at (new.seats conn))) (sym (is conn))
@@ -282,10 +276,15 @@ module _ {W : Type 0} (is_after : W → List Call → Type 0) where
     same_room = other.same_room ∙ one.same_room;
   }
 
-  pub ran_after : (takings : List Call) (first : List Event) (came : ℕ → List ℕ) (old mid new : Moment W) → Ran is_after takings first came old mid → RanOn is_after mid new
-      → Ran is_after takings first came old new
-  ran_after takings first came old mid new one other =
-      ran_then takings first came nothing_of came old mid new (λ q. sym (append-nil (came q))) one other
+  pub ran_then : (exchanges : List Call) (first : List Event) (f g h : ℕ → List ℕ) (old mid new : Moment W) → ((q : ℕ) → h q ≡ f q ++ g q)
+      → Ran is_after exchanges first f old mid → Ran is_after [] [] g mid new → Ran is_after exchanges first h old new
+  ran_then exchanges first f g h old mid new is one other =
+      subst (λ (cs : List Call). Ran is_after cs first h old new) (append-nil exchanges) (ran_both exchanges [] first f g h old mid new is one other)
+
+  pub ran_after : (exchanges : List Call) (first : List Event) (came : ℕ → List ℕ) (old mid new : Moment W) → Ran is_after exchanges first came old mid → RanOn is_after mid new
+      → Ran is_after exchanges first came old new
+  ran_after exchanges first came old mid new one other =
+      ran_then exchanges first came nothing_of came old mid new (λ q. sym (append-nil (came q))) one other
 
   pub ran_on : (old mid new : Moment W) → RanOn is_after old mid → RanOn is_after mid new → RanOn is_after old new
   ran_on old mid new one other = ran_after [] [] nothing_of old mid new one other
@@ -298,7 +297,7 @@ module _ {W : Type 0} (is_after : W → List Call → Type 0) where
     calls = [];
     are_asked = (refl, refl);
     account = adds_none is_after old.wire old.wire refl;
-    takes = refl;
+    exchanged = refl;
     fates = λ conn. same_fate conn (old.seats conn);
     no_connect = refl;
     hears = λ conn. hears_kept (begun_at (old.seats conn));
@@ -306,9 +305,26 @@ module _ {W : Type 0} (is_after : W → List Call → Type 0) where
     same_room = refl;
   }
 
+  -- nothing has happened, but that other connections are noted
+  pub ran_marked : (server : Option View) (room : ℕ) (board : Board W) (waiting : BTreeSet ℕ)
+      → RanOn is_after (at_board server room board) (at_board server room (record board { waiting = waiting }))
+  ran_marked server room board waiting = record {
+    events = [];
+    outs = [];
+    calls = [];
+    are_asked = (refl, refl);
+    account = adds_none is_after board.wire board.wire refl;
+    exchanged = refl;
+    fates = λ conn. same_fate conn (seat_of board.seats conn);
+    no_connect = refl;
+    hears = λ conn. hears_kept (begun_at (seat_of board.seats conn));
+    tells = λ conn. tells_still conn (standing_of conn (at_board server room board));
+    same_room = refl;
+  }
+
   -- the board has done what the server put out by an event
   pub ran_event : (server after : Option View) (room : ℕ) (old new : Board W) (event : Event) (result : Result (Unit {0}) ServerFault) (before outs : List Out) → before ≡ []
-      → IsHandled server event before result after outs → Carries is_after old outs new
+      → IsHandled server event before result after outs → Carries is_after [] old outs new
       → Ran is_after [] (event ∷ []) nothing_of (at_board server room old) (at_board after room new)
   ran_event server after room old new event result before outs none handled carries = record {
     events = [];
@@ -324,7 +340,7 @@ module _ {W : Type 0} (is_after : W → List Call → Type 0) where
       rest_is = (refl, refl);
     };
     account = carries.account;
-    takes = none_pass is_taking carries.calls carries.takes_none;
+    exchanged = carries.exchanged;
     fates = λ conn. (carries.passage conn).fate;
     no_connect = refl;
     hears = λ conn. (carries.passage conn).hears_none;
@@ -333,14 +349,15 @@ module _ {W : Type 0} (is_after : W → List Call → Type 0) where
   }
 
   -- the board has done something of itself
-  pub ran_board : (server : Option View) (room : ℕ) (old new : Board W) → Carries is_after old [] new → RanOn is_after (at_board server room old) (at_board server room new)
-  ran_board server room old new carries = record {
+  pub ran_board : (server : Option View) (room : ℕ) (exchanges : List Call) (old new : Board W) → Carries is_after exchanges old [] new
+      → Ran is_after exchanges [] nothing_of (at_board server room old) (at_board server room new)
+  ran_board server room exchanges old new carries = record {
     events = [];
     outs = [];
     calls = carries.calls;
     are_asked = (refl, refl);
     account = carries.account;
-    takes = none_pass is_taking carries.calls carries.takes_none;
+    exchanged = carries.exchanged;
     fates = λ conn. (carries.passage conn).fate;
     no_connect = refl;
     hears = λ conn. (carries.passage conn).hears_none;
@@ -379,7 +396,7 @@ module _ {W : Type 0} (is_after : W → List Call → Type 0) where
     calls = ran.calls;
     are_asked = ran.are_asked;
     account = subst (λ w. AddsAll is_after w ran.calls new.wire) wire ran.account;
-    takes = ran.takes;
+    exchanged = ran.exchanged;
     fates = λ q. subst (λ (s : Option Seat). Fate q s ran.calls ran.outs (new.seats q)) (at q) (ran.fates q);
     no_connect = ran.no_connect;
     hears = λ q. subst (λ (s : Option Seat). Hears (begun_at s) [] (lines_by q ran.events) (begun_at (new.seats q))) (at q) (ran.hears q);
@@ -418,7 +435,7 @@ module _ {W : Type 0} (is_after : W → List Call → Type 0) where
     calls = reads conn room answer bytes ∷ [];
     are_asked = (refl, refl);
     account = account;
-    takes = refl;
+    exchanged = refl;
     fates = λ q. subst (λ (s : Option Seat). Fate q (seat_of old.seats q) (reads conn room answer bytes ∷ []) [] s) (sym (at q))
         (untouched_fate q (reads conn room answer bytes ∷ []) [] (goes_by conn room answer bytes n is q) (seat_of old.seats q));
     no_connect = refl;
@@ -458,7 +475,7 @@ module _ {W : Type 0} (is_after : W → List Call → Type 0) where
     calls = calls;
     are_asked = (refl, refl);
     account = adds_both is_after old.wire mid.wire new.wire (reads conn room answer bytes ∷ []) (closes conn ∷ []) account loses.account;
-    takes = refl;
+    exchanged = refl;
     fates = fate_of_one conn (seat_of old.seats) (seat_of new.seats) calls [] (set_other (seat_of old.seats) (seat_of new.seats) conn None set)
         (λ q two. elsewhere_both q (reads conn room answer bytes ∷ []) (closes conn ∷ []) [] [] (cut_elsewhere conn room answer bytes is q two) (close_elsewhere conn q two))
         (subst (λ (s : Option Seat). Fate conn (seat_of old.seats conn) calls [] s) (sym (set_here (seat_of old.seats) (seat_of new.seats) conn None set))
@@ -519,7 +536,7 @@ module _ {W : Type 0} (is_after : W → List Call → Type 0) where
         calls = ran.calls;
         are_asked = ran.are_asked;
         account = subst (λ w. AddsAll is_after w ran.calls new.wire) wire ran.account;
-        takes = ran.takes;
+        exchanged = ran.exchanged;
         fates = λ q. fate_on q [] ran.calls [] ran.outs (seat_of old.seats q) (seat_of mid.seats q) (new.seats q)
             (fate_of_one conn (seat_of old.seats) (seat_of mid.seats) [] [] (set_other (seat_of old.seats) (seat_of mid.seats) conn (Some now) set)
             (λ q two. record { silent = record { nothing = refl; never = refl }; never_cut = refl; nothing = refl; never_closed = refl })
@@ -591,7 +608,7 @@ module _ {W : Type 0} (is_after : W → List Call → Type 0) where
         calls = [];
         are_asked = (refl, refl);
         account = adds_none is_after old.wire new.wire wire;
-        takes = refl;
+        exchanged = refl;
         fates = λ q. subst (λ (s : Option Seat). Fate q (seat_of old.seats q) [] [] s) (sym (same q)) (same_fate q (seat_of old.seats q));
         no_connect = refl;
         hears = λ q. subst (λ (s : Option Seat). Hears (begun_at (seat_of old.seats q)) (only_of conn bytes q) [] (begun_at s)) (sym (same q)) (deaf q (nat_eq conn q) refl);
@@ -615,18 +632,18 @@ module _ {W : Type 0} (is_after : W → List Call → Type 0) where
       by (at_seat seat now was set so) = so_then (ap begun_at was ∙ so.0) (λ q. as_before q seat now (nat_eq conn q) refl was so.1 (set q))
 
   -- what a read gave is heard
-  pub ran_fed : (takings : List Call) (conn : ℕ) (answer : Result Got IoFault) (buffer after : List ℕ) (n : ℕ) (old mid new : Moment W) → came answer ≡ Some n → take n after ≡ take n buffer
-      → Ran is_after takings [] nothing_of old mid → Ran is_after [] [] (only_of conn (take n after)) mid new
-      → Ran is_after takings [] (only_of conn (bytes_got answer buffer)) old new
-  ran_fed takings conn answer buffer after n old mid new is same one other =
-      ran_then takings [] nothing_of (only_of conn (take n after)) (only_of conn (bytes_got answer buffer)) old mid new
+  pub ran_fed : (exchanges : List Call) (conn : ℕ) (answer : Result Got IoFault) (buffer after : List ℕ) (n : ℕ) (old mid new : Moment W) → came answer ≡ Some n → take n after ≡ take n buffer
+      → Ran is_after exchanges [] nothing_of old mid → Ran is_after [] [] (only_of conn (take n after)) mid new
+      → Ran is_after exchanges [] (only_of conn (bytes_got answer buffer)) old new
+  ran_fed exchanges conn answer buffer after n old mid new is same one other =
+      ran_then exchanges [] nothing_of (only_of conn (take n after)) (only_of conn (bytes_got answer buffer)) old mid new
       (λ q. ap (λ bs. only_of conn bs q) (got answer buffer n is ∙ sym same)) one other
 
   -- a read that ended or failed gave nothing
-  pub ran_ended : (takings : List Call) (conn : ℕ) (answer : Result Got IoFault) (buffer : List ℕ) (old new : Moment W) → came answer ≡ None
-      → Ran is_after takings [] nothing_of old new → Ran is_after takings [] (only_of conn (bytes_got answer buffer)) old new
-  ran_ended takings conn answer buffer old new is ran =
-      ran_then takings [] nothing_of nothing_of (only_of conn (bytes_got answer buffer)) old new new
+  pub ran_ended : (exchanges : List Call) (conn : ℕ) (answer : Result Got IoFault) (buffer : List ℕ) (old new : Moment W) → came answer ≡ None
+      → Ran is_after exchanges [] nothing_of old new → Ran is_after exchanges [] (only_of conn (bytes_got answer buffer)) old new
+  ran_ended exchanges conn answer buffer old new is ran =
+      ran_then exchanges [] nothing_of nothing_of (only_of conn (bytes_got answer buffer)) old new new
       (λ q. ap (λ bs. only_of conn bs q) (got_none answer buffer is) ∙ none_of (nat_eq conn q)) ran (ran_none new)
 
   -- no bytes have come so far

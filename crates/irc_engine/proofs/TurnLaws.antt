@@ -1,21 +1,26 @@
 -- A turn, from what the wire told and what was done then.
-use Rattle.std.proofs.Common.{◌≡◌, ℕ, false, true, Result, Ok, Err, OnOk, List, ◌⊎◌, inl, inr, sym, subst}
+use Rattle.std.proofs.Common.{◌≡◌, ℕ, ◌<◌, false, IsErrAnd, Result, Ok, Err, OnOk, List, ◌⊎◌, inl, inr, sym, subst}
 use Rattle.irc_outbox.specs.declared.wire.Ready.{Ready}
 use Rattle.irc_outbox.specs.declared.wire.Ready.TheVariants.{Idle, Writable}
 use Rattle.irc_outbox.specs.Calls.{Call, asks, Adds}
+use Rattle.irc_engine.specs.declared.engine.Desk.{Desk}
 use Rattle.irc_engine.specs.declared.engine.Engine.{Engine}
 use Rattle.irc_engine.specs.declared.engine.EngineFault.{EngineFault}
-use Rattle.irc_engine.specs.Running.{Moment, AllTold, Answers, Does, RanOn}
+use Rattle.irc_engine.specs.Running.{Moment, AllTold, Answers, Does, Flushes, IsInOrder}
+use Rattle.irc_engine.specs.Loops.Boards.{IsMarkedAt, KeepsNotes}
 use Rattle.irc_engine.specs.Loops.Desks.{moment_of}
 use Rattle.irc_engine.proofs.RunLaws.{ran_none}
-use Rattle.irc_engine.specs.Turning.{Taken, takes_it, runs_out, Turned, takes_turn, wants_memory}
+use Rattle.irc_engine.specs.Turning.{Taken, takes_it, runs_out, Turned, takes_turn, wants_memory, Turns, Runs, stopped}
 
 module _ {W : Type 0} (is_after : W → List Call → Type 0) (old new : Engine W) (ready : Ready) (asked : W) where
   pub turned_from : (result : Result (Unit {0}) EngineFault) → old.failed ≡ false → Adds is_after old.desk.board.wire (asks (Ok ready)) asked
-      → Taken is_after old.desk.client_room ready (record (moment_of old.desk) { wire = asked }) new result → Turned is_after old new result
-  turned_from (Ok done) serves account (takes_it still does) =
-      takes_turn serves still (record { report = ready; wire = asked; account = account; does = does })
-  turned_from (Err fault) serves account (runs_out failed) = wants_memory serves failed
+      → Taken is_after old.client_room ready (record (moment_of old.desk) { wire = asked }) new result → Turned is_after old new result
+  turned_from (Ok done) serves account (takes_it still same does) =
+      takes_turn serves still same (record { report = ready; wire = asked; account = account; does = does })
+  turned_from (Err fault) serves account (runs_out failed busy) =
+      wants_memory ready asked serves failed account
+      (λ order idle. busy (record { all_told = order.all_told; noted = order.noted; none_done = order.none_done })
+      (record { nothing_ready = idle.nothing_ready; nothing_left = idle.nothing_left }))
 
 -- nothing is ready, or only that a connection takes bytes again
 pub nothing_to_do : {W : Type 0} (is_after : W → List Call → Type 0) (room : ℕ) (now : Moment W) (ready : Ready) → (ready ≡ Idle) ⊎ ((conn : ℕ) × (ready ≡ Writable conn))
@@ -24,9 +29,27 @@ nothing_to_do is_after room now ready (inl is) = subst (λ r. Answers is_after r
 nothing_to_do is_after room now ready (inr is) = subst (λ r. Answers is_after room r now now) (sym is.1) (ran_none is_after now)
 
 -- what is ready is done, and then outboxes are written
-pub does_both : {W E : Type 0} (is_after : W → List Call → Type 0) (room : ℕ) (ready : Ready) (old between new : Moment W) (result : Result (Unit {0}) E)
-    → Answers is_after room ready old between → (AllTold old → AllTold between) → OnOk result (RanOn is_after between new) → OnOk result (AllTold between → AllTold new)
-    → OnOk result (Does is_after room ready old new)
-does_both is_after room ready old between new (Ok done) answers told writes still =
-    record { between = between; answers = answers; writes = writes; all_told = λ before. (told before, still (told before)) }
-does_both is_after room ready old between new (Err fault) answers told writes still = tt
+module _ {W : Type 0} (is_after : W → List Call → Type 0) (old between new : Desk W) where
+  order_between : (AllTold (moment_of old) → AllTold (moment_of between)) → KeepsNotes old.board between.board → IsInOrder (moment_of old) → IsInOrder (moment_of between)
+  order_between told notes order = record { all_told = told order.all_told; noted = λ q. (marked q).noted_is; none_done = λ q. (marked q).not_done }
+    where
+      marked : (q : ℕ) → IsMarkedAt q false between.board
+      marked q = notes q (record { noted_is = order.noted q; not_done = order.none_done q })
+
+  pub does_both : {E : Type 0} (room : ℕ) (ready : Ready) (result : Result (Unit {0}) E) → Answers is_after room ready (moment_of old) (moment_of between)
+      → (AllTold (moment_of old) → AllTold (moment_of between)) → KeepsNotes old.board between.board → OnOk result (Flushes is_after (moment_of between) (moment_of new))
+      → OnOk result (IsInOrder (moment_of between) → IsInOrder (moment_of new)) → OnOk result (Does is_after room ready (moment_of old) (moment_of new))
+  does_both room ready (Ok done) answers told notes writes still = record {
+    between = moment_of between;
+    answers = answers;
+    writes = writes;
+    in_order = λ order. (order_between told notes order, still (order_between told notes order));
+  }
+  does_both room ready (Err fault) answers told notes writes still = tt
+
+-- one turn is not taken, behind those that were
+pub stops_by : {W : Type 0} (is_after : W → List Call → Type 0) (old between new : Engine W) (taken turns : ℕ) (result : Result (Unit {0}) EngineFault) (fault : EngineFault)
+    → taken < turns → Turns is_after old taken between → Turned is_after between new (Err fault) → IsErrAnd result (λ e. e ≡ fault) → Runs is_after old turns new result
+stops_by is_after old between new taken turns (Ok done) fault less so_far last fails = absurd fails
+stops_by is_after old between new taken turns (Err e) fault less so_far last fails =
+    stopped taken between e less so_far (subst (λ f. Turned is_after between new (Err f)) (sym fails) last)

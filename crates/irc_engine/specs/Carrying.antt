@@ -1,11 +1,11 @@
 -- What becomes of a connection while calls are made of the wire and the server puts lines out: the bytes to it go from the server to its outbox,
 -- and from there to the wire, in order, none twice; and when it is closed.
-use Rattle.std.specs.Prelude.{◌≡◌, ℕ, ◌<◌, Bool, true, false, not, ◌&&◌, ◌||◌, nat_eq, is_some, Option, Some, None, Result, Ok, Err, List, [], ◌∷◌, ◌++◌, length, if◌then◌else◌}
+use Rattle.std.specs.Prelude.{◌≡◌, ℕ, ◌<◌, Bool, true, false, not, ◌&&◌, ◌||◌, nat_eq, is_some, Option, Some, None, Ok, Err, List, [], ◌∷◌, ◌++◌, length, if◌then◌else◌}
 use Rattle.std.specs.List.{list_any}
 use Rattle.irc_outbox.specs.declared.wire.Got.TheVariants.{End}
 use Rattle.irc_line.specs.Lines.{nothing_begun}
 use Rattle.irc_outbox.specs.Outboxes.{holding}
-use Rattle.irc_outbox.specs.Calls.{Call, asks, reads, writes, closes, written, times_closed}
+use Rattle.irc_outbox.specs.Calls.{Call, reads, writes, closes, is_some_bytes, written, times_closed}
 use Rattle.irc_server.specs.declared.event.Out.{Out}
 use Rattle.irc_server.specs.declared.event.Out.TheVariants.{ToClient, CloseClient}
 use Rattle.irc_engine.specs.declared.seat.Seat.{Seat}
@@ -39,6 +39,16 @@ abbrev pub is_open_at : Option Seat → Bool
 is_open_at None = false
 is_open_at (Some seat) = is_some seat.framer
 
+-- whether it has a seat with bytes to write
+abbrev pub has_some_at : Option Seat → Bool
+has_some_at None = false
+has_some_at (Some seat) = is_some_bytes seat.outbox.bytes
+
+-- whether it has a seat that the server has closed, with nothing left to write
+abbrev pub is_done_at : Option Seat → Bool
+is_done_at None = false
+is_done_at (Some seat) = not (is_some seat.framer) && not (is_some_bytes seat.outbox.bytes)
+
 -- a read of the connection that ended or failed, or a write that failed
 abbrev pub ends_at : ℕ → Call → Bool
 ends_at conn (reads from room (Ok End) bytes) = nat_eq from conn
@@ -53,11 +63,10 @@ is_cut_off conn calls = list_any (ends_at conn) calls
 abbrev pub AddsAll : {W : Type 0} → (W → List Call → Type 0) → W → List Call → W → Type 0
 AddsAll is_after old more new = (calls : List Call) → is_after old calls → is_after new (calls ++ more)
 
--- whether a call asks what is ready, or reads
-abbrev pub is_taking : Call → Bool
-is_taking (asks answer) = true
-is_taking (reads conn room answer bytes) = true
-is_taking call = false
+-- whether a call asks what is ready, reads or writes: each but one that closes
+abbrev pub is_exchange : Call → Bool
+is_exchange (closes conn) = false
+is_exchange call = true
 
 -- nothing is written to it, and it is not closed
 pub record Silent (conn : ℕ) (calls : List Call) : Type 0 where

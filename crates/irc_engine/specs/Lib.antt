@@ -1,5 +1,6 @@
 pub mod Carrying
 pub mod Hearing
+pub mod Writing
 pub mod Running
 pub mod Turning
 pub mod Loops

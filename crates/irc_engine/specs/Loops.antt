@@ -2,3 +2,4 @@ pub mod Seats
 pub mod Counts
 pub mod Boards
 pub mod Desks
+pub mod Flushing

@@ -1,5 +1,5 @@
 -- What a turn of an engine does: the events that it passes to the server, the calls that it makes of the wire, and what becomes of each connection.
-use Rattle.std.specs.Prelude.{◌≡◌, ℕ, ◌+◌, ◌≤◌, Bool, true, false, ◌&&◌, ◌||◌, nat_eq, is_some, Option, Some, None, Result, Ok, Err, List, [], ◌∷◌, ◌++◌, if◌then◌else◌}
+use Rattle.std.specs.Prelude.{◌≡◌, ℕ, ◌+◌, ◌≤◌, Bool, true, false, ◌&&◌, ◌||◌, nat_eq, is_some, Option, Some, None, Result, Ok, List, [], ◌∷◌, ◌++◌, if◌then◌else◌}
 use Rattle.std.specs.List.{filter, list_any}
 use Rattle.irc_outbox.specs.declared.wire.Ready.{Ready}
 use Rattle.irc_outbox.specs.declared.wire.Ready.TheVariants.{Client, Linked, Idle, Readable, Writable}
@@ -13,16 +13,18 @@ use Rattle.irc_server.specs.declared.event.ServerFault.{ServerFault}
 use Rattle.irc_server.specs.View.{View}
 use Rattle.irc_server.specs.Happening.{IsHandled}
 use Rattle.irc_engine.specs.declared.seat.Seat.{Seat}
-use Rattle.irc_engine.specs.Carrying.{is_closed_by, is_open_at, is_taking, AddsAll, Fate, fresh_seat}
+use Rattle.irc_engine.specs.Carrying.{has_some_at, is_closed_by, is_done_at, is_exchange, is_open_at, AddsAll, Fate, fresh_seat}
 use Rattle.irc_engine.specs.Hearing.{begun_at, is_connect, lines_by, nothing_of, only_of, times_gone, Hears}
+use Rattle.irc_engine.specs.Writing.{one_if, WritesEach}
 
--- an engine at one moment: its server, its wire, the seat of each connection, those that were lost and of which the server has yet to be told, and how many
--- bytes it reads at most
+-- an engine at one moment: its server, its wire, the seat of each connection, those that were lost and of which the server has yet to be told, those that are
+-- noted to be written to, and how many bytes it reads at most
 pub record Moment (W : Type 0) : Type 0 where
   pub server : Option View
   pub wire : W
   pub seats : ℕ → Option Seat
   pub lost : ℕ → Bool
+  pub waiting : ℕ → Bool
   pub read_room : ℕ
 
 -- how a connection stands with the server: it was lost and the server has yet to be told, or it is open, or neither
@@ -45,6 +47,13 @@ IsApart now = (now.lost && now.unshut) ≡ false
 abbrev pub AllTold : {W : Type 0} → Moment W → Type 0
 AllTold now = (conn : ℕ) → now.lost conn ≡ false
 
+-- An engine between two turns: the server has been told of each connection that was lost, just those with bytes to write are noted, and what the server has
+-- closed is closed on the wire as soon as nothing is left to write.
+pub record IsInOrder {W : Type 0} (now : Moment W) : Type 0 where
+  pub all_told : AllTold now
+  pub noted : (conn : ℕ) → now.waiting conn ≡ has_some_at (now.seats conn)
+  pub none_done : (conn : ℕ) → is_done_at (now.seats conn) ≡ false
+
 -- the server is asked for an event, and then for others
 pub record AskedFirst (old : Option View) (event : Event) (outs : List Out) (rest : Option View → List Out → Type 0) : Type 0 where
   pub result : Result (Unit {0}) ServerFault
@@ -60,9 +69,6 @@ abbrev pub AreAsked : Option View → List Event → List Out → Option View �
 AreAsked old [] outs new = (outs ≡ []) × (new ≡ old)
 AreAsked old (event ∷ events) outs new = AskedFirst old event outs (λ between more. AreAsked between events more new)
 
-abbrev pub one_if : Bool → ℕ
-one_if b = if b then 1 else 0
-
 -- How often the server is told that one connection is gone: once where it was open or lost before and is neither any more, and else never; nor where
 -- the server has closed it before.
 pub record IsTold (conn : ℕ) (was : Standing) (events : List Event) (outs : List Out) (now : Standing) : Type 0 where
@@ -74,22 +80,22 @@ abbrev pub Tells : ℕ → Standing → List Event → List Out → Standing →
 Tells conn was events outs now = IsApart was → IsTold conn was events outs now
 
 -- From one moment to another: the server was asked for some events, calls were made of the wire, and each connection has met its fate. Just these
--- of the calls asked what is ready, or read. The events begin with the given ones; behind them are the lines that the bytes of each connection complete, and
+-- of the calls asked what is ready, read or wrote. The events begin with the given ones; behind them are the lines that the bytes of each connection complete, and
 -- that connections are gone.
-pub record Ran {W : Type 0} (is_after : W → List Call → Type 0) (takings : List Call) (first : List Event) (came : ℕ → List ℕ) (old new : Moment W) : Type 0 where
+pub record Ran {W : Type 0} (is_after : W → List Call → Type 0) (exchanges : List Call) (first : List Event) (came : ℕ → List ℕ) (old new : Moment W) : Type 0 where
   pub events : List Event
   pub outs : List Out
   pub calls : List Call
   pub are_asked : AreAsked old.server (first ++ events) outs new.server
   pub account : AddsAll is_after old.wire calls new.wire
-  pub takes : filter is_taking calls ≡ takings
+  pub exchanged : filter is_exchange calls ≡ exchanges
   pub fates : (conn : ℕ) → Fate conn (old.seats conn) calls outs (new.seats conn)
   pub no_connect : list_any is_connect events ≡ false
   pub hears : (conn : ℕ) → Hears (begun_at (old.seats conn)) (came conn) (lines_by conn events) (begun_at (new.seats conn))
   pub tells : (conn : ℕ) → Tells conn (standing_of conn old) events outs (standing_of conn new)
   pub same_room : new.read_room ≡ old.read_room
 
--- This and no more: nothing is asked or read, and the server is told of no connection but those that are gone.
+-- This and no more: nothing is asked, read or written, and the server is told of no connection but those that are gone.
 abbrev pub RanOn : {W : Type 0} → (W → List Call → Type 0) → Moment W → Moment W → Type 0
 RanOn is_after old new = Ran is_after [] [] nothing_of old new
 
@@ -97,7 +103,7 @@ RanOn is_after old new = Ran is_after [] [] nothing_of old new
 pub data Connects {W : Type 0} (is_after : W → List Call → Type 0) (room conn : ℕ) (host : List ℕ) (old new : Moment W) : Type 0 where
   in_use : is_some (old.seats conn) ≡ true → RanOn is_after old new → Connects is_after room conn host old new
   takes_seat : (between : Moment W) → old.seats conn ≡ None → between.server ≡ old.server → between.wire ≡ old.wire
-      → between.lost ≡ old.lost → between.read_room ≡ old.read_room
+      → between.lost ≡ old.lost → between.waiting ≡ old.waiting → between.read_room ≡ old.read_room
       → ((q : ℕ) → between.seats q ≡ (if nat_eq conn q then Some (fresh_seat room) else old.seats q))
       → Ran is_after [] (Connect conn host ∷ []) nothing_of between new
       → Connects is_after room conn host old new
@@ -122,12 +128,18 @@ Answers is_after room (Linked conn starts) old new = RefusesLink is_after conn o
 Answers is_after room (Readable conn) old new = Reads is_after conn old new
 Answers is_after room (Writable conn) old new = RanOn is_after old new
 
+-- Each outbox that is not empty is written once.
+pub record Flushes {W : Type 0} (is_after : W → List Call → Type 0) (old new : Moment W) : Type 0 where
+  pub exchanges : List Call
+  pub ran : Ran is_after exchanges [] nothing_of old new
+  pub each : IsInOrder old → WritesEach old.seats exchanges new.seats
+
 -- What is ready is done, and then outboxes are written.
 pub record Does {W : Type 0} (is_after : W → List Call → Type 0) (room : ℕ) (report : Ready) (old new : Moment W) : Type 0 where
   pub between : Moment W
   pub answers : Answers is_after room report old between
-  pub writes : RanOn is_after between new
-  pub all_told : AllTold old → AllTold between × AllTold new
+  pub writes : Flushes is_after between new
+  pub in_order : IsInOrder old → IsInOrder between × IsInOrder new
 
 -- One turn: the wire is asked once what is ready, and that is done.
 pub record Turn {W : Type 0} (is_after : W → List Call → Type 0) (room : ℕ) (old new : Moment W) : Type 0 where

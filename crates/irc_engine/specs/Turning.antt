@@ -1,13 +1,15 @@
 -- What comes of asking an engine for a turn, and for several.
-use Rattle.std.specs.Prelude.{◌≡◌, ℕ, ◌+◌, true, false, Option, None, Result, Ok, Err, List}
+use Rattle.std.specs.Prelude.{◌≡◌, ℕ, ◌+◌, ◌<◌, Bool, true, false, Option, None, Result, Ok, Err, List}
 use Rattle.irc_outbox.specs.declared.wire.IoFault.{IoFault}
 use Rattle.irc_outbox.specs.declared.wire.Ready.{Ready}
+use Rattle.irc_outbox.specs.declared.wire.Ready.TheVariants.{Idle, Writable}
 use Rattle.irc_outbox.specs.Calls.{Call, asks, Adds}
 use Rattle.irc_server.specs.View.{View}
 use Rattle.irc_engine.specs.declared.engine.Engine.{Engine}
 use Rattle.irc_engine.specs.declared.engine.EngineFault.{EngineFault}
 use Rattle.irc_engine.specs.declared.engine.EngineFault.TheVariants.{Memory, Failed, Device}
-use Rattle.irc_engine.specs.Running.{Moment, AllTold, Does, Turn}
+use Rattle.irc_engine.specs.Carrying.{has_some_at}
+use Rattle.irc_engine.specs.Running.{Moment, IsInOrder, Does, Turn}
 use Rattle.irc_engine.specs.Loops.Desks.{moment_of}
 
 -- an engine that has served nobody
@@ -15,26 +17,47 @@ pub record IsNew {W : Type 0} (server : Option View) (wire : W) (room : ℕ) (en
   pub serves : engine.failed ≡ false
   pub server_is : engine.desk.server ≡ server
   pub wire_is : engine.desk.board.wire ≡ wire
-  pub room_is : engine.desk.client_room ≡ room
+  pub room_is : engine.client_room ≡ room
   pub no_seats : (conn : ℕ) → (moment_of engine.desk).seats conn ≡ None
-  pub none_lost : AllTold (moment_of engine.desk)
+  pub in_order : IsInOrder (moment_of engine.desk)
   pub reads_at_most : (moment_of engine.desk).read_room ≡ 4096
 
--- what is ready is done, and then outboxes are written; or memory ran out
-pub data Taken {W : Type 0} (is_after : W → List Call → Type 0) (room : ℕ) (report : Ready) (old : Moment W) (new : Engine W) : Result (Unit {0}) EngineFault → Type 0 where
-  takes_it : new.failed ≡ false → Does is_after room report old (moment_of new.desk) → Taken is_after room report old new (Ok tt)
-  runs_out : new.failed ≡ true → Taken is_after room report old new (Err Memory)
+-- whether nothing is ready, or no more than that a connection takes bytes again
+abbrev pub brings_nothing : Ready → Bool
+brings_nothing Idle = true
+brings_nothing (Writable conn) = true
+brings_nothing report = false
 
--- A turn is taken; or the wire could not tell what is ready, and nothing else has happened; or memory ran out; or it ran out before.
+-- nor is anything left to write
+pub record IsNothingToDo {W : Type 0} (report : Ready) (now : Moment W) : Type 0 where
+  pub nothing_ready : brings_nothing report ≡ true
+  pub nothing_left : (conn : ℕ) → has_some_at (now.seats conn) ≡ false
+
+-- What is ready is done, and then outboxes are written; or memory ran out, which it does not where there is nothing to do.
+pub data Taken {W : Type 0} (is_after : W → List Call → Type 0) (room : ℕ) (report : Ready) (old : Moment W) (new : Engine W)
+    : Result (Unit {0}) EngineFault → Type 0 where
+  takes_it : new.failed ≡ false → new.client_room ≡ room → Does is_after room report old (moment_of new.desk) → Taken is_after room report old new (Ok tt)
+  runs_out : new.failed ≡ true → (IsInOrder old → ¬ (IsNothingToDo report old)) → Taken is_after room report old new (Err Memory)
+
+-- A turn is taken; or the wire could not tell what is ready, and nothing else has happened; or memory ran out, where there was something to do; or it ran out
+-- before. The room of a client's outbox stays what it was.
 pub data Turned {W : Type 0} (is_after : W → List Call → Type 0) (old : Engine W) (new : Engine W) : Result (Unit {0}) EngineFault → Type 0 where
-  takes_turn : old.failed ≡ false → new.failed ≡ false → Turn is_after old.desk.client_room (moment_of old.desk) (moment_of new.desk)
-      → Turned is_after old new (Ok tt)
-  device_failed : (fault : IoFault) → old.failed ≡ false → new.failed ≡ false → Adds is_after old.desk.board.wire (asks (Err fault)) new.desk.board.wire
+  takes_turn : old.failed ≡ false → new.failed ≡ false → new.client_room ≡ old.client_room
+      → Turn is_after old.client_room (moment_of old.desk) (moment_of new.desk) → Turned is_after old new (Ok tt)
+  device_failed : (fault : IoFault) → old.failed ≡ false → new.failed ≡ false → new.client_room ≡ old.client_room
+      → Adds is_after old.desk.board.wire (asks (Err fault)) new.desk.board.wire
       → moment_of new.desk ≡ record (moment_of old.desk) { wire = new.desk.board.wire } → Turned is_after old new (Err Device)
-  wants_memory : old.failed ≡ false → new.failed ≡ true → Turned is_after old new (Err Memory)
+  wants_memory : (report : Ready) (wire : W) → old.failed ≡ false → new.failed ≡ true → Adds is_after old.desk.board.wire (asks (Ok report)) wire
+      → (IsInOrder (moment_of old.desk) → ¬ (IsNothingToDo report (moment_of old.desk))) → Turned is_after old new (Err Memory)
   has_failed : old.failed ≡ true → new ≡ old → Turned is_after old new (Err Failed)
 
 -- so many turns, one after another
 pub data Turns {W : Type 0} (is_after : W → List Call → Type 0) (old : Engine W) : ℕ → Engine W → Type 0 where
   no_turn : Turns is_after old 0 old
   one_more : (n : ℕ) (between new : Engine W) → Turns is_after old n between → Turned is_after between new (Ok tt) → Turns is_after old (n + 1) new
+
+-- All of so many turns were taken; or the one behind some of them was not, and that is the last.
+pub data Runs {W : Type 0} (is_after : W → List Call → Type 0) (old : Engine W) (turns : ℕ) (new : Engine W) : Result (Unit {0}) EngineFault → Type 0 where
+  all_taken : Turns is_after old turns new → Runs is_after old turns new (Ok tt)
+  stopped : (taken : ℕ) (between : Engine W) (fault : EngineFault) → taken < turns → Turns is_after old taken between → Turned is_after between new (Err fault)
+      → Runs is_after old turns new (Err fault)

@@ -1,7 +1,7 @@
 //! The connections and the wire: what the server puts out goes to outboxes, and outboxes are written.
 ghost use Rattle.std.specs.Prelude.{◌≡◌, ◌+◌, ◌≤◌, true, false, [], ◌∷◌, OnOk};
 ghost use Rattle.std.specs.BTreeSet.{btree_set_len};
-ghost use Rattle.irc_engine.specs.Loops.Boards.{Carries, Ends, IsNoted, Loses, Settles};
+ghost use Rattle.irc_engine.specs.Loops.Boards.{Carries, Ends, IsNoted, KeepsMarks, Loses, Settles, Writes};
 ghost use Rattle.irc_server.specs.declared.event.Out.TheVariants.{ToClient, CloseClient};
 
 use crate::seat::{Seat, has_some, is_done, is_open, offer, shut, vacate, write};
@@ -18,7 +18,7 @@ pub(crate) struct Board<W: Wire> {
     pub wire: W,
     /// The place of each connection, by its number.
     pub seats: BTreeMap<u64, Seat, Global>,
-    /// Connections with bytes to write.
+    /// Connections with bytes to write, but for those that the turn is about to write to.
     pub waiting: BTreeSet<u64, Global>,
     /// Connections that were lost, of which the server has yet to be told.
     pub lost: BTreeSet<u64, Global>,
@@ -49,7 +49,7 @@ impl<W: Wire> Board<W> {
         ensures { Ends W.is_after conn self.old self.new }
     {
         vacate(&mut self.seats, conn);
-        self.waiting.remove(&conn);
+        forget(&mut self.waiting, conn);
         self.wire.close(conn);
     }
 
@@ -67,7 +67,8 @@ impl<W: Wire> Board<W> {
 
     /// A line goes to a connection's outbox. Where it does not fit, the connection is lost.
     fn send(&mut self, conn: u64, text: &Text) -> Result<(), AllocError>
-        ensures { OnOk result (Carries W.is_after self.old (ToClient conn text.now ∷ []) self.new) }
+        ensures carries { OnOk result (Carries W.is_after [] self.old (ToClient conn text.now ∷ []) self.new) }
+        ensures marks { OnOk result (KeepsMarks self.old self.new) }
     {
         match offer(&mut self.seats, conn, text) {
             Ok(true) => note(&mut self.waiting, conn),
@@ -78,7 +79,8 @@ impl<W: Wire> Board<W> {
 
     /// The server has closed a connection: it ends once nothing is left to write.
     fn shut(&mut self, conn: u64)
-        ensures { Carries W.is_after self.old (CloseClient conn ∷ []) self.new }
+        ensures carries { Carries W.is_after [] self.old (CloseClient conn ∷ []) self.new }
+        ensures marks { KeepsMarks self.old self.new }
     {
         forget(&mut self.lost, conn);
         shut(&mut self.seats, conn);
@@ -89,7 +91,8 @@ impl<W: Wire> Board<W> {
 
     /// Does one thing that the server has put out.
     fn deal_one(&mut self, out: &Out) -> Result<(), AllocError>
-        ensures { OnOk result (Carries W.is_after self.old (out.now ∷ []) self.new) }
+        ensures carries { OnOk result (Carries W.is_after [] self.old (out.now ∷ []) self.new) }
+        ensures marks { OnOk result (KeepsMarks self.old self.new) }
     {
         match out {
             Out::ToClient(conn, text) => self.send(*conn, text),
@@ -102,7 +105,8 @@ impl<W: Wire> Board<W> {
 
     /// Does what the server has put out.
     pub(crate) fn deal(&mut self, outs: &[Out]) -> Result<(), AllocError>
-        ensures { OnOk result (Carries W.is_after self.old outs.now self.new) }
+        ensures carries { OnOk result (Carries W.is_after [] self.old outs.now self.new) }
+        ensures marks { OnOk result (KeepsMarks self.old self.new) }
     {
         for out in outs {
             self.deal_one(out)?;
@@ -112,7 +116,7 @@ impl<W: Wire> Board<W> {
 
     /// Writes once to a connection. It ends where the server has closed it and nothing is left, and is lost where the device fails.
     pub(crate) fn write(&mut self, conn: u64) -> Result<(), AllocError>
-        ensures { OnOk result (Carries W.is_after self.old [] self.new) }
+        ensures { OnOk result (Writes W.is_after conn self.old self.new) }
     {
         match write(&mut self.seats, &mut self.wire, conn) {
             Ok(_) => self.settle(conn),
@@ -120,7 +124,7 @@ impl<W: Wire> Board<W> {
         }
     }
 
-    /// After a write: a connection ends, or waits where something is left.
+    /// After a write: a connection ends, or waits just where something is left.
     fn settle(&mut self, conn: u64) -> Result<(), AllocError>
         ensures { OnOk result (Settles W.is_after conn self.old self.new) }
     {
@@ -129,8 +133,9 @@ impl<W: Wire> Board<W> {
             return Ok(());
         }
         if has_some(&self.seats, conn) {
-            note(&mut self.waiting, conn)?;
+            return note(&mut self.waiting, conn);
         }
+        forget(&mut self.waiting, conn);
         Ok(())
     }
 }

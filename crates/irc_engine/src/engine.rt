@@ -1,10 +1,11 @@
 //! An engine: one server over a wire.
-ghost use Rattle.std.specs.Prelude.{◌≡◌, ◌≤◌, [], ◌∷◌, length, take, IfOk, OnOk};
+ghost use Rattle.std.specs.Prelude.{◌≡◌, ◌≤◌, true, Ok, [], ◌∷◌, length, take, IfOk, OnOk};
 ghost use Rattle.irc_engine.specs.Loops.Counts.{count_of};
-ghost use Rattle.irc_engine.specs.Loops.Desks.{came, moment_of, passed_on, KeepsTold};
-ghost use Rattle.irc_engine.specs.Running.{AllTold, Answers, Connects, Does, Ran, RanOn, Reads, RefusesLink};
+ghost use Rattle.irc_engine.specs.Loops.Desks.{came, moment_of, passed_on, IsNobodyNoted, KeepsOrder, KeepsTold};
+ghost use Rattle.irc_engine.specs.Loops.Boards.{KeepsMarks, KeepsNotes};
+ghost use Rattle.irc_engine.specs.Running.{AllTold, Answers, Connects, Does, Flushes, Ran, RanOn, Reads, RefusesLink};
 ghost use Rattle.irc_engine.specs.Hearing.{nothing_of, only_of};
-ghost use Rattle.irc_engine.specs.Turning.{IsNew, Taken, Turned, Turns};
+ghost use Rattle.irc_engine.specs.Turning.{brings_nothing, IsNew, Runs, Taken, Turned};
 
 use crate::board::Board;
 use crate::seat::{give_seat, is_open, no_seats, take};
@@ -38,6 +39,8 @@ pub enum EngineFault {
 #[derive(Drop)]
 pub struct Engine<W: Wire> {
     failed: bool,
+    /// How many bytes the outbox of a client holds.
+    client_room: usize,
     desk: Desk<W>,
 }
 
@@ -50,8 +53,6 @@ pub(crate) struct Desk<W: Wire> {
     pub out: Vec<Out, Global>,
     /// Where bytes are read to.
     pub buffer: Vec<u8, Global>,
-    /// How many bytes the outbox of a client holds.
-    pub client_room: usize,
     pub alloc: Global,
 }
 
@@ -73,6 +74,7 @@ impl<W: Wire + Drop> Engine<W> {
         let buffer = vec![in alloc; 0u8; READ_SIZE]?;
         Ok(Engine {
             failed: false,
+            client_room,
             desk: Desk {
                 server,
                 board: Board {
@@ -83,7 +85,6 @@ impl<W: Wire + Drop> Engine<W> {
                 },
                 out: Vec::new(alloc),
                 buffer,
-                client_room,
                 alloc,
             },
         })
@@ -110,10 +111,10 @@ impl<W: Wire> Engine<W> {
 
     /// Does what is ready, and writes.
     fn take(&mut self, ready: Ready) -> Result<(), EngineFault>
-        ensures { Taken W.is_after self.old.desk.client_room ready (moment_of self.old.desk) self.new result }
+        ensures { Taken W.is_after self.old.client_room ready (moment_of self.old.desk) self.new result }
     {
         self.failed = true;
-        match self.desk.turn(ready) {
+        match self.desk.turn(ready, self.client_room) {
             Ok(()) => {
                 self.failed = false;
                 Ok(())
@@ -122,12 +123,12 @@ impl<W: Wire> Engine<W> {
         }
     }
 
-    /// Takes so many turns, up to the first that is not done.
+    /// Takes so many turns, up to the first that is not done; that one is the last.
     ///
     /// # Errors
     /// As [`Engine::turn`], for that turn.
     pub fn run(&mut self, turns: u64) -> Result<(), EngineFault>
-        ensures { OnOk result (Turns W.is_after self.old turns self.new) }
+        ensures { Runs W.is_after self.old turns self.new result }
     {
         for _turn in 0..turns {
             self.turn()?;
@@ -138,21 +139,24 @@ impl<W: Wire> Engine<W> {
 
 impl<W: Wire> Desk<W> {
     /// Does what is ready, and writes.
-    fn turn(&mut self, ready: Ready) -> Result<(), AllocError>
-        ensures { OnOk result (Does W.is_after self.old.client_room ready (moment_of self.old) (moment_of self.new)) }
+    fn turn(&mut self, ready: Ready, client_room: usize) -> Result<(), AllocError>
+        ensures done { OnOk result (Does W.is_after client_room ready (moment_of self.old) (moment_of self.new)) }
+        ensures quiet { brings_nothing ready ≡ true → IsNobodyNoted self.old → result ≡ Ok tt }
     {
-        self.answer(ready)?;
+        self.answer(ready, client_room)?;
         self.flush()
     }
 
     /// Does what is ready.
-    fn answer(&mut self, ready: Ready) -> Result<(), AllocError>
-        ensures done { OnOk result (Answers W.is_after self.old.client_room ready (moment_of self.old) (moment_of self.new)) }
+    fn answer(&mut self, ready: Ready, client_room: usize) -> Result<(), AllocError>
+        ensures done { OnOk result (Answers W.is_after client_room ready (moment_of self.old) (moment_of self.new)) }
         ensures told { OnOk result (KeepsTold self.old self.new) }
+        ensures notes { OnOk result (KeepsNotes self.old.board self.new.board) }
+        ensures quiet { brings_nothing ready ≡ true → (result ≡ Ok tt) × (self.new ≡ self.old) }
     {
         match ready {
             Ready::Idle | Ready::Writable(_) => Ok(()),
-            Ready::Client(conn, host) => self.connect(conn, host),
+            Ready::Client(conn, host) => self.connect(conn, host, client_room),
             Ready::Linked(conn, _) => {
                 self.refuse_link(conn);
                 Ok(())
@@ -162,14 +166,15 @@ impl<W: Wire> Desk<W> {
     }
 
     /// A client has connected. A number that is in use is passed over.
-    fn connect(&mut self, conn: u64, host: Host) -> Result<(), AllocError>
-        ensures done { OnOk result (Connects W.is_after self.old.client_room conn host (moment_of self.old) (moment_of self.new)) }
+    fn connect(&mut self, conn: u64, host: Host, client_room: usize) -> Result<(), AllocError>
+        ensures done { OnOk result (Connects W.is_after client_room conn host (moment_of self.old) (moment_of self.new)) }
         ensures told { OnOk result (KeepsTold self.old self.new) }
+        ensures notes { OnOk result (KeepsNotes self.old.board self.new.board) }
     {
         if self.board.seats.contains_key(&conn) {
             return Ok(());
         }
-        give_seat(self.alloc, &mut self.board.seats, conn, self.client_room)?;
+        give_seat(self.alloc, &mut self.board.seats, conn, client_room)?;
         self.pass(Event::Connect(conn, host))
     }
 
@@ -177,6 +182,7 @@ impl<W: Wire> Desk<W> {
     fn refuse_link(&mut self, conn: u64)
         ensures done { RefusesLink W.is_after conn (moment_of self.old) (moment_of self.new) }
         ensures told { KeepsTold self.old self.new }
+        ensures marks { KeepsMarks self.old.board self.new.board }
     {
         if !self.board.seats.contains_key(&conn) {
             self.board.wire.close(conn);
@@ -187,6 +193,7 @@ impl<W: Wire> Desk<W> {
     fn read(&mut self, conn: u64) -> Result<(), AllocError>
         ensures done { OnOk result (Reads W.is_after conn (moment_of self.old) (moment_of self.new)) }
         ensures told { OnOk result (KeepsTold self.old self.new) }
+        ensures marks { OnOk result (KeepsMarks self.old.board self.new.board) }
     {
         if !is_open(&self.board.seats, conn) {
             return Ok(());
@@ -205,6 +212,7 @@ impl<W: Wire> Desk<W> {
         requires { count ≤ length self.old.buffer.items }
         ensures ran { OnOk result (Ran W.is_after [] [] (only_of conn (take count self.old.buffer.items)) (moment_of self.old) (moment_of self.new)) }
         ensures told { OnOk result (KeepsTold self.old self.new) }
+        ensures marks { OnOk result (KeepsMarks self.old.board self.new.board) }
     {
         let mut used = 0;
         while used < count {
@@ -222,6 +230,7 @@ impl<W: Wire> Desk<W> {
     fn pass_line(&mut self, conn: u64, line: Option<Line>) -> Result<(), AllocError>
         ensures ran { OnOk result (Ran W.is_after [] (passed_on conn line) nothing_of (moment_of self.old) (moment_of self.new)) }
         ensures told { OnOk result (KeepsTold self.old self.new) }
+        ensures marks { OnOk result (KeepsMarks self.old.board self.new.board) }
         ensures same { self.new.buffer ≡ self.old.buffer }
     {
         match line {
@@ -234,6 +243,7 @@ impl<W: Wire> Desk<W> {
     fn pass(&mut self, event: Event) -> Result<(), AllocError>
         ensures ran { OnOk result (Ran W.is_after [] (event ∷ []) nothing_of (moment_of self.old) (moment_of self.new)) }
         ensures told { OnOk result (AllTold (moment_of self.new)) }
+        ensures marks { OnOk result (KeepsMarks self.old.board self.new.board) }
         ensures same { self.new.buffer ≡ self.old.buffer }
     {
         self.handle(event)?;
@@ -244,6 +254,7 @@ impl<W: Wire> Desk<W> {
     fn tell_losses(&mut self) -> Result<(), AllocError>
         ensures ran { OnOk result (RanOn W.is_after (moment_of self.old) (moment_of self.new)) }
         ensures told { OnOk result (AllTold (moment_of self.new)) }
+        ensures marks { OnOk result (KeepsMarks self.old.board self.new.board) }
         ensures same { self.new.buffer ≡ self.old.buffer }
     {
         while let Some(conn) = self.board.lost.pop_first() {
@@ -256,6 +267,7 @@ impl<W: Wire> Desk<W> {
     fn handle(&mut self, event: Event) -> Result<(), AllocError>
         ensures count { OnOk result (count_of self.new.board ≤ count_of self.old.board) }
         ensures ran { OnOk result (Ran W.is_after [] (event ∷ []) nothing_of (moment_of self.old) (moment_of self.new)) }
+        ensures marks { OnOk result (KeepsMarks self.old.board self.new.board) }
         ensures same { self.new.buffer ≡ self.old.buffer }
     {
         self.out.clear();
@@ -267,8 +279,9 @@ impl<W: Wire> Desk<W> {
 
     /// Writes once from each outbox that is not empty, in order of number.
     fn flush(&mut self) -> Result<(), AllocError>
-        ensures ran { OnOk result (RanOn W.is_after (moment_of self.old) (moment_of self.new)) }
-        ensures told { OnOk result (KeepsTold self.old self.new) }
+        ensures done { OnOk result (Flushes W.is_after (moment_of self.old) (moment_of self.new)) }
+        ensures in_order { OnOk result (KeepsOrder self.old self.new) }
+        ensures quiet { IsNobodyNoted self.old → result ≡ Ok tt }
     {
         let mut waiting = replace(&mut self.board.waiting, BTreeSet::new(self.alloc));
         while let Some(conn) = waiting.pop_first() {

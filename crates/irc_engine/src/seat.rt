@@ -1,7 +1,7 @@
 //! The place of each connection that is open: its outbox, and what has come of its next line.
 ghost use Rattle.std.specs.Prelude.{◌≡◌, ℕ, ◌+◌, Some, None, is_some, IfOk, OnOk, if◌then◌else◌};
 ghost use Rattle.std.specs.BTreeMap.{btree_map_len};
-ghost use Rattle.irc_engine.specs.Loops.Seats.{fresh_seat, is_done_at, is_open_at, seat_of, IsSet, IsOffered, IsOfferedAt, IsShutAt, IsWrittenAt, Frames, FramesAt};
+ghost use Rattle.irc_engine.specs.Loops.Seats.{fresh_seat, has_some_at, is_done_at, is_open_at, seat_of, IsSet, IsOffered, IsOfferedAt, IsShutAt, IsWrittenAt, Frames, FramesAt};
 
 use irc_line::{Framer, Line};
 use irc_outbox::{IoFault, Outbox, Overflow, Wire};
@@ -36,14 +36,14 @@ impl Seat {
         self.framer.is_none() && self.outbox.len() == 0
     }
 
-    /// Takes bytes that are to be written, unless the server has closed the connection. Tells whether it took them.
+    /// Takes bytes that are to be written, unless the server has closed the connection. Tells whether it took any.
     ///
     /// # Errors
     /// Where they do not fit.
     fn offer(&mut self, bytes: &[u8]) -> Result<bool, Overflow>
         ensures { IsOffered self.old bytes.now result self.new }
     {
-        if self.framer.is_none() {
+        if self.framer.is_none() || bytes.is_empty() {
             return Ok(false);
         }
         self.outbox.push(bytes)?;
@@ -88,7 +88,7 @@ pub(crate) fn is_done(seats: &BTreeMap<u64, Seat, Global>, conn: u64) -> bool
     }
 }
 
-/// Offers bytes to a connection. Tells whether it took them.
+/// Offers bytes to a connection. Tells whether it took any.
 ///
 /// # Errors
 /// Where they do not fit.
@@ -158,7 +158,9 @@ pub(crate) fn vacate(seats: &mut BTreeMap<u64, Seat, Global>, conn: u64)
 }
 
 /// Whether a connection has bytes to write.
-pub(crate) fn has_some(seats: &BTreeMap<u64, Seat, Global>, conn: u64) -> bool {
+pub(crate) fn has_some(seats: &BTreeMap<u64, Seat, Global>, conn: u64) -> bool
+    ensures { result ≡ has_some_at (seat_of seats.now conn) }
+{
     match seats.get(&conn) {
         Some(seat) => seat.outbox.len() > 0,
         None => false,

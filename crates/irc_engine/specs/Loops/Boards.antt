@@ -1,14 +1,16 @@
 -- What the calls of the board do: to the wire, to the seats, to the connections that are lost.
-use Rattle.std.specs.Prelude.{◌≡◌, ℕ, ◌+◌, ◌≤◌, Bool, true, false, ◌&&◌, ◌||◌, nat_eq, is_some, None, Result, Ok, Err, List, [], ◌∷◌, ◌++◌, if◌then◌else◌}
-use Rattle.std.specs.List.{list_any}
+use Rattle.std.specs.Prelude.{◌≡◌, ℕ, ◌+◌, ◌≤◌, Bool, true, false, ◌&&◌, ◌||◌, nat_eq, is_some, Option, Some, None, Result, List, [], ◌∷◌, if◌then◌else◌}
+use Rattle.std.specs.List.{filter}
 use Rattle.std.specs.Ordering.{nat_cmp}
 use Rattle.std.specs.BTreeMap.{btree_map_len}
-use Rattle.std.specs.BTreeSet.{BTreeSet, btree_set_len, contains}
-use Rattle.irc_outbox.specs.Calls.{Call, closes, Adds}
+use Rattle.std.specs.BTreeSet.{BTreeSet, contains}
+use Rattle.irc_outbox.specs.Calls.{Call, writes, closes, is_some_bytes, Adds}
+use Rattle.irc_outbox.specs.declared.wire.IoFault.{IoFault}
 use Rattle.irc_server.specs.declared.event.Out.{Out}
+use Rattle.irc_engine.specs.declared.seat.Seat.{Seat}
 use Rattle.irc_engine.specs.declared.board.Board.{Board}
-use Rattle.irc_engine.specs.Carrying.{AddsAll, Passage, is_open_at, is_taking}
-use Rattle.irc_engine.specs.Loops.Seats.{seat_of, is_done_at, IsSet}
+use Rattle.irc_engine.specs.Carrying.{AddsAll, Passage, has_some_at, is_done_at, is_exchange, is_open_at}
+use Rattle.irc_engine.specs.Loops.Seats.{seat_of, IsSet}
 use Rattle.irc_engine.specs.Loops.Counts.{count_of}
 
 abbrev pub has : BTreeSet ℕ → ℕ → Bool
@@ -23,6 +25,7 @@ pub record Ends {W : Type 0} (is_after : W → List Call → Type 0) (conn : ℕ
   pub account : Adds is_after old.wire (closes conn) new.wire
   pub seats : IsSet (seat_of old.seats) conn None (seat_of new.seats)
   pub lost : new.lost ≡ old.lost
+  pub waiting : IsNoted old.waiting conn false new.waiting
   pub len : btree_map_len new.seats + (if is_some (seat_of old.seats conn) then 1 else 0) ≡ btree_map_len old.seats
 
 -- a connection is lost
@@ -30,17 +33,54 @@ pub record Loses {W : Type 0} (is_after : W → List Call → Type 0) (conn : �
   pub account : Adds is_after old.wire (closes conn) new.wire
   pub seats : IsSet (seat_of old.seats) conn None (seat_of new.seats)
   pub lost : (q : ℕ) → has new.lost q ≡ (has old.lost q || (nat_eq conn q && is_open_at (seat_of old.seats conn)))
+  pub waiting : IsNoted old.waiting conn false new.waiting
   pub count : count_of new ≤ count_of old
 
--- after a write, a connection ends if the server has closed it and nothing is left
+-- after a write, a connection ends if the server has closed it and nothing is left; else it is noted just where something is left
 pub data Settles {W : Type 0} (is_after : W → List Call → Type 0) (conn : ℕ) (old new : Board W) : Type 0 where
   ended : is_done_at (seat_of old.seats conn) ≡ true → Ends is_after conn old new → Settles is_after conn old new
-  stayed : is_done_at (seat_of old.seats conn) ≡ false → new.wire ≡ old.wire → new.seats ≡ old.seats → new.lost ≡ old.lost → Settles is_after conn old new
+  stayed : is_done_at (seat_of old.seats conn) ≡ false → new.wire ≡ old.wire → new.seats ≡ old.seats → new.lost ≡ old.lost
+      → IsNoted old.waiting conn (has_some_at (seat_of old.seats conn)) new.waiting → Settles is_after conn old new
 
--- What the server has put out is done, and other calls are made of the wire, none that asks what is ready or reads.
-pub record Carries {W : Type 0} (is_after : W → List Call → Type 0) (old : Board W) (outs : List Out) (new : Board W) : Type 0 where
+-- What the server has put out is done, and other calls are made of the wire; just these of them ask what is ready, read or write.
+pub record Carries {W : Type 0} (is_after : W → List Call → Type 0) (exchanges : List Call) (old : Board W) (outs : List Out) (new : Board W) : Type 0 where
   pub calls : List Call
   pub account : AddsAll is_after old.wire calls new.wire
   pub passage : (conn : ℕ) → Passage conn (seat_of old.seats conn) (has old.lost conn) calls outs (seat_of new.seats conn) (has new.lost conn)
-  pub takes_none : list_any is_taking calls ≡ false
+  pub exchanged : filter is_exchange calls ≡ exchanges
   pub count : count_of new ≤ count_of old
+
+-- A connection is noted just where it has bytes to write and the turn is not about to write to it; and it is not one that is to be closed by now.
+pub record IsMarked (pending : Bool) (seat : Option Seat) (noted : Bool) : Type 0 where
+  pub noted_is : ((pending && is_some seat) || noted) ≡ has_some_at seat
+  pub not_done : is_done_at seat ≡ false
+
+abbrev pub IsMarkedAt : {W : Type 0} → ℕ → Bool → Board W → Type 0
+IsMarkedAt conn pending board = IsMarked pending (seat_of board.seats conn) (has board.waiting conn)
+
+-- each connection stays so
+abbrev pub KeepsMarks : {W : Type 0} → Board W → Board W → Type 0
+KeepsMarks old new = (conn : ℕ) (pending : Bool) → IsMarkedAt conn pending old → IsMarkedAt conn pending new
+
+-- so where the turn is not about to write to any
+abbrev pub KeepsNotes : {W : Type 0} → Board W → Board W → Type 0
+KeepsNotes old new = (conn : ℕ) → IsMarkedAt conn false old → IsMarkedAt conn false new
+
+-- one write to a connection, from the front of its outbox
+pub record IsOneWrite (conn : ℕ) (seat : Seat) (exchanges : List Call) : Type 0 where
+  pub front : List ℕ
+  pub answer : Result ℕ IoFault
+  pub exchanges_are : exchanges ≡ writes conn front answer ∷ []
+  pub some : is_some_bytes seat.outbox.bytes ≡ true → is_some_bytes front ≡ true
+
+-- none, where it has no seat
+abbrev pub AreWrites : ℕ → Option Seat → List Call → Type 0
+AreWrites conn None exchanges = exchanges ≡ []
+AreWrites conn (Some seat) exchanges = IsOneWrite conn seat exchanges
+
+-- One write is made to a connection, which the turn is not about to write to any more.
+pub record Writes {W : Type 0} (is_after : W → List Call → Type 0) (conn : ℕ) (old new : Board W) : Type 0 where
+  pub exchanges : List Call
+  pub carries : Carries is_after exchanges old [] new
+  pub are_writes : AreWrites conn (seat_of old.seats conn) exchanges
+  pub marks : (q : ℕ) (pending : Bool) → IsMarkedAt q pending old → IsMarkedAt q (if nat_eq conn q then false else pending) new

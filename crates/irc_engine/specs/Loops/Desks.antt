@@ -1,5 +1,5 @@
 -- The engine's parts as one moment.
-use Rattle.std.specs.Prelude.{ℕ, Option, Some, None, Result, Ok, Err, List, [], ◌∷◌}
+use Rattle.std.specs.Prelude.{◌≡◌, ℕ, false, Option, Some, None, Result, Ok, Err, List, [], ◌∷◌}
 use Rattle.irc_outbox.specs.declared.wire.Got.{Got}
 use Rattle.irc_outbox.specs.declared.wire.Got.TheVariants.{Bytes, Later, End}
 use Rattle.irc_outbox.specs.declared.wire.IoFault.{IoFault}
@@ -8,7 +8,7 @@ use Rattle.arrayvec.specs.ArrayVec.{ArrayVec}
 use Rattle.irc_server.specs.declared.event.Event.{Event}
 use Rattle.irc_server.specs.declared.event.Event.TheVariants.{Line}
 use Rattle.irc_engine.specs.declared.engine.Desk.{Desk}
-use Rattle.irc_engine.specs.Running.{Moment, AllTold}
+use Rattle.irc_engine.specs.Running.{Moment, AllTold, IsInOrder}
 use Rattle.irc_engine.specs.Loops.Boards.{has}
 use Rattle.irc_engine.specs.Loops.Seats.{seat_of}
 
@@ -18,6 +18,7 @@ moment_of desk = record {
   wire = desk.board.wire;
   seats = seat_of desk.board.seats;
   lost = has desk.board.lost;
+  waiting = has desk.board.waiting;
   read_room = vec_len desk.buffer;
 }
 
@@ -36,3 +37,11 @@ passed_on conn (Some line) = Line conn line ∷ []
 -- the server has been told of each connection that was lost, if it had been before
 abbrev pub KeepsTold : {W : Type 0} → Desk W → Desk W → Type 0
 KeepsTold old new = AllTold (moment_of old) → AllTold (moment_of new)
+
+-- it is in order, if it was before
+abbrev pub KeepsOrder : {W : Type 0} → Desk W → Desk W → Type 0
+KeepsOrder old new = IsInOrder (moment_of old) → IsInOrder (moment_of new)
+
+-- nobody is noted as one to be written to
+abbrev pub IsNobodyNoted : {W : Type 0} → Desk W → Type 0
+IsNobodyNoted desk = (conn : ℕ) → has desk.board.waiting conn ≡ false

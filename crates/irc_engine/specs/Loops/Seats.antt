@@ -1,5 +1,5 @@
 -- What the small functions over the seats of connections do.
-use Rattle.std.specs.Prelude.{◌≡◌, ℕ, ◌+◌, ◌<◌, ◌≤◌, Bool, true, false, not, ◌&&◌, nat_eq, is_some, IsNone, Option, Some, None, Result, Ok, Err, List, [], ◌∷◌, ◌++◌, length, take, if◌then◌else◌}
+use Rattle.std.specs.Prelude.{◌≡◌, ℕ, ◌+◌, ◌<◌, ◌≤◌, Bool, true, false, nat_eq, is_some, IsNone, Option, Some, None, Result, Ok, Err, List, [], ◌++◌, length, take, if◌then◌else◌}
 use Rattle.std.specs.Ordering.{nat_cmp}
 use Rattle.std.specs.BTreeMap.{BTreeMap, get}
 use Rattle.arrayvec.specs.ArrayVec.{ArrayVec}
@@ -7,19 +7,14 @@ use Rattle.irc_line.specs.Framed.{found_in}
 use Rattle.irc_line.specs.Lines.{Begun, Takes}
 use Rattle.irc_outbox.specs.declared.outbox.Overflow.{Overflow}
 use Rattle.irc_outbox.specs.declared.wire.IoFault.{IoFault}
-use Rattle.irc_outbox.specs.Calls.{Call, is_some_bytes}
-use Rattle.irc_outbox.specs.Outboxes.{Held, holding, WritesSome}
+use Rattle.irc_outbox.specs.Calls.{Call}
+use Rattle.irc_outbox.specs.Outboxes.{holding, WritesSome}
 use Rattle.irc_engine.specs.declared.seat.Seat.{Seat}
-pub use Rattle.irc_engine.specs.Carrying.{fresh_seat, is_open_at}
+pub use Rattle.irc_engine.specs.Carrying.{fresh_seat, has_some_at, is_done_at, is_open_at}
 
 -- the seat of a connection, if it has one
 abbrev pub seat_of : BTreeMap ℕ Seat → ℕ → Option Seat
 seat_of seats conn = get nat_cmp seats conn
-
--- whether the server has closed it, and nothing is left to write
-abbrev pub is_done_at : Option Seat → Bool
-is_done_at None = false
-is_done_at (Some seat) = not (is_some seat.framer) && not (is_some_bytes seat.outbox.bytes)
 
 -- all seats are as they were, but that of one connection
 abbrev pub IsSet : (ℕ → Option Seat) → ℕ → Option Seat → (ℕ → Option Seat) → Type 0
@@ -36,9 +31,9 @@ pub data Through (conn : ℕ) (P : Seat → Seat → Type 0) (Q : Type 0) (old n
 -- bytes are offered to be written
 abbrev pub IsOffered : Seat → List ℕ → Result Bool Overflow → Seat → Type 0
 IsOffered old bytes (Ok true) new =
-    (is_some old.framer ≡ true) × (length old.outbox.bytes + length bytes ≤ old.outbox.room)
+    (is_some old.framer ≡ true) × (0 < length bytes) × (length old.outbox.bytes + length bytes ≤ old.outbox.room)
     × (new ≡ record old { outbox = holding (old.outbox.bytes ++ bytes) old.outbox.room })
-IsOffered old bytes (Ok false) new = (is_some old.framer ≡ false) × (new ≡ old)
+IsOffered old bytes (Ok false) new = (is_some old.framer ≡ true → bytes ≡ []) × (new ≡ old)
 IsOffered old bytes (Err overflow) new = (is_some old.framer ≡ true) × (old.outbox.room < length old.outbox.bytes + length bytes) × (new ≡ old)
 
 abbrev pub IsOfferedAt : ℕ → List ℕ → BTreeMap ℕ Seat → Result Bool Overflow → BTreeMap ℕ Seat → Type 0

@@ -3,3 +3,7 @@ use Rattle.irc_engine.proofs.engine.Desk.pass.Goals as goal
 
 pub returns-clause-ran : goal.returns-clause-ran
 returns-clause-ran g c = on_ok c.tell_losses.result _ _ (λ ran. ran_after _ _ _ _ _ _ _ c.in_ok-handle.ensures.ran ran) c.tell_losses.ensures.ran
+
+pub returns-clause-marks : goal.returns-clause-marks
+returns-clause-marks g c =
+    on_ok c.tell_losses.result _ _ (λ marks q pending is. marks q pending (c.in_ok-handle.ensures.marks q pending is)) c.tell_losses.ensures.marks

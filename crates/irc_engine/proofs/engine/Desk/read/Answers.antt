@@ -1,6 +1,7 @@
 use Rattle.std.proofs.Common.{refl, sym, ◌∙◌}
 use Rattle.irc_engine.specs.Running.{not_open, read_once}
 use Rattle.irc_engine.proofs.RunLaws.{on_ok, ran_none, ran_after, ran_read, ran_cut, ran_fed, ran_ended, front_after}
+use Rattle.irc_engine.proofs.MarkLaws.{marks_ended}
 use Rattle.irc_engine.proofs.engine.Desk.read.Goals as goal
 
 pub returns-then-not-is_open-clause-done : goal.returns-then-not-is_open-clause-done
@@ -26,3 +27,9 @@ returns-in_ok-lose-in-None-clause-done g c =
 
 pub returns-in_ok-lose-in-None-clause-told : goal.returns-in_ok-lose-in-None-clause-told
 returns-in_ok-lose-in-None-clause-told g c = on_ok c.tell_losses.result _ _ (λ told before. told) c.tell_losses.ensures.told
+
+pub returns-in_ok-lose-in-None-clause-marks : goal.returns-in_ok-lose-in-None-clause-marks
+returns-in_ok-lose-in-None-clause-marks g c =
+    on_ok c.tell_losses.result _ _ (λ marks q pending is. marks q pending
+    (marks_ended _ c.args.self.now.board c.lose.new.self (record c.args.self.now.board { wire = c.read.new.self }) (λ p two. refl) (λ p. refl)
+    c.in_ok-lose-in-None.ensures.seats c.in_ok-lose-in-None.ensures.waiting q pending is)) c.tell_losses.ensures.marks

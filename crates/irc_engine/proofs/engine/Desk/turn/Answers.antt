@@ -1,7 +1,7 @@
-use Rattle.irc_engine.specs.Loops.Desks.{moment_of}
 use Rattle.irc_engine.proofs.TurnLaws.{does_both}
 use Rattle.irc_engine.proofs.engine.Desk.turn.Goals as goal
 
-pub returns : goal.returns
-returns g c =
-    does_both _ _ _ _ (moment_of c.answer.new.self) _ c.flush.result c.in_ok-answer.ensures.done c.in_ok-answer.ensures.told c.flush.ensures.ran c.flush.ensures.told
+pub returns-clause-done : goal.returns-clause-done
+returns-clause-done g c =
+    does_both _ c.args.self.now c.answer.new.self c.flush.new.self _ _ c.flush.result c.in_ok-answer.ensures.done c.in_ok-answer.ensures.told c.in_ok-answer.ensures.notes c.flush.ensures.done
+    c.flush.ensures.in_order

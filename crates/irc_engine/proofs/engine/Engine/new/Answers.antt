@@ -1,7 +1,8 @@
-use Rattle.std.proofs.Common.{false, refl, ◌∙◌, ap}
+use Rattle.std.proofs.Common.{refl, sym, ◌∙◌, ap}
 use Rattle.std.specs.Ordering.{nat_cmp}
 use Rattle.std.specs.List.{list_any}
 use Rattle.std.specs.BTreeMap.{is_at}
+use Rattle.irc_engine.specs.Carrying.{has_some_at, is_done_at}
 use Rattle.irc_engine.proofs.engine.Engine.new.Goals as goal
 
 pub returns : goal.returns
@@ -11,6 +12,10 @@ returns g c = record {
   wire_is = refl;
   room_is = refl;
   no_seats = c.no_seats.ensures;
-  none_lost = λ conn. ap (list_any (is_at (nat_cmp conn))) c.new-2.ensures.empty;
+  in_order = record {
+    all_told = λ conn. ap (list_any (is_at (nat_cmp conn))) c.new-2.ensures.empty;
+    noted = λ conn. ap (list_any (is_at (nat_cmp conn))) c.new.ensures.empty ∙ sym (ap has_some_at (c.no_seats.ensures conn));
+    none_done = λ conn. ap is_done_at (c.no_seats.ensures conn);
+  };
   reads_at_most = c.in_ok-buffer.ensures.len;
 }

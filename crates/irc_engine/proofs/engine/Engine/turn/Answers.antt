@@ -14,5 +14,5 @@ returns-in-Ok g c =
 
 pub returns-in-Err : goal.returns-in-Err
 returns-in-Err g c =
-    device_failed c.in-Err.field-0 c.if-self.false c.if-self.false
+    device_failed c.in-Err.field-0 c.if-self.false c.if-self.false refl
     (subst (λ r. Adds g.W.Wire.is_after c.args.self.now.desk.board.wire (asks r) c.ready.new.self) c.in-Err.is c.ready.ensures) refl

@@ -1,0 +1,207 @@
+-- Which connections are noted to be written to, step by step of the board.
+use Rattle.std.proofs.Common.{◌≡◌, ℕ, ◌<◌, Bool, true, false, not, ◌&&◌, ◌||◌, cond, nat_eq, is_some, Option, Some, None, Result, Ok, Err, List, [], ◌∷◌, ◌++◌, length, refl, sym, ◌∙◌, ap, subst, arith}
+use Rattle.std.specs.BTreeSet.{BTreeSet}
+use Rattle.arrayvec.specs.ArrayVec.{ArrayVec}
+use Rattle.irc_outbox.specs.declared.outbox.Overflow.{Overflow}
+use Rattle.irc_outbox.specs.Calls.{Call, is_some_bytes}
+use Rattle.irc_engine.specs.declared.board.Board.{Board}
+use Rattle.irc_engine.specs.declared.seat.Seat.{Seat}
+use Rattle.irc_engine.specs.Carrying.{fresh_seat, has_some_at, is_done_at}
+use Rattle.irc_engine.specs.Loops.Seats.{seat_of, at_seat, no_seat, IsOfferedAt, IsSet, IsShutAt, FramesAt}
+use Rattle.irc_engine.specs.Loops.Boards.{has, ended, stayed, IsNoted, IsMarked, IsMarkedAt, KeepsMarks, KeepsNotes, Settles}
+use Rattle.irc_engine.proofs.SeatLaws.{one_number}
+use Rattle.irc_engine.proofs.BoardLaws.{at_once, set_here, set_other}
+
+marked_as : (pending : Bool) (old new : Option Seat) (was now : Bool) → new ≡ old → now ≡ was → IsMarked pending old was → IsMarked pending new now
+marked_as pending old new was now seat noted is =
+    subst (λ (s : Option Seat). IsMarked pending s now) (sym seat) (subst (λ (b : Bool). IsMarked pending old b) (sym noted) is)
+
+nobody : (pending : Bool) → ((pending && false) || false) ≡ false
+nobody true = refl
+nobody false = refl
+
+marked_none : (pending : Bool) → IsMarked pending None false
+marked_none pending = record { noted_is = nobody pending; not_done = refl }
+
+or_true : (b : Bool) → (b || true) ≡ true
+or_true true = refl
+or_true false = refl
+
+some_behind : (a b : List ℕ) → 0 < length b → is_some_bytes (a ++ b) ≡ true
+some_behind [] [] some = absurd (omega (arith, some))
+some_behind [] (x ∷ b) some = refl
+some_behind (x ∷ a) b some = refl
+
+done_open : (framed some : Bool) → framed ≡ true → (not framed && not some) ≡ false
+done_open true some is = refl
+done_open false some is = cc is
+
+module _ {W : Type 0} (conn : ℕ) (old new : Board W) (others : (q : ℕ) → nat_eq conn q ≡ false → seat_of new.seats q ≡ seat_of old.seats q) (now : Bool)
+    (noted : IsNoted old.waiting conn now new.waiting) where
+  here : has new.waiting conn ≡ now
+  here = noted conn ∙ at_once conn now (has old.waiting conn)
+
+  elsewhere : (q : ℕ) (pending : Bool) → nat_eq conn q ≡ false → IsMarkedAt q pending old → IsMarkedAt q pending new
+  elsewhere q pending two is =
+      marked_as pending (seat_of old.seats q) (seat_of new.seats q) (has old.waiting q) (has new.waiting q) (others q two)
+      (noted q ∙ ap (λ t. cond t now (has old.waiting q)) two) is
+
+  -- one connection has another seat, and the others have theirs
+  pub marks_by : ((pending : Bool) → IsMarkedAt conn pending old → IsMarked pending (seat_of new.seats conn) now) → KeepsMarks old new
+  marks_by so = λ q pending. by q pending (nat_eq conn q) refl
+    where
+      by : (q : ℕ) (pending t : Bool) → nat_eq conn q ≡ t → IsMarkedAt q pending old → IsMarkedAt q pending new
+      by q pending true one is =
+          subst (λ p. IsMarkedAt p pending new) (one_number conn q one)
+          (subst (λ (b : Bool). IsMarked pending (seat_of new.seats conn) b) (sym here)
+          (so pending (subst (λ p. IsMarkedAt p pending old) (sym (one_number conn q one)) is)))
+      by q pending false two is = elsewhere q pending two is
+
+  -- one connection is not about to be written to any more
+  pub unmarks_by : IsMarked false (seat_of new.seats conn) now → (q : ℕ) (pending : Bool) → IsMarkedAt q pending old → IsMarkedAt q (cond (nat_eq conn q) false pending) new
+  unmarks_by so = λ q pending. by q pending (nat_eq conn q) refl
+    where
+      by : (q : ℕ) (pending t : Bool) → nat_eq conn q ≡ t → IsMarkedAt q pending old → IsMarkedAt q (cond (nat_eq conn q) false pending) new
+      by q pending true one is =
+          subst (λ (t : Bool). IsMarkedAt q (cond t false pending) new) (sym one)
+          (subst (λ p. IsMarkedAt p false new) (one_number conn q one)
+          (subst (λ (b : Bool). IsMarked false (seat_of new.seats conn) b) (sym here) so))
+      by q pending false two is = subst (λ (t : Bool). IsMarkedAt q (cond t false pending) new) (sym two) (elsewhere q pending two is)
+
+module _ {W : Type 0} (conn : ℕ) (old new : Board W) where
+  -- its outbox has taken bytes
+  pub marks_taken : (bytes : List ℕ) (result : Result Bool Overflow) → result ≡ Ok true → IsOfferedAt conn bytes old.seats result new.seats
+      → IsNoted old.waiting conn true new.waiting → KeepsMarks old new
+  marks_taken bytes result is offered noted = by (subst (λ r. IsOfferedAt conn bytes old.seats r new.seats) is offered)
+    where
+      by : IsOfferedAt conn bytes old.seats (Ok true) new.seats → KeepsMarks old new
+      by (no_seat none same never) = cc never
+      by (at_seat seat now was set (unshut, some, fits, now_is)) =
+          marks_by conn old new (set_other (seat_of old.seats) (seat_of new.seats) conn (Some now) set) true noted
+          (λ pending is. subst (λ (s : Option Seat). IsMarked pending s true) (sym (set_here (seat_of old.seats) (seat_of new.seats) conn (Some now) set)) (record {
+            noted_is = or_true (pending && true) ∙ sym (ap (λ (s : Seat). is_some_bytes s.outbox.bytes) now_is ∙ some_behind seat.outbox.bytes bytes some);
+            not_done = done_open (is_some now.framer) (is_some_bytes now.outbox.bytes) (ap (λ (s : Seat). is_some s.framer) now_is ∙ unshut);
+          }))
+
+  -- no seat has changed
+  pub marks_same : ((q : ℕ) → seat_of new.seats q ≡ seat_of old.seats q) → ((q : ℕ) → has new.waiting q ≡ has old.waiting q) → KeepsMarks old new
+  marks_same seats noted = λ q pending is.
+      marked_as pending (seat_of old.seats q) (seat_of new.seats q) (has old.waiting q) (has new.waiting q) (seats q) (noted q) is
+
+  same_seats : (seat now : Seat) → seat_of old.seats conn ≡ Some seat → IsSet (seat_of old.seats) conn (Some now) (seat_of new.seats) → now ≡ seat
+      → (q : ℕ) → seat_of new.seats q ≡ seat_of old.seats q
+  same_seats seat now was set is q = by (nat_eq conn q) refl
+    where
+      by : (t : Bool) → nat_eq conn q ≡ t → seat_of new.seats q ≡ seat_of old.seats q
+      by true one = set q ∙ ap (λ t. cond t (Some now) (seat_of old.seats q)) one ∙ ap Some is ∙ sym was ∙ ap (seat_of old.seats) (one_number conn q one)
+      by false two = set q ∙ ap (λ t. cond t (Some now) (seat_of old.seats q)) two
+
+  as_before : ((q : ℕ) → has new.waiting q ≡ has old.waiting q) → IsNoted old.waiting conn (has old.waiting conn) new.waiting
+  as_before noted q = noted q ∙ sym (by (nat_eq conn q) refl)
+    where
+      by : (t : Bool) → nat_eq conn q ≡ t → cond (nat_eq conn q) (has old.waiting conn) (has old.waiting q) ≡ has old.waiting q
+      by true one = ap (λ t. cond t (has old.waiting conn) (has old.waiting q)) one ∙ ap (has old.waiting) (one_number conn q one)
+      by false two = ap (λ t. cond t (has old.waiting conn) (has old.waiting q)) two
+
+  -- its outbox has taken none
+  pub marks_passed : (bytes : List ℕ) (result : Result Bool Overflow) → result ≡ Ok false → IsOfferedAt conn bytes old.seats result new.seats
+      → ((q : ℕ) → has new.waiting q ≡ has old.waiting q) → KeepsMarks old new
+  marks_passed bytes result is offered noted = by (subst (λ r. IsOfferedAt conn bytes old.seats r new.seats) is offered)
+    where
+      by : IsOfferedAt conn bytes old.seats (Ok false) new.seats → KeepsMarks old new
+      by (no_seat none same never) = marks_same same noted
+      by (at_seat seat now was set (never, now_is)) = marks_same (same_seats seat now was set now_is) noted
+
+  -- it did not fit
+  pub seats_refused : (bytes : List ℕ) (overflow : Overflow) (result : Result Bool Overflow) → result ≡ Err overflow → IsOfferedAt conn bytes old.seats result new.seats
+      → (q : ℕ) → seat_of new.seats q ≡ seat_of old.seats q
+  seats_refused bytes overflow result is offered = by (subst (λ r. IsOfferedAt conn bytes old.seats r new.seats) is offered)
+    where
+      by : IsOfferedAt conn bytes old.seats (Err overflow) new.seats → (q : ℕ) → seat_of new.seats q ≡ seat_of old.seats q
+      by (no_seat none same never) = same
+      by (at_seat seat now was set (unshut, more, now_is)) = same_seats seat now was set now_is
+
+  pub shut_others : IsShutAt conn old.seats new.seats → (q : ℕ) → nat_eq conn q ≡ false → seat_of new.seats q ≡ seat_of old.seats q
+  shut_others (no_seat none same so) q two = same q
+  shut_others (at_seat seat now was set so) q two = set_other (seat_of old.seats) (seat_of new.seats) conn (Some now) set q two
+
+  -- the server has closed a connection, and something is left to write
+  pub marks_shut : IsShutAt conn old.seats new.seats → ((q : ℕ) → has new.waiting q ≡ has old.waiting q) → is_done_at (seat_of new.seats conn) ≡ false → KeepsMarks old new
+  marks_shut (no_seat none same so) noted undone = marks_same same noted
+  marks_shut (at_seat seat now was set now_is) noted undone =
+      marks_by conn old new (set_other (seat_of old.seats) (seat_of new.seats) conn (Some now) set) (has old.waiting conn)
+      (as_before noted)
+      (λ pending is. record {
+        noted_is = by pending (subst (λ (s : Option Seat). IsMarked pending s (has old.waiting conn)) was is);
+        not_done = undone;
+      })
+    where
+      now_there : seat_of new.seats conn ≡ Some now
+      now_there = set_here (seat_of old.seats) (seat_of new.seats) conn (Some now) set
+
+      by : (pending : Bool) → IsMarked pending (Some seat) (has old.waiting conn)
+          → ((pending && is_some (seat_of new.seats conn)) || has old.waiting conn) ≡ has_some_at (seat_of new.seats conn)
+      by pending is =
+          ap (λ (s : Option Seat). (pending && is_some s) || has old.waiting conn) now_there ∙ is.noted_is
+          ∙ sym (ap has_some_at now_there ∙ ap (λ (s : Seat). is_some_bytes s.outbox.bytes) now_is)
+
+  -- a framer has taken bytes
+  pub marks_framed : (piece : List ℕ) (result : Option (ℕ × Option (ArrayVec ℕ))) → FramesAt conn piece old.seats result new.seats
+      → ((q : ℕ) → has new.waiting q ≡ has old.waiting q) → KeepsMarks old new
+  marks_framed piece result (no_seat none same so) noted = marks_same same noted
+  marks_framed piece None (at_seat seat now was set so) noted = marks_same (same_seats seat now was set so.1) noted
+  marks_framed piece (Some taken) (at_seat seat now was set so) noted =
+      marks_by conn old new (set_other (seat_of old.seats) (seat_of new.seats) conn (Some now) set) (has old.waiting conn)
+      (as_before noted)
+      (λ pending is. subst (λ (s : Option Seat). IsMarked pending s (has old.waiting conn)) (sym (set_here (seat_of old.seats) (seat_of new.seats) conn (Some now) set))
+      (by pending (subst (λ (s : Option Seat). IsMarked pending s (has old.waiting conn)) was is)))
+    where
+      by : (pending : Bool) → IsMarked pending (Some seat) (has old.waiting conn) → IsMarked pending (Some now) (has old.waiting conn)
+      by pending is = record {
+        noted_is = is.noted_is ∙ sym (ap (λ (s : Seat). is_some_bytes s.outbox.bytes) so.is);
+        not_done = done_open (is_some now.framer) (is_some_bytes now.outbox.bytes) (ap (λ (s : Seat). is_some s.framer) so.is);
+      }
+
+  module _ (mid : Board W) (others : (q : ℕ) → nat_eq conn q ≡ false → seat_of mid.seats q ≡ seat_of old.seats q)
+      (waiting : (q : ℕ) → has mid.waiting q ≡ has old.waiting q) where
+    -- a connection has no seat any more
+    pub marks_ended : IsSet (seat_of mid.seats) conn None (seat_of new.seats) → IsNoted mid.waiting conn false new.waiting → KeepsMarks old new
+    marks_ended set noted =
+        marks_by conn old new (λ q two. set_other (seat_of mid.seats) (seat_of new.seats) conn None set q two ∙ others q two) false
+        (λ q. noted q ∙ ap (λ b. cond (nat_eq conn q) false b) (waiting q))
+        (λ pending is. subst (λ (s : Option Seat). IsMarked pending s false) (sym (set_here (seat_of mid.seats) (seat_of new.seats) conn None set)) (marked_none pending))
+
+    -- a write failed, or nothing was left after it
+    pub unmarks_gone : IsSet (seat_of mid.seats) conn None (seat_of new.seats) → IsNoted mid.waiting conn false new.waiting
+        → (q : ℕ) (pending : Bool) → IsMarkedAt q pending old → IsMarkedAt q (cond (nat_eq conn q) false pending) new
+    unmarks_gone set noted =
+        unmarks_by conn old new (λ q two. set_other (seat_of mid.seats) (seat_of new.seats) conn None set q two ∙ others q two) false
+        (λ q. noted q ∙ ap (λ b. cond (nat_eq conn q) false b) (waiting q))
+        (subst (λ (s : Option Seat). IsMarked false s false) (sym (set_here (seat_of mid.seats) (seat_of new.seats) conn None set)) (marked_none false))
+
+    -- after a write
+    pub unmarks_settled : (is_after : W → List Call → Type 0) → Settles is_after conn mid new
+        → (q : ℕ) (pending : Bool) → IsMarkedAt q pending old → IsMarkedAt q (cond (nat_eq conn q) false pending) new
+    unmarks_settled is_after (ended done ends) = unmarks_gone ends.seats ends.waiting
+    unmarks_settled is_after (stayed undone wire seats lost noted) =
+        unmarks_by conn old new (λ q two. ap (λ s. seat_of s q) seats ∙ others q two) (has_some_at (seat_of mid.seats conn))
+        (λ q. noted q ∙ ap (λ b. cond (nat_eq conn q) (has_some_at (seat_of mid.seats conn)) b) (waiting q))
+        (subst (λ (s : Option Seat). IsMarked false s (has_some_at (seat_of mid.seats conn))) (sym (ap (λ s. seat_of s conn) seats))
+        (record { noted_is = refl; not_done = undone }))
+
+  -- a connection has been made, and more is done
+  pub notes_seated : (mid : Board W) (room : ℕ) → seat_of old.seats conn ≡ None → IsSet (seat_of old.seats) conn (Some (fresh_seat room)) (seat_of mid.seats)
+      → ((q : ℕ) → has mid.waiting q ≡ has old.waiting q) → KeepsMarks mid new → KeepsNotes old new
+  notes_seated mid room none set waiting keeps = λ q is. keeps q false (by q (nat_eq conn q) refl is)
+    where
+      at : IsMarkedAt conn false old → IsMarkedAt conn false mid
+      at is = subst (λ (s : Option Seat). IsMarked false s (has mid.waiting conn)) (sym (set_here (seat_of old.seats) (seat_of mid.seats) conn (Some (fresh_seat room)) set))
+          (record { noted_is = waiting conn ∙ is.noted_is ∙ ap has_some_at none; not_done = refl })
+
+      by : (q : ℕ) (t : Bool) → nat_eq conn q ≡ t → IsMarkedAt q false old → IsMarkedAt q false mid
+      by q true one is = subst (λ p. IsMarkedAt p false mid) (one_number conn q one) (at (subst (λ p. IsMarkedAt p false old) (sym (one_number conn q one)) is))
+      by q false two is = marked_as false (seat_of old.seats q) (seat_of mid.seats q) (has old.waiting q) (has mid.waiting q)
+          (set_other (seat_of old.seats) (seat_of mid.seats) conn (Some (fresh_seat room)) set q two) (waiting q) is
+
+pub noted_as : (old new : BTreeSet ℕ) (conn : ℕ) (a b : Bool) → a ≡ b → IsNoted old conn a new → IsNoted old conn b new
+noted_as old new conn a b is noted = λ q. noted q ∙ ap (λ t. cond (nat_eq conn q) t (has old q)) is

@@ -1,0 +1,116 @@
+-- One write to a connection, and what comes of it.
+use Rattle.std.proofs.Common.{◌≡◌, ℕ, ◌≤◌, Bool, true, false, ◌&&◌, ◌||◌, cond, nat_eq, is_some, Option, Some, None, Result, Ok, Err, List, [], ◌∷◌, ◌++◌, refl, sym, ◌∙◌, ap, subst, append-nil, arith}
+use Rattle.irc_outbox.specs.declared.wire.IoFault.{IoFault}
+use Rattle.irc_outbox.specs.Calls.{Call, writes, closes, bytes_taken, is_some_bytes}
+use Rattle.irc_outbox.specs.Outboxes.{IsFront}
+use Rattle.irc_engine.specs.declared.board.Board.{Board}
+use Rattle.irc_engine.specs.declared.seat.Seat.{Seat}
+use Rattle.irc_engine.specs.Carrying.{is_open_at}
+use Rattle.irc_engine.specs.Loops.Counts.{count_of}
+use Rattle.irc_engine.specs.Loops.Seats.{seat_of, at_seat, no_seat, IsWrittenAt}
+use Rattle.irc_engine.specs.Loops.Boards.{has, AreWrites, Carries, Loses, Settles, Writes}
+use Rattle.irc_engine.proofs.BoardLaws.{adds_both, at_once, set_here, set_other, write_elsewhere, write_drops}
+use Rattle.irc_engine.proofs.BoardSteps.{carries_none, carries_on, one_seat, settled}
+use Rattle.irc_engine.proofs.CarryingLaws.{nothing_owed, still, kept_some}
+use Rattle.irc_engine.proofs.HearingLaws.{hears_same}
+use Rattle.irc_engine.proofs.MarkLaws.{unmarks_gone, unmarks_settled}
+
+some_offered : (bytes front : List ℕ) → IsFront bytes front → is_some_bytes bytes ≡ true → is_some_bytes front ≡ true
+some_offered [] front is some = cc some
+some_offered (b ∷ bytes) [] is some = absurd (omega (arith, is.some (omega arith)))
+some_offered (b ∷ bytes) (c ∷ front) is some = refl
+
+-- one write is made, if the connection has a seat
+pub record Wrote {W : Type 0} (is_after : W → List Call → Type 0) (conn : ℕ) (old new : Board W) : Type 0 where
+  pub exchanges : List Call
+  pub carries : Carries is_after exchanges old [] new
+  pub are_writes : AreWrites conn (seat_of old.seats conn) exchanges
+
+module _ {W : Type 0} (is_after : W → List Call → Type 0) (conn : ℕ) (old mid : Board W) (lost : mid.lost ≡ old.lost) (count : count_of mid ≤ count_of old) where
+  -- it does not fail
+  wrote : (n : ℕ) → IsWrittenAt is_after conn old.seats old.wire (Ok n) mid.seats mid.wire → Wrote is_after conn old mid
+  wrote n (no_seat none same so) = record {
+    exchanges = [];
+    carries = carries_none is_after old mid so.1 same lost count;
+    are_writes = subst (λ (s : Option Seat). AreWrites conn s []) (sym none) refl;
+  }
+  wrote n (at_seat seat now was set so) =
+      let w = so.writes_some in
+      record {
+        exchanges = writes conn w.front (Ok n) ∷ [];
+        carries = record {
+          calls = writes conn w.front (Ok n) ∷ [];
+          account = w.account;
+          passage = one_seat is_after conn old mid (writes conn w.front (Ok n) ∷ []) [] (Some seat) (Some now) was
+              (set_here (seat_of old.seats) (seat_of mid.seats) conn (Some now) set)
+              (set_other (seat_of old.seats) (seat_of mid.seats) conn (Some now) set) (λ q two. ap (λ l. has l q) lost)
+              (λ q two. write_elsewhere conn q w.front (Ok n) two)
+              (record {
+                fate = record {
+                  carried = ap (λ xs. seat.outbox.bytes ++ xs) (nothing_owed (is_some seat.framer) conn [] refl) ∙ append-nil seat.outbox.bytes ∙ w.left
+                      ∙ ap (λ xs. xs ++ now.outbox.bytes)
+                      (sym (append-nil (bytes_taken w.front (Ok n))) ∙ ap (λ xs. xs ++ []) (sym (at_once conn (bytes_taken w.front (Ok n)) [])));
+                  same_room = w.same_room;
+                  still_open = ap is_some so.same_framer ∙ still (is_some seat.framer) false refl;
+                  never = refl;
+                  never_cut = refl;
+                };
+                lost_is = ap (λ l. has l conn) lost ∙ kept_some (has old.lost conn) (is_some seat.framer);
+                hears_none = hears_same seat.framer now.framer so.same_framer;
+              });
+          exchanged = refl;
+          count = count;
+        };
+        are_writes = subst (λ (s : Option Seat). AreWrites conn s (writes conn w.front (Ok n) ∷ [])) (sym was)
+            (record { front = w.front; answer = Ok n; exchanges_are = refl; some = some_offered seat.outbox.bytes w.front w.is_front });
+      }
+
+  others : (result : Result ℕ IoFault) → IsWrittenAt is_after conn old.seats old.wire result mid.seats mid.wire
+      → (q : ℕ) → nat_eq conn q ≡ false → seat_of mid.seats q ≡ seat_of old.seats q
+  others result (no_seat none same so) q two = same q
+  others result (at_seat seat now was set so) q two = set_other (seat_of old.seats) (seat_of mid.seats) conn (Some now) set q two
+
+  module _ (new : Board W) (waiting : (q : ℕ) → has mid.waiting q ≡ has old.waiting q) where
+    -- then it ends, or it stays
+    pub write_settled : (n : ℕ) (result : Result ℕ IoFault) → result ≡ Ok n → IsWrittenAt is_after conn old.seats old.wire result mid.seats mid.wire
+        → Settles is_after conn mid new → Writes is_after conn old new
+    write_settled n result is written settles =
+        let one = wrote n (subst (λ r. IsWrittenAt is_after conn old.seats old.wire r mid.seats mid.wire) is written) in
+        record {
+          exchanges = one.exchanges;
+          carries = subst (λ (cs : List Call). Carries is_after cs old [] new) (append-nil one.exchanges)
+              (carries_on is_after old mid new one.exchanges [] [] [] one.carries (settled is_after conn mid new settles));
+          are_writes = one.are_writes;
+          marks = unmarks_settled conn old new mid (others result written) waiting is_after settles;
+        }
+
+    -- it fails, and the connection is lost
+    pub write_lost : (fault : IoFault) (result : Result ℕ IoFault) → result ≡ Err fault → IsWrittenAt is_after conn old.seats old.wire result mid.seats mid.wire
+        → Loses is_after conn mid new → Writes is_after conn old new
+    write_lost fault result is written loses = by (subst (λ r. IsWrittenAt is_after conn old.seats old.wire r mid.seats mid.wire) is written)
+      where
+        by : IsWrittenAt is_after conn old.seats old.wire (Err fault) mid.seats mid.wire → Writes is_after conn old new
+        by (no_seat none same never) = cc never.0
+        by (at_seat seat now was set so) =
+            let w = so.writes_some in
+            record {
+              exchanges = writes conn w.front (Err fault) ∷ [];
+              carries = write_drops is_after conn old new seat w.front fault (record {
+                was = was;
+                account = adds_both is_after old.wire mid.wire new.wire (writes conn w.front (Err fault) ∷ []) (closes conn ∷ []) w.account loses.account;
+                seats = λ q. loses.seats q ∙ over q (nat_eq conn q) refl (set q);
+                lost = λ q. loses.lost q
+                    ∙ ap (λ l. has l q || (nat_eq conn q && is_open_at (seat_of mid.seats conn))) lost
+                    ∙ ap (λ (s : Option Seat). has old.lost q || (nat_eq conn q && is_open_at s)) (set_here (seat_of old.seats) (seat_of mid.seats) conn (Some now) set)
+                    ∙ ap (λ t. has old.lost q || (nat_eq conn q && t)) (ap is_some so.same_framer);
+                count = omega (arith, loses.count, count);
+              });
+              are_writes = subst (λ (s : Option Seat). AreWrites conn s (writes conn w.front (Err fault) ∷ [])) (sym was)
+                  (record { front = w.front; answer = Err fault; exchanges_are = refl; some = some_offered seat.outbox.bytes w.front w.is_front });
+              marks = unmarks_gone conn old new mid (others result written) waiting loses.seats loses.waiting;
+            }
+          where
+            over : (q : ℕ) (t : Bool) → nat_eq conn q ≡ t → seat_of mid.seats q ≡ cond (nat_eq conn q) (Some now) (seat_of old.seats q)
+                → cond (nat_eq conn q) None (seat_of mid.seats q) ≡ cond (nat_eq conn q) None (seat_of old.seats q)
+            over q true e is = ap (λ t. cond t None (seat_of mid.seats q)) e ∙ sym (ap (λ t. cond t None (seat_of old.seats q)) e)
+            over q false e is = ap (λ s. cond (nat_eq conn q) None s) (is ∙ ap (λ t. cond t (Some now) (seat_of old.seats q)) e)
