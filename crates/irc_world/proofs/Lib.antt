@@ -7,3 +7,7 @@ pub mod ClientsPlaces
 pub mod ExamplesProved
 pub mod OwnUsers
 pub mod HomesKept
+pub mod WhoLeaves
+pub mod HomesJoined
+pub mod Matches
+pub mod MachineMatches

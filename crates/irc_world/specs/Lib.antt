@@ -11,3 +11,4 @@ pub mod Bounds
 pub mod Examples
 pub mod Homes
 pub mod UsersHomes
+pub mod ClientsUsers

@@ -6,7 +6,7 @@ ghost use Rattle.irc_world.specs.Bounds.{OneServerTellsNobody};
 ghost use Rattle.irc_world.specs.Even.{LinkIsEven};
 ghost use Rattle.irc_world.specs.OneServer.{OneServerIsTheNetwork, OneServerOwes};
 ghost use Rattle.irc_world.specs.Parts.{ClientsAreNumberedOnce, ViewIsWellFormed};
-ghost use Rattle.irc_world.specs.UsersHomes.{StepKeepsHomes, UsersHomesAreServers};
+ghost use Rattle.irc_world.specs.UsersHomes.{StepKeepsHomes, StepKeepsHomesJoined, UsersHomesAreJoined, UsersHomesAreServers};
 
 /// A network with no link and nobody in it is sound.
 pub fn new_world_is_sound()
@@ -108,6 +108,28 @@ pub fn step_keeps_homes()
 pub fn users_homes_are_servers()
     ensures { UsersHomesAreServers }
 {
+    step_keeps_homes();
+    step_stays_sound();
+}
+
+/// Where each user's home is in the user's part, an item that is not refused leaves it so.
+pub fn step_keeps_homes_joined()
+    ensures { StepKeepsHomesJoined }
+{
+    clients_bring_own_users();
+    irc_relay::laws_of_forests::tests_tell();
+    irc_relay::laws_of_forests::link_between_parts();
+    irc_relay::laws_of_forests::link_taken_out();
+    irc_relay::laws_of_forests::joined_over_link();
+    irc_merge::laws::merge_has_nothing_new();
+    irc_merge::laws::split_has_nothing_new();
+}
+
+/// After any items of which none is refused, each user's home is in the part whose room the user is in.
+pub fn users_homes_are_joined()
+    ensures { UsersHomesAreJoined }
+{
+    step_keeps_homes_joined();
     step_keeps_homes();
     step_stays_sound();
 }
