@@ -156,14 +156,14 @@ module _ (tests : TestsTell) where
         was : row (world.hall one).room.users fold ≡ Some user
         was = (split_new text (side_of settings rest other) (world.hall one).room (sound.well_formed one)).users fold user is
 
-    near_sides : (home : Name) → joined world.links home near ≡ true → (joined rest home near ≡ true) ⊎ (joined rest far home ≡ true)
+    pub near_sides : (home : Name) → joined world.links home near ≡ true → (joined rest home near ≡ true) ⊎ (joined rest far home ≡ true)
     near_sides home is = elim (over_link world.links near far home near sound.forest are (one_part world.links home near is)) [
       | still one ↦ inl (passing rest home near one)
       | parted here _ ↦ inl (passing rest home near here)
       | turned there _ ↦ inr (passing rest far home (sym there))
     ]
 
-    far_sides : (home : Name) → joined world.links home far ≡ true → (joined rest home far ≡ true) ⊎ (joined rest near home ≡ true)
+    pub far_sides : (home : Name) → joined world.links home far ≡ true → (joined rest home far ≡ true) ⊎ (joined rest near home ≡ true)
     far_sides home is = elim (over_link world.links near far home far sound.forest are (one_part world.links home far is)) [
       | still one ↦ inl (passing rest home far one)
       | parted there _ ↦ inr (passing rest near home (sym there))
@@ -200,7 +200,7 @@ module _ (tests : TestsTell) (between : LinkBetweenParts) (taken_out : LinkTaken
   step_keeps_homes_joined settings world (cut near far) sound known all taken =
       cut_joined tests taken_out over_link settings world near far sound known all (link_there tests settings world near far taken) split_new
 
-nobody_joined : HomesAreJoined new_world
+pub nobody_joined : HomesAreJoined new_world
 nobody_joined server fold user is = absurd (let none = sym (get-empty {X = User} fold_cmp fold) ∙ is in cc none)
 
 module _ (joined_too : StepKeepsHomesJoined) (keeps : StepKeepsHomes) (stays : StepStaysSound) (settings : List Setting) where

@@ -11,3 +11,4 @@ pub mod WhoLeaves
 pub mod HomesJoined
 pub mod Matches
 pub mod MachineMatches
+pub mod HallsMatch

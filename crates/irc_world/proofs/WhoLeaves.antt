@@ -1,5 +1,5 @@
 -- Who is left where several users have quit.
-use Rattle.std.proofs.Common.{◌≡◌, ℕ, Bool, true, false, cond, ◌&&◌, ◌||◌, T, Option, Some, None, unwrap_or, List, [], ◌∷◌, ◌++◌, refl, sym, ◌∙◌, ap, subst, map, filter}
+use Rattle.std.proofs.Common.{◌≡◌, ℕ, Bool, true, false, cond, ◌&&◌, ◌||◌, T, Option, Some, None, unwrap_or, List, [], ◌∷◌, ◌++◌, refl, sym, ◌∙◌, ap, subst, map, filter, is_some}
 use Rattle.std.proofs.lemmas.Bool.{and_parts, and_from}
 use Rattle.std.proofs.lemmas.List.Folds.{list_any-append}
 use Rattle.std.specs.declared.cmp.Ordering.{Ordering}
@@ -10,14 +10,15 @@ use Rattle.std.specs.FinMap.{entries, entries_sorted, values, find, is_sorted, g
 use Rattle.std.specs.FinMap.Entries.{below_all}
 use Rattle.irc_names.specs.Fold.{key}
 use Rattle.irc_names.specs.Tables.{Table, fold_cmp, row}
-use Rattle.irc_names.specs.TableLaws.{same_fold, same_fold-refl, one_fold, row-alter}
+use Rattle.irc_names.specs.TableLaws.{same_fold, same_fold-refl, one_fold, row-alter, row-both}
 use Rattle.irc_users.specs.declared.user.User.{User}
 use Rattle.irc_users.specs.UserTable.{is_home}
 use Rattle.irc_room.specs.declared.effect.Effect.TheVariants.{Quit}
 use Rattle.irc_room.specs.Room.{Room, IsWellFormed}
 use Rattle.irc_room.specs.After.{after}
 use Rattle.irc_room.specs.InTurn.{after_all}
-use Rattle.irc_merge.specs.Quits.{quits, users_at}
+use Rattle.irc_merge.specs.Merge.{clash, without, either, merge}
+use Rattle.irc_merge.specs.Quits.{quits, users_at, collision_text}
 use Rattle.irc_merge.specs.Split.{lost_users, split}
 
 -- whether the user with a fold is one of these
@@ -180,3 +181,40 @@ split_row text homes room well q user is =
     ∙ (λ i. cond ((list_any-flat_map (λ (other : User). same_fold q (key other.nick)) (λ home. users_at home room) homes
     ∙ list_any-alike (λ home. among q (users_at home room)) (λ home. is_home home user) (λ home. both_ways (among q (users_at home room)) (is_home home user)
     (among_is room well (is_home home) q user is) (is_among room well (is_home home) q user is)) homes) i) None (is i))
+
+pub split_was : (text : List ℕ) (homes : List (List ℕ)) (room : Room) → IsWellFormed room → (q : List ℕ) (user : User)
+    → row (split text homes room).users q ≡ Some user → row room.users q ≡ Some user
+unfolding split
+split_was text homes room well q user is = by (among q (lost_users homes room)) (sym (users_left room text (lost_users homes room) q) ∙ is)
+  where
+    by : (b : Bool) → cond b None (row room.users q) ≡ Some user → row room.users q ≡ Some user
+    by true is = absurd (cc is)
+    by false is = is
+
+-- ---- a merge
+
+module _ (room other : Room) (well : IsWellFormed room) (q : List ℕ) where
+  -- who clashes is gone, and all others are left
+  pub without_row : (user : User) → row room.users q ≡ Some user → row (without room other).users q ≡ cond (is_some (row other.users q)) None (Some user)
+  unfolding without
+  without_row user is =
+      users_left room collision_text (clash room other) q
+      ∙ (λ i. cond (both_ways (among q (clash room other)) (is_some (row other.users (key user.nick)))
+      (among_is room well clashes q user is) (is_among room well clashes q user is) i) None (is i))
+      ∙ ap (λ fold. cond (is_some (row other.users fold)) None (Some user)) (well.users_named q user is)
+    where
+      clashes : User → Bool
+      clashes user = is_some (row other.users (key user.nick))
+
+  pub without_was : (user : User) → row (without room other).users q ≡ Some user → row room.users q ≡ Some user
+  unfolding without
+  without_was user is = by (among q (clash room other)) (sym (users_left room collision_text (clash room other) q) ∙ is)
+    where
+      by : (b : Bool) → cond b None (row room.users q) ≡ Some user → row room.users q ≡ Some user
+      by true is = absurd (cc is)
+      by false is = is
+
+pub merge_row : (one other : Room) (q : List ℕ)
+    → row (merge one other).users q ≡ either (row (without one other).users q) (row (without other one).users q)
+unfolding merge
+merge_row one other q = row-both either (without one other).users (without other one).users refl q

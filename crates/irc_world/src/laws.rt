@@ -1,5 +1,6 @@
 //! What holds of the network, whatever is given to it. Each law is a function that does nothing, and its contract is the law: the check
 //! proves it, and a crate above may cite it.
+ghost use Rattle.irc_world.specs.ClientsUsers.{RegisteredAreUsers, StepKeepsMatched};
 ghost use Rattle.irc_world.specs.Homes.{ClientsBringOwnUsers};
 ghost use Rattle.irc_world.specs.Laws.{NewWorldIsSound, StepStaysSound, WorldIsSound};
 ghost use Rattle.irc_world.specs.Bounds.{OneServerTellsNobody};
@@ -129,6 +130,34 @@ pub fn step_keeps_homes_joined()
 pub fn users_homes_are_joined()
     ensures { UsersHomesAreJoined }
 {
+    step_keeps_homes_joined();
+    step_keeps_homes();
+    step_stays_sound();
+}
+
+/// Where each registered client is a user whose home is that client's, no two clients are one user, and each user is a client, an item that is not
+/// refused leaves it so.
+pub fn step_keeps_matched()
+    ensures { StepKeepsMatched }
+{
+    irc_relay::laws_of_forests::tests_tell();
+    irc_relay::laws_of_forests::link_taken_out();
+    irc_relay::laws_of_forests::joined_over_link();
+    irc_commands::laws::decided_is_possible();
+    irc_commands::laws::who_stays_is_user();
+    irc_commands::laws::who_is_closed_quits();
+    irc_commands::laws::registering_is_possible();
+    irc_commands::laws::registered_is_added();
+    irc_commands::laws::unregistered_changes_nothing();
+    irc_commands::laws::registered_stays();
+}
+
+/// After any items of which none is refused, each registered client is a user of its part whose home is that client's, no two clients are one user,
+/// and each user is a client.
+pub fn registered_are_users()
+    ensures { RegisteredAreUsers }
+{
+    step_keeps_matched();
     step_keeps_homes_joined();
     step_keeps_homes();
     step_stays_sound();
