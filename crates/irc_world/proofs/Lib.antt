@@ -12,3 +12,5 @@ pub mod HomesJoined
 pub mod Matches
 pub mod MachineMatches
 pub mod HallsMatch
+pub mod ListedHalls
+pub mod NetworksProved

@@ -12,3 +12,4 @@ pub mod Examples
 pub mod Homes
 pub mod UsersHomes
 pub mod ClientsUsers
+pub mod Networks
