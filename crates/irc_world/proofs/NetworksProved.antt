@@ -1,5 +1,5 @@
 -- The small networks, computed.
-use Rattle.std.proofs.Common.{◌≡◌, ℕ, Some, None, List, [], ◌∷◌, ◌++◌, true, refl, ◌∙◌, ap, codes, if◌then◌else◌}
+use Rattle.std.proofs.Common.{◌≡◌, ℕ, Some, None, List, [], ◌∷◌, ◌++◌, true, not, cond, is_some, refl, ◌∙◌, ap, codes, if◌then◌else◌}
 use Rattle.std.specs.Cmp.{nat_cmp_total}
 use Rattle.std.specs.FinMap.{get, from_entries, get-from_entries}
 use Rattle.std.specs.FinMap.Entries.{find}
@@ -18,10 +18,11 @@ use Rattle.irc_merge.proofs.ListedMerge.{AreInOrder, CanBeListed, list_without}
 use Rattle.irc_server.specs.declared.clients.Client.{Client}
 use Rattle.irc_server.specs.declared.clients.Client.TheVariants.{Registered}
 use Rattle.irc_world.specs.World.{Hall, World}
-use Rattle.irc_world.specs.Stepping.{link, step, meeting_lines}
-use Rattle.irc_world.specs.Refused.{refused, disagree}
-use Rattle.irc_world.specs.Networks.{PeopleMeet, hall_after, on_a, on_b, three_peers, two_apart, als_people, bos_people}
-use Rattle.irc_world.proofs.ListedHalls.{hall_of, list_meeting, meeting_listed, agree_listed}
+use Rattle.irc_world.specs.Stepping.{link, step, clashes_in, merged, meeting_lines}
+use Rattle.irc_world.specs.Refused.{refused, disagree, no_such_client}
+use Rattle.irc_world.specs.Networks.{PeopleMeet, als_clients, als_doings, bos_clients, bos_doings, NicknamesClash, zeds_clients, zeds_doings, other_zeds_clients, other_zeds_doings, with_zed, with_other_zed, hall_after, on_a, on_b, three_peers, two_apart, als_people, bos_people}
+use Rattle.irc_world.proofs.StaysSound.{first_of, survivor, get-merged}
+use Rattle.irc_world.proofs.ListedHalls.{hall_of, list_clashes, clashes_listed, list_meeting, meeting_listed, agree_listed}
 
 made : (clients : List (ℕ × Client)) (effects : List Effect) → hall_after clients effects ≡ hall_of (from_entries clients) (list_room effects)
 made clients effects = λ i. record { clients = from_entries clients; room = all_listed no_list effects i }
@@ -42,10 +43,10 @@ met clients others effects other_effects client there back =
 -- ---- people meet
 
 abbrev als : ListedRoom
-als = list_room (on_a (codes "al") ∷ on_a (codes "an") ∷ Join (codes "al") (codes "#c") true ∷ [])
+als = list_room als_doings
 
 abbrev bos : ListedRoom
-bos = list_room (on_b (codes "bo") ∷ on_b (codes "cy") ∷ Join (codes "bo") (codes "#c") true ∷ [])
+bos = list_room bos_doings
 
 als_in_order : AreInOrder als
 unfolding fold fold_table
@@ -76,20 +77,20 @@ meet client = (step three_peers (two_apart als_people bos_people) (link (codes "
 
 abbrev list_meet : ℕ → List (List ℕ)
 list_meet client =
-    list_meeting als bos (find nat_cmp client ((1, Registered (codes "al")) ∷ (2, Registered (codes "an")) ∷ []))
-    ++ list_meeting bos als (find nat_cmp client ((3, Registered (codes "bo")) ∷ (4, Registered (codes "cy")) ∷ []))
+    list_meeting als bos (find nat_cmp client als_clients)
+    ++ list_meeting bos als (find nat_cmp client bos_clients)
 
 meet_listed : (client : ℕ) → meet client ≡ list_meet client
 unfolding step part
-meet_listed client = met ((1, Registered (codes "al")) ∷ (2, Registered (codes "an")) ∷ []) ((3, Registered (codes "bo")) ∷ (4, Registered (codes "cy")) ∷ [])
-    (on_a (codes "al") ∷ on_a (codes "an") ∷ Join (codes "al") (codes "#c") true ∷ [])
-    (on_b (codes "bo") ∷ on_b (codes "cy") ∷ Join (codes "bo") (codes "#c") true ∷ []) client als_listed bos_listed
+meet_listed client = met als_clients bos_clients
+    als_doings
+    bos_doings client als_listed bos_listed
 
 meet_agreed : agree als_people.room bos_people.room ≡ true
 unfolding fold fold_table
 meet_agreed =
-    (λ i. agree (all_listed no_list (on_a (codes "al") ∷ on_a (codes "an") ∷ Join (codes "al") (codes "#c") true ∷ []) i)
-    (all_listed no_list (on_b (codes "bo") ∷ on_b (codes "cy") ∷ Join (codes "bo") (codes "#c") true ∷ []) i))
+    (λ i. agree (all_listed no_list als_doings i)
+    (all_listed no_list bos_doings i))
     ∙ agree_listed als bos als_in_order bos_in_order als_left
 
 pub people_meet : PeopleMeet
@@ -100,4 +101,76 @@ people_meet = record {
   to_an = meet_listed 2;
   to_bo = meet_listed 3;
   to_cy = meet_listed 4;
+}
+
+-- ---- a nickname on both sides
+
+abbrev zeds : ListedRoom
+zeds = list_room zeds_doings
+
+abbrev other_zeds : ListedRoom
+other_zeds = list_room other_zeds_doings
+
+zeds_in_order : AreInOrder zeds
+unfolding fold fold_table
+zeds_in_order = record { users = tt; channels = tt; members = (tt, (tt, tt)) }
+
+other_zeds_in_order : AreInOrder other_zeds
+unfolding fold fold_table
+other_zeds_in_order = record { users = tt; channels = tt; members = (tt, tt) }
+
+zeds_left : AreInOrder (list_without zeds other_zeds)
+unfolding fold fold_table
+zeds_left = record { users = tt; channels = tt; members = (tt, tt) }
+
+other_zeds_left : AreInOrder (list_without other_zeds zeds)
+unfolding fold fold_table
+other_zeds_left = record { users = tt; channels = tt; members = (tt, tt) }
+
+zeds_listed : CanBeListed zeds other_zeds
+unfolding fold fold_table
+zeds_listed = record { first = zeds_in_order; second = other_zeds_in_order; along = (zeds_in_order, tt); left = other_zeds_left }
+
+other_zeds_listed : CanBeListed other_zeds zeds
+unfolding fold fold_table
+other_zeds_listed = record { first = other_zeds_in_order; second = zeds_in_order; along = (other_zeds_in_order, tt); left = zeds_left }
+
+abbrev clash_lines : ℕ → List (List ℕ)
+clash_lines client = (step three_peers (two_apart with_zed with_other_zed) (link (codes "a.net") (codes "b.net"))).lines client
+
+clash_listed : (client : ℕ) → clash_lines client
+    ≡ list_meeting zeds other_zeds (find nat_cmp client zeds_clients) ++ list_meeting other_zeds zeds (find nat_cmp client other_zeds_clients)
+unfolding step part
+clash_listed client = met zeds_clients other_zeds_clients zeds_doings other_zeds_doings client zeds_listed other_zeds_listed
+
+clash_agreed : agree with_zed.room with_other_zed.room ≡ true
+unfolding fold fold_table
+clash_agreed =
+    (λ i. agree (all_listed no_list zeds_doings i) (all_listed no_list other_zeds_doings i))
+    ∙ agree_listed zeds other_zeds zeds_in_order other_zeds_in_order zeds_left
+
+-- a client of one side that survives
+survivor_listed : (clients : List (ℕ × Client)) (effects : List Effect) (client : ℕ)
+    → survivor (room_after effects) (from_entries {R = nat_cmp} clients) client
+    ≡ cond (not (list_clashes (list_room effects) (find nat_cmp client clients))) (find nat_cmp client clients) None
+survivor_listed clients effects client =
+    (λ i. cond (not (clashes_in (all_listed no_list effects i) (get-from_entries nat_cmp_total clients client i))) (get-from_entries nat_cmp_total clients client i) None)
+    ∙ ap (λ b. cond (not b) (find nat_cmp client clients) None) (clashes_listed (list_room effects) (find nat_cmp client clients))
+
+-- who was killed is no client
+killed : get (merged with_zed with_other_zed).clients 2 ≡ None
+unfolding fold fold_table
+killed =
+    get-merged with_zed with_other_zed 2
+    ∙ (λ i. first_of (survivor_listed zeds_clients other_zeds_doings 2 i) (survivor_listed other_zeds_clients zeds_doings 2 i))
+
+pub nicknames_clash : NicknamesClash
+unfolding refused step part fold fold_table cut_line line_text
+nicknames_clash = record {
+  taken = ap (λ b. if b then None else Some disagree) clash_agreed;
+  to_al = clash_listed 1;
+  to_zed = clash_listed 2;
+  to_bo = clash_listed 3;
+  to_other_zed = clash_listed 4;
+  zed_is_gone = ap (λ o. if is_some o then None else Some no_such_client) killed;
 }
