@@ -1,13 +1,14 @@
 -- The small networks, computed.
-use Rattle.std.proofs.Common.{◌≡◌, ℕ, Some, None, List, [], ◌∷◌, ◌++◌, true, not, cond, is_some, refl, ◌∙◌, ap, codes, if◌then◌else◌}
+use Rattle.std.proofs.Common.{◌≡◌, ℕ, false, Option, Some, None, List, [], ◌∷◌, ◌++◌, true, not, cond, is_some, refl, ◌∙◌, ap, codes, if◌then◌else◌}
 use Rattle.std.specs.Cmp.{nat_cmp_total}
-use Rattle.std.specs.FinMap.{get, from_entries, get-from_entries}
+use Rattle.std.specs.Option.{option_map_or}
+use Rattle.std.specs.FinMap.{get, from_entries, retain_keys, get-from_entries}
 use Rattle.std.specs.FinMap.Entries.{find}
 use Rattle.std.specs.Ordering.{nat_cmp}
 use Rattle.irc_names.specs.Fold.{fold, fold_table}
 use Rattle.irc_line.specs.Bytes.{cut as cut_line}
 use Rattle.irc_line.specs.Messages.{line_text}
-use Rattle.irc_relay.specs.Links.{part}
+use Rattle.irc_relay.specs.Links.{Name, Link, part, joined, without}
 use Rattle.irc_room.specs.declared.effect.Effect.{Effect}
 use Rattle.irc_room.specs.declared.effect.Effect.TheVariants.{Join}
 use Rattle.irc_room.specs.Examples.{room_after}
@@ -17,12 +18,12 @@ use Rattle.irc_merge.specs.Agreeing.{agree}
 use Rattle.irc_merge.proofs.ListedMerge.{AreInOrder, CanBeListed, list_without}
 use Rattle.irc_server.specs.declared.clients.Client.{Client}
 use Rattle.irc_server.specs.declared.clients.Client.TheVariants.{Registered}
-use Rattle.irc_world.specs.World.{Hall, World}
-use Rattle.irc_world.specs.Stepping.{link, step, clashes_in, merged, meeting_lines}
+use Rattle.irc_world.specs.World.{Hall, World, home_of}
+use Rattle.irc_world.specs.Stepping.{link, step, clashes_in, merged, meeting_lines, split_text, side_of, leaving_lines}
 use Rattle.irc_world.specs.Refused.{refused, disagree, no_such_client}
-use Rattle.irc_world.specs.Networks.{PeopleMeet, als_clients, als_doings, bos_clients, bos_doings, NicknamesClash, zeds_clients, zeds_doings, other_zeds_clients, other_zeds_doings, with_zed, with_other_zed, hall_after, on_a, on_b, three_peers, two_apart, als_people, bos_people}
-use Rattle.irc_world.proofs.StaysSound.{first_of, survivor, get-merged}
-use Rattle.irc_world.proofs.ListedHalls.{hall_of, list_clashes, clashes_listed, list_meeting, meeting_listed, agree_listed}
+use Rattle.irc_world.specs.Networks.{PeopleMeet, LinkIsLost, b_to_c, three_clients, three_doings, three_people, in_a_line, cut_off, als_clients, als_doings, bos_clients, bos_doings, NicknamesClash, zeds_clients, zeds_doings, other_zeds_clients, other_zeds_doings, with_zed, with_other_zed, hall_after, on_a, on_b, three_peers, two_apart, als_people, bos_people}
+use Rattle.irc_world.proofs.StaysSound.{first_of, survivor, get-kept, get-merged}
+use Rattle.irc_world.proofs.ListedHalls.{list_lost, InOrderLeaving, list_seen_leaving, leaving_listed, servers_listed, hall_of, list_clashes, clashes_listed, list_meeting, meeting_listed, agree_listed}
 
 made : (clients : List (ℕ × Client)) (effects : List Effect) → hall_after clients effects ≡ hall_of (from_entries clients) (list_room effects)
 made clients effects = λ i. record { clients = from_entries clients; room = all_listed no_list effects i }
@@ -173,4 +174,70 @@ nicknames_clash = record {
   to_bo = clash_listed 3;
   to_other_zed = clash_listed 4;
   zed_is_gone = ap (λ o. if is_some o then None else Some no_such_client) killed;
+}
+
+-- ---- a link is lost
+
+abbrev three : ListedRoom
+three = list_room three_doings
+
+abbrev a_net : Name
+a_net = codes "a.net"
+
+abbrev b_net : Name
+b_net = codes "b.net"
+
+abbrev rest : List Link
+rest = b_to_c ∷ []
+
+three_in_order : AreInOrder three
+unfolding fold fold_table
+three_in_order = record { users = tt; channels = tt; members = (tt, (tt, tt)) }
+
+behind_b : side_of three_peers rest b_net ≡ b_net ∷ codes "c.net" ∷ []
+unfolding part
+behind_b = servers_listed three_peers (joined rest b_net) tt
+
+behind_a : side_of three_peers rest a_net ≡ a_net ∷ []
+unfolding part
+behind_a = servers_listed three_peers (joined rest a_net) tt
+
+als_leaving : InOrderLeaving (split_text a_net b_net) three (list_lost (b_net ∷ codes "c.net" ∷ []) three)
+unfolding fold fold_table
+als_leaving = (three_in_order, (record { users = tt; channels = tt; members = (tt, (tt, tt)) }, tt))
+
+others_leaving : InOrderLeaving (split_text b_net a_net) three (list_lost (a_net ∷ []) three)
+unfolding fold fold_table
+others_leaving = (three_in_order, tt)
+
+three_made : three_people.room ≡ room_of three
+three_made = all_listed no_list three_doings
+
+-- the client of a number on the side of one end
+abbrev left_on : Name → ℕ → Option Client
+left_on one client = cond (option_map_or (joined rest one) (home_of (in_a_line three_people) client) false) (find nat_cmp client three_clients) None
+
+client_left : (one other : Name) (client : ℕ)
+    → get (retain_keys (from_entries {R = nat_cmp} three_clients) (λ c. option_map_or (joined rest one) (home_of (in_a_line three_people) c) false)) client ≡ left_on one client
+client_left one other client =
+    get-kept (from_entries three_clients) (λ c. option_map_or (joined rest one) (home_of (in_a_line three_people) c) false) client
+    ∙ ap (λ o. cond (option_map_or (joined rest one) (home_of (in_a_line three_people) client) false) o None) (get-from_entries nat_cmp_total three_clients client)
+
+lost_lines : (client : ℕ) → cut_off.lines client
+    ≡ list_seen_leaving (split_text a_net b_net) (b_net ∷ codes "c.net" ∷ []) three (left_on a_net client)
+    ++ list_seen_leaving (split_text b_net a_net) (a_net ∷ []) three (left_on b_net client)
+unfolding step part without
+lost_lines client =
+    (λ i. leaving_lines three_peers rest a_net b_net (three_made i) (client_left a_net b_net client i)
+    ++ leaving_lines three_peers rest b_net a_net (three_made i) (client_left b_net a_net client i))
+    ∙ (λ i. leaving_listed three_peers rest a_net b_net three three_in_order (b_net ∷ codes "c.net" ∷ []) behind_b als_leaving (left_on a_net client) i
+    ++ leaving_listed three_peers rest b_net a_net three three_in_order (a_net ∷ []) behind_a others_leaving (left_on b_net client) i)
+
+pub link_is_lost : LinkIsLost
+unfolding refused part fold fold_table cut_line line_text
+link_is_lost = record {
+  taken = refl;
+  to_al = lost_lines 1;
+  to_bo = lost_lines 2;
+  to_cy = lost_lines 3;
 }

@@ -1,6 +1,6 @@
 //! A small network, by example.
 ghost use Rattle.irc_world.specs.Examples.{FourRefusals};
-ghost use Rattle.irc_world.specs.Networks.{NicknamesClash, PeopleMeet};
+ghost use Rattle.irc_world.specs.Networks.{LinkIsLost, NicknamesClash, PeopleMeet};
 
 /// What is refused where there are three servers, no link and nobody: names of no server, numbers of no client, a link that is not there to be cut, and
 /// links between servers of which one is no peer, keeps another password, or is the same server.
@@ -16,4 +16,9 @@ pub fn people_meet()
 /// Two servers are linked that have users of one nickname: both are killed, and nobody sees anybody come by a channel that one of them alone was in.
 pub fn nicknames_clash()
     ensures { NicknamesClash }
+{}
+
+/// A link is lost: each side sees those of the other quit, once, though they shared two channels.
+pub fn link_is_lost()
+    ensures { LinkIsLost }
 {}
