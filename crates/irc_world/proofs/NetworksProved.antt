@@ -15,15 +15,17 @@ use Rattle.irc_room.specs.Examples.{room_after}
 use Rattle.irc_room.proofs.ListedRooms.{ListedRoom, room_of, no_list, all_listed}
 use Rattle.irc_room.proofs.ExampleRooms.{list_room}
 use Rattle.irc_merge.specs.Agreeing.{agree}
+use Rattle.irc_merge.specs.Split.{split}
 use Rattle.irc_merge.proofs.ListedMerge.{AreInOrder, CanBeListed, list_without}
 use Rattle.irc_server.specs.declared.clients.Client.{Client}
 use Rattle.irc_server.specs.declared.clients.Client.TheVariants.{Registered}
+use Rattle.irc_server.specs.RoomMachine.{Clients}
 use Rattle.irc_world.specs.World.{Hall, World, home_of}
 use Rattle.irc_world.specs.Stepping.{link, step, clashes_in, merged, meeting_lines, split_text, side_of, leaving_lines}
 use Rattle.irc_world.specs.Refused.{refused, disagree, no_such_client}
-use Rattle.irc_world.specs.Networks.{PeopleMeet, LinkIsLost, b_to_c, three_clients, three_doings, three_people, in_a_line, cut_off, als_clients, als_doings, bos_clients, bos_doings, NicknamesClash, zeds_clients, zeds_doings, other_zeds_clients, other_zeds_doings, with_zed, with_other_zed, hall_after, on_a, on_b, three_peers, two_apart, als_people, bos_people}
+use Rattle.irc_world.specs.Networks.{PeopleMeet, LinkIsLost, LinkIsBack, back_again, b_to_c, three_clients, three_doings, three_people, in_a_line, cut_off, als_clients, als_doings, bos_clients, bos_doings, NicknamesClash, zeds_clients, zeds_doings, other_zeds_clients, other_zeds_doings, with_zed, with_other_zed, hall_after, on_a, on_b, three_peers, two_apart, als_people, bos_people}
 use Rattle.irc_world.proofs.StaysSound.{first_of, survivor, get-kept, get-merged}
-use Rattle.irc_world.proofs.ListedHalls.{list_lost, InOrderLeaving, list_seen_leaving, leaving_listed, servers_listed, hall_of, list_clashes, clashes_listed, list_meeting, meeting_listed, agree_listed}
+use Rattle.irc_world.proofs.ListedHalls.{list_lost, list_split, split_listed, InOrderLeaving, list_seen_leaving, leaving_listed, servers_listed, hall_of, list_clashes, clashes_listed, list_meeting, meeting_listed, agree_listed}
 
 made : (clients : List (ℕ × Client)) (effects : List Effect) → hall_after clients effects ≡ hall_of (from_entries clients) (list_room effects)
 made clients effects = λ i. record { clients = from_entries clients; room = all_listed no_list effects i }
@@ -240,4 +242,78 @@ link_is_lost = record {
   to_al = lost_lines 1;
   to_bo = lost_lines 2;
   to_cy = lost_lines 3;
+}
+
+-- ---- the link is back
+
+abbrev als_side : ListedRoom
+als_side = list_split (split_text a_net b_net) (b_net ∷ codes "c.net" ∷ []) three
+
+abbrev others_side : ListedRoom
+others_side = list_split (split_text b_net a_net) (a_net ∷ []) three
+
+als_side_in_order : AreInOrder als_side
+unfolding fold fold_table
+als_side_in_order = record { users = tt; channels = tt; members = (tt, (tt, tt)) }
+
+others_side_in_order : AreInOrder others_side
+unfolding fold fold_table
+others_side_in_order = record { users = tt; channels = tt; members = (tt, (tt, tt)) }
+
+als_side_left : AreInOrder (list_without als_side others_side)
+unfolding fold fold_table
+als_side_left = record { users = tt; channels = tt; members = (tt, (tt, tt)) }
+
+others_side_left : AreInOrder (list_without others_side als_side)
+unfolding fold fold_table
+others_side_left = record { users = tt; channels = tt; members = (tt, (tt, tt)) }
+
+als_side_listed : CanBeListed als_side others_side
+unfolding fold fold_table
+als_side_listed = record { first = als_side_in_order; second = others_side_in_order; along = tt; left = others_side_left }
+
+others_side_listed : CanBeListed others_side als_side
+unfolding fold fold_table
+others_side_listed = record { first = others_side_in_order; second = als_side_in_order; along = tt; left = als_side_left }
+
+abbrev kept_on : Name → Clients
+kept_on one = retain_keys (from_entries {R = nat_cmp} three_clients) (λ c. option_map_or (joined rest one) (home_of (in_a_line three_people) c) false)
+
+side_made : (one other : Name) (homes : List Name) → side_of three_peers rest other ≡ homes
+    → split (split_text one other) (side_of three_peers rest other) three_people.room ≡ room_of (list_split (split_text one other) homes three)
+side_made one other homes are =
+    (λ i. split (split_text one other) (are i) (three_made i)) ∙ split_listed (split_text one other) homes three three_in_order
+
+als_hall : cut_off.world.hall a_net ≡ hall_of (kept_on a_net) als_side
+unfolding step part without
+als_hall = λ i. record { clients = kept_on a_net; room = side_made a_net b_net (b_net ∷ codes "c.net" ∷ []) behind_b i }
+
+others_hall : cut_off.world.hall b_net ≡ hall_of (kept_on b_net) others_side
+unfolding step part without
+others_hall = λ i. record { clients = kept_on b_net; room = side_made b_net a_net (a_net ∷ []) behind_a i }
+
+back_lines : (client : ℕ) → back_again.lines client
+    ≡ list_meeting als_side others_side (left_on a_net client) ++ list_meeting others_side als_side (left_on b_net client)
+unfolding step
+back_lines client =
+    (λ i. meeting_lines (als_hall i) (others_hall i) (get (als_hall i).clients client)
+    ++ meeting_lines (others_hall i) (als_hall i) (get (others_hall i).clients client))
+    ∙ (λ i. meeting_lines (hall_of (kept_on a_net) als_side) (hall_of (kept_on b_net) others_side) (client_left a_net b_net client i)
+    ++ meeting_lines (hall_of (kept_on b_net) others_side) (hall_of (kept_on a_net) als_side) (client_left b_net a_net client i))
+    ∙ (λ i. meeting_listed (kept_on a_net) (kept_on b_net) als_side others_side als_side_listed (left_on a_net client) i
+    ++ meeting_listed (kept_on b_net) (kept_on a_net) others_side als_side others_side_listed (left_on b_net client) i)
+
+sides_agree : agree (cut_off.world.hall a_net).room (cut_off.world.hall b_net).room ≡ true
+unfolding fold fold_table
+sides_agree =
+    (λ i. agree (als_hall i).room (others_hall i).room)
+    ∙ agree_listed als_side others_side als_side_in_order others_side_in_order als_side_left
+
+pub link_is_back : LinkIsBack
+unfolding refused step part without fold fold_table cut_line line_text
+link_is_back = record {
+  taken = ap (λ b. if b then None else Some disagree) sides_agree;
+  to_al = back_lines 1;
+  to_bo = back_lines 2;
+  to_cy = back_lines 3;
 }

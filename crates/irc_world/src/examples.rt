@@ -1,6 +1,6 @@
 //! A small network, by example.
 ghost use Rattle.irc_world.specs.Examples.{FourRefusals};
-ghost use Rattle.irc_world.specs.Networks.{LinkIsLost, NicknamesClash, PeopleMeet};
+ghost use Rattle.irc_world.specs.Networks.{LinkIsBack, LinkIsLost, NicknamesClash, PeopleMeet};
 
 /// What is refused where there are three servers, no link and nobody: names of no server, numbers of no client, a link that is not there to be cut, and
 /// links between servers of which one is no peer, keeps another password, or is the same server.
@@ -21,4 +21,9 @@ pub fn nicknames_clash()
 /// A link is lost: each side sees those of the other quit, once, though they shared two channels.
 pub fn link_is_lost()
     ensures { LinkIsLost }
+{}
+
+/// The link is back: those of the other side are seen to come to both channels, and no topic is told again.
+pub fn link_is_back()
+    ensures { LinkIsBack }
 {}
