@@ -14,3 +14,4 @@ pub mod MachineMatches
 pub mod HallsMatch
 pub mod ListedHalls
 pub mod NetworksProved
+pub mod BoSpeaks

@@ -180,7 +180,7 @@ nicknames_clash = record {
 
 -- ---- a link is lost
 
-abbrev three : ListedRoom
+abbrev pub three : ListedRoom
 three = list_room three_doings
 
 abbrev a_net : Name
@@ -192,7 +192,7 @@ b_net = codes "b.net"
 abbrev rest : List Link
 rest = b_to_c ∷ []
 
-three_in_order : AreInOrder three
+pub three_in_order : AreInOrder three
 unfolding fold fold_table
 three_in_order = record { users = tt; channels = tt; members = (tt, (tt, tt)) }
 
@@ -212,7 +212,7 @@ others_leaving : InOrderLeaving (split_text b_net a_net) three (list_lost (a_net
 unfolding fold fold_table
 others_leaving = (three_in_order, tt)
 
-three_made : three_people.room ≡ room_of three
+pub three_made : three_people.room ≡ room_of three
 three_made = all_listed no_list three_doings
 
 -- the client of a number on the side of one end

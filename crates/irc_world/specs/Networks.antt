@@ -167,3 +167,15 @@ pub record LinkIsBack : Type 0 where
   pub to_cy : back_again.lines 3
       ≡ (codes ":al!u@h JOIN #c" ++ crlf) ∷ (codes ":c.net MODE #c +o al" ++ crlf) ∷ (codes ":al!u@h JOIN #d" ++ crlf)
       ∷ (codes ":c.net MODE #d +o al" ++ crlf) ∷ []
+
+-- ---- what is said is heard on every server
+
+abbrev pub bo_speaks : Stepped
+bo_speaks = step three_peers (in_a_line three_people) (line 2 (codes "PRIVMSG #c :hi"))
+
+-- The members of #c hear what bo says in it, whichever server they are on; bo does not hear itself.
+pub record BoIsHeard : Type 0 where
+  pub taken : refused three_peers (in_a_line three_people) (line 2 (codes "PRIVMSG #c :hi")) ≡ None
+  pub to_al : bo_speaks.lines 1 ≡ (codes ":bo!u@h PRIVMSG #c :hi" ++ crlf) ∷ []
+  pub to_bo : bo_speaks.lines 2 ≡ []
+  pub to_cy : bo_speaks.lines 3 ≡ (codes ":bo!u@h PRIVMSG #c :hi" ++ crlf) ∷ []

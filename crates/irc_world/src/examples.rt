@@ -1,6 +1,6 @@
 //! A small network, by example.
 ghost use Rattle.irc_world.specs.Examples.{FourRefusals};
-ghost use Rattle.irc_world.specs.Networks.{LinkIsBack, LinkIsLost, NicknamesClash, PeopleMeet};
+ghost use Rattle.irc_world.specs.Networks.{BoIsHeard, LinkIsBack, LinkIsLost, NicknamesClash, PeopleMeet};
 
 /// What is refused where there are three servers, no link and nobody: names of no server, numbers of no client, a link that is not there to be cut, and
 /// links between servers of which one is no peer, keeps another password, or is the same server.
@@ -26,4 +26,9 @@ pub fn link_is_lost()
 /// The link is back: those of the other side are seen to come to both channels, and no topic is told again.
 pub fn link_is_back()
     ensures { LinkIsBack }
+{}
+
+/// What is said in a channel is heard by its members on every server of the part, and not by whoever says it.
+pub fn bo_is_heard()
+    ensures { BoIsHeard }
 {}
