@@ -5,7 +5,7 @@ ghost use Rattle.irc_world.specs.Homes.{ClientsBringOwnUsers};
 ghost use Rattle.irc_world.specs.Laws.{NewWorldIsSound, StepStaysSound, WorldIsSound};
 ghost use Rattle.irc_world.specs.Bounds.{OneServerTellsNobody};
 ghost use Rattle.irc_world.specs.Even.{LinkIsEven};
-ghost use Rattle.irc_world.specs.OneServer.{OneServerIsTheNetwork, OneServerOwes};
+ghost use Rattle.irc_world.specs.OneServer.{NewServerIsAlone, OneServerIsTheNetwork, OneServerOwes};
 ghost use Rattle.irc_world.specs.Parts.{ClientsAreNumberedOnce, ViewIsWellFormed};
 ghost use Rattle.irc_world.specs.UsersHomes.{StepKeepsHomes, StepKeepsHomesJoined, UsersHomesAreJoined, UsersHomesAreServers};
 
@@ -50,6 +50,11 @@ pub fn one_server_is_the_network()
 {
     irc_routes::laws::alone_is_alone();
 }
+
+/// A server that is made of a configuration is the one with which a network of one server begins.
+pub fn new_server_is_alone()
+    ensures { NewServerIsAlone }
+{}
 
 /// Over any items of which none is refused, the clients of a network of one server are owed just what that server owes them.
 pub fn one_server_owes()
