@@ -21,7 +21,7 @@ use Rattle.irc_world.specs.UsersHomes.{HomesAreServers, StepKeepsHomes, UsersHom
 use Rattle.irc_world.proofs.Halls.{hall_with}
 use Rattle.irc_world.proofs.StaysSound.{new_world_is_sound, server_known}
 
-named : (settings all : List Setting) (links : List Link) (server : Name)
+pub named : (settings all : List Setting) (links : List Link) (server : Name)
     → (option_map_or (place_in all links) (find (λ (s : Setting). same s.name server) settings) (alone server [] [])).name ≡ server
 named [] all links server = refl
 named (s ∷ settings) all links server = by (tell s.name server) (named settings all links server)
@@ -93,7 +93,7 @@ step_keeps_homes brings merge_new split_new settings world (link near far) sound
 step_keeps_homes brings merge_new split_new settings world (cut near far) sound all taken =
     cut_keeps brings merge_new split_new settings world (without world.links near far) near far sound all
 
-no_users : (settings : List Setting) → HomesAreServers settings new_world
+pub no_users : (settings : List Setting) → HomesAreServers settings new_world
 no_users settings server fold user is = absurd (let none = sym (get-empty {X = User} fold_cmp fold) ∙ is in cc none)
 
 module _ (keeps : StepKeepsHomes) (stays : StepStaysSound) (settings : List Setting) where

@@ -7,3 +7,11 @@ pub mod ClientsPlaces
 pub mod ExamplesProved
 pub mod OwnUsers
 pub mod HomesKept
+pub mod WhoLeaves
+pub mod HomesJoined
+pub mod Matches
+pub mod MachineMatches
+pub mod HallsMatch
+pub mod ListedHalls
+pub mod NetworksProved
+pub mod BoSpeaks

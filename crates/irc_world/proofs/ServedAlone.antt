@@ -94,7 +94,7 @@ pub record IsDone (setting : Setting) (done : Stepped) (view : View) (happening 
   pub stays : IsTheServer setting done.world (served view happening).view
   pub lines : (client : ℕ) → done.lines client ≡ lines_to client (served view happening).out
 
-past_end : (homes : List Name) → slice_get homes (length homes) ≡ None
+pub past_end : (homes : List Name) → slice_get homes (length homes) ≡ None
 past_end [] = refl
 past_end (home ∷ homes) = past_end homes
 

@@ -90,7 +90,7 @@ module _ (decided_possible : DecidedIsPossible) (registering_possible : Register
 
 -- ---- one more home
 
-still_home : (homes : List Name) (new : Name) (earlier : ℕ) (home : Name) → slice_get homes earlier ≡ Some home → slice_get (homes ++ new ∷ []) earlier ≡ Some home
+pub still_home : (homes : List Name) (new : Name) (earlier : ℕ) (home : Name) → slice_get homes earlier ≡ Some home → slice_get (homes ++ new ∷ []) earlier ≡ Some home
 still_home [] new earlier home is = absurd (cc is)
 still_home (first ∷ homes) new zero home is = is
 still_home (first ∷ homes) new (suc earlier) home is = still_home homes new earlier home is

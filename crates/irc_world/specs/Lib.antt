@@ -11,3 +11,5 @@ pub mod Bounds
 pub mod Examples
 pub mod Homes
 pub mod UsersHomes
+pub mod ClientsUsers
+pub mod Networks

@@ -1,11 +1,13 @@
 -- A network of one server is that server: what happens to the one happens to the other, and their clients receive the same.
-use Rattle.std.specs.Prelude.{◌≡◌, ℕ, suc, true, Option, Some, None, is_some, List, [], ◌∷◌, ◌++◌, length, option_to_list}
+use Rattle.std.specs.Prelude.{◌≡◌, ℕ, suc, true, Option, Some, None, is_some, List, [], ◌∷◌, ◌++◌, Ok, length, map, option_to_list}
 use Rattle.std.specs.FinMap.{empty}
 use Rattle.irc_line.specs.Reading.{read_of}
 use Rattle.irc_room.specs.Laws.{no_room}
 use Rattle.irc_routes.specs.Known.{alone_known}
 use Rattle.irc_server.specs.RoomMachine.{RoomMachine, client_of}
-use Rattle.irc_server.specs.View.{View, machine_of}
+use Rattle.irc_server.specs.declared.config.Config.{Config}
+use Rattle.irc_server.specs.Configuring.{IsMade}
+use Rattle.irc_server.specs.View.{View, known_peer, machine_of}
 use Rattle.irc_server.specs.Handle.{Happening, connects, says, goes}
 use Rattle.irc_server.specs.Served.{served}
 use Rattle.irc_server.specs.Owed.{lines_to}
@@ -25,6 +27,19 @@ lone_view setting = record {
   clients = empty;
   room = no_room;
 }
+
+-- a server as a configuration says it
+abbrev pub configured : Config → Setting
+configured config = record {
+  name = config.own.name.items;
+  info = config.own.info.items;
+  created = config.own.created.items;
+  peers = map known_peer config.peers.items;
+}
+
+-- what is made of a configuration is that
+abbrev pub NewServerIsAlone : Type 0
+NewServerIsAlone = (config : Config) (server : Option View) → IsMade config (Ok server) → server ≡ Some (lone_view (configured config))
 
 -- a server is all that a network without links is to its clients: it knows no other, and has the clients and the room of its hall
 pub record IsTheServer (setting : Setting) (world : World) (view : View) : Type 0 where

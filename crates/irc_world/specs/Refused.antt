@@ -30,7 +30,8 @@ open_client world client = option_and_then (λ home. get (world.hall home).clien
 -- the password that one server keeps for another
 abbrev pub password_for : List Setting → Name → Name → Option (List ℕ)
 password_for settings server peer =
-    option_and_then (λ (s : Setting). option_map (λ (p : KnownPeer). p.password) (find (λ (p : KnownPeer). same p.name peer) s.peers)) (setting_of settings server)
+    option_and_then (λ (s : Setting). option_map (λ (p : KnownPeer). p.password) (find (λ (p : KnownPeer). same p.name peer) s.peers))
+    (setting_of settings server)
 
 abbrev pub are_equal : Option (List ℕ) → Option (List ℕ) → Bool
 are_equal (Some one) (Some other) = same one other

@@ -1,6 +1,6 @@
--- Each user's home is a server that there is.
+-- Each user's home is a server that there is, and is in the user's own part.
 use Rattle.std.specs.Prelude.{◌≡◌, None, List}
-use Rattle.irc_relay.specs.Links.{Name}
+use Rattle.irc_relay.specs.Links.{Name, joined}
 use Rattle.irc_world.specs.World.{Setting, World, new_world, is_server}
 use Rattle.irc_world.specs.Stepping.{Item, step}
 use Rattle.irc_world.specs.Refused.{refused}
@@ -18,3 +18,15 @@ StepKeepsHomes = (settings : List Setting) (world : World) (item : Item) → IsS
 -- so it is after any items of which none is refused
 abbrev pub UsersHomesAreServers : Type 0
 UsersHomesAreServers = (settings : List Setting) (items : List Item) → AreTaken settings new_world items → HomesAreServers settings (world_of settings items)
+
+-- each user's home is in the part whose room it is in
+abbrev pub HomesAreJoined : World → Type 0
+HomesAreJoined world = (server : Name) → HomesPass (λ home. joined world.links home server) (world.hall server).room
+
+abbrev pub StepKeepsHomesJoined : Type 0
+StepKeepsHomesJoined = (settings : List Setting) (world : World) (item : Item) → IsSound settings world → HomesAreServers settings world
+    → HomesAreJoined world → refused settings world item ≡ None → HomesAreJoined (step settings world item).world
+
+-- and so is that after any items of which none is refused
+abbrev pub UsersHomesAreJoined : Type 0
+UsersHomesAreJoined = (settings : List Setting) (items : List Item) → AreTaken settings new_world items → HomesAreJoined (world_of settings items)

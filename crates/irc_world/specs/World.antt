@@ -59,8 +59,9 @@ home_of world client = home_in world.homes client
 -- a server of the part that this one is in
 abbrev pub known_from : List Setting → List Link → Name → Name → Option KnownServer
 known_from settings links own server =
-    if joined links own server then option_map (λ (s : Setting). record { name = s.name; info = s.info; distance = distance links own server }) (setting_of settings server)
-    else None
+    if joined links own server then option_map
+    (λ (s : Setting). record { name = s.name; info = s.info; distance = distance links own server })
+    (setting_of settings server) else None
 
 abbrev pub has_end : Name → Link → Bool
 has_end server link = same link.near server || same link.far server

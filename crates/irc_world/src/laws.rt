@@ -1,12 +1,13 @@
 //! What holds of the network, whatever is given to it. Each law is a function that does nothing, and its contract is the law: the check
 //! proves it, and a crate above may cite it.
+ghost use Rattle.irc_world.specs.ClientsUsers.{RegisteredAreUsers, StepKeepsMatched};
 ghost use Rattle.irc_world.specs.Homes.{ClientsBringOwnUsers};
 ghost use Rattle.irc_world.specs.Laws.{NewWorldIsSound, StepStaysSound, WorldIsSound};
 ghost use Rattle.irc_world.specs.Bounds.{OneServerTellsNobody};
 ghost use Rattle.irc_world.specs.Even.{LinkIsEven};
-ghost use Rattle.irc_world.specs.OneServer.{OneServerIsTheNetwork, OneServerOwes};
+ghost use Rattle.irc_world.specs.OneServer.{NewServerIsAlone, OneServerIsTheNetwork, OneServerOwes};
 ghost use Rattle.irc_world.specs.Parts.{ClientsAreNumberedOnce, ViewIsWellFormed};
-ghost use Rattle.irc_world.specs.UsersHomes.{StepKeepsHomes, UsersHomesAreServers};
+ghost use Rattle.irc_world.specs.UsersHomes.{StepKeepsHomes, StepKeepsHomesJoined, UsersHomesAreJoined, UsersHomesAreServers};
 
 /// A network with no link and nobody in it is sound.
 pub fn new_world_is_sound()
@@ -49,6 +50,11 @@ pub fn one_server_is_the_network()
 {
     irc_routes::laws::alone_is_alone();
 }
+
+/// A server that is made of a configuration is the one with which a network of one server begins.
+pub fn new_server_is_alone()
+    ensures { NewServerIsAlone }
+{}
 
 /// Over any items of which none is refused, the clients of a network of one server are owed just what that server owes them.
 pub fn one_server_owes()
@@ -108,6 +114,56 @@ pub fn step_keeps_homes()
 pub fn users_homes_are_servers()
     ensures { UsersHomesAreServers }
 {
+    step_keeps_homes();
+    step_stays_sound();
+}
+
+/// Where each user's home is in the user's part, an item that is not refused leaves it so.
+pub fn step_keeps_homes_joined()
+    ensures { StepKeepsHomesJoined }
+{
+    clients_bring_own_users();
+    irc_relay::laws_of_forests::tests_tell();
+    irc_relay::laws_of_forests::link_between_parts();
+    irc_relay::laws_of_forests::link_taken_out();
+    irc_relay::laws_of_forests::joined_over_link();
+    irc_merge::laws::merge_has_nothing_new();
+    irc_merge::laws::split_has_nothing_new();
+}
+
+/// After any items of which none is refused, each user's home is in the part whose room the user is in.
+pub fn users_homes_are_joined()
+    ensures { UsersHomesAreJoined }
+{
+    step_keeps_homes_joined();
+    step_keeps_homes();
+    step_stays_sound();
+}
+
+/// Where each registered client is a user whose home is that client's, no two clients are one user, and each user is a client, an item that is not
+/// refused leaves it so.
+pub fn step_keeps_matched()
+    ensures { StepKeepsMatched }
+{
+    irc_relay::laws_of_forests::tests_tell();
+    irc_relay::laws_of_forests::link_taken_out();
+    irc_relay::laws_of_forests::joined_over_link();
+    irc_commands::laws::decided_is_possible();
+    irc_commands::laws::who_stays_is_user();
+    irc_commands::laws::who_is_closed_quits();
+    irc_commands::laws::registering_is_possible();
+    irc_commands::laws::registered_is_added();
+    irc_commands::laws::unregistered_changes_nothing();
+    irc_commands::laws::registered_stays();
+}
+
+/// After any items of which none is refused, each registered client is a user of its part whose home is that client's, no two clients are one user,
+/// and each user is a client.
+pub fn registered_are_users()
+    ensures { RegisteredAreUsers }
+{
+    step_keeps_matched();
+    step_keeps_homes_joined();
     step_keeps_homes();
     step_stays_sound();
 }
