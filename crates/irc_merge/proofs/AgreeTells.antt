@@ -17,7 +17,7 @@ use Rattle.irc_channels.specs.declared.channel.Channel.{Channel}
 use Rattle.irc_room.specs.Lemmas.Rows.{same_some, not_none}
 use Rattle.irc_merge.specs.Merge.{AreAlike, Agree, without}
 use Rattle.irc_merge.specs.Agreeing.{same_flag, same_privacy, same_key, same_limit, same_modes, are_alike, AgreeTells}
-use Rattle.irc_merge.proofs.TableWords.{true_is, entries_all}
+use Rattle.irc_merge.specs.Lemmas.TableWords.{true_is, entries_all}
 
 flag_tells : (one other : Bool) → Decides (same_flag one other) (one ≡ other)
 flag_tells true true = (λ e. refl, λ p. refl)

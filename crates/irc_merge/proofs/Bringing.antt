@@ -27,9 +27,9 @@ use Rattle.irc_merge.specs.Deeds.{brings, sets, tops, flag_given, member_comes, 
 use Rattle.irc_modes.specs.ModesSet.{set_changes, ban_changes}
 use Rattle.irc_merge.specs.Bursts.{in_lines, members_a_line, bans_a_line, home_passes, stored_members, settings_line, topic_line, channel_deeds}
 use Rattle.irc_merge.specs.BurstRead.{is_new_member, new_members, brought, all_far}
-use Rattle.irc_merge.proofs.TableWords.{alter_twice}
+use Rattle.irc_merge.specs.Lemmas.TableWords.{alter_twice}
 use Rattle.irc_merge.proofs.Lines.{joined_lines}
-use Rattle.irc_merge.proofs.Reading.{read_one, reads, reads-one, reads-append}
+use Rattle.irc_merge.specs.Lemmas.Reading.{read_one, reads, reads-one, reads-append}
 use Rattle.irc_merge.proofs.Tests.{and_not}
 
 -- ---- one row

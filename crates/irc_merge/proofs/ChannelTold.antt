@@ -19,9 +19,9 @@ use Rattle.irc_room.specs.Lemmas.Rows.{not_true, some_key, some_row, no_row, alt
 use Rattle.irc_merge.specs.Bursts.{in_lines, members_a_line, bans_a_line, stored_member, stored_members}
 use Rattle.irc_modes.specs.ModesSet.{set_changes, ban_changes}
 use Rattle.irc_merge.specs.Merge.{either, joined_channel}
-use Rattle.irc_merge.proofs.TableWords.{row-kept}
-use Rattle.irc_merge.proofs.Quitting.{peopled}
-use Rattle.irc_merge.proofs.Joining.{row-either, either_first}
+use Rattle.irc_merge.specs.Lemmas.TableWords.{row-kept}
+use Rattle.irc_merge.specs.Lemmas.Quitting.{peopled}
+use Rattle.irc_merge.specs.Lemmas.Joining.{row-either, either_first}
 use Rattle.irc_merge.proofs.Lines.{joined_lines, all_in_lines, each_line}
 use Rattle.irc_merge.proofs.PlainChanges.{is_plain, only_modes, set_plain, bans_plain}
 use Rattle.irc_merge.proofs.Bringing.{with_member, comes_to, entry_joins, member_joins, row_far, row_set, settings_row, topic_row, members_row, bans_row, channel_row}

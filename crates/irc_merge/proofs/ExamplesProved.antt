@@ -30,7 +30,7 @@ use Rattle.irc_merge.specs.Merge.{merge}
 use Rattle.irc_merge.specs.MergeShown.{merge_shown}
 use Rattle.irc_merge.specs.Examples.{an_operator, of_a, with_modes, als_side, bos_side, zeds_side, other_zeds_side, ChannelIsTold, ThirtyOneMembers, ChannelsAreJoined, TopicIsLeft, NicknameOnBothSides}
 use Rattle.irc_merge.proofs.ChannelTold.{one_fails}
-use Rattle.irc_merge.proofs.ListedMerge.{AreInOrder, burst_listed, user_merged, flags_merged, merge_listed}
+use Rattle.irc_merge.specs.Lemmas.ListedMerge.{AreInOrder, burst_listed, user_merged, flags_merged, merge_listed}
 
 made : (effects : List Effect) → room_after effects ≡ room_of (list_room effects)
 made effects = all_listed no_list effects

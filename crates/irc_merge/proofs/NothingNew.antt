@@ -13,8 +13,8 @@ use Rattle.irc_merge.specs.Quits.{quits, collision_text}
 use Rattle.irc_merge.specs.Merge.{AreAlike, clash, without, either, one_channel, joined_channel, merge}
 use Rattle.irc_merge.specs.Split.{split, lost_users}
 use Rattle.irc_merge.specs.Laws.{ComesOf, MergeHasNothingNew, SplitHasNothingNew}
-use Rattle.irc_merge.proofs.Quitting.{among, thinned, users_left, channels_left}
-use Rattle.irc_merge.proofs.Joining.{row-either, row-joined}
+use Rattle.irc_merge.specs.Lemmas.Quitting.{among, thinned, users_left, channels_left}
+use Rattle.irc_merge.specs.Lemmas.Joining.{row-either, row-joined}
 
 kept_user : (b : Bool) (o : Option User) (user : User) → cond b None o ≡ Some user → o ≡ Some user
 kept_user true o user is = not_none user is

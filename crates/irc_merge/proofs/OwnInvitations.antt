@@ -28,14 +28,14 @@ use Rattle.irc_merge.specs.MergeShown.{channel_arrivals, arrivals, merge_shown}
 use Rattle.irc_merge.specs.Laws.{AreApart}
 use Rattle.irc_room.specs.Invitations.{is_at, inviting_only, of_home}
 use Rattle.irc_merge.specs.OwnInvitations.{ServerReadsMerge, ServerShowsMerge}
-use Rattle.irc_merge.proofs.TableWords.{row-kept, values_each}
+use Rattle.irc_merge.specs.Lemmas.TableWords.{row-kept, values_each}
 use Rattle.irc_merge.proofs.Tests.{either_way}
-use Rattle.irc_merge.proofs.Quitting.{among, thinned}
-use Rattle.irc_merge.proofs.Introducing.{told_user, both_users}
-use Rattle.irc_merge.proofs.Clashing.{clashing, users_without, channels_without}
-use Rattle.irc_merge.proofs.Joining.{row-either, row-joined}
+use Rattle.irc_merge.specs.Lemmas.Quitting.{among, thinned}
+use Rattle.irc_merge.specs.Lemmas.Introducing.{told_user, both_users}
+use Rattle.irc_merge.specs.Lemmas.Clashing.{clashing, users_without, channels_without}
+use Rattle.irc_merge.specs.Lemmas.Joining.{row-either, row-joined}
 use Rattle.irc_merge.proofs.ReadMerge.{nothing_kept, uninvited_well, uninvited_burst, burst_read_is_merge}
-use Rattle.irc_merge.proofs.ShownUsers.{quit_to, quit_shows}
+use Rattle.irc_merge.specs.Lemmas.ShownUsers.{quit_to, quit_shows}
 use Rattle.irc_merge.proofs.ShownMerge.{shown_is_merge_shown}
 
 -- ---- a room without its invitations, whichever it had

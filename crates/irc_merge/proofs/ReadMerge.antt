@@ -20,12 +20,12 @@ use Rattle.irc_modes.specs.ModesSet.{set_changes, ban_changes}
 use Rattle.irc_merge.specs.Bursts.{burst, user_deeds, channel_deeds, home_passes}
 use Rattle.irc_merge.specs.Merge.{clash, without, either, joined_channel, merge, uninvited, channel_uninvited}
 use Rattle.irc_merge.specs.Laws.{AreApart, CanBeTold, BurstReadIsMerge}
-use Rattle.irc_merge.proofs.TableWords.{true_is, row-kept, absent, first_there, above_first, entries_all, values_each}
-use Rattle.irc_merge.proofs.Quitting.{among, peopled, thinned}
-use Rattle.irc_merge.proofs.Clashing.{clashing, users_without, channels_without, without_well}
-use Rattle.irc_merge.proofs.Joining.{row-joined}
-use Rattle.irc_merge.proofs.Reading.{reads, reads-append}
-use Rattle.irc_merge.proofs.Introducing.{told_user, both_users, users_introduced, channels_introduced}
+use Rattle.irc_merge.specs.Lemmas.TableWords.{true_is, row-kept, absent, first_there, above_first, entries_all, values_each}
+use Rattle.irc_merge.specs.Lemmas.Quitting.{among, peopled, thinned}
+use Rattle.irc_merge.specs.Lemmas.Clashing.{clashing, users_without, channels_without, without_well}
+use Rattle.irc_merge.specs.Lemmas.Joining.{row-joined}
+use Rattle.irc_merge.specs.Lemmas.Reading.{reads, reads-append}
+use Rattle.irc_merge.specs.Lemmas.Introducing.{told_user, both_users, users_introduced, channels_introduced}
 use Rattle.irc_merge.proofs.Bringing.{channel_row, deeds_row}
 use Rattle.irc_merge.proofs.ChannelTold.{IsNearRow, channel_told}
 use Rattle.irc_merge.proofs.Tests.{either_way}

@@ -26,9 +26,9 @@ use Rattle.irc_merge.specs.Bursts.{in_lines, members_a_line, bans_a_line, home_p
 use Rattle.irc_merge.specs.BurstRead.{is_new_member, new_members, brought, all_far}
 use Rattle.irc_merge.specs.MergeShown.{arrival}
 use Rattle.irc_merge.proofs.Splitting.{shown-append}
-use Rattle.irc_merge.proofs.TableWords.{first_there, above_first}
+use Rattle.irc_merge.specs.Lemmas.TableWords.{first_there, above_first}
 use Rattle.irc_merge.proofs.Lines.{joined_lines, all_in_lines}
-use Rattle.irc_merge.proofs.ShownReading.{shown_one, shown_reads, shown_reads-one, shown_reads-append}
+use Rattle.irc_merge.specs.Lemmas.ShownReading.{shown_one, shown_reads, shown_reads-one, shown_reads-append}
 use Rattle.irc_merge.proofs.Bringing.{comes, comes_to, member_joins, one_joins, line_joins, lines_row, row_far, row_set, set_row, settings_row, bans_row, settings_read, sets_read}
 use Rattle.irc_merge.proofs.ChannelTold.{one_fails, StandsThere}
 use Rattle.irc_merge.proofs.ShownChannels.{Sees, IsBlind, row_has, come_shown, sees_come, comes_outside, come_unseen, blind_come, change_unseen, topic_unseen}

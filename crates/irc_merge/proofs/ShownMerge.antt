@@ -20,13 +20,13 @@ use Rattle.irc_merge.specs.Bursts.{burst, user_deeds, channel_deeds, home_passes
 use Rattle.irc_merge.specs.Merge.{clash, without, either}
 use Rattle.irc_merge.specs.MergeShown.{arrival, member_arrival, channel_arrivals, arrivals, merge_shown}
 use Rattle.irc_merge.specs.Laws.{AreApart, ShownIsMergeShown}
-use Rattle.irc_merge.proofs.TableWords.{true_is, first_there, entries_kept, entries_all, values_each}
-use Rattle.irc_merge.proofs.Quitting.{thinned}
-use Rattle.irc_merge.proofs.Clashing.{clashing, users_without, channels_without, without_well}
-use Rattle.irc_merge.proofs.Joining.{union_well}
-use Rattle.irc_merge.proofs.ShownReading.{shown_reads, shown_reads-append}
-use Rattle.irc_merge.proofs.Introducing.{told_user, both_users, users_introduced, channels_introduced}
-use Rattle.irc_merge.proofs.ShownUsers.{kills_shown}
+use Rattle.irc_merge.specs.Lemmas.TableWords.{true_is, first_there, entries_kept, entries_all, values_each}
+use Rattle.irc_merge.specs.Lemmas.Quitting.{thinned}
+use Rattle.irc_merge.specs.Lemmas.Clashing.{clashing, users_without, channels_without, without_well}
+use Rattle.irc_merge.specs.Lemmas.Joining.{union_well}
+use Rattle.irc_merge.specs.Lemmas.ShownReading.{shown_reads, shown_reads-append}
+use Rattle.irc_merge.specs.Lemmas.Introducing.{told_user, both_users, users_introduced, channels_introduced}
+use Rattle.irc_merge.specs.Lemmas.ShownUsers.{kills_shown}
 use Rattle.irc_merge.proofs.Bringing.{deeds_row}
 use Rattle.irc_merge.proofs.ChannelTold.{StandsThere, entries_pass}
 use Rattle.irc_merge.proofs.ReadMerge.{gone, passes_is, left_passes, none_near, told_deeds, step_row, step_here}

@@ -12,8 +12,8 @@ use Rattle.irc_room.specs.Lemmas.Rows.{not_none, not_true, same_some}
 use Rattle.irc_modes.specs.ModesSet.{set_changes, ban_changes}
 use Rattle.irc_merge.specs.Bursts.{home_passes, user_passes, channel_side, side_of}
 use Rattle.irc_merge.specs.Laws.{CanBeTold, WholeSide, SideIsWellFormed, SideReadIsMerge}
-use Rattle.irc_merge.proofs.TableWords.{row-kept}
-use Rattle.irc_merge.proofs.Quitting.{peopled}
+use Rattle.irc_merge.specs.Lemmas.TableWords.{row-kept}
+use Rattle.irc_merge.specs.Lemmas.Quitting.{peopled}
 use Rattle.irc_merge.proofs.Tests.{either_way}
 use Rattle.irc_merge.proofs.ReadMerge.{burst_read_is_merge}
 

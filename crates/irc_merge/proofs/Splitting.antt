@@ -23,8 +23,8 @@ use Rattle.irc_merge.specs.Quits.{quits, users_at}
 use Rattle.irc_merge.specs.Deeds.{after_deed, after_deeds, shown_by, shown_by_all}
 use Rattle.irc_merge.specs.Split.{lost_home, lost_homes, lost_users, split, split_effects, squits, are_distinct}
 use Rattle.irc_merge.specs.Laws.{OthersStay, HomesOneByOne, SplitIsWellFormed, SquitsSplit}
-use Rattle.irc_merge.proofs.TableWords.{values_each}
-use Rattle.irc_merge.proofs.Quitting.{users_left, quits_well, among_values}
+use Rattle.irc_merge.specs.Lemmas.TableWords.{values_each}
+use Rattle.irc_merge.specs.Lemmas.Quitting.{users_left, quits_well, among_values}
 use Rattle.irc_merge.proofs.Tests.{not_and, neither}
 
 -- ---- the users of a table that pass a test are the values of a table

@@ -12,3 +12,4 @@ pub mod Examples
 pub mod Agreeing
 pub mod CanBeDone
 pub mod OwnInvitations
+pub mod Lemmas

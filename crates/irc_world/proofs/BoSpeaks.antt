@@ -24,9 +24,9 @@ use Rattle.irc_room.specs.declared.effect.Effect.TheVariants.{Say}
 use Rattle.irc_room.specs.Room.{Room}
 use Rattle.irc_room.specs.Examples.{somebody}
 use Rattle.irc_room.specs.Seen.{Showing, seen, shown_to, parts_of, full_sender}
-use Rattle.irc_room.proofs.Listed.{map_itself, table_of, row_listed}
-use Rattle.irc_room.proofs.ListedRooms.{ListedChannel, ListedRoom, channel_of, room_of, lists_member, member_listed, no_list, all_listed}
-use Rattle.irc_room.proofs.ListedSeen.{user_listed, channel_listed}
+use Rattle.irc_room.specs.Lemmas.Listed.{map_itself, table_of, row_listed}
+use Rattle.irc_room.specs.Lemmas.ListedRooms.{ListedChannel, ListedRoom, channel_of, room_of, lists_member, member_listed, no_list, all_listed}
+use Rattle.irc_room.specs.Lemmas.ListedSeen.{user_listed, channel_listed}
 use Rattle.irc_relay.specs.Links.{part}
 use Rattle.irc_acts.specs.declared.act.Act.TheVariants.{Answer, Do}
 use Rattle.irc_acts.specs.Acts.{kept}

@@ -19,9 +19,9 @@ use Rattle.irc_room.specs.After.{after}
 use Rattle.irc_room.specs.InTurn.{after_all}
 use Rattle.irc_room.specs.Seen.{share_channel, full_sender, line_of}
 use Rattle.irc_room.specs.Viewers.{shows_to}
-use Rattle.irc_room.proofs.Listed.{map_itself, table_of, row_listed, entries_listed}
-use Rattle.irc_room.proofs.ListedRooms.{ListedChannel, ListedRoom, channel_of, room_of, lists_member, member_listed, list_after, after_listed, all_listed}
-use Rattle.irc_room.proofs.ListedSeen.{user_listed, channel_listed}
+use Rattle.irc_room.specs.Lemmas.Listed.{map_itself, table_of, row_listed, entries_listed}
+use Rattle.irc_room.specs.Lemmas.ListedRooms.{ListedChannel, ListedRoom, channel_of, room_of, lists_member, member_listed, list_after, after_listed, all_listed}
+use Rattle.irc_room.specs.Lemmas.ListedSeen.{user_listed, channel_listed}
 use Rattle.irc_relay.specs.Links.{Name, Link}
 use Rattle.irc_commands.specs.Quit.{error_line}
 use Rattle.irc_merge.specs.Agreeing.{are_alike, agree}
@@ -29,7 +29,7 @@ use Rattle.irc_merge.specs.Merge.{clash, without}
 use Rattle.irc_merge.specs.Quits.{quits, collision_text}
 use Rattle.irc_merge.specs.ShownAlong.{shown_along}
 use Rattle.irc_merge.specs.Split.{lost_users, split}
-use Rattle.irc_merge.proofs.ListedMerge.{AreInOrder, list_without, list_merge_shown, CanBeListed, merge_listed}
+use Rattle.irc_merge.specs.Lemmas.ListedMerge.{AreInOrder, list_without, list_merge_shown, CanBeListed, merge_listed}
 use Rattle.irc_server.specs.declared.clients.Client.{Client}
 use Rattle.irc_server.specs.declared.clients.Client.TheVariants.{Registering, Registered}
 use Rattle.irc_server.specs.RoomMachine.{Clients}

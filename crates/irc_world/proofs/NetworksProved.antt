@@ -12,11 +12,11 @@ use Rattle.irc_relay.specs.Links.{Name, Link, part, joined, without}
 use Rattle.irc_room.specs.declared.effect.Effect.{Effect}
 use Rattle.irc_room.specs.declared.effect.Effect.TheVariants.{Join}
 use Rattle.irc_room.specs.Examples.{room_after}
-use Rattle.irc_room.proofs.ListedRooms.{ListedRoom, room_of, no_list, all_listed}
-use Rattle.irc_room.proofs.ExampleRooms.{list_room}
+use Rattle.irc_room.specs.Lemmas.ListedRooms.{ListedRoom, room_of, no_list, all_listed}
+use Rattle.irc_room.specs.Lemmas.ExampleRooms.{list_room}
 use Rattle.irc_merge.specs.Agreeing.{agree}
 use Rattle.irc_merge.specs.Split.{split}
-use Rattle.irc_merge.proofs.ListedMerge.{AreInOrder, CanBeListed, list_without}
+use Rattle.irc_merge.specs.Lemmas.ListedMerge.{AreInOrder, CanBeListed, list_without}
 use Rattle.irc_server.specs.declared.clients.Client.{Client}
 use Rattle.irc_server.specs.declared.clients.Client.TheVariants.{Registered}
 use Rattle.irc_server.specs.RoomMachine.{Clients}

@@ -28,8 +28,8 @@ use Rattle.irc_modes.specs.ModesSet.{set_changes, ban_changes}
 use Rattle.irc_merge.specs.Bursts.{in_lines, members_a_line, bans_a_line, burst, stored_member, settings_line, topic_line, channel_deeds}
 use Rattle.irc_merge.specs.Merge.{clash, without, either, joined_channel, merge}
 use Rattle.irc_merge.specs.MergeShown.{arrival, member_arrival, channel_arrivals, arrivals, merge_shown}
-use Rattle.irc_merge.proofs.Joining.{row-either, row-joined}
-use Rattle.irc_merge.proofs.ShownUsers.{quit_shows}
+use Rattle.irc_merge.specs.Lemmas.Joining.{row-either, row-joined}
+use Rattle.irc_merge.specs.Lemmas.ShownUsers.{quit_shows}
 
 -- the members of a channel in order, and the lists of a room, each in order
 abbrev HasOrder : ListedChannel → Type 0

@@ -10,7 +10,7 @@ use Rattle.irc_room.specs.Lemmas.Rows.{not_true, same_some, some_row, some_key}
 use Rattle.irc_room.specs.Lemmas.SoundRows.{IsWithin, sound_more}
 use Rattle.irc_merge.specs.Merge.{AreAlike, either, one_channel, joined_channel, union, merge, without}
 use Rattle.irc_merge.specs.Laws.{MergeIsEven, MergeIsWellFormed}
-use Rattle.irc_merge.proofs.Clashing.{without_well, held_apart}
+use Rattle.irc_merge.specs.Lemmas.Clashing.{without_well, held_apart}
 
 -- ---- rows of one table or another
 

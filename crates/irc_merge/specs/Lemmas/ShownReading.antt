@@ -4,7 +4,7 @@ use Rattle.std.proofs.lemmas.List.{append_assoc}
 use Rattle.irc_room.specs.Room.{Room}
 use Rattle.irc_merge.specs.Deeds.{Deed, after_deed, after_deeds, shown_by, shown_by_all}
 use Rattle.irc_merge.specs.BurstRead.{read_deed, read_all}
-use Rattle.irc_merge.proofs.Reading.{read_one, reads, reads-one}
+use Rattle.irc_merge.specs.Lemmas.Reading.{read_one, reads, reads-one}
 
 shown_all-append : (viewer : List ℕ) (room : Room) (a b : List Deed)
     → shown_by_all viewer room (a ++ b) ≡ shown_by_all viewer room a ++ shown_by_all viewer (after_deeds room a) b

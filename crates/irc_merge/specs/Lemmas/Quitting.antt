@@ -21,7 +21,7 @@ use Rattle.irc_room.specs.Lemmas.Rows.{not_none, not_true, no_row, some_key}
 use Rattle.irc_room.specs.Lemmas.SoundRows.{without_sound}
 use Rattle.irc_room.specs.Lemmas.ViewerLaws.{IsNamed, table_named}
 use Rattle.irc_merge.specs.Quits.{quits}
-use Rattle.irc_merge.proofs.TableWords.{true_is, row-kept, absent}
+use Rattle.irc_merge.specs.Lemmas.TableWords.{true_is, row-kept, absent}
 
 -- whether the user with a fold is one of these
 abbrev pub among : List User → List ℕ → Bool

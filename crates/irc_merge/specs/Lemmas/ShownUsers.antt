@@ -25,9 +25,9 @@ use Rattle.irc_merge.specs.Quits.{quits, collision_text}
 use Rattle.irc_merge.specs.Deeds.{does, kills, shown_by, shown_by_all}
 use Rattle.irc_merge.specs.Bursts.{user_deeds}
 use Rattle.irc_merge.specs.Merge.{clash}
-use Rattle.irc_merge.proofs.TableWords.{true_is, absent}
-use Rattle.irc_merge.proofs.ShownReading.{shown_one, shown_reads, shown_reads-one}
-use Rattle.irc_merge.proofs.Introducing.{met, met_by, is_met, met_well, introductions, under_same, above_apart, other_met, holders}
+use Rattle.irc_merge.specs.Lemmas.TableWords.{true_is, absent}
+use Rattle.irc_merge.specs.Lemmas.ShownReading.{shown_one, shown_reads, shown_reads-one}
+use Rattle.irc_merge.specs.Lemmas.Introducing.{met, met_by, is_met, met_well, introductions, under_same, above_apart, other_met, holders}
 
 -- ---- a Quit shows the same in two rooms that have the same channels, the same doer and the same viewer
 

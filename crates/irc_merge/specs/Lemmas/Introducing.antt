@@ -26,11 +26,11 @@ use Rattle.irc_merge.specs.Deeds.{Deed, does, kills, after_deed, after_deeds}
 use Rattle.irc_merge.specs.Bursts.{user_deeds}
 use Rattle.irc_merge.specs.BurstRead.{introduced}
 use Rattle.irc_merge.specs.Merge.{clash, without, either}
-use Rattle.irc_merge.proofs.TableWords.{order, true_is, absent}
-use Rattle.irc_merge.proofs.Quitting.{quit_well}
-use Rattle.irc_merge.proofs.Clashing.{users_without}
-use Rattle.irc_merge.proofs.Joining.{row-either}
-use Rattle.irc_merge.proofs.Reading.{reads, reads-one}
+use Rattle.irc_merge.specs.Lemmas.TableWords.{order, true_is, absent}
+use Rattle.irc_merge.specs.Lemmas.Quitting.{quit_well}
+use Rattle.irc_merge.specs.Lemmas.Clashing.{users_without}
+use Rattle.irc_merge.specs.Lemmas.Joining.{row-either}
+use Rattle.irc_merge.specs.Lemmas.Reading.{reads, reads-one}
 
 -- ---- one user
 

@@ -8,7 +8,7 @@ use Rattle.irc_room.specs.Room.{Room, IsWellFormed}
 use Rattle.irc_room.specs.Lemmas.Rows.{not_true}
 use Rattle.irc_merge.specs.Quits.{collision_text}
 use Rattle.irc_merge.specs.Merge.{clash, without}
-use Rattle.irc_merge.proofs.Quitting.{among, users_left, quits_well, thinned, channels_left, among_values}
+use Rattle.irc_merge.specs.Lemmas.Quitting.{among, users_left, quits_well, thinned, channels_left, among_values}
 
 -- whether a nickname is held in both rooms
 abbrev pub both_hold : Room → Room → List ℕ → Bool
