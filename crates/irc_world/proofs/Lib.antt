@@ -15,3 +15,4 @@ pub mod HallsMatch
 pub mod ListedHalls
 pub mod NetworksProved
 pub mod BoSpeaks
+pub mod LimitsHold

@@ -59,7 +59,7 @@ none_for_none registered conn q none = by (same_number q conn) refl
     by true one = sym (ap registered (one_number q conn one) ∙ none)
     by false two = refl
 
-find_each : (change : Client → Client) (q : ℕ) (es : List (ℕ × Client))
+pub find_each : (change : Client → Client) (q : ℕ) (es : List (ℕ × Client))
     → find nat_cmp q (map (λ (e : ℕ × Client). (e.0, change e.1)) es) ≡ option_map change (find nat_cmp q es)
 find_each change q [] = refl
 find_each change q (e ∷ es) = by (same_number q e.0) (find_each change q es)

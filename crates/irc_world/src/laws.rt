@@ -7,6 +7,7 @@ ghost use Rattle.irc_world.specs.Bounds.{OneServerTellsNobody};
 ghost use Rattle.irc_world.specs.Even.{LinkIsEven};
 ghost use Rattle.irc_world.specs.OneServer.{NewServerIsAlone, OneServerIsTheNetwork, OneServerOwes};
 ghost use Rattle.irc_world.specs.Parts.{ClientsAreNumberedOnce, ViewIsWellFormed};
+ghost use Rattle.irc_world.specs.WithinLimits.{RoomsKeepLimits, StepKeepsLimits};
 ghost use Rattle.irc_world.specs.UsersHomes.{StepKeepsHomes, StepKeepsHomesJoined, UsersHomesAreJoined, UsersHomesAreServers};
 
 /// A network with no link and nobody in it is sound.
@@ -165,5 +166,27 @@ pub fn registered_are_users()
     step_keeps_matched();
     step_keeps_homes_joined();
     step_keeps_homes();
+    step_stays_sound();
+}
+
+/// Where servers have names that a server may have, rooms that keep to their limits do so still after an item that is not refused: who connects comes from
+/// a host that is one, and a line has neither NUL, CR nor LF.
+pub fn step_keeps_limits()
+    ensures { StepKeepsLimits }
+{
+    irc_line::laws::words_are_of_the_line();
+    irc_room::laws::after_is_within_limits();
+    irc_commands::laws::decided_is_sendable();
+    irc_commands::laws::registering_is_sendable();
+    irc_merge::laws::merge_is_within_limits();
+    irc_merge::laws::split_is_within_limits();
+}
+
+/// After any such items of which none is refused, each room keeps to its limits.
+pub fn rooms_keep_limits()
+    ensures { RoomsKeepLimits }
+{
+    irc_room::laws::no_room_is_within_limits();
+    step_keeps_limits();
     step_stays_sound();
 }
