@@ -16,3 +16,4 @@ pub mod ListedHalls
 pub mod NetworksProved
 pub mod BoSpeaks
 pub mod LimitsHold
+pub mod RefusedAlone

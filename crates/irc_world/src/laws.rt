@@ -5,7 +5,7 @@ ghost use Rattle.irc_world.specs.Homes.{ClientsBringOwnUsers};
 ghost use Rattle.irc_world.specs.Laws.{NewWorldIsSound, StepStaysSound, WorldIsSound};
 ghost use Rattle.irc_world.specs.Bounds.{OneServerTellsNobody};
 ghost use Rattle.irc_world.specs.Even.{LinkIsEven};
-ghost use Rattle.irc_world.specs.OneServer.{NewServerIsAlone, OneServerIsTheNetwork, OneServerOwes};
+ghost use Rattle.irc_world.specs.OneServer.{NewServerIsAlone, OneServerIsTheNetwork, OneServerOwes, OneServerRefuses};
 ghost use Rattle.irc_world.specs.Parts.{ClientsAreNumberedOnce, ViewIsWellFormed};
 ghost use Rattle.irc_world.specs.WithinLimits.{RoomsKeepLimits, StepKeepsLimits};
 ghost use Rattle.irc_world.specs.UsersHomes.{StepKeepsHomes, StepKeepsHomesJoined, UsersHomesAreJoined, UsersHomesAreServers};
@@ -65,6 +65,11 @@ pub fn one_server_owes()
     irc_server::laws::lone_server_is_one_room();
     step_stays_sound();
 }
+
+/// What a network of one server refuses because no such client is there, that server refuses as well.
+pub fn one_server_refuses()
+    ensures { OneServerRefuses }
+{}
 
 /// Where a link between two servers is not refused, either of them may connect: afterwards the same servers are joined, each has the same
 /// hall, and each client receives the same lines.
