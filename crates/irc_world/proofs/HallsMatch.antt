@@ -1,5 +1,5 @@
 -- Clients and users stay matched in every hall.
-use Rattle.std.proofs.Common.{◌≡◌, ℕ, zero, suc, Bool, true, false, cond, not, Option, Some, None, List, [], ◌∷◌, ◌++◌, ◌⊎◌, ⊎_elim, inl, inr, length, refl, sym, ◌∙◌, ap, subst, is_some, option_map}
+use Rattle.std.proofs.Common.{◌≡◌, ℕ, zero, suc, Bool, true, false, cond, not, Option, Some, None, List, [], ◌∷◌, ◌++◌, ◌⊎◌, ⊎_elim, inl, inr, length, refl, sym, ◌∙◌, ap, is_some, option_map}
 use Rattle.std.specs.Option.{option_map_or, option_and_then}
 use Rattle.std.specs.Ordering.{nat_cmp}
 use Rattle.std.specs.FinMap.{get, empty, get-empty, retain_keys}
@@ -7,7 +7,7 @@ use Rattle.irc_names.specs.Fold.{key}
 use Rattle.irc_names.specs.Tables.{row, fold_cmp}
 use Rattle.irc_line.specs.Reading.{read_of}
 use Rattle.irc_users.specs.declared.user.User.{User}
-use Rattle.irc_relay.specs.Links.{Name, Link, part, joined, without, AreJoined, AreLinked, IsLeft}
+use Rattle.irc_relay.specs.Links.{Name, Link, part, joined, without, AreLinked, IsLeft}
 use Rattle.irc_relay.specs.Laws.{TestsTell, LinkTakenOut, JoinedOverLink}
 use Rattle.irc_room.specs.Room.{Room, IsWellFormed}
 use Rattle.irc_commands.specs.Comings.{RegisteredIsAdded, RegisteredStays, UnregisteredChangesNothing, WhoIsClosedQuits, WhoStaysIsUser}
@@ -21,7 +21,6 @@ use Rattle.irc_server.specs.RoomMachine.{Clients}
 use Rattle.irc_server.specs.Handle.{Happening, connects, says, goes, handled}
 use Rattle.irc_world.specs.World.{Setting, Hall, World, new_world, home_in, home_of, machine_at, with_hall}
 use Rattle.irc_world.specs.Stepping.{Item, connect, line, gone, link, cut, step, still as unmoved, by_machine, by_client, surviving, clashes_in, merged, linked, remaining, parted as cut_apart, split_text, side_of}
-use Rattle.irc_world.specs.Refused.{refused}
 use Rattle.irc_world.specs.Owed.{after_items}
 use Rattle.irc_world.specs.Sound.{IsSound, AreTaken}
 use Rattle.irc_world.specs.Laws.{StepStaysSound}
@@ -31,7 +30,7 @@ use Rattle.irc_world.proofs.Halls.{hall_with}
 use Rattle.irc_world.proofs.HomesKept.{named, no_users}
 use Rattle.irc_world.proofs.HomesJoined.{passing, near_sides, far_sides, at_lost_side, at_other_side, nobody_joined}
 use Rattle.irc_world.proofs.MachineMatches.{IsDue, handled_matched}
-use Rattle.irc_world.proofs.Matches.{same_some, is_false, IsOfBoth, fewer_matched, both_matched}
+use Rattle.irc_world.proofs.Matches.{same_some, IsOfBoth, fewer_matched, both_matched}
 use Rattle.irc_world.proofs.ServedAlone.{past_end}
 use Rattle.irc_world.proofs.StaysSound.{new_world_is_sound, still_home, LinkIsTaken, link_taken, link_there, two_parts, one_part, first_of, survivor, get-kept, get-merged}
 use Rattle.irc_world.proofs.WhoLeaves.{is_at_one, split_row, split_was, without_row, without_was, merge_row}

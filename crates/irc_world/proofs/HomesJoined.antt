@@ -1,22 +1,20 @@
 -- Each user's home is in the part whose room it is in.
 use Rattle.std.proofs.Common.{◌≡◌, ℕ, suc, Bool, true, false, cond, ◌||◌, Option, Some, None, List, [], ◌∷◌, ◌++◌, ◌⊎◌, ⊎_elim, inl, inr, length, refl, sym, ◌∙◌, ap, is_some, map, if◌then◌else◌}
-use Rattle.std.specs.List.{find, list_any}
+use Rattle.std.specs.List.{list_any}
 use Rattle.std.specs.Option.{option_map_or}
 use Rattle.std.specs.Cmp.Lexicographic.{bytes_decides, texts_ties}
-use Rattle.std.specs.FinMap.{keys, get-empty}
+use Rattle.std.specs.FinMap.{get-empty}
 use Rattle.irc_names.specs.Tables.{row, tabulate, fold_cmp}
-use Rattle.irc_names.specs.TableLaws.{same_fold, same_fold-refl, one_fold, row-keys, row-tabulate}
+use Rattle.irc_names.specs.TableLaws.{same_fold, same_fold-refl, row-keys, row-tabulate}
 use Rattle.irc_line.specs.Reading.{read_of}
 use Rattle.irc_users.specs.declared.user.User.{User}
-use Rattle.irc_users.specs.UserTable.{is_home}
-use Rattle.irc_relay.specs.Links.{Name, Link, part, same, joined, without, AreJoined, AreLinked, IsLeft, IsMade, still, parted, turned}
+use Rattle.irc_relay.specs.Links.{Name, Link, part, same, joined, without, AreJoined, AreLinked, IsMade, still, parted, turned}
 use Rattle.irc_relay.specs.Laws.{TestsTell, LinkBetweenParts, LinkTakenOut, JoinedOverLink}
 use Rattle.irc_merge.specs.Laws.{MergeHasNothingNew, SplitHasNothingNew}
 use Rattle.irc_merge.specs.Split.{split}
 use Rattle.irc_server.specs.Handle.{Happening, connects, says, goes, handled}
 use Rattle.irc_world.specs.World.{Setting, Hall, World, new_world, setting_of, is_server, servers_where, home_of, machine_at, with_hall}
 use Rattle.irc_world.specs.Stepping.{Item, connect, line, gone, link, cut, step, still as unmoved, by_machine, by_client, merged, linked, remaining, parted as cut_apart, split_text, side_of}
-use Rattle.irc_world.specs.Refused.{refused}
 use Rattle.irc_world.specs.Owed.{after_items}
 use Rattle.irc_world.specs.Sound.{IsSound, AreTaken}
 use Rattle.irc_world.specs.Laws.{StepStaysSound}

@@ -1,14 +1,13 @@
 -- Rooms keep to their limits.
-use Rattle.std.proofs.Common.{◌≡◌, ℕ, suc, Bool, true, false, cond, not, ◌&&◌, arith, ◌≤◌, Option, Some, None, Ok, Err, List, [], ◌∷◌, ◌++◌, ◌⊎◌, ⊎_elim, inl, inr, length, refl, sym, ◌∙◌, ap, subst, map, option_map, if◌then◌else◌}
+use Rattle.std.proofs.Common.{◌≡◌, ℕ, suc, Bool, true, false, cond, not, arith, Option, Some, None, Ok, Err, List, [], ◌∷◌, ◌++◌, ◌⊎◌, ⊎_elim, inl, inr, length, refl, sym, ◌∙◌, ap, subst, map, option_map, if◌then◌else◌}
 use Rattle.std.specs.List.{AllByRecursion}
 use Rattle.std.specs.Option.{option_map_or}
 use Rattle.std.specs.Ordering.{nat_cmp}
 use Rattle.std.specs.Cmp.{nat_cmp_total}
-use Rattle.std.specs.FinMap.{get, empty, insert, remove, entries, get-empty, get-insert, get-remove, get-entries, get-from_entries}
+use Rattle.std.specs.FinMap.{get, insert, remove, entries, get-empty, get-insert, get-remove, get-entries, get-from_entries}
 use Rattle.irc_names.specs.Fold.{key}
 use Rattle.irc_names.specs.Names.{IsHost, IsServer}
 use Rattle.irc_names.specs.Tables.{row}
-use Rattle.irc_line.specs.declared.reading.LineFault.{LineFault}
 use Rattle.irc_line.specs.Carried.{IsCarried, AreLineWords}
 use Rattle.irc_line.specs.Laws.{WordsAreOfTheLine}
 use Rattle.irc_line.specs.Messages.{Parsed}
@@ -35,7 +34,6 @@ use Rattle.irc_server.specs.RoomMachine.{Clients, RoomMachine, client_of, with_c
 use Rattle.irc_server.specs.Handle.{Happening, connects, says, goes, Handled, handled, is_client, renamed_in, clients_after, with_effect, stepped, all_stepped, unchanged, closing, client_after, fresh, user_decided, said_by, user_of, quits, lost_text}
 use Rattle.irc_world.specs.World.{Setting, Hall, World, new_world, is_server, home_of, machine_at, with_hall}
 use Rattle.irc_world.specs.Stepping.{Item, connect, line, gone, link, cut, step, still as unmoved, by_machine, by_client, clashes_in, merged, linked, remaining, parted as cut_apart, split_text, side_of}
-use Rattle.irc_world.specs.Refused.{refused}
 use Rattle.irc_world.specs.Owed.{after_items}
 use Rattle.irc_world.specs.Sound.{IsSound, AreTaken}
 use Rattle.irc_world.specs.Laws.{StepStaysSound}
@@ -44,7 +42,7 @@ use Rattle.irc_world.proofs.Halls.{hall_with}
 use Rattle.irc_world.proofs.HomesKept.{named}
 use Rattle.irc_world.proofs.MachineMatches.{find_each}
 use Rattle.irc_world.proofs.Matches.{same_some, same_number}
-use Rattle.irc_world.proofs.StaysSound.{new_world_is_sound, server_known, first_of, get-kept, get-merged}
+use Rattle.irc_world.proofs.StaysSound.{new_world_is_sound, first_of, get-kept, get-merged}
 
 -- what the clients have given that are not registered
 abbrev AreGiven : Clients → Type 0

@@ -25,7 +25,7 @@ use Rattle.irc_room.proofs.ListedSeen.{user_listed, channel_listed}
 use Rattle.irc_relay.specs.Links.{Name, Link}
 use Rattle.irc_commands.specs.Quit.{error_line}
 use Rattle.irc_merge.specs.Agreeing.{are_alike, agree}
-use Rattle.irc_merge.specs.Merge.{clash, without}
+use Rattle.irc_merge.specs.Merge.{without}
 use Rattle.irc_merge.specs.Quits.{quits, collision_text}
 use Rattle.irc_merge.specs.ShownAlong.{shown_along}
 use Rattle.irc_merge.specs.Split.{lost_users, split}

@@ -7,21 +7,21 @@ use Rattle.std.specs.Cmp.Lexicographic.{bytes_decides, texts_ties}
 use Rattle.std.specs.Ordering.{nat_cmp}
 use Rattle.std.specs.FinMap.{get, insert, remove, entries, find, get-insert, get-remove, get-entries, get-from_entries}
 use Rattle.irc_names.specs.Fold.{key, same}
-use Rattle.irc_names.specs.Tables.{row, alter, moved}
+use Rattle.irc_names.specs.Tables.{row}
 use Rattle.irc_names.specs.TableLaws.{same_fold, one_fold, row-alter, row-moved}
 use Rattle.irc_line.specs.Messages.{Parsed}
 use Rattle.irc_users.specs.declared.user.User.{User}
 use Rattle.irc_users.specs.UserTable.{with_nick, with_invisible}
 use Rattle.irc_room.specs.declared.effect.Effect.{Effect}
 use Rattle.irc_room.specs.declared.effect.Effect.TheVariants.{AddUser, Rename, Quit, Join, Part, Kick, ChangeModes, SetTopic, Say, Invite, UserMode}
-use Rattle.irc_room.specs.Room.{Room, IsWellFormed}
+use Rattle.irc_room.specs.Room.{IsWellFormed}
 use Rattle.irc_room.specs.Effects.{IsPossible, has_user}
 use Rattle.irc_room.specs.After.{after}
 use Rattle.irc_relay.specs.Links.{Name}
 use Rattle.irc_acts.specs.declared.act.Act.{Act}
 use Rattle.irc_acts.specs.declared.act.Act.TheVariants.{Answer, Raw, Do}
 use Rattle.irc_acts.specs.Possible.{ArePossible}
-use Rattle.irc_commands.specs.Comings.{adds_or_ends, is_effect, AddsFirst, QuitFirst, RegisteredIsAdded, RegisteredStays, UnregisteredChangesNothing, WhoIsClosedQuits, WhoStaysIsUser}
+use Rattle.irc_commands.specs.Comings.{adds_or_ends, is_effect, AddsFirst, RegisteredIsAdded, RegisteredStays, UnregisteredChangesNothing, WhoIsClosedQuits, WhoStaysIsUser}
 use Rattle.irc_commands.specs.Decide.{decide}
 use Rattle.irc_commands.specs.Decisions.{Registered as Given}
 use Rattle.irc_commands.specs.Possible.{DecidedIsPossible, RegisteringIsPossible}
@@ -29,7 +29,7 @@ use Rattle.irc_commands.specs.Register.{register}
 use Rattle.irc_server.specs.declared.clients.Client.{Client}
 use Rattle.irc_server.specs.declared.clients.Client.TheVariants.{Registering, Registered}
 use Rattle.irc_server.specs.RoomMachine.{Clients, RoomMachine, client_of, with_client, without_client, each_client}
-use Rattle.irc_server.specs.Handle.{Happening, connects, says, goes, Handled, handled, renamed_in, clients_after, machine_after, with_effect, stepped, all_stepped, unchanged, closing, client_after, fresh, pending_decided, user_decided, said_by, user_of, quits, gone, lost_text}
+use Rattle.irc_server.specs.Handle.{Happening, connects, says, goes, Handled, handled, renamed_in, machine_after, with_effect, stepped, all_stepped, unchanged, closing, client_after, fresh, pending_decided, user_decided, said_by, quits, gone, lost_text}
 use Rattle.irc_world.specs.ClientsUsers.{fold_of, registered_as, home_under, AreMatched}
 use Rattle.irc_world.proofs.Matches.{same_number, same_number-refl, one_number, still_matched, left_matched, came_matched, moved_matched}
 

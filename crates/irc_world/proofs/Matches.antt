@@ -5,7 +5,7 @@ use Rattle.std.specs.Cmp.{nat_cmp_total, eq_by_cmp_equiv, Equal-is}
 use Rattle.std.specs.FinMap.{nat_cmp-IsAntisymmetric}
 use Rattle.irc_names.specs.TableLaws.{same_fold, same_fold-refl, one_fold}
 use Rattle.irc_relay.specs.Links.{Name}
-use Rattle.irc_world.specs.ClientsUsers.{HaveOneHome, HasClient, AreMatched}
+use Rattle.irc_world.specs.ClientsUsers.{HasClient, AreMatched}
 
 pub same_some : {X : Type 0} (x y : X) → Some x ≡ Some y → x ≡ y
 same_some x y is = ap (λ o. unwrap_or o x) is

@@ -1,8 +1,7 @@
 -- What a network of one server refuses of a client, that server refuses.
-use Rattle.std.proofs.Common.{◌≡◌, ℕ, Bool, true, false, ◌&&◌, Option, Some, None, Result, List, [], ◌∷◌, refl, sym, ◌∙◌, ap, is_some, if◌then◌else◌}
+use Rattle.std.proofs.Common.{◌≡◌, ℕ, Bool, true, false, Option, Some, None, List, [], ◌∷◌, refl, sym, ◌∙◌, ap, is_some, if◌then◌else◌}
 use Rattle.std.specs.Option.{option_and_then}
 use Rattle.std.specs.FinMap.{get}
-use Rattle.irc_relay.specs.Links.{Name}
 use Rattle.irc_line.specs.Reading.{read_of}
 use Rattle.irc_server.specs.declared.clients.Client.{Client}
 use Rattle.irc_server.specs.declared.event.Event.{Event}
@@ -13,11 +12,11 @@ use Rattle.irc_server.specs.Happening.{happening_of}
 use Rattle.irc_server.specs.Served.{fault_of, not_there}
 use Rattle.irc_server.specs.View.{View, machine_of}
 use Rattle.irc_server.specs.Handle.{Happening, connects, says, goes}
-use Rattle.irc_world.specs.World.{Setting, World, is_server, home_of}
-use Rattle.irc_world.specs.Stepping.{Item, connect, line, gone, link, cut}
+use Rattle.irc_world.specs.World.{Setting, World, is_server}
+use Rattle.irc_world.specs.Stepping.{connect, line, gone, link, cut}
 use Rattle.irc_world.specs.Refused.{refused, open_client, no_such_server, no_such_client}
 use Rattle.irc_world.specs.Sound.{IsSound}
-use Rattle.irc_world.specs.OneServer.{IsTheServer, happening_at, OneServerRefuses}
+use Rattle.irc_world.specs.OneServer.{IsTheServer, OneServerRefuses}
 use Rattle.irc_world.proofs.Matches.{same_some}
 use Rattle.irc_world.proofs.ServedAlone.{one_name}
 
