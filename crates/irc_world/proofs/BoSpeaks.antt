@@ -117,7 +117,8 @@ list_shown user =
 shown_listed : (user : User) → shown_to (room_of three) spoken user ≡ list_shown user
 unfolding fold fold_table cut_line line_text
 shown_listed user =
-    (λ i. if not (same (codes "bo") user.nick) && (ap (λ o. option_map_or (has_member (key user.nick)) o false) channel_there ∙ member_listed (key user.nick) the_channel) i
+    (λ i. if not (same (codes "bo") user.nick)
+    && (ap (λ o. option_map_or (has_member (key user.nick)) o false) channel_there ∙ member_listed (key user.nick) the_channel) i
     then option_map (λ line. record { viewer = user.nick; line = line }) (option_map text (parts_of (codes "PRIVMSG")
     (option_map_or (λ (c : Channel). c.name) (channel_there i) (codes "#c") ∷ []) (Some (codes "hi"))
     (option_map full_sender (user_listed three (key (codes "bo")) i)))) else None)

@@ -28,7 +28,8 @@ use Rattle.irc_world.proofs.WhoLeaves.{is_at_one, split_row}
 -- ---- the servers of a side
 
 -- a server that there is, is listed among all
-is_listed : (settings : List Setting) (server : Name) → is_server settings server ≡ true → list_any (same_fold server) (map (λ (s : Setting). s.name) settings) ≡ true
+is_listed : (settings : List Setting) (server : Name) → is_server settings server ≡ true
+    → list_any (same_fold server) (map (λ (s : Setting). s.name) settings) ≡ true
 is_listed [] server known = absurd (cc known)
 is_listed (s ∷ settings) server known = by (same s.name server) refl (is_listed settings server) known
   where
@@ -63,7 +64,8 @@ on_side settings test server known passes =
     ∙ ap (λ b. is_some (if b then Some (tt {0}) else None)) passes
 
 -- and what is listed passes
-side_passes : (settings : List Setting) (test : Name → Bool) (server : Name) → list_any (same_fold server) (servers_where settings test) ≡ true → test server ≡ true
+side_passes : (settings : List Setting) (test : Name → Bool) (server : Name) → list_any (same_fold server) (servers_where settings test) ≡ true
+    → test server ≡ true
 side_passes settings test server some =
     by (list_any (same_fold server) (map (λ (s : Setting). s.name) settings)) (test server) (sym (listed_as settings test server) ∙ some)
   where
@@ -96,7 +98,8 @@ module _ (tests : TestsTell) where
   passing links s t = (tests links s t t).1.1
 
   module _ (brings : ClientsBringOwnUsers) (settings : List Setting) where
-    machine_joined : (world : World) (home : Name) (happening : Happening) → HomesAreJoined world → HomesAreJoined (by_machine settings world home happening).world
+    machine_joined : (world : World) (home : Name) (happening : Happening) → HomesAreJoined world
+        → HomesAreJoined (by_machine settings world home happening).world
     machine_joined world home happening all s = hall_with (λ h. HomesPass (λ other. joined world.links other s) h.room) home s hall world
         (λ here fold user is.
         ap (same (part world.links user.home)) here
@@ -110,7 +113,8 @@ module _ (tests : TestsTell) where
           room = (handled (machine_at settings world home) happening).machine.room;
         }
 
-    client_joined : (world : World) (client : ℕ) (happening : Happening) → HomesAreJoined world → HomesAreJoined (by_client settings world client happening).world
+    client_joined : (world : World) (client : ℕ) (happening : Happening) → HomesAreJoined world
+        → HomesAreJoined (by_client settings world client happening).world
     client_joined world client happening all = by (home_of world client)
       where
         by : (o : Option Name) → HomesAreJoined (option_map_or (λ home. by_machine settings world home happening) o (unmoved world)).world
@@ -144,10 +148,12 @@ module _ (tests : TestsTell) where
 
     -- who is left on a side has its home there
     left_joined : SplitHasNothingNew → (text : List ℕ) (one other : Name) → ((home : Name) → joined world.links home one ≡ true
-        → (joined rest home one ≡ true) ⊎ (joined rest other home ≡ true)) → HomesPass (λ home. joined rest home one) (split text (side_of settings rest other) (world.hall one).room)
+        → (joined rest home one ≡ true) ⊎ (joined rest other home ≡ true))
+        → HomesPass (λ home. joined rest home one) (split text (side_of settings rest other) (world.hall one).room)
     left_joined split_new text one other sides fold user is = ⊎_elim
         (λ (here : joined rest user.home one ≡ true). here)
-        (λ (there : joined rest other user.home ≡ true). absurd (let none = sym is ∙ split_row text (side_of settings rest other) (world.hall one).room (sound.well_formed one) fold user was
+        (λ (there : joined rest other user.home ≡ true). absurd
+        (let none = sym is ∙ split_row text (side_of settings rest other) (world.hall one).room (sound.well_formed one) fold user was
         ∙ ap (λ b. cond b None (Some user)) (at_lost_side settings (joined rest other) user (known one fold user was) there) in cc none))
         (sides user.home (all one fold user was))
       where
@@ -181,7 +187,8 @@ module _ (tests : TestsTell) where
         hall_with (λ h. HomesPass (λ home. joined rest home s) h.room) far s (remaining settings world rest far near)
         (with_hall near (remaining settings world rest near far) (record world { links = rest }))
         (λ here fold user is. ap (same (part rest user.home)) here ∙ left_joined split_new (split_text far near) far near far_sides fold user is)
-        (λ not_far. hall_with (λ h. HomesPass (λ home. joined rest home s) h.room) near s (remaining settings world rest near far) (record world { links = rest })
+        (λ not_far. hall_with (λ h. HomesPass (λ home. joined rest home s) h.room) near s (remaining settings world rest near far)
+        (record world { links = rest })
         (λ here fold user is. ap (same (part rest user.home)) here ∙ left_joined split_new (split_text near far) near far near_sides fold user is)
         (λ not_near fold user is. elsewhere_joined user.home s not_far not_near (all s fold user is)))
 
@@ -191,7 +198,8 @@ module _ (tests : TestsTell) (between : LinkBetweenParts) (taken_out : LinkTaken
   unfolding step
   step_keeps_homes_joined settings world (connect server host) sound known all taken =
       machine_joined tests brings settings (record world { homes = world.homes ++ server ∷ [] }) server (connects (suc (length world.homes)) host) all
-  step_keeps_homes_joined settings world (line client bytes) sound known all taken = client_joined tests brings settings world client (says client (read_of bytes)) all
+  step_keeps_homes_joined settings world (line client bytes) sound known all taken =
+      client_joined tests brings settings world client (says client (read_of bytes)) all
   step_keeps_homes_joined settings world (gone client) sound known all taken = client_joined tests brings settings world client (goes client) all
   step_keeps_homes_joined settings world (link near far) sound known all taken =
       link_joined tests between merge_new settings world near far sound (link_taken settings world near far taken) all
@@ -202,7 +210,8 @@ pub nobody_joined : HomesAreJoined new_world
 nobody_joined server fold user is = absurd (let none = sym (get-empty {X = User} fold_cmp fold) ∙ is in cc none)
 
 module _ (joined_too : StepKeepsHomesJoined) (keeps : StepKeepsHomes) (stays : StepStaysSound) (settings : List Setting) where
-  items_join : (items : List Item) (world : World) → IsSound settings world → HomesAreServers settings world → HomesAreJoined world → AreTaken settings world items
+  items_join : (items : List Item) (world : World) → IsSound settings world → HomesAreServers settings world → HomesAreJoined world
+      → AreTaken settings world items
       → HomesAreJoined (after_items settings world items)
   items_join [] world sound known all taken = all
   items_join (item ∷ items) world sound known all taken =

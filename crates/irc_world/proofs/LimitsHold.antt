@@ -52,7 +52,8 @@ pub record Keeps (machine : RoomMachine) : Type 0 where
   pub room : IsWithinLimits machine.room
   pub given : AreGiven machine.clients
 
-still_waits : (nick new : List ℕ) (pending : Pending) (o : Option Client) → option_map (renamed_in nick new) o ≡ Some (Registering pending) → o ≡ Some (Registering pending)
+still_waits : (nick new : List ℕ) (pending : Pending) (o : Option Client) → option_map (renamed_in nick new) o ≡ Some (Registering pending)
+    → o ≡ Some (Registering pending)
 still_waits nick new pending None is = absurd (cc is)
 still_waits nick new pending (Some (Registering other)) is = is
 still_waits nick new pending (Some (Registered name)) is = by (is_client nick (Registered name)) is
@@ -76,7 +77,8 @@ waits_after (Say by notice target text) clients all = all
 waits_after (Invite by nick channel) clients all = all
 waits_after (UserMode nick invisible) clients all = all
 
-given_with : (clients : Clients) (conn : ℕ) (client : Client) → AreGiven clients → ((pending : Pending) → client ≡ Registering pending → IsPendingWithin pending)
+given_with : (clients : Clients) (conn : ℕ) (client : Client) → AreGiven clients
+    → ((pending : Pending) → client ≡ Registering pending → IsPendingWithin pending)
     → AreGiven (insert clients conn client)
 given_with clients conn client all new q pending is = by (same_number q conn) (sym (get-insert nat_cmp_total clients conn client q) ∙ is)
   where
@@ -121,7 +123,8 @@ module _ (after_within : AfterIsWithinLimits) (sent : SentKeepsLimits) where
   quits_keep None before keeps = keeps
   quits_keep (Some nick) before keeps = effect_keeps (Quit nick lost_text) before tt keeps
 
-  module _ (decided : DecidedIsSendable) (registering : RegisteringIsSendable) (machine : RoomMachine) (keeps : Keeps machine) (well : IsWellFormed machine.room)
+  module _ (decided : DecidedIsSendable) (registering : RegisteringIsSendable) (machine : RoomMachine) (keeps : Keeps machine)
+      (well : IsWellFormed machine.room)
       (place_named : IsServer machine.place.name) (conn : ℕ) (bytes : List ℕ) (message : Parsed) (words : AreLineWords bytes message) where
     user_keeps : (o : Option User) → Keeps (user_decided machine conn o message).machine
     user_keeps None = keeps
@@ -134,7 +137,8 @@ module _ (after_within : AfterIsWithinLimits) (sent : SentKeepsLimits) where
     said_keeps : (o : Option Client) → client_of machine conn ≡ o → Keeps (said_by machine conn o message).machine
     said_keeps None is = keeps
     said_keeps (Some (Registering pending)) is =
-        close_keeps given.close conn (all_stepped conn given.pending.nick given.steps (unchanged (with_client machine conn (client_after given given.pending.nick))))
+        close_keeps given.close conn (all_stepped conn given.pending.nick given.steps
+        (unchanged (with_client machine conn (client_after given given.pending.nick))))
         (steps_keep conn given.pending.nick given.steps (unchanged (with_client machine conn (client_after given given.pending.nick)))
         (record { room = keeps.room; given = given_with machine.clients conn (client_after given given.pending.nick) keeps.given (waits given.pending.nick) })
         both.1)
@@ -165,7 +169,8 @@ module _ (after_within : AfterIsWithinLimits) (sent : SentKeepsLimits) where
 
 -- ---- items
 
-module _ (words : WordsAreOfTheLine) (after_within : AfterIsWithinLimits) (sent : SentKeepsLimits) (decided : DecidedIsSendable) (registering : RegisteringIsSendable)
+module _ (words : WordsAreOfTheLine) (after_within : AfterIsWithinLimits) (sent : SentKeepsLimits) (decided : DecidedIsSendable)
+    (registering : RegisteringIsSendable)
     (settings : List Setting) (names : AreNamed settings) where
   hall_keeps : (world : World) (home : Name) (happening : Happening) → IsWorldWithin world → Keeps (handled (machine_at settings world home) happening).machine
       → IsWorldWithin (by_machine settings world home happening).world
@@ -227,7 +232,8 @@ link_keeps merge_within settings world near far sound all s =
           (λ (other : get (world.hall far).clients client ≡ Some (Registering pending)). (all far).given client pending other)
           (of_either (not (clashes_in (world.hall far).room (get (world.hall near).clients client)))
           (not (clashes_in (world.hall near).room (get (world.hall far).clients client)))
-          (get (world.hall near).clients client) (get (world.hall far).clients client) pending (sym (get-merged (world.hall near) (world.hall far) client) ∙ is));
+          (get (world.hall near).clients client) (get (world.hall far).clients client) pending
+          (sym (get-merged (world.hall near) (world.hall far) client) ∙ is));
     })
     (λ _. all s)
   where
@@ -254,11 +260,14 @@ cut_keeps split_within settings world left near far sound all s =
     side : (one other : Name) → IsHallWithin (remaining settings world left one other)
     side one other = record {
       room = split_within (split_text one other) (side_of settings left other) (world.hall one).room (sound.well_formed one) (all one).room;
-      given = λ client pending is. (all one).given client pending (was (option_map_or (joined left one) (home_of world client) false) (get (world.hall one).clients client) pending
+      given =
+          λ client pending is. (all one).given client pending
+          (was (option_map_or (joined left one) (home_of world client) false) (get (world.hall one).clients client) pending
           (sym (get-kept (world.hall one).clients (λ c. option_map_or (joined left one) (home_of world c) false) client) ∙ is));
     }
 
-module _ (words : WordsAreOfTheLine) (after_within : AfterIsWithinLimits) (sent : SentKeepsLimits) (decided : DecidedIsSendable) (registering : RegisteringIsSendable)
+module _ (words : WordsAreOfTheLine) (after_within : AfterIsWithinLimits) (sent : SentKeepsLimits) (decided : DecidedIsSendable)
+    (registering : RegisteringIsSendable)
     (merge_within : MergeIsWithinLimits) (split_within : SplitIsWithinLimits) where
   pub step_keeps_limits : StepKeepsLimits
   unfolding step
@@ -280,7 +289,8 @@ module _ (no_room_within : NoRoomIsWithinLimits) (keeps : StepKeepsLimits) (stay
     given = λ client pending is. absurd (let none = sym (get-empty {X = Client} nat_cmp client) ∙ is in cc none);
   }
 
-  items_keep : (items : List Item) (world : World) → IsSound settings world → IsWorldWithin world → AllByRecursion IsItemWithin items → AreTaken settings world items
+  items_keep : (items : List Item) (world : World) → IsSound settings world → IsWorldWithin world → AllByRecursion IsItemWithin items
+      → AreTaken settings world items
       → IsWorldWithin (after_items settings world items)
   items_keep [] world sound all small taken = all
   items_keep (item ∷ items) world sound all small taken =
@@ -289,4 +299,5 @@ module _ (no_room_within : NoRoomIsWithinLimits) (keeps : StepKeepsLimits) (stay
 
 pub rooms_keep_limits : NoRoomIsWithinLimits → StepKeepsLimits → StepStaysSound → RoomsKeepLimits
 rooms_keep_limits no_room_within keeps stays settings items names small taken =
-    items_keep no_room_within keeps stays settings names items new_world (new_world_is_sound settings) (nobody_within no_room_within keeps stays settings names) small taken
+    items_keep no_room_within keeps stays settings names items new_world (new_world_is_sound settings)
+    (nobody_within no_room_within keeps stays settings names) small taken

@@ -155,7 +155,8 @@ survivor_listed : (clients : List (ℕ × Client)) (effects : List Effect) (clie
     → survivor (room_after effects) (from_entries {R = nat_cmp} clients) client
     ≡ cond (not (list_clashes (list_room effects) (find nat_cmp client clients))) (find nat_cmp client clients) None
 survivor_listed clients effects client =
-    (λ i. cond (not (clashes_in (all_listed no_list effects i) (get-from_entries nat_cmp_total clients client i))) (get-from_entries nat_cmp_total clients client i) None)
+    (λ i. cond (not (clashes_in (all_listed no_list effects i) (get-from_entries nat_cmp_total clients client i)))
+    (get-from_entries nat_cmp_total clients client i) None)
     ∙ ap (λ b. cond (not b) (find nat_cmp client clients) None) (clashes_listed (list_room effects) (find nat_cmp client clients))
 
 -- who was killed is no client
@@ -218,10 +219,12 @@ abbrev left_on : Name → ℕ → Option Client
 left_on one client = cond (option_map_or (joined rest one) (home_of (in_a_line three_people) client) false) (find nat_cmp client three_clients) None
 
 client_left : (one other : Name) (client : ℕ)
-    → get (retain_keys (from_entries {R = nat_cmp} three_clients) (λ c. option_map_or (joined rest one) (home_of (in_a_line three_people) c) false)) client ≡ left_on one client
+    → get (retain_keys (from_entries {R = nat_cmp} three_clients) (λ c. option_map_or (joined rest one) (home_of (in_a_line three_people) c) false)) client
+    ≡ left_on one client
 client_left one other client =
     get-kept (from_entries three_clients) (λ c. option_map_or (joined rest one) (home_of (in_a_line three_people) c) false) client
-    ∙ ap (λ o. cond (option_map_or (joined rest one) (home_of (in_a_line three_people) client) false) o None) (get-from_entries nat_cmp_total three_clients client)
+    ∙ ap (λ o. cond (option_map_or (joined rest one) (home_of (in_a_line three_people) client) false) o None)
+    (get-from_entries nat_cmp_total three_clients client)
 
 lost_lines : (client : ℕ) → cut_off.lines client
     ≡ list_seen_leaving (split_text a_net b_net) (b_net ∷ codes "c.net" ∷ []) three (left_on a_net client)

@@ -38,7 +38,8 @@ module _ (setting : Setting) (world : World) (view : View) (sound : IsSound (set
       by (Some one) there =
           let at_home = sound.clients_home setting.name client (ap is_some there) in
           let here = one_name setting at_home.home (sound.homes_known client at_home.home at_home.is_home) in
-          absurd (let clash = sym none ∙ ap (λ o. is_some (option_and_then (λ home. get (world.hall home).clients client) o)) (at_home.is_home ∙ ap Some (sym here))
+          absurd (let clash = sym none
+          ∙ ap (λ o. is_some (option_and_then (λ home. get (world.hall home).clients client) o)) (at_home.is_home ∙ ap Some (sym here))
           ∙ ap is_some there in cc clash)
 
   event_refused : (client : ℕ) (happening : Happening) (event : Event) → happening ≡ happening_of event → conn_of happening ≡ client
@@ -59,7 +60,8 @@ one_server_refuses setting world view (connect server host) event sound is same 
     by true taken = cc taken
     by false taken = cc taken
 one_server_refuses setting world view (line client bytes) event sound is same taken =
-    event_refused setting world view sound is client (says client (read_of bytes)) event (same_some (says client (read_of bytes)) (happening_of event) same) refl
+    event_refused setting world view sound is client (says client (read_of bytes)) event
+    (same_some (says client (read_of bytes)) (happening_of event) same) refl
     (λ conn host is. cc is) (is_refused (is_some (open_client world client)) taken)
 one_server_refuses setting world view (gone client) event sound is same taken =
     event_refused setting world view sound is client (goes client) event (same_some (goes client) (happening_of event) same) refl

@@ -92,6 +92,7 @@ OneServerOwes = (setting : Setting) (items : List Item) → AreTaken (setting �
 
 -- What a client would do that is not there, the one server refuses as well.
 abbrev pub OneServerRefuses : Type 0
-OneServerRefuses = (setting : Setting) (world : World) (view : View) (item : Item) (event : Event) → IsSound (setting ∷ []) world → IsTheServer setting world view
+OneServerRefuses =
+    (setting : Setting) (world : World) (view : View) (item : Item) (event : Event) → IsSound (setting ∷ []) world → IsTheServer setting world view
     → happening_at world item ≡ Some (happening_of event) → refused (setting ∷ []) world item ≡ Some no_such_client
     → fault_of view event ≡ Some NoSuchConnection
