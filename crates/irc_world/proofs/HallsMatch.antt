@@ -260,7 +260,7 @@ module _ (settings : List Setting) (world : World) (near far : Name) (sound : Is
           → option_and_then fold_of (first_of x y) ≡ Some fold
       of_second fold None y apart is = is
       of_second fold (Some client) None apart is = absurd (cc is)
-      of_second fold (Some client) (Some other) apart is = absurd (apart refl refl)
+      of_second fold (Some client) (Some second) apart is = absurd (apart refl refl)
 
   merged_matched : MatchedHall world.homes (merged one other)
   merged_matched = both_matched (home_of world)
