@@ -1,13 +1,12 @@
 -- What bo says in a channel, computed.
-use Rattle.std.proofs.Common.{◌≡◌, ℕ, Bool, true, false, cond, not, ◌&&◌, ◌||◌, T, Option, Some, None, Ok, List, [], ◌∷◌, ◌++◌, refl, sym, ◌∙◌, ap, map, is_some, option_map, filter_map, codes, if◌then◌else◌}
+use Rattle.std.proofs.Common.{◌≡◌, ℕ, true, false, cond, not, ◌&&◌, ◌||◌, T, Option, Some, None, Ok, List, [], ◌∷◌, ◌++◌, refl, sym, ◌∙◌, ap, map, is_some, option_map, filter_map, codes, if◌then◌else◌}
 use Rattle.std.specs.List.{flat_map}
 use Rattle.std.specs.Option.{option_map_or}
 use Rattle.std.specs.Ordering.{nat_cmp}
 use Rattle.std.specs.Cmp.{nat_cmp_total}
-use Rattle.std.specs.FinMap.{get, entries, values, from_entries, from_sorted, is_sorted, get-from_entries, get-from_sorted, entries-from_sorted, same_map, nat_cmp-IsAntisymmetric}
-use Rattle.std.specs.FinMap.Entries.{find}
+use Rattle.std.specs.FinMap.{entries, values, from_entries, from_sorted, is_sorted, get-from_entries, get-from_sorted, entries-from_sorted, same_map, nat_cmp-IsAntisymmetric}
 use Rattle.irc_names.specs.Fold.{fold, fold_table, key, same}
-use Rattle.irc_names.specs.Tables.{fold_cmp, row}
+use Rattle.irc_names.specs.Tables.{row}
 use Rattle.irc_line.specs.Bytes.{crlf}
 use Rattle.irc_line.specs.Bytes.{cut as cut_line}
 use Rattle.irc_line.specs.Messages.{Parsed, line_text, text}
@@ -24,8 +23,8 @@ use Rattle.irc_room.specs.declared.effect.Effect.TheVariants.{Say}
 use Rattle.irc_room.specs.Room.{Room}
 use Rattle.irc_room.specs.Examples.{somebody}
 use Rattle.irc_room.specs.Seen.{Showing, seen, shown_to, parts_of, full_sender}
-use Rattle.irc_room.specs.Lemmas.Listed.{map_itself, table_of, row_listed}
-use Rattle.irc_room.specs.Lemmas.ListedRooms.{ListedChannel, ListedRoom, channel_of, room_of, lists_member, member_listed, no_list, all_listed}
+use Rattle.irc_room.specs.Lemmas.Listed.{row_listed}
+use Rattle.irc_room.specs.Lemmas.ListedRooms.{ListedChannel, channel_of, room_of, lists_member, member_listed}
 use Rattle.irc_room.specs.Lemmas.ListedSeen.{user_listed, channel_listed}
 use Rattle.irc_relay.specs.Links.{part}
 use Rattle.irc_acts.specs.declared.act.Act.TheVariants.{Answer, Do}
@@ -39,16 +38,15 @@ use Rattle.irc_commands.specs.Say.{say_steps, is_raised, says, to_channel}
 use Rattle.irc_commands.specs.Table.{row_of}
 use Rattle.irc_routes.specs.Place.{Place}
 use Rattle.irc_server.specs.declared.clients.Client.{Client}
-use Rattle.irc_server.specs.declared.clients.Client.TheVariants.{Registered}
 use Rattle.irc_server.specs.declared.event.Out.{Out}
 use Rattle.irc_server.specs.declared.event.Out.TheVariants.{ToClient}
-use Rattle.irc_server.specs.RoomMachine.{Clients, RoomMachine}
-use Rattle.irc_server.specs.Handle.{says as speaks, Handled, handled, said_by, user_decided, decided, is_client, to_viewer}
+use Rattle.irc_server.specs.RoomMachine.{RoomMachine}
+use Rattle.irc_server.specs.Handle.{says as speaks, handled, said_by, user_decided, decided, is_client}
 use Rattle.irc_server.specs.Owed.{lines_to}
 use Rattle.irc_world.specs.World.{machine_at}
 use Rattle.irc_world.specs.Stepping.{step}
 use Rattle.irc_world.specs.Refused.{refused, no_such_client}
-use Rattle.irc_world.specs.Networks.{BoIsHeard, three_peers, three_clients, three_doings, three_people, in_a_line, bo_speaks}
+use Rattle.irc_world.specs.Networks.{BoIsHeard, three_peers, three_clients, three_people, in_a_line, bo_speaks}
 use Rattle.irc_world.proofs.ListedHalls.{users_listed}
 use Rattle.irc_world.proofs.NetworksProved.{three, three_made, three_in_order}
 
@@ -119,7 +117,8 @@ list_shown user =
 shown_listed : (user : User) → shown_to (room_of three) spoken user ≡ list_shown user
 unfolding fold fold_table cut_line line_text
 shown_listed user =
-    (λ i. if not (same (codes "bo") user.nick) && (ap (λ o. option_map_or (has_member (key user.nick)) o false) channel_there ∙ member_listed (key user.nick) the_channel) i
+    (λ i. if not (same (codes "bo") user.nick)
+    && (ap (λ o. option_map_or (has_member (key user.nick)) o false) channel_there ∙ member_listed (key user.nick) the_channel) i
     then option_map (λ line. record { viewer = user.nick; line = line }) (option_map text (parts_of (codes "PRIVMSG")
     (option_map_or (λ (c : Channel). c.name) (channel_there i) (codes "#c") ∷ []) (Some (codes "hi"))
     (option_map full_sender (user_listed three (key (codes "bo")) i)))) else None)

@@ -57,7 +57,8 @@ one_key name =
 
 one_in_part : (setting : Setting) → part_size (setting ∷ []) [] setting.name ≡ 1
 one_in_part setting =
-    ap (λ b. length (keys (put (empty {X = Unit {0}} {R = fold_cmp}) setting.name (if b then Some (tt {0}) else None)))) (same_when (part [] setting.name) (part [] setting.name) refl)
+    ap (λ b. length (keys (put (empty {X = Unit {0}} {R = fold_cmp}) setting.name (if b then Some (tt {0}) else None))))
+    (same_when (part [] setting.name) (part [] setting.name) refl)
     ∙ one_key setting.name
 
 module _ (setting : Setting) (world : World) (sound : IsSound (setting ∷ []) world) (no_links : world.links ≡ []) where

@@ -142,7 +142,8 @@ module _ (between : LinkBetweenParts) (even : MergeIsEven) (tells : AgreeTells) 
     joined_back = home_again;
     homes = refl;
     hall = same_hall;
-    lines = λ client. swap_lines (world.hall near) (world.hall far) (get (world.hall near).clients client) (get (world.hall far).clients client) (one_place client);
+    lines =
+        λ client. swap_lines (world.hall near) (world.hall far) (get (world.hall near).clients client) (get (world.hall far).clients client) (one_place client);
   }
 
   taken_too : refused settings world (link far near) ≡ None

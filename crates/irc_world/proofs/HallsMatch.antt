@@ -1,5 +1,5 @@
 -- Clients and users stay matched in every hall.
-use Rattle.std.proofs.Common.{◌≡◌, ℕ, zero, suc, Bool, true, false, cond, not, Option, Some, None, List, [], ◌∷◌, ◌++◌, ◌⊎◌, ⊎_elim, inl, inr, length, refl, sym, ◌∙◌, ap, subst, is_some, option_map}
+use Rattle.std.proofs.Common.{◌≡◌, ℕ, zero, suc, Bool, true, false, cond, not, Option, Some, None, List, [], ◌∷◌, ◌++◌, ◌⊎◌, ⊎_elim, inl, inr, length, refl, sym, ◌∙◌, ap, is_some}
 use Rattle.std.specs.Option.{option_map_or, option_and_then}
 use Rattle.std.specs.Ordering.{nat_cmp}
 use Rattle.std.specs.FinMap.{get, empty, get-empty, retain_keys}
@@ -7,7 +7,7 @@ use Rattle.irc_names.specs.Fold.{key}
 use Rattle.irc_names.specs.Tables.{row, fold_cmp}
 use Rattle.irc_line.specs.Reading.{read_of}
 use Rattle.irc_users.specs.declared.user.User.{User}
-use Rattle.irc_relay.specs.Links.{Name, Link, part, joined, without, AreJoined, AreLinked, IsLeft}
+use Rattle.irc_relay.specs.Links.{Name, Link, part, joined, without, AreLinked, IsLeft}
 use Rattle.irc_relay.specs.Laws.{TestsTell, LinkTakenOut, JoinedOverLink}
 use Rattle.irc_room.specs.Room.{Room, IsWellFormed}
 use Rattle.irc_commands.specs.Comings.{RegisteredIsAdded, RegisteredStays, UnregisteredChangesNothing, WhoIsClosedQuits, WhoStaysIsUser}
@@ -21,7 +21,6 @@ use Rattle.irc_server.specs.RoomMachine.{Clients}
 use Rattle.irc_server.specs.Handle.{Happening, connects, says, goes, handled}
 use Rattle.irc_world.specs.World.{Setting, Hall, World, new_world, home_in, home_of, machine_at, with_hall}
 use Rattle.irc_world.specs.Stepping.{Item, connect, line, gone, link, cut, step, still as unmoved, by_machine, by_client, surviving, clashes_in, merged, linked, remaining, parted as cut_apart, split_text, side_of}
-use Rattle.irc_world.specs.Refused.{refused}
 use Rattle.irc_world.specs.Owed.{after_items}
 use Rattle.irc_world.specs.Sound.{IsSound, AreTaken}
 use Rattle.irc_world.specs.Laws.{StepStaysSound}
@@ -30,8 +29,8 @@ use Rattle.irc_world.specs.ClientsUsers.{fold_of, registered_as, home_under, Are
 use Rattle.irc_world.proofs.Halls.{hall_with}
 use Rattle.irc_world.proofs.HomesKept.{named, no_users}
 use Rattle.irc_world.proofs.HomesJoined.{passing, near_sides, far_sides, at_lost_side, at_other_side, nobody_joined}
-use Rattle.irc_world.proofs.MachineMatches.{IsDue, handled_matched}
-use Rattle.irc_world.proofs.Matches.{same_some, is_false, IsOfBoth, fewer_matched, both_matched}
+use Rattle.irc_world.proofs.MachineMatches.{home_in_row, IsDue, handled_matched}
+use Rattle.irc_world.proofs.Matches.{same_some, IsOfBoth, fewer_matched, both_matched}
 use Rattle.irc_world.proofs.ServedAlone.{past_end}
 use Rattle.irc_world.proofs.StaysSound.{new_world_is_sound, still_home, LinkIsTaken, link_taken, link_there, two_parts, one_part, first_of, survivor, get-kept, get-merged}
 use Rattle.irc_world.proofs.WhoLeaves.{is_at_one, split_row, split_was, without_row, without_was, merge_row}
@@ -39,16 +38,14 @@ use Rattle.irc_world.proofs.WhoLeaves.{is_at_one, split_row, split_was, without_
 abbrev pub MatchedHall : List Name → Hall → Type 0
 MatchedHall homes hall = AreMatched (home_in homes) (home_under hall.room) (registered_as hall.clients)
 
-abbrev home_in_row : Option User → Option Name
-home_in_row o = option_map (λ (user : User). user.home) o
-
 -- a user under a fold, from its home
 in_row : {A : Type 0} (home : Name) (o : Option User) → home_in_row o ≡ Some home → ((user : User) → o ≡ Some user → user.home ≡ home → A) → A
 in_row home None is found = absurd (cc is)
 in_row home (Some user) is found = found user refl (same_some user.home home is)
 
 -- a client under a number, from its fold
-in_clients : {A : Type 0} (fold : List ℕ) (o : Option Client) → option_and_then fold_of o ≡ Some fold → ((nick : List ℕ) → o ≡ Some (Registered nick) → key nick ≡ fold → A) → A
+in_clients : {A : Type 0} (fold : List ℕ) (o : Option Client) → option_and_then fold_of o ≡ Some fold
+    → ((nick : List ℕ) → o ≡ Some (Registered nick) → key nick ≡ fold → A) → A
 in_clients fold None is found = absurd (cc is)
 in_clients fold (Some (Registering pending)) is found = absurd (cc is)
 in_clients fold (Some (Registered nick)) is found = found nick refl (same_some (key nick) fold is)
@@ -75,9 +72,11 @@ is_here settings world client home is = is ∙ ap Some (sym (named settings sett
 module _ (decided_possible : DecidedIsPossible) (stays : WhoStaysIsUser) (closes : WhoIsClosedQuits) (registering_possible : RegisteringIsPossible)
     (added : RegisteredIsAdded) (unchanging : UnregisteredChangesNothing) (kept : RegisteredStays) (settings : List Setting) where
   machine_keeps : (world : World) (home : Name) (happening : Happening) → IsWellFormed (world.hall home).room
-      → IsDue (home_of world) (machine_at settings world home) happening → ClientsAreUsers world → ClientsAreUsers (by_machine settings world home happening).world
+      → IsDue (home_of world) (machine_at settings world home) happening → ClientsAreUsers world
+      → ClientsAreUsers (by_machine settings world home happening).world
   machine_keeps world home happening well due all s = hall_with (MatchedHall world.homes) home s hall world
-      (λ _. handled_matched (home_of world) decided_possible stays closes registering_possible added unchanging kept (machine_at settings world home) (all home) well
+      (λ _. handled_matched (home_of world) decided_possible stays closes registering_possible added unchanging kept (machine_at settings world home)
+      (all home) well
       happening due)
       (λ _. all s)
     where
@@ -144,7 +143,8 @@ module _ (homes : List Name) (room other : Room) (clients : Clients) (well : IsW
 
   client_was : (client : ℕ) (fold : List ℕ) → registered_as (surviving other clients) client ≡ Some fold → registered_as clients client ≡ Some fold
   client_was client fold is =
-      by (not (clashes_in other (get clients client))) (sym (ap (option_and_then fold_of) (get-kept clients (λ c. not (clashes_in other (get clients c))) client)) ∙ is)
+      by (not (clashes_in other (get clients client)))
+      (sym (ap (option_and_then fold_of) (get-kept clients (λ c. not (clashes_in other (get clients c))) client)) ∙ is)
     where
       by : (b : Bool) → option_and_then fold_of (cond b (get clients client) None) ≡ Some fold → registered_as clients client ≡ Some fold
       by true is = is
@@ -162,7 +162,8 @@ module _ (homes : List Name) (room other : Room) (clients : Clients) (well : IsW
       (λ client fold home was of_client of_user is.
       client_survives client fold was ∙ ap (λ b. cond b None (Some fold)) (cond_is (clashes fold) home (sym (user_survives fold home of_user) ∙ is)))
 
-module _ (settings : List Setting) (world : World) (near far : Name) (sound : IsSound settings world) (all : ClientsAreUsers world) (taken : LinkIsTaken settings world near far) where
+module _ (settings : List Setting) (world : World) (near far : Name) (sound : IsSound settings world) (all : ClientsAreUsers world)
+    (taken : LinkIsTaken settings world near far) where
   abbrev one : Hall
   one = world.hall near
 
@@ -186,7 +187,8 @@ module _ (settings : List Setting) (world : World) (near far : Name) (sound : Is
       in_row there (row other.room.users fold) (user_was world.homes other.room one.room other.clients (sound.well_formed far) (all far) fold there behind)
       (λ user found _. let none = sym alone ∙ ap is_some found in cc none)
 
-  users_of_both : IsOfBoth (home_under (without_clash one.room other.room)) (home_under (without_clash other.room one.room)) (home_under (merge one.room other.room))
+  users_of_both : IsOfBoth (home_under (without_clash one.room other.room)) (home_under (without_clash other.room one.room))
+      (home_under (merge one.room other.room))
   users_of_both = record {
     of = λ fold home is.
         of_either fold home (row (without_clash one.room other.room).users fold) refl (sym (ap home_in_row (merge_row one.room other.room fold)) ∙ is);
@@ -198,7 +200,8 @@ module _ (settings : List Setting) (world : World) (near far : Name) (sound : Is
       second_row : List ℕ → Option User
       second_row fold = row (without_clash other.room one.room).users fold
 
-      of_either : (fold : List ℕ) (home : Name) (o : Option User) → row (without_clash one.room other.room).users fold ≡ o → home_in_row (either o (second_row fold)) ≡ Some home
+      of_either : (fold : List ℕ) (home : Name) (o : Option User) → row (without_clash one.room other.room).users fold ≡ o
+          → home_in_row (either o (second_row fold)) ≡ Some home
           → (home_under (without_clash one.room other.room) fold ≡ Some home) ⊎ (home_under (without_clash other.room one.room) fold ≡ Some home)
       of_either fold home None at is = inr is
       of_either fold home (Some user) at is = inl (ap home_in_row at ∙ is)
@@ -207,18 +210,22 @@ module _ (settings : List Setting) (world : World) (near far : Name) (sound : Is
       of_first fold home None is = absurd (cc is)
       of_first fold home (Some user) is = is
 
-      of_second : (fold : List ℕ) (home : Name) → home_in_row (second_row fold) ≡ Some home → (o : Option User) → row (without_clash one.room other.room).users fold ≡ o
+      of_second : (fold : List ℕ) (home : Name) → home_in_row (second_row fold) ≡ Some home → (o : Option User)
+          → row (without_clash one.room other.room).users fold ≡ o
           → home_in_row (either o (second_row fold)) ≡ Some home
       of_second fold home is None at = is
       of_second fold home is (Some user) at = absurd (held_apart fold user.home home (ap home_in_row at) is)
 
-  clients_of_both : IsOfBoth (registered_as (surviving other.room one.clients)) (registered_as (surviving one.room other.clients)) (registered_as (merged one other).clients)
+  clients_of_both : IsOfBoth (registered_as (surviving other.room one.clients)) (registered_as (surviving one.room other.clients))
+      (registered_as (merged one other).clients)
   clients_of_both = record {
     of = λ client fold is. ⊎_elim
         (λ (here : option_and_then fold_of (survivor other.room one.clients client) ≡ Some fold). inl (kept_one client ∙ here))
         (λ (there : option_and_then fold_of (survivor one.room other.clients client) ≡ Some fold). inr (kept_other client ∙ there))
         (of_either fold (survivor other.room one.clients client) (survivor one.room other.clients client) (sym (kept_both client) ∙ is));
-    first = λ client fold is. kept_both client ∙ of_first fold (survivor other.room one.clients client) (survivor one.room other.clients client) (sym (kept_one client) ∙ is);
+    first =
+        λ client fold is. kept_both client
+        ∙ of_first fold (survivor other.room one.clients client) (survivor one.room other.clients client) (sym (kept_one client) ∙ is);
     second = λ client fold is. kept_both client ∙ of_second fold (survivor other.room one.clients client) (survivor one.room other.clients client)
         (λ here there. one_place client
         (kept_some (not (clashes_in other.room (get one.clients client))) (get one.clients client) here)
@@ -253,7 +260,7 @@ module _ (settings : List Setting) (world : World) (near far : Name) (sound : Is
           → option_and_then fold_of (first_of x y) ≡ Some fold
       of_second fold None y apart is = is
       of_second fold (Some client) None apart is = absurd (cc is)
-      of_second fold (Some client) (Some other) apart is = absurd (apart refl refl)
+      of_second fold (Some client) (Some second) apart is = absurd (apart refl refl)
 
   merged_matched : MatchedHall world.homes (merged one other)
   merged_matched = both_matched (home_of world)
@@ -272,7 +279,8 @@ module _ (settings : List Setting) (world : World) (near far : Name) (sound : Is
 -- What is left of one side, where its own users' homes are on it and all others' on the lost one: who stays is matched.
 module _ (settings : List Setting) (world : World) (rest : List Link) (one other : Name) (text : List ℕ) (well : IsWellFormed (world.hall one).room)
     (all : ClientsAreUsers world) (known : HomesAreServers settings world)
-    (sides : (fold : List ℕ) (user : User) → row (world.hall one).room.users fold ≡ Some user → (joined rest one user.home ≡ false) ⊎ (joined rest other user.home ≡ false))
+    (sides : (fold : List ℕ) (user : User) → row (world.hall one).room.users fold ≡ Some user
+    → (joined rest one user.home ≡ false) ⊎ (joined rest other user.home ≡ false))
     (somewhere : (fold : List ℕ) (user : User) → row (world.hall one).room.users fold ≡ Some user
     → (joined rest one user.home ≡ true) ⊎ (joined rest other user.home ≡ true)) where
   abbrev left_room : Room
@@ -285,7 +293,8 @@ module _ (settings : List Setting) (world : World) (rest : List Link) (one other
   left_clients = retain_keys (world.hall one).clients is_kept
 
   -- whether a user is lost
-  lost : (fold : List ℕ) (user : User) → row (world.hall one).room.users fold ≡ Some user → is_at_one (side_of settings rest other) user ≡ not (joined rest one user.home)
+  lost : (fold : List ℕ) (user : User) → row (world.hall one).room.users fold ≡ Some user
+      → is_at_one (side_of settings rest other) user ≡ not (joined rest one user.home)
   lost fold user is = ⊎_elim
       (λ (here : joined rest one user.home ≡ true). ⊎_elim
       (λ (none : joined rest one user.home ≡ false). absurd (let clash = sym none ∙ here in cc clash))
@@ -302,7 +311,8 @@ module _ (settings : List Setting) (world : World) (rest : List Link) (one other
   user_left : (fold : List ℕ) (home : Name) → home_under (world.hall one).room fold ≡ Some home
       → home_under left_room fold ≡ cond (joined rest one home) (Some home) None
   user_left fold home is = in_row home (row (world.hall one).room.users fold) is (λ user there home_is.
-      ap home_in_row (split_row text (side_of settings rest other) (world.hall one).room well fold user there ∙ ap (λ b. cond b None (Some user)) (lost fold user there))
+      ap home_in_row (split_row text (side_of settings rest other) (world.hall one).room well fold user there
+      ∙ ap (λ b. cond b None (Some user)) (lost fold user there))
       ∙ by (joined rest one user.home) user ∙ ap (λ h. cond (joined rest one h) (Some h) None) home_is)
     where
       by : (b : Bool) (user : User) → home_in_row (cond (not b) None (Some user)) ≡ cond b (Some user.home) None
@@ -345,9 +355,11 @@ module _ (settings : List Setting) (world : World) (rest : List Link) (one other
   left_matched = fewer_matched (home_of world) (home_under (world.hall one).room) (registered_as (world.hall one).clients) (all one)
       (home_under left_room) (registered_as left_clients) left_user_was left_client_was
       (λ client fold home was of_client of_user is.
-      user_left fold home of_user ∙ ap (λ b. cond b (Some home) None) (is_true (joined rest one home) fold (sym (client_left client fold home was of_client) ∙ is)))
+      user_left fold home of_user
+      ∙ ap (λ b. cond b (Some home) None) (is_true (joined rest one home) fold (sym (client_left client fold home was of_client) ∙ is)))
       (λ client fold home was of_client of_user is.
-      client_left client fold home was of_client ∙ ap (λ b. cond b (Some fold) None) (is_true (joined rest one home) home (sym (user_left fold home of_user) ∙ is)))
+      client_left client fold home was of_client
+      ∙ ap (λ b. cond b (Some fold) None) (is_true (joined rest one home) home (sym (user_left fold home of_user) ∙ is)))
     where
       is_true : {X : Type 0} (b : Bool) (x : X) → cond b (Some x) None ≡ Some x → b ≡ true
       is_true true x is = refl
@@ -377,13 +389,15 @@ module _ (tests : TestsTell) (taken_out : LinkTakenOut) (over_link : JoinedOverL
   near_left : MatchedHall world.homes (remaining settings world rest near far)
   near_left = left_matched settings world rest near far (split_text near far) (sound.well_formed near) all known
       (λ fold user is. one_side user.home)
-      (λ fold user is. ⊎_elim (λ (here : joined rest user.home near ≡ true). inl (swapped user.home near here)) (λ (there : joined rest far user.home ≡ true). inr there)
+      (λ fold user is. ⊎_elim (λ (here : joined rest user.home near ≡ true). inl (swapped user.home near here))
+      (λ (there : joined rest far user.home ≡ true). inr there)
       (near_sides tests taken_out over_link settings world near far sound known in_part are user.home (in_part near fold user is)))
 
   far_left : MatchedHall world.homes (remaining settings world rest far near)
   far_left = left_matched settings world rest far near (split_text far near) (sound.well_formed far) all known
       (λ fold user is. ⊎_elim (λ (b : joined rest near user.home ≡ false). inr b) (λ (c : joined rest far user.home ≡ false). inl c) (one_side user.home))
-      (λ fold user is. ⊎_elim (λ (here : joined rest user.home far ≡ true). inl (swapped user.home far here)) (λ (there : joined rest near user.home ≡ true). inr there)
+      (λ fold user is. ⊎_elim (λ (here : joined rest user.home far ≡ true). inl (swapped user.home far here))
+      (λ (there : joined rest near user.home ≡ true). inr there)
       (far_sides tests taken_out over_link settings world near far sound known in_part are user.home (in_part far fold user is)))
 
   cut_keeps : ClientsAreUsers (cut_apart settings world rest near far).world

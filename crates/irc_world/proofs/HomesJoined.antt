@@ -1,22 +1,20 @@
 -- Each user's home is in the part whose room it is in.
 use Rattle.std.proofs.Common.{◌≡◌, ℕ, suc, Bool, true, false, cond, ◌||◌, Option, Some, None, List, [], ◌∷◌, ◌++◌, ◌⊎◌, ⊎_elim, inl, inr, length, refl, sym, ◌∙◌, ap, is_some, map, if◌then◌else◌}
-use Rattle.std.specs.List.{find, list_any}
+use Rattle.std.specs.List.{list_any}
 use Rattle.std.specs.Option.{option_map_or}
 use Rattle.std.specs.Cmp.Lexicographic.{bytes_decides, texts_ties}
-use Rattle.std.specs.FinMap.{keys, get-empty}
+use Rattle.std.specs.FinMap.{get-empty}
 use Rattle.irc_names.specs.Tables.{row, tabulate, fold_cmp}
-use Rattle.irc_names.specs.TableLaws.{same_fold, same_fold-refl, one_fold, row-keys, row-tabulate}
+use Rattle.irc_names.specs.TableLaws.{same_fold, same_fold-refl, row-keys, row-tabulate}
 use Rattle.irc_line.specs.Reading.{read_of}
 use Rattle.irc_users.specs.declared.user.User.{User}
-use Rattle.irc_users.specs.UserTable.{is_home}
-use Rattle.irc_relay.specs.Links.{Name, Link, part, same, joined, without, AreJoined, AreLinked, IsLeft, IsMade, still, parted, turned}
+use Rattle.irc_relay.specs.Links.{Name, Link, part, same, joined, without, AreJoined, AreLinked, IsMade, still, parted, turned}
 use Rattle.irc_relay.specs.Laws.{TestsTell, LinkBetweenParts, LinkTakenOut, JoinedOverLink}
 use Rattle.irc_merge.specs.Laws.{MergeHasNothingNew, SplitHasNothingNew}
 use Rattle.irc_merge.specs.Split.{split}
 use Rattle.irc_server.specs.Handle.{Happening, connects, says, goes, handled}
 use Rattle.irc_world.specs.World.{Setting, Hall, World, new_world, setting_of, is_server, servers_where, home_of, machine_at, with_hall}
 use Rattle.irc_world.specs.Stepping.{Item, connect, line, gone, link, cut, step, still as unmoved, by_machine, by_client, merged, linked, remaining, parted as cut_apart, split_text, side_of}
-use Rattle.irc_world.specs.Refused.{refused}
 use Rattle.irc_world.specs.Owed.{after_items}
 use Rattle.irc_world.specs.Sound.{IsSound, AreTaken}
 use Rattle.irc_world.specs.Laws.{StepStaysSound}
@@ -30,7 +28,8 @@ use Rattle.irc_world.proofs.WhoLeaves.{is_at_one, split_row}
 -- ---- the servers of a side
 
 -- a server that there is, is listed among all
-is_listed : (settings : List Setting) (server : Name) → is_server settings server ≡ true → list_any (same_fold server) (map (λ (s : Setting). s.name) settings) ≡ true
+is_listed : (settings : List Setting) (server : Name) → is_server settings server ≡ true
+    → list_any (same_fold server) (map (λ (s : Setting). s.name) settings) ≡ true
 is_listed [] server known = absurd (cc known)
 is_listed (s ∷ settings) server known = by (same s.name server) refl (is_listed settings server) known
   where
@@ -65,7 +64,8 @@ on_side settings test server known passes =
     ∙ ap (λ b. is_some (if b then Some (tt {0}) else None)) passes
 
 -- and what is listed passes
-side_passes : (settings : List Setting) (test : Name → Bool) (server : Name) → list_any (same_fold server) (servers_where settings test) ≡ true → test server ≡ true
+side_passes : (settings : List Setting) (test : Name → Bool) (server : Name) → list_any (same_fold server) (servers_where settings test) ≡ true
+    → test server ≡ true
 side_passes settings test server some =
     by (list_any (same_fold server) (map (λ (s : Setting). s.name) settings)) (test server) (sym (listed_as settings test server) ∙ some)
   where
@@ -98,7 +98,8 @@ module _ (tests : TestsTell) where
   passing links s t = (tests links s t t).1.1
 
   module _ (brings : ClientsBringOwnUsers) (settings : List Setting) where
-    machine_joined : (world : World) (home : Name) (happening : Happening) → HomesAreJoined world → HomesAreJoined (by_machine settings world home happening).world
+    machine_joined : (world : World) (home : Name) (happening : Happening) → HomesAreJoined world
+        → HomesAreJoined (by_machine settings world home happening).world
     machine_joined world home happening all s = hall_with (λ h. HomesPass (λ other. joined world.links other s) h.room) home s hall world
         (λ here fold user is.
         ap (same (part world.links user.home)) here
@@ -112,7 +113,8 @@ module _ (tests : TestsTell) where
           room = (handled (machine_at settings world home) happening).machine.room;
         }
 
-    client_joined : (world : World) (client : ℕ) (happening : Happening) → HomesAreJoined world → HomesAreJoined (by_client settings world client happening).world
+    client_joined : (world : World) (client : ℕ) (happening : Happening) → HomesAreJoined world
+        → HomesAreJoined (by_client settings world client happening).world
     client_joined world client happening all = by (home_of world client)
       where
         by : (o : Option Name) → HomesAreJoined (option_map_or (λ home. by_machine settings world home happening) o (unmoved world)).world
@@ -146,10 +148,12 @@ module _ (tests : TestsTell) where
 
     -- who is left on a side has its home there
     left_joined : SplitHasNothingNew → (text : List ℕ) (one other : Name) → ((home : Name) → joined world.links home one ≡ true
-        → (joined rest home one ≡ true) ⊎ (joined rest other home ≡ true)) → HomesPass (λ home. joined rest home one) (split text (side_of settings rest other) (world.hall one).room)
+        → (joined rest home one ≡ true) ⊎ (joined rest other home ≡ true))
+        → HomesPass (λ home. joined rest home one) (split text (side_of settings rest other) (world.hall one).room)
     left_joined split_new text one other sides fold user is = ⊎_elim
         (λ (here : joined rest user.home one ≡ true). here)
-        (λ (there : joined rest other user.home ≡ true). absurd (let none = sym is ∙ split_row text (side_of settings rest other) (world.hall one).room (sound.well_formed one) fold user was
+        (λ (there : joined rest other user.home ≡ true). absurd
+        (let none = sym is ∙ split_row text (side_of settings rest other) (world.hall one).room (sound.well_formed one) fold user was
         ∙ ap (λ b. cond b None (Some user)) (at_lost_side settings (joined rest other) user (known one fold user was) there) in cc none))
         (sides user.home (all one fold user was))
       where
@@ -183,7 +187,8 @@ module _ (tests : TestsTell) where
         hall_with (λ h. HomesPass (λ home. joined rest home s) h.room) far s (remaining settings world rest far near)
         (with_hall near (remaining settings world rest near far) (record world { links = rest }))
         (λ here fold user is. ap (same (part rest user.home)) here ∙ left_joined split_new (split_text far near) far near far_sides fold user is)
-        (λ not_far. hall_with (λ h. HomesPass (λ home. joined rest home s) h.room) near s (remaining settings world rest near far) (record world { links = rest })
+        (λ not_far. hall_with (λ h. HomesPass (λ home. joined rest home s) h.room) near s (remaining settings world rest near far)
+        (record world { links = rest })
         (λ here fold user is. ap (same (part rest user.home)) here ∙ left_joined split_new (split_text near far) near far near_sides fold user is)
         (λ not_near fold user is. elsewhere_joined user.home s not_far not_near (all s fold user is)))
 
@@ -193,7 +198,8 @@ module _ (tests : TestsTell) (between : LinkBetweenParts) (taken_out : LinkTaken
   unfolding step
   step_keeps_homes_joined settings world (connect server host) sound known all taken =
       machine_joined tests brings settings (record world { homes = world.homes ++ server ∷ [] }) server (connects (suc (length world.homes)) host) all
-  step_keeps_homes_joined settings world (line client bytes) sound known all taken = client_joined tests brings settings world client (says client (read_of bytes)) all
+  step_keeps_homes_joined settings world (line client bytes) sound known all taken =
+      client_joined tests brings settings world client (says client (read_of bytes)) all
   step_keeps_homes_joined settings world (gone client) sound known all taken = client_joined tests brings settings world client (goes client) all
   step_keeps_homes_joined settings world (link near far) sound known all taken =
       link_joined tests between merge_new settings world near far sound (link_taken settings world near far taken) all
@@ -204,7 +210,8 @@ pub nobody_joined : HomesAreJoined new_world
 nobody_joined server fold user is = absurd (let none = sym (get-empty {X = User} fold_cmp fold) ∙ is in cc none)
 
 module _ (joined_too : StepKeepsHomesJoined) (keeps : StepKeepsHomes) (stays : StepStaysSound) (settings : List Setting) where
-  items_join : (items : List Item) (world : World) → IsSound settings world → HomesAreServers settings world → HomesAreJoined world → AreTaken settings world items
+  items_join : (items : List Item) (world : World) → IsSound settings world → HomesAreServers settings world → HomesAreJoined world
+      → AreTaken settings world items
       → HomesAreJoined (after_items settings world items)
   items_join [] world sound known all taken = all
   items_join (item ∷ items) world sound known all taken =

@@ -28,11 +28,14 @@ named (s ∷ settings) all links server = by (tell s.name server) (named setting
   where
     by : Telling s.name server
         → (option_map_or (place_in all links) (find (λ (t : Setting). same t.name server) settings) (alone server [] [])).name ≡ server
-        → (option_map_or (place_in all links) (cond (same s.name server) (Some s) (find (λ (t : Setting). same t.name server) settings)) (alone server [] [])).name ≡ server
+        → (option_map_or (place_in all links) (cond (same s.name server) (Some s) (find (λ (t : Setting). same t.name server) settings))
+        (alone server [] [])).name ≡ server
     by (alike is one) behind =
-        ap (λ b. (option_map_or (place_in all links) (cond b (Some s) (find (λ (t : Setting). same t.name server) settings)) (alone server [] [])).name) is ∙ one
+        ap (λ b. (option_map_or (place_in all links) (cond b (Some s) (find (λ (t : Setting). same t.name server) settings)) (alone server [] [])).name) is
+        ∙ one
     by (unlike is _) behind =
-        ap (λ b. (option_map_or (place_in all links) (cond b (Some s) (find (λ (t : Setting). same t.name server) settings)) (alone server [] [])).name) is ∙ behind
+        ap (λ b. (option_map_or (place_in all links) (cond b (Some s) (find (λ (t : Setting). same t.name server) settings)) (alone server [] [])).name) is
+        ∙ behind
 
 module _ (brings : ClientsBringOwnUsers) (merge_new : MergeHasNothingNew) (split_new : SplitHasNothingNew) (settings : List Setting) where
   machine_keeps : (world : World) (home : Name) (happening : Happening) → HomesAreServers settings world → is_server settings home ≡ true
@@ -83,13 +86,15 @@ module _ (brings : ClientsBringOwnUsers) (merge_new : MergeHasNothingNew) (split
 pub step_keeps_homes : ClientsBringOwnUsers → MergeHasNothingNew → SplitHasNothingNew → StepKeepsHomes
 unfolding step
 step_keeps_homes brings merge_new split_new settings world (connect server host) sound all taken =
-    machine_keeps brings merge_new split_new settings (record world { homes = world.homes ++ server ∷ [] }) server (connects (suc (length world.homes)) host) all
+    machine_keeps brings merge_new split_new settings (record world { homes = world.homes ++ server ∷ [] }) server
+    (connects (suc (length world.homes)) host) all
     (server_known settings world server host taken)
 step_keeps_homes brings merge_new split_new settings world (line client bytes) sound all taken =
     client_keeps brings merge_new split_new settings world client (says client (read_of bytes)) sound all
 step_keeps_homes brings merge_new split_new settings world (gone client) sound all taken =
     client_keeps brings merge_new split_new settings world client (goes client) sound all
-step_keeps_homes brings merge_new split_new settings world (link near far) sound all taken = link_keeps brings merge_new split_new settings world near far sound all
+step_keeps_homes brings merge_new split_new settings world (link near far) sound all taken =
+    link_keeps brings merge_new split_new settings world near far sound all
 step_keeps_homes brings merge_new split_new settings world (cut near far) sound all taken =
     cut_keeps brings merge_new split_new settings world (without world.links near far) near far sound all
 

@@ -15,3 +15,5 @@ pub mod HallsMatch
 pub mod ListedHalls
 pub mod NetworksProved
 pub mod BoSpeaks
+pub mod LimitsHold
+pub mod RefusedAlone

@@ -25,7 +25,7 @@ use Rattle.irc_room.specs.Lemmas.ListedSeen.{user_listed, channel_listed}
 use Rattle.irc_relay.specs.Links.{Name, Link}
 use Rattle.irc_commands.specs.Quit.{error_line}
 use Rattle.irc_merge.specs.Agreeing.{are_alike, agree}
-use Rattle.irc_merge.specs.Merge.{clash, without}
+use Rattle.irc_merge.specs.Merge.{without}
 use Rattle.irc_merge.specs.Quits.{quits, collision_text}
 use Rattle.irc_merge.specs.ShownAlong.{shown_along}
 use Rattle.irc_merge.specs.Split.{lost_users, split}
@@ -147,7 +147,8 @@ share_listed room order one other =
     (entries_listed channel_of room.channels order.channels)
     ∙ shares (key one) (key other) room.channels
 
-quit_listed : (viewer : List ℕ) (room : ListedRoom) → AreInOrder room → (nick text : List ℕ) → shows_to (room_of room) (Quit nick text) viewer ≡ list_quit viewer room nick text
+quit_listed : (viewer : List ℕ) (room : ListedRoom) → AreInOrder room → (nick text : List ℕ)
+    → shows_to (room_of room) (Quit nick text) viewer ≡ list_quit viewer room nick text
 unfolding shows_to
 quit_listed viewer room order nick text = λ i.
     option_and_then (λ (user : User).
@@ -209,7 +210,8 @@ only_passing test q (server ∷ servers) fails = by_test (test server) refl (onl
     by_test true passes rest = by_fold (same_fold q server) refl passes rest
     by_test false fails rest = rest
 
-side_row : (test : Name → Bool) (servers : List Name) (q : Name) → row (tabulate servers (if_on test)) q ≡ find fold_cmp q (map server_entry (filter test servers))
+side_row : (test : Name → Bool) (servers : List Name) (q : Name)
+    → row (tabulate servers (if_on test)) q ≡ find fold_cmp q (map server_entry (filter test servers))
 side_row test [] q = get-empty fold_cmp q
 side_row test (server ∷ servers) q =
     row-put (tabulate servers (if_on test)) server (if_on test server) q
@@ -237,7 +239,9 @@ pub servers_listed : (settings : List Setting) (test : Name → Bool)
     → servers_where settings test ≡ filter test (map (λ (s : Setting). s.name) settings)
 servers_listed settings test rise =
     let servers = filter test (map (λ (s : Setting). s.name) settings) in
-    ap (λ (table : Table (Unit {0})). keys table) (same_table (tabulate (map (λ (s : Setting). s.name) settings) (if_on test)) (table_of (λ u. u) (map server_entry servers))
-    (λ q. side_row test (map (λ (s : Setting). s.name) settings) q ∙ sym (row_listed (λ u. u) (map server_entry servers) q ∙ map_itself (find fold_cmp q (map server_entry servers)))))
+    ap (λ (table : Table (Unit {0})). keys table)
+    (same_table (tabulate (map (λ (s : Setting). s.name) settings) (if_on test)) (table_of (λ u. u) (map server_entry servers))
+    (λ q. side_row test (map (λ (s : Setting). s.name) settings) q
+    ∙ sym (row_listed (λ u. u) (map server_entry servers) q ∙ map_itself (find fold_cmp q (map server_entry servers)))))
     ∙ ap (map (λ (e : List ℕ × Unit {0}). e.0)) (entries_listed (λ u. u) (map server_entry servers) rise)
     ∙ first_entries servers

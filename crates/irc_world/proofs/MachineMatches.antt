@@ -7,21 +7,21 @@ use Rattle.std.specs.Cmp.Lexicographic.{bytes_decides, texts_ties}
 use Rattle.std.specs.Ordering.{nat_cmp}
 use Rattle.std.specs.FinMap.{get, insert, remove, entries, find, get-insert, get-remove, get-entries, get-from_entries}
 use Rattle.irc_names.specs.Fold.{key, same}
-use Rattle.irc_names.specs.Tables.{row, alter, moved}
+use Rattle.irc_names.specs.Tables.{row}
 use Rattle.irc_names.specs.TableLaws.{same_fold, one_fold, row-alter, row-moved}
 use Rattle.irc_line.specs.Messages.{Parsed}
 use Rattle.irc_users.specs.declared.user.User.{User}
 use Rattle.irc_users.specs.UserTable.{with_nick, with_invisible}
 use Rattle.irc_room.specs.declared.effect.Effect.{Effect}
 use Rattle.irc_room.specs.declared.effect.Effect.TheVariants.{AddUser, Rename, Quit, Join, Part, Kick, ChangeModes, SetTopic, Say, Invite, UserMode}
-use Rattle.irc_room.specs.Room.{Room, IsWellFormed}
+use Rattle.irc_room.specs.Room.{IsWellFormed}
 use Rattle.irc_room.specs.Effects.{IsPossible, has_user}
 use Rattle.irc_room.specs.After.{after}
 use Rattle.irc_relay.specs.Links.{Name}
 use Rattle.irc_acts.specs.declared.act.Act.{Act}
 use Rattle.irc_acts.specs.declared.act.Act.TheVariants.{Answer, Raw, Do}
 use Rattle.irc_acts.specs.Possible.{ArePossible}
-use Rattle.irc_commands.specs.Comings.{adds_or_ends, is_effect, AddsFirst, QuitFirst, RegisteredIsAdded, RegisteredStays, UnregisteredChangesNothing, WhoIsClosedQuits, WhoStaysIsUser}
+use Rattle.irc_commands.specs.Comings.{adds_or_ends, is_effect, AddsFirst, RegisteredIsAdded, RegisteredStays, UnregisteredChangesNothing, WhoIsClosedQuits, WhoStaysIsUser}
 use Rattle.irc_commands.specs.Decide.{decide}
 use Rattle.irc_commands.specs.Decisions.{Registered as Given}
 use Rattle.irc_commands.specs.Possible.{DecidedIsPossible, RegisteringIsPossible}
@@ -29,7 +29,7 @@ use Rattle.irc_commands.specs.Register.{register}
 use Rattle.irc_server.specs.declared.clients.Client.{Client}
 use Rattle.irc_server.specs.declared.clients.Client.TheVariants.{Registering, Registered}
 use Rattle.irc_server.specs.RoomMachine.{Clients, RoomMachine, client_of, with_client, without_client, each_client}
-use Rattle.irc_server.specs.Handle.{Happening, connects, says, goes, Handled, handled, renamed_in, clients_after, machine_after, with_effect, stepped, all_stepped, unchanged, closing, client_after, fresh, pending_decided, user_decided, said_by, user_of, quits, gone, lost_text}
+use Rattle.irc_server.specs.Handle.{Happening, connects, says, goes, Handled, handled, renamed_in, machine_after, with_effect, stepped, all_stepped, unchanged, closing, client_after, fresh, pending_decided, user_decided, said_by, quits, gone, lost_text}
 use Rattle.irc_world.specs.ClientsUsers.{fold_of, registered_as, home_under, AreMatched}
 use Rattle.irc_world.proofs.Matches.{same_number, same_number-refl, one_number, still_matched, left_matched, came_matched, moved_matched}
 
@@ -59,18 +59,20 @@ none_for_none registered conn q none = by (same_number q conn) refl
     by true one = sym (ap registered (one_number q conn one) ∙ none)
     by false two = refl
 
-find_each : (change : Client → Client) (q : ℕ) (es : List (ℕ × Client))
+pub find_each : (change : Client → Client) (q : ℕ) (es : List (ℕ × Client))
     → find nat_cmp q (map (λ (e : ℕ × Client). (e.0, change e.1)) es) ≡ option_map change (find nat_cmp q es)
 find_each change q [] = refl
 find_each change q (e ∷ es) = by (same_number q e.0) (find_each change q es)
   where
     by : (b : Bool) → find nat_cmp q (map (λ (e : ℕ × Client). (e.0, change e.1)) es) ≡ option_map change (find nat_cmp q es)
-        → cond b (Some (change e.1)) (find nat_cmp q (map (λ (e : ℕ × Client). (e.0, change e.1)) es)) ≡ option_map change (cond b (Some e.1) (find nat_cmp q es))
+        → cond b (Some (change e.1)) (find nat_cmp q (map (λ (e : ℕ × Client). (e.0, change e.1)) es))
+        ≡ option_map change (cond b (Some e.1) (find nat_cmp q es))
     by true rest = refl
     by false rest = rest
 
 renamed_fold : (nick new : List ℕ) (o : Option Client)
-    → option_and_then fold_of (option_map (renamed_in nick new) o) ≡ option_map (λ fold. cond (same_fold fold (key nick)) (key new) fold) (option_and_then fold_of o)
+    → option_and_then fold_of (option_map (renamed_in nick new) o)
+    ≡ option_map (λ fold. cond (same_fold fold (key nick)) (key new) fold) (option_and_then fold_of o)
 renamed_fold nick new None = refl
 renamed_fold nick new (Some (Registering pending)) = refl
 renamed_fold nick new (Some (Registered name)) = by (same name nick) ∙ ap (λ b. Some (cond b (key new) (key name))) (texts_ties (key name) (key nick))
@@ -80,7 +82,8 @@ renamed_fold nick new (Some (Registered name)) = by (same name nick) ∙ ap (λ 
     by false = refl
 
 registered_renamed : (nick new : List ℕ) (clients : Clients) (q : ℕ)
-    → registered_as (each_client (renamed_in nick new) clients) q ≡ option_map (λ fold. cond (same_fold fold (key nick)) (key new) fold) (registered_as clients q)
+    → registered_as (each_client (renamed_in nick new) clients) q
+    ≡ option_map (λ fold. cond (same_fold fold (key nick)) (key new) fold) (registered_as clients q)
 registered_renamed nick new clients q =
     ap (option_and_then fold_of)
     (get-from_entries nat_cmp_total (map (λ (e : ℕ × Client). (e.0, renamed_in nick new e.1)) (entries clients)) q
@@ -90,7 +93,7 @@ registered_renamed nick new clients q =
 
 -- ---- effects
 
-abbrev home_in_row : Option User → Option Name
+abbrev pub home_in_row : Option User → Option Name
 home_in_row o = option_map (λ (user : User). user.home) o
 
 home_of_cond : (b : Bool) (x y : Option User) → home_in_row (cond b x y) ≡ cond b (home_in_row x) (home_in_row y)
@@ -116,7 +119,8 @@ module _ (homes : ℕ → Option Name) where
   module _ (machine : RoomMachine) (nick new : List ℕ) (matched : IsMatched machine) (possible : IsPossible machine.room (Rename nick new)) where
     free : (home : Name) → home_under machine.room (key new) ≡ Some home → key new ≡ key nick
     free home is =
-        sym ((bytes_decides (key nick) (key new)).0 (or_second (has_user machine.room new) (same nick new) possible.nick_free (there (row machine.room.users (key new)) is)))
+        sym ((bytes_decides (key nick) (key new)).0
+        (or_second (has_user machine.room new) (same nick new) possible.nick_free (there (row machine.room.users (key new)) is)))
       where
         there : (o : Option User) → home_in_row o ≡ Some home → is_some o ≡ true
         there None is = absurd (cc is)
@@ -148,7 +152,8 @@ module _ (homes : ℕ → Option Name) where
       same_home (Some user) = refl
 
       by : (fold : List ℕ) (b : Bool) → same_fold fold (key nick) ≡ b
-          → home_in_row (cond b (option_map (with_invisible invisible) (row machine.room.users (key nick))) (row machine.room.users fold)) ≡ home_under machine.room fold
+          → home_in_row (cond b (option_map (with_invisible invisible) (row machine.room.users (key nick))) (row machine.room.users fold))
+          ≡ home_under machine.room fold
       by fold true one = same_home (row machine.room.users (key nick)) ∙ ap (home_under machine.room) (sym (one_fold fold (key nick) one))
       by fold false two = refl
 
@@ -171,8 +176,10 @@ module _ (homes : ℕ → Option Name) where
   quiet_steps : (conn : ℕ) (name : Option (List ℕ)) (acts : List Act) (before : Handled) → IsMatched before.machine → ArePossible before.machine.room acts
       → list_any adds_or_ends acts ≡ false → IsMatched (all_stepped conn name acts before).machine
   quiet_steps conn name [] before matched possible quiet = matched
-  quiet_steps conn name (Answer reply ∷ acts) before matched possible quiet = quiet_steps conn name acts (stepped conn name (Answer reply) before) matched possible quiet
-  quiet_steps conn name (Raw line ∷ acts) before matched possible quiet = quiet_steps conn name acts (stepped conn name (Raw line) before) matched possible quiet
+  quiet_steps conn name (Answer reply ∷ acts) before matched possible quiet =
+      quiet_steps conn name acts (stepped conn name (Answer reply) before) matched possible quiet
+  quiet_steps conn name (Raw line ∷ acts) before matched possible quiet =
+      quiet_steps conn name acts (stepped conn name (Raw line) before) matched possible quiet
   quiet_steps conn name (Do effect ∷ acts) before matched possible quiet =
       let parts = neither (adds_or_ends (Do effect)) (list_any adds_or_ends acts) quiet in
       quiet_steps conn name acts (with_effect effect before) (quiet_matched before.machine effect matched possible.now parts.0) possible.later parts.1
@@ -204,7 +211,8 @@ module _ (homes : ℕ → Option Name) where
   unfolding after
   quit_matched machine conn nick text mine matched = left_matched homes (home_under machine.room) (registered_as machine.clients) matched conn (key nick) mine
       (home_under (machine_after (without_client machine conn) (Quit nick text)).room) (registered_as (remove machine.clients conn))
-      (λ fold. ap home_in_row (row-alter (key nick) (λ _. None) machine.room.users fold) ∙ home_of_cond (same_fold fold (key nick)) None (row machine.room.users fold))
+      (λ fold. ap home_in_row (row-alter (key nick) (λ _. None) machine.room.users fold)
+      ∙ home_of_cond (same_fold fold (key nick)) None (row machine.room.users fold))
       (registered_without machine.clients conn)
 
   -- a client is registered, and its user is added
@@ -213,7 +221,8 @@ module _ (homes : ℕ → Option Name) where
   unfolding after
   added_matched machine conn user none home possible matched = came_matched homes (home_under machine.room) (registered_as machine.clients) matched
       conn (key user.nick) user.home none (by (row machine.room.users (key user.nick)) possible.nick_free) home
-      (home_under (machine_after (with_client machine conn (Registered user.nick)) (AddUser user)).room) (registered_as (insert machine.clients conn (Registered user.nick)))
+      (home_under (machine_after (with_client machine conn (Registered user.nick)) (AddUser user)).room)
+      (registered_as (insert machine.clients conn (Registered user.nick)))
       (λ fold. ap home_in_row (row-alter (key user.nick) (λ _. Some user) machine.room.users fold)
       ∙ home_of_cond (same_fold fold (key user.nick)) (Some user) (row machine.room.users fold))
       (registered_with machine.clients conn (Registered user.nick))
@@ -231,7 +240,8 @@ module _ (homes : ℕ → Option Name) where
     line_matched user mine message = by (decide machine.room machine.place user.nick message).close refl
       where
         by : (b : Bool) → (decide machine.room machine.place user.nick message).close ≡ b
-            → IsMatched (closing b conn (all_stepped conn (Some user.nick) (decide machine.room machine.place user.nick message).steps (unchanged machine))).machine
+            → IsMatched (closing b conn (all_stepped conn (Some user.nick) (decide machine.room machine.place user.nick message).steps
+            (unchanged machine))).machine
         by true is =
             let first = closes machine.room machine.place user.nick message is in
             subst (λ (after : RoomMachine). IsMatched (without_client after conn))
@@ -241,13 +251,15 @@ module _ (homes : ℕ → Option Name) where
         by false is = quiet_steps conn (Some user.nick) (decide machine.room machine.place user.nick message).steps (unchanged machine) matched
             (decided_possible machine.room machine.place user.nick message well) (stays machine.room machine.place user.nick message is)
 
-    user_matched : (nick : List ℕ) → client_of machine conn ≡ Some (Registered nick) → (message : Parsed) → (o : Option User) → row machine.room.users (key nick) ≡ o
+    user_matched : (nick : List ℕ) → client_of machine conn ≡ Some (Registered nick) → (message : Parsed) → (o : Option User)
+        → row machine.room.users (key nick) ≡ o
         → IsMatched (user_decided machine conn o message).machine
     user_matched nick mine message None there = matched
     user_matched nick mine message (Some user) there =
         line_matched user (ap (option_and_then fold_of) mine ∙ ap Some (sym (well.users_named (key nick) user there))) message
 
-  registered_client : (given : Given) (nick : List ℕ) → given.registered ≡ true → given.pending.nick ≡ Some nick → client_after given given.pending.nick ≡ Registered nick
+  registered_client : (given : Given) (nick : List ℕ) → given.registered ≡ true → given.pending.nick ≡ Some nick
+      → client_after given given.pending.nick ≡ Registered nick
   registered_client given nick is nick_is = ap (client_after given) nick_is ∙ ap (λ b. if b then Registered nick else Registering given.pending) is
 
   waiting_client : (given : Given) (o : Option (List ℕ)) → given.registered ≡ false → fold_of (client_after given o) ≡ None
@@ -259,13 +271,16 @@ module _ (homes : ℕ → Option Name) where
     abbrev given_machine : RoomMachine
     given_machine = with_client machine conn (client_after given given.pending.nick)
 
-    new_matched : given.registered ≡ true → given.close ≡ false → AddsFirst machine.place given.pending.nick given.steps → IsMatched (pending_decided machine conn given).machine
+    new_matched : given.registered ≡ true → given.close ≡ false → AddsFirst machine.place given.pending.nick given.steps
+        → IsMatched (pending_decided machine conn given).machine
     new_matched is stays first =
         subst (λ b. IsMatched (closing b conn (all_stepped conn given.pending.nick given.steps (unchanged given_machine))).machine) (sym stays)
         (subst (λ acts. IsMatched (all_stepped conn given.pending.nick acts (unchanged given_machine)).machine) (sym first.steps_are)
         (subst IsMatched (sym (still_steps conn given.pending.nick first.behind (with_effect (AddUser first.user) (unchanged given_machine)) first.no_more))
-        (subst (λ client. IsMatched (machine_after (with_client machine conn client) (AddUser first.user))) (sym (registered_client given first.user.nick is first.is_nick))
-        (added_matched machine conn first.user none (home ∙ ap Some (sym first.is_home)) (subst (ArePossible machine.room) first.steps_are possible).now matched))))
+        (subst (λ client. IsMatched (machine_after (with_client machine conn client) (AddUser first.user)))
+        (sym (registered_client given first.user.nick is first.is_nick))
+        (added_matched machine conn first.user none (home ∙ ap Some (sym first.is_home))
+        (subst (ArePossible machine.room) first.steps_are possible).now matched))))
 
     waiting_matched : given.registered ≡ false → list_any is_effect given.steps ≡ false → IsMatched (pending_decided machine conn given).machine
     waiting_matched is still = by given.close

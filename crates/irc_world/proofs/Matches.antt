@@ -5,7 +5,7 @@ use Rattle.std.specs.Cmp.{nat_cmp_total, eq_by_cmp_equiv, Equal-is}
 use Rattle.std.specs.FinMap.{nat_cmp-IsAntisymmetric}
 use Rattle.irc_names.specs.TableLaws.{same_fold, same_fold-refl, one_fold}
 use Rattle.irc_relay.specs.Links.{Name}
-use Rattle.irc_world.specs.ClientsUsers.{HaveOneHome, HasClient, AreMatched}
+use Rattle.irc_world.specs.ClientsUsers.{HasClient, AreMatched}
 
 pub same_some : {X : Type 0} (x y : X) → Some x ≡ Some y → x ≡ y
 same_some x y is = ap (λ o. unwrap_or o x) is
@@ -75,7 +75,8 @@ module _ (homes : ℕ → Option Name) (user_home : List ℕ → Option Name) (r
       (λ client fold home was of_client of_user is.
       clients_are client ∙ ap (λ b. cond b None (registered client)) (is_false (same_number client gone) (λ one.
       let fold_is = same_some fold left (sym was ∙ ap registered (one_number client gone one) ∙ is_gone) in
-      let none = sym (users_are fold ∙ ap (λ b. cond b None (user_home fold)) (ap (λ f. same_fold f left) fold_is ∙ same_fold-refl left)) ∙ is in cc none)) ∙ was)
+      let none = sym (users_are fold ∙ ap (λ b. cond b None (user_home fold)) (ap (λ f. same_fold f left) fold_is ∙ same_fold-refl left)) ∙ is in cc none))
+      ∙ was)
     where
       user_was : (fold : List ℕ) (home : Name) (b : Bool) → cond b None (user_home fold) ≡ Some home → user_home fold ≡ Some home
       user_was fold home true is = absurd (cc is)
@@ -128,7 +129,8 @@ module _ (homes : ℕ → Option Name) (user_home : List ℕ → Option Name) (r
           let old = m.registered_is_user client fold was in
           let none = sym nobody ∙ ap user_home (sym (one_fold fold new one)) ∙ old.of_user in cc none
 
-      had : (fold : List ℕ) (home : Name) (b : Bool) → same_fold fold new ≡ b → cond b (Some new_home) (user_home fold) ≡ Some home → HasClient registered_new fold
+      had : (fold : List ℕ) (home : Name) (b : Bool) → same_fold fold new ≡ b → cond b (Some new_home) (user_home fold) ≡ Some home
+          → HasClient registered_new fold
       had fold home true one is = record {
         client = come;
         is_registered = clients_are come ∙ ap (λ b. cond b (Some new) (registered come)) (same_number-refl come) ∙ ap Some (sym (one_fold fold new one));
@@ -209,7 +211,8 @@ module _ (homes : ℕ → Option Name) (user_home : List ℕ → Option Name) (r
           let its = m.user_has_client fold home is in
           record {
             client = its.client;
-            is_registered = clients_are its.client ∙ ap (option_map (λ f. cond (same_fold f old) new f)) its.is_registered ∙ ap (λ b. Some (cond b new fold)) two;
+            is_registered =
+                clients_are its.client ∙ ap (option_map (λ f. cond (same_fold f old) new f)) its.is_registered ∙ ap (λ b. Some (cond b new fold)) two;
           }
 
 -- ---- two become one
@@ -221,7 +224,8 @@ pub record IsOfBoth {K X : Type 0} (one other new : K → Option X) : Type 0 whe
   pub second : (k : K) (x : X) → other k ≡ Some x → new k ≡ Some x
 
 module _ (homes : ℕ → Option Name) (one_home other_home new_home : List ℕ → Option Name) (one other new : ℕ → Option (List ℕ))
-    (m : AreMatched homes one_home one) (n : AreMatched homes other_home other) (users : IsOfBoth one_home other_home new_home) (clients : IsOfBoth one other new)
+    (m : AreMatched homes one_home one) (n : AreMatched homes other_home other) (users : IsOfBoth one_home other_home new_home)
+    (clients : IsOfBoth one other new)
     (apart : (fold : List ℕ) (home there : Name) → one_home fold ≡ Some home → other_home fold ≡ Some there → ⊥) where
   not_both : (client another : ℕ) (fold : List ℕ) → one client ≡ Some fold → other another ≡ Some fold → ⊥
   not_both client another fold here there =

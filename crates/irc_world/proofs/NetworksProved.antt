@@ -10,7 +10,6 @@ use Rattle.irc_line.specs.Bytes.{cut as cut_line}
 use Rattle.irc_line.specs.Messages.{line_text}
 use Rattle.irc_relay.specs.Links.{Name, Link, part, joined, without}
 use Rattle.irc_room.specs.declared.effect.Effect.{Effect}
-use Rattle.irc_room.specs.declared.effect.Effect.TheVariants.{Join}
 use Rattle.irc_room.specs.Examples.{room_after}
 use Rattle.irc_room.specs.Lemmas.ListedRooms.{ListedRoom, room_of, no_list, all_listed}
 use Rattle.irc_room.specs.Lemmas.ExampleRooms.{list_room}
@@ -18,12 +17,11 @@ use Rattle.irc_merge.specs.Agreeing.{agree}
 use Rattle.irc_merge.specs.Split.{split}
 use Rattle.irc_merge.specs.Lemmas.ListedMerge.{AreInOrder, CanBeListed, list_without}
 use Rattle.irc_server.specs.declared.clients.Client.{Client}
-use Rattle.irc_server.specs.declared.clients.Client.TheVariants.{Registered}
 use Rattle.irc_server.specs.RoomMachine.{Clients}
-use Rattle.irc_world.specs.World.{Hall, World, home_of}
+use Rattle.irc_world.specs.World.{home_of}
 use Rattle.irc_world.specs.Stepping.{link, step, clashes_in, merged, meeting_lines, split_text, side_of, leaving_lines}
 use Rattle.irc_world.specs.Refused.{refused, disagree, no_such_client}
-use Rattle.irc_world.specs.Networks.{PeopleMeet, LinkIsLost, LinkIsBack, back_again, b_to_c, three_clients, three_doings, three_people, in_a_line, cut_off, als_clients, als_doings, bos_clients, bos_doings, NicknamesClash, zeds_clients, zeds_doings, other_zeds_clients, other_zeds_doings, with_zed, with_other_zed, hall_after, on_a, on_b, three_peers, two_apart, als_people, bos_people}
+use Rattle.irc_world.specs.Networks.{PeopleMeet, LinkIsLost, LinkIsBack, back_again, b_to_c, three_clients, three_doings, three_people, in_a_line, cut_off, als_clients, als_doings, bos_clients, bos_doings, NicknamesClash, zeds_clients, zeds_doings, other_zeds_clients, other_zeds_doings, with_zed, with_other_zed, hall_after, three_peers, two_apart, als_people, bos_people}
 use Rattle.irc_world.proofs.StaysSound.{first_of, survivor, get-kept, get-merged}
 use Rattle.irc_world.proofs.ListedHalls.{list_lost, list_split, split_listed, InOrderLeaving, list_seen_leaving, leaving_listed, servers_listed, hall_of, list_clashes, clashes_listed, list_meeting, meeting_listed, agree_listed}
 
@@ -157,7 +155,8 @@ survivor_listed : (clients : List (ℕ × Client)) (effects : List Effect) (clie
     → survivor (room_after effects) (from_entries {R = nat_cmp} clients) client
     ≡ cond (not (list_clashes (list_room effects) (find nat_cmp client clients))) (find nat_cmp client clients) None
 survivor_listed clients effects client =
-    (λ i. cond (not (clashes_in (all_listed no_list effects i) (get-from_entries nat_cmp_total clients client i))) (get-from_entries nat_cmp_total clients client i) None)
+    (λ i. cond (not (clashes_in (all_listed no_list effects i) (get-from_entries nat_cmp_total clients client i)))
+    (get-from_entries nat_cmp_total clients client i) None)
     ∙ ap (λ b. cond (not b) (find nat_cmp client clients) None) (clashes_listed (list_room effects) (find nat_cmp client clients))
 
 -- who was killed is no client
@@ -220,10 +219,12 @@ abbrev left_on : Name → ℕ → Option Client
 left_on one client = cond (option_map_or (joined rest one) (home_of (in_a_line three_people) client) false) (find nat_cmp client three_clients) None
 
 client_left : (one other : Name) (client : ℕ)
-    → get (retain_keys (from_entries {R = nat_cmp} three_clients) (λ c. option_map_or (joined rest one) (home_of (in_a_line three_people) c) false)) client ≡ left_on one client
+    → get (retain_keys (from_entries {R = nat_cmp} three_clients) (λ c. option_map_or (joined rest one) (home_of (in_a_line three_people) c) false)) client
+    ≡ left_on one client
 client_left one other client =
     get-kept (from_entries three_clients) (λ c. option_map_or (joined rest one) (home_of (in_a_line three_people) c) false) client
-    ∙ ap (λ o. cond (option_map_or (joined rest one) (home_of (in_a_line three_people) client) false) o None) (get-from_entries nat_cmp_total three_clients client)
+    ∙ ap (λ o. cond (option_map_or (joined rest one) (home_of (in_a_line three_people) client) false) o None)
+    (get-from_entries nat_cmp_total three_clients client)
 
 lost_lines : (client : ℕ) → cut_off.lines client
     ≡ list_seen_leaving (split_text a_net b_net) (b_net ∷ codes "c.net" ∷ []) three (left_on a_net client)

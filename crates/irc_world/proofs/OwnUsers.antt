@@ -60,7 +60,8 @@ module _ (passes : List ℕ → Bool) where
   changed change home (Some old) all new is =
       ap (λ (u : User). passes u.home) (sym (same_some (change old) new is)) ∙ (ap passes (home old) ∙ all old refl)
 
-  put_elsewhere : (users : Table User) (old new nick : List ℕ) → AllPass users → (o : Option User) → row users old ≡ o → AllPass (moved old new (with_nick nick) users)
+  put_elsewhere : (users : Table User) (old new nick : List ℕ) → AllPass users → (o : Option User) → row users old ≡ o
+      → AllPass (moved old new (with_nick nick) users)
   put_elsewhere users old new nick all None here q user is = all q user (sym (row-moved_none old new (with_nick nick) users here q) ∙ is)
   put_elsewhere users old new nick all (Some one) here q user is =
       by (same_fold q new) (same_fold q old) (sym (row-moved old new (with_nick nick) users one here q) ∙ is)

@@ -53,7 +53,8 @@ itself_known setting = record { name = setting.name; info = setting.info; distan
 known_alone : (setting : Setting) → known_from (setting ∷ []) [] setting.name setting.name ≡ Some (itself_known setting)
 unfolding distance
 known_alone setting =
-    ap (λ b. if b then option_map (λ (s : Setting). record { name = s.name; info = s.info; distance = distance [] setting.name setting.name }) (setting_of (setting ∷ []) setting.name)
+    ap (λ b. if b then option_map (λ (s : Setting). record { name = s.name; info = s.info; distance = distance [] setting.name setting.name })
+    (setting_of (setting ∷ []) setting.name)
     else None) (same_when (part [] setting.name) (part [] setting.name) refl)
     ∙ ap (option_map (λ (s : Setting). record { name = s.name; info = s.info; distance = distance [] setting.name setting.name })) (found setting)
 
@@ -164,10 +165,12 @@ module _ (alone_is : AloneIsAlone) (setting : Setting) where
             absurd (let none = sym (past_end world.homes) ∙ at_home.is_home in cc none)
 
     connect_done : (server : Name) (host : List ℕ) → setting.name ≡ server
-        → IsDone setting (by_machine (setting ∷ []) (record world { homes = world.homes ++ server ∷ [] }) server (connects (suc (length world.homes)) host)) view
+        → IsDone setting (by_machine (setting ∷ []) (record world { homes = world.homes ++ server ∷ [] }) server
+        (connects (suc (length world.homes)) host)) view
         (connects (suc (length world.homes)) host)
     connect_done server host here =
-        subst (λ s. IsDone setting (by_machine (setting ∷ []) (record world { homes = world.homes ++ s ∷ [] }) s (connects (suc (length world.homes)) host)) view
+        subst (λ s. IsDone setting (by_machine (setting ∷ []) (record world { homes = world.homes ++ s ∷ [] }) s
+        (connects (suc (length world.homes)) host)) view
         (connects (suc (length world.homes)) host)) here
         (machine_done (record world { homes = world.homes ++ setting.name ∷ [] }) view (connects (suc (length world.homes)) host) (record {
           no_links = is.no_links;
@@ -203,7 +206,8 @@ one_server_is_the_network alone_is setting world view item sound is taken = by i
 
     by : (item : Item) → refused (setting ∷ []) world item ≡ None → IsServed setting world view item
     by (connect server host) taken =
-        let done = connect_done alone_is setting world view sound is server host (one_name setting server (server_known (setting ∷ []) world server host taken)) in
+        let done = connect_done alone_is setting world view sound is server host
+        (one_name setting server (server_known (setting ∷ []) world server host taken)) in
         record {
           happening = connects (suc (length world.homes)) host;
           is_item = refl;

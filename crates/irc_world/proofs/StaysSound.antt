@@ -68,18 +68,21 @@ module _ (decided_possible : DecidedIsPossible) (registering_possible : Register
         room = (handled (machine_at settings world home) happening).machine.room;
       }
 
-      after : Keeps (machine_at settings world home) (λ client. HasHomeBy world.links world.homes client home) (handled (machine_at settings world home) happening).machine
+      after : Keeps (machine_at settings world home) (λ client. HasHomeBy world.links world.homes client home)
+          (handled (machine_at settings world home) happening).machine
       after = handled_keeps (machine_at settings world home) (λ client. HasHomeBy world.links world.homes client home) decided_possible registering_possible
           (record { place = refl; well = sound.well_formed home; clients = sound.clients_home home }) happening comes
 
-      nearer : (client : ℕ) (s : Name) → AreJoined world.links s home → HasHomeBy world.links world.homes client home → HasHomeBy world.links world.homes client s
+      nearer : (client : ℕ) (s : Name) → AreJoined world.links s home → HasHomeBy world.links world.homes client home
+          → HasHomeBy world.links world.homes client s
       nearer client s here at_home = record { home = at_home.home; is_home = at_home.is_home; joined = at_home.joined ∙ sym here }
 
   client_sound : (world : World) (client : ℕ) (happening : Happening) → IsSound settings world
       → Comes (λ client. ⊥) happening → IsSound settings (by_client settings world client happening).world
   client_sound world client happening sound comes = by (home_of world client)
     where
-      comes_so : (home : Name) (happening : Happening) → Comes (λ client. ⊥) happening → Comes (λ client. HasHomeBy world.links world.homes client home) happening
+      comes_so : (home : Name) (happening : Happening) → Comes (λ client. ⊥) happening
+          → Comes (λ client. HasHomeBy world.links world.homes client home) happening
       comes_so home (connects conn host) none = absurd none
       comes_so home (says conn read) none = tt
       comes_so home (goes conn) none = tt
@@ -90,7 +93,8 @@ module _ (decided_possible : DecidedIsPossible) (registering_possible : Register
 
 -- ---- one more home
 
-pub still_home : (homes : List Name) (new : Name) (earlier : ℕ) (home : Name) → slice_get homes earlier ≡ Some home → slice_get (homes ++ new ∷ []) earlier ≡ Some home
+pub still_home : (homes : List Name) (new : Name) (earlier : ℕ) (home : Name) → slice_get homes earlier ≡ Some home
+    → slice_get (homes ++ new ∷ []) earlier ≡ Some home
 still_home [] new earlier home is = absurd (cc is)
 still_home (first ∷ homes) new zero home is = is
 still_home (first ∷ homes) new (suc earlier) home is = still_home homes new earlier home is
@@ -154,7 +158,8 @@ pub record LinkIsTaken (settings : List Setting) (world : World) (near far : Nam
   pub peers : are_peers settings near far ≡ true
   pub alike : agree (world.hall near).room (world.hall far).room ≡ true
 
-pub link_taken : (settings : List Setting) (world : World) (near far : Name) → refused settings world (link near far) ≡ None → LinkIsTaken settings world near far
+pub link_taken : (settings : List Setting) (world : World) (near far : Name) → refused settings world (link near far) ≡ None
+    → LinkIsTaken settings world near far
 unfolding refused
 link_taken settings world near far is =
     let there = if_taken (is_server settings near && is_server settings far) no_such_server (link_refusal settings world near far) is in
@@ -215,7 +220,8 @@ of_either true false None p there = absurd (cc there)
 of_either false true o p there = inr there
 of_either false false o p there = let none : false ≡ true = there in absurd (cc none)
 
-module _ (settings : List Setting) (world : World) (near far : Name) (sound : IsSound settings world) (between : LinkBetweenParts) (merge_well : MergeIsWellFormed)
+module _ (settings : List Setting) (world : World) (near far : Name) (sound : IsSound settings world) (between : LinkBetweenParts)
+    (merge_well : MergeIsWellFormed)
     (taken : LinkIsTaken settings world near far) where
   abbrev new_link : Link
   new_link = record { near = near; far = far }
@@ -247,11 +253,15 @@ module _ (settings : List Setting) (world : World) (near far : Name) (sound : Is
     ]);
     well_formed = λ s. hall_with (λ h. IsWellFormed h.room) near s hall_of_both new_links
         (λ _. merge_well (world.hall near).room (world.hall far).room (sound.well_formed near) (sound.well_formed far)) (λ _. sound.well_formed s);
-    clients_home = λ s client. hall_with (λ h. is_some (get h.clients client) ≡ true → HasHomeBy (new_link ∷ world.links) world.homes client s) near s hall_of_both new_links
+    clients_home =
+        λ s client. hall_with (λ h. is_some (get h.clients client) ≡ true
+        → HasHomeBy (new_link ∷ world.links) world.homes client s) near s hall_of_both new_links
         (λ here there. ⊎_elim
         (λ (one : is_some (get (world.hall near).clients client) ≡ true). reaches client near s (sound.clients_home near client one) (sym here))
-        (λ (other : is_some (get (world.hall far).clients client) ≡ true). reaches client far s (sound.clients_home far client other) (sym made.joined ∙ sym here))
-        (of_either (not (clashes_in (world.hall far).room (get (world.hall near).clients client))) (not (clashes_in (world.hall near).room (get (world.hall far).clients client)))
+        (λ (other : is_some (get (world.hall far).clients client) ≡ true). reaches client far s (sound.clients_home far client other)
+        (sym made.joined ∙ sym here))
+        (of_either (not (clashes_in (world.hall far).room (get (world.hall near).clients client)))
+        (not (clashes_in (world.hall near).room (get (world.hall far).clients client)))
         (get (world.hall near).clients client) (get (world.hall far).clients client)
         (ap is_some (sym (get-merged (world.hall near) (world.hall far) client)) ∙ there)))
         (λ _ there. reaches client s s (sound.clients_home s client there) refl);
@@ -313,7 +323,9 @@ module _ (settings : List Setting) (world : World) (near far : Name) (sound : Is
         (λ _. split_well (split_text far near) (side_of settings rest near) (world.hall far).room (sound.well_formed far))
         (λ _. hall_with (λ h. IsWellFormed h.room) near s near_hall fewer_links
         (λ _. split_well (split_text near far) (side_of settings rest far) (world.hall near).room (sound.well_formed near)) (λ _. sound.well_formed s));
-    clients_home = λ s client. hall_with (λ h. is_some (get h.clients client) ≡ true → HasHomeBy rest world.homes client s) far s far_hall (with_hall near near_hall fewer_links)
+    clients_home =
+        λ s client. hall_with (λ h. is_some (get h.clients client) ≡ true → HasHomeBy rest world.homes client s) far s far_hall
+        (with_hall near near_hall fewer_links)
         (λ here there. stays client far near s here there)
         (λ not_far. hall_with (λ h. is_some (get h.clients client) ≡ true → HasHomeBy rest world.homes client s) near s near_hall fewer_links
         (λ here there. stays client near far s here there)
@@ -332,7 +344,8 @@ pub link_there : TestsTell → (settings : List Setting) (world : World) (near f
     → AreLinked world.links near far
 unfolding refused
 link_there tests settings world near far is =
-    let there = if_taken (is_server settings near && is_server settings far) no_such_server (if are_linked world.links near far then None else Some not_linked) is in
+    let there = if_taken (is_server settings near && is_server settings far) no_such_server
+    (if are_linked world.links near far then None else Some not_linked) is in
     (tests world.links near far near).2.0 (if_taken (are_linked world.links near far) not_linked None there.1).0
 
 module _ (tests : TestsTell) (between : LinkBetweenParts) (taken_out : LinkTakenOut) (over_link : JoinedOverLink) (decided_possible : DecidedIsPossible)
@@ -340,12 +353,15 @@ module _ (tests : TestsTell) (between : LinkBetweenParts) (taken_out : LinkTaken
   pub step_stays_sound : StepStaysSound
   unfolding step
   step_stays_sound settings world (connect server host) sound is =
-      machine_sound decided_possible registering_possible settings (record world { homes = world.homes ++ server ∷ [] }) server (connects (suc (length world.homes)) host)
+      machine_sound decided_possible registering_possible settings (record world { homes = world.homes ++ server ∷ [] }) server
+      (connects (suc (length world.homes)) host)
       (more_sound settings world server sound (server_known settings world server host is))
       (record { home = server; is_home = new_home world.homes server; joined = refl })
-  step_stays_sound settings world (line client bytes) sound is = client_sound decided_possible registering_possible settings world client (says client (read_of bytes)) sound tt
+  step_stays_sound settings world (line client bytes) sound is =
+      client_sound decided_possible registering_possible settings world client (says client (read_of bytes)) sound tt
   step_stays_sound settings world (gone client) sound is = client_sound decided_possible registering_possible settings world client (goes client) sound tt
-  step_stays_sound settings world (link near far) sound is = linked_sound settings world near far sound between merge_well (link_taken settings world near far is)
+  step_stays_sound settings world (link near far) sound is =
+      linked_sound settings world near far sound between merge_well (link_taken settings world near far is)
   step_stays_sound settings world (cut near far) sound is =
       parted_sound settings world near far sound taken_out over_link split_well (link_there tests settings world near far is)
 

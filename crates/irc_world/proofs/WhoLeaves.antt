@@ -1,5 +1,5 @@
 -- Who is left where several users have quit.
-use Rattle.std.proofs.Common.{◌≡◌, ℕ, Bool, true, false, cond, ◌&&◌, ◌||◌, T, Option, Some, None, unwrap_or, List, [], ◌∷◌, ◌++◌, refl, sym, ◌∙◌, ap, subst, map, filter, is_some}
+use Rattle.std.proofs.Common.{◌≡◌, ℕ, Bool, true, false, cond, ◌&&◌, ◌||◌, T, Option, Some, None, List, [], ◌∷◌, refl, sym, ◌∙◌, ap, map, filter, is_some}
 use Rattle.std.proofs.lemmas.Bool.{and_parts, and_from}
 use Rattle.std.proofs.lemmas.List.Folds.{list_any-append}
 use Rattle.std.specs.declared.cmp.Ordering.{Ordering}
@@ -9,7 +9,7 @@ use Rattle.std.specs.Ordering.{is_lt, is_eq}
 use Rattle.std.specs.FinMap.{entries, entries_sorted, values, find, is_sorted, get-entries}
 use Rattle.std.specs.FinMap.Entries.{below_all}
 use Rattle.irc_names.specs.Fold.{key}
-use Rattle.irc_names.specs.Tables.{Table, fold_cmp, row}
+use Rattle.irc_names.specs.Tables.{fold_cmp, row}
 use Rattle.irc_names.specs.TableLaws.{same_fold, same_fold-refl, one_fold, row-alter, row-both}
 use Rattle.irc_users.specs.declared.user.User.{User}
 use Rattle.irc_users.specs.UserTable.{is_home}
@@ -20,6 +20,7 @@ use Rattle.irc_room.specs.InTurn.{after_all}
 use Rattle.irc_merge.specs.Merge.{clash, without, either, merge}
 use Rattle.irc_merge.specs.Quits.{quits, users_at, collision_text}
 use Rattle.irc_merge.specs.Split.{lost_users, split}
+use Rattle.irc_world.proofs.Matches.{same_some}
 
 -- whether the user with a fold is one of these
 abbrev pub among : List ℕ → List User → Bool
@@ -41,9 +42,6 @@ users_left room text (user ∷ users) q =
     ∙ both_gone (among q users) (same_fold q (key user.nick)) (row room.users q)
 
 -- ---- entries in order
-
-same_some : {X : Type 0} (x y : X) → Some x ≡ Some y → x ≡ y
-same_some x y is = ap (λ o. unwrap_or o x) is
 
 told : (b : Bool) → T b → b ≡ true
 told true h = refl
@@ -107,7 +105,8 @@ module _ {X : Type 0} (test : List ℕ × X → Bool) where
   listed_so q value [] is passes = absurd (cc is)
   listed_so q value (e ∷ es) is passes = by (same_fold q e.0) refl (λ later. listed_so q value es later passes) is
     where
-      by : (b : Bool) → same_fold q e.0 ≡ b → (find fold_cmp q es ≡ Some value → list_any test es ≡ true) → cond b (Some e.1) (find fold_cmp q es) ≡ Some value → (test e || list_any test es) ≡ true
+      by : (b : Bool) → same_fold q e.0 ≡ b → (find fold_cmp q es ≡ Some value → list_any test es ≡ true)
+          → cond b (Some e.1) (find fold_cmp q es) ≡ Some value → (test e || list_any test es) ≡ true
       by true one behind found =
           ap (λ b. b || list_any test es) ((λ i. test (sym (one_fold q e.0 one) i, (same_some e.1 value found) i)) ∙ passes)
       by false two behind found = or_second (test e) (list_any test es) (behind found)

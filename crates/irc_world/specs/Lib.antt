@@ -13,3 +13,4 @@ pub mod Homes
 pub mod UsersHomes
 pub mod ClientsUsers
 pub mod Networks
+pub mod WithinLimits

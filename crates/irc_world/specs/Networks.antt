@@ -2,12 +2,11 @@
 use Rattle.std.specs.Prelude.{◌≡◌, ℕ, true, false, Some, None, List, [], ◌∷◌, ◌++◌, codes}
 use Rattle.std.specs.FinMap.{from_entries}
 use Rattle.irc_line.specs.Bytes.{crlf}
-use Rattle.irc_users.specs.declared.user.User.{User}
 use Rattle.irc_room.specs.declared.effect.By.TheVariants as by
 use Rattle.irc_room.specs.declared.effect.Effect.{Effect}
 use Rattle.irc_room.specs.declared.effect.Effect.TheVariants.{AddUser, Join, SetTopic}
 use Rattle.irc_room.specs.Examples.{room_after, somebody}
-use Rattle.irc_relay.specs.Links.{Name, Link}
+use Rattle.irc_relay.specs.Links.{Link}
 use Rattle.irc_server.specs.declared.clients.Client.{Client}
 use Rattle.irc_server.specs.declared.clients.Client.TheVariants.{Registered}
 use Rattle.irc_world.specs.World.{Setting, Hall, World, new_world, with_hall}

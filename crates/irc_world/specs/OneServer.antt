@@ -6,15 +6,18 @@ use Rattle.irc_room.specs.Laws.{no_room}
 use Rattle.irc_routes.specs.Known.{alone_known}
 use Rattle.irc_server.specs.RoomMachine.{RoomMachine, client_of}
 use Rattle.irc_server.specs.declared.config.Config.{Config}
+use Rattle.irc_server.specs.declared.event.Event.{Event}
+use Rattle.irc_server.specs.declared.event.ServerFault.TheVariants.{NoSuchConnection}
+use Rattle.irc_server.specs.Happening.{happening_of}
 use Rattle.irc_server.specs.Configuring.{IsMade}
 use Rattle.irc_server.specs.View.{View, known_peer, machine_of}
 use Rattle.irc_server.specs.Handle.{Happening, connects, says, goes}
-use Rattle.irc_server.specs.Served.{served}
+use Rattle.irc_server.specs.Served.{served, fault_of}
 use Rattle.irc_server.specs.Owed.{lines_to}
 use Rattle.irc_server.specs.Owed.{owed as owed_by_server}
 use Rattle.irc_world.specs.World.{Setting, World, new_world}
 use Rattle.irc_world.specs.Stepping.{Item, connect, line, gone, link, cut, step}
-use Rattle.irc_world.specs.Refused.{refused}
+use Rattle.irc_world.specs.Refused.{refused, no_such_client}
 use Rattle.irc_world.specs.Owed.{owed}
 use Rattle.irc_world.specs.Sound.{IsSound, AreTaken}
 
@@ -86,3 +89,10 @@ happenings_from settings world (item ∷ items) =
 abbrev pub OneServerOwes : Type 0
 OneServerOwes = (setting : Setting) (items : List Item) → AreTaken (setting ∷ []) new_world items → (client : ℕ)
     → owed (setting ∷ []) items client ≡ owed_by_server client (machine_of (lone_view setting)) (happenings_from (setting ∷ []) new_world items)
+
+-- What a client would do that is not there, the one server refuses as well.
+abbrev pub OneServerRefuses : Type 0
+OneServerRefuses =
+    (setting : Setting) (world : World) (view : View) (item : Item) (event : Event) → IsSound (setting ∷ []) world → IsTheServer setting world view
+    → happening_at world item ≡ Some (happening_of event) → refused (setting ∷ []) world item ≡ Some no_such_client
+    → fault_of view event ≡ Some NoSuchConnection

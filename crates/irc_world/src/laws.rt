@@ -5,8 +5,9 @@ ghost use Rattle.irc_world.specs.Homes.{ClientsBringOwnUsers};
 ghost use Rattle.irc_world.specs.Laws.{NewWorldIsSound, StepStaysSound, WorldIsSound};
 ghost use Rattle.irc_world.specs.Bounds.{OneServerTellsNobody};
 ghost use Rattle.irc_world.specs.Even.{LinkIsEven};
-ghost use Rattle.irc_world.specs.OneServer.{NewServerIsAlone, OneServerIsTheNetwork, OneServerOwes};
+ghost use Rattle.irc_world.specs.OneServer.{NewServerIsAlone, OneServerIsTheNetwork, OneServerOwes, OneServerRefuses};
 ghost use Rattle.irc_world.specs.Parts.{ClientsAreNumberedOnce, ViewIsWellFormed};
+ghost use Rattle.irc_world.specs.WithinLimits.{RoomsKeepLimits, StepKeepsLimits};
 ghost use Rattle.irc_world.specs.UsersHomes.{StepKeepsHomes, StepKeepsHomesJoined, UsersHomesAreJoined, UsersHomesAreServers};
 
 /// A network with no link and nobody in it is sound.
@@ -64,6 +65,11 @@ pub fn one_server_owes()
     irc_server::laws::lone_server_is_one_room();
     step_stays_sound();
 }
+
+/// What a network of one server refuses because no such client is there, that server refuses as well.
+pub fn one_server_refuses()
+    ensures { OneServerRefuses }
+{}
 
 /// Where a link between two servers is not refused, either of them may connect: afterwards the same servers are joined, each has the same
 /// hall, and each client receives the same lines.
@@ -165,5 +171,27 @@ pub fn registered_are_users()
     step_keeps_matched();
     step_keeps_homes_joined();
     step_keeps_homes();
+    step_stays_sound();
+}
+
+/// Where servers have names that a server may have, rooms that keep to their limits do so still after an item that is not refused: who connects comes from
+/// a host that is one, and a line has neither NUL, CR nor LF.
+pub fn step_keeps_limits()
+    ensures { StepKeepsLimits }
+{
+    irc_line::laws::words_are_of_the_line();
+    irc_room::laws::after_is_within_limits();
+    irc_commands::laws::decided_is_sendable();
+    irc_commands::laws::registering_is_sendable();
+    irc_merge::laws::merge_is_within_limits();
+    irc_merge::laws::split_is_within_limits();
+}
+
+/// After any such items of which none is refused, each room keeps to its limits.
+pub fn rooms_keep_limits()
+    ensures { RoomsKeepLimits }
+{
+    irc_room::laws::no_room_is_within_limits();
+    step_keeps_limits();
     step_stays_sound();
 }

@@ -1,0 +1,70 @@
+-- What a network of one server refuses of a client, that server refuses.
+use Rattle.std.proofs.Common.{◌≡◌, ℕ, Bool, true, false, Option, Some, None, List, [], ◌∷◌, refl, sym, ◌∙◌, ap, is_some, if◌then◌else◌}
+use Rattle.std.specs.Option.{option_and_then}
+use Rattle.std.specs.FinMap.{get}
+use Rattle.irc_line.specs.Reading.{read_of}
+use Rattle.irc_server.specs.declared.clients.Client.{Client}
+use Rattle.irc_server.specs.declared.event.Event.{Event}
+use Rattle.irc_server.specs.declared.event.Event.TheVariants.{Connect, Line, Gone}
+use Rattle.irc_server.specs.declared.event.ServerFault.TheVariants.{NoSuchConnection}
+use Rattle.irc_server.specs.RoomMachine.{client_of}
+use Rattle.irc_server.specs.Happening.{happening_of}
+use Rattle.irc_server.specs.Served.{fault_of, not_there}
+use Rattle.irc_server.specs.View.{View, machine_of}
+use Rattle.irc_server.specs.Handle.{Happening, connects, says, goes}
+use Rattle.irc_world.specs.World.{Setting, World, is_server}
+use Rattle.irc_world.specs.Stepping.{connect, line, gone, link, cut}
+use Rattle.irc_world.specs.Refused.{refused, open_client, no_such_server, no_such_client}
+use Rattle.irc_world.specs.Sound.{IsSound}
+use Rattle.irc_world.specs.OneServer.{IsTheServer, OneServerRefuses}
+use Rattle.irc_world.proofs.Matches.{same_some}
+use Rattle.irc_world.proofs.ServedAlone.{one_name}
+
+abbrev conn_of : Happening → ℕ
+conn_of (connects conn host) = conn
+conn_of (says conn read) = conn
+conn_of (goes conn) = conn
+
+is_refused : (b : Bool) → (if b then None else Some no_such_client) ≡ Some no_such_client → b ≡ false
+is_refused true is = absurd (cc is)
+is_refused false is = refl
+
+module _ (setting : Setting) (world : World) (view : View) (sound : IsSound (setting ∷ []) world) (is : IsTheServer setting world view) where
+  nobody : (client : ℕ) → is_some (open_client world client) ≡ false → client_of (machine_of view) client ≡ None
+  nobody client none = ap (λ clients. get clients client) is.clients ∙ by (get (world.hall setting.name).clients client) refl
+    where
+      by : (o : Option Client) → get (world.hall setting.name).clients client ≡ o → o ≡ None
+      by None _ = refl
+      by (Some one) there =
+          let at_home = sound.clients_home setting.name client (ap is_some there) in
+          let here = one_name setting at_home.home (sound.homes_known client at_home.home at_home.is_home) in
+          absurd (let clash = sym none
+          ∙ ap (λ o. is_some (option_and_then (λ home. get (world.hall home).clients client) o)) (at_home.is_home ∙ ap Some (sym here))
+          ∙ ap is_some there in cc clash)
+
+  event_refused : (client : ℕ) (happening : Happening) (event : Event) → happening ≡ happening_of event → conn_of happening ≡ client
+      → (((conn : ℕ) (host : List ℕ) → happening ≡ connects conn host → ⊥))
+      → is_some (open_client world client) ≡ false → fault_of view event ≡ Some NoSuchConnection
+  event_refused client happening (Connect conn host) same number apart none = absurd (apart conn _ same)
+  event_refused client happening (Line conn text) same number apart none =
+      ap not_there (ap (client_of (machine_of view)) (sym (ap conn_of same) ∙ number) ∙ nobody client none)
+  event_refused client happening (Gone conn) same number apart none =
+      ap not_there (ap (client_of (machine_of view)) (sym (ap conn_of same) ∙ number) ∙ nobody client none)
+
+pub one_server_refuses : OneServerRefuses
+unfolding refused
+one_server_refuses setting world view (connect server host) event sound is same taken =
+    absurd (by (is_server (setting ∷ []) server) taken)
+  where
+    by : (b : Bool) → (if b then None else Some no_such_server) ≡ Some no_such_client → ⊥
+    by true taken = cc taken
+    by false taken = cc taken
+one_server_refuses setting world view (line client bytes) event sound is same taken =
+    event_refused setting world view sound is client (says client (read_of bytes)) event
+    (same_some (says client (read_of bytes)) (happening_of event) same) refl
+    (λ conn host is. cc is) (is_refused (is_some (open_client world client)) taken)
+one_server_refuses setting world view (gone client) event sound is same taken =
+    event_refused setting world view sound is client (goes client) event (same_some (goes client) (happening_of event) same) refl
+    (λ conn host is. cc is) (is_refused (is_some (open_client world client)) taken)
+one_server_refuses setting world view (link near far) event sound is same taken = absurd (cc same)
+one_server_refuses setting world view (cut near far) event sound is same taken = absurd (cc same)
