@@ -21,7 +21,8 @@ order_as now wire order = record { all_told = order.all_told; noted = order.note
 
 module _ {W : Type 0} (is_after : W → List Call → Type 0) where
   -- a turn that does not want memory leaves an engine in order
-  pub in_order_after : (old new : Engine W) (result : Result (Unit {0}) EngineFault) → Turned is_after old new result → new.failed ≡ false → IsInOrder (moment_of old.desk)
+  pub in_order_after : (old new : Engine W) (result : Result (Unit {0}) EngineFault) → Turned is_after old new result → new.failed ≡ false
+      → IsInOrder (moment_of old.desk)
       → IsInOrder (moment_of new.desk)
   in_order_after old new result (takes_turn serves still room turn) well order = (turn.does.in_order (order_as (moment_of old.desk) turn.wire order)).1
   in_order_after old new result (device_failed fault serves still room account same) well order =
@@ -29,7 +30,8 @@ module _ {W : Type 0} (is_after : W → List Call → Type 0) where
   in_order_after old new result (wants_memory report wire serves failed account busy) well order = cc (sym failed ∙ well)
   in_order_after old new result (has_failed failed same) well order = cc (sym failed ∙ sym (ap (λ (e : Engine W). e.failed) same) ∙ well)
 
-  pub in_order_after_all : (old : Engine W) (turns : ℕ) (new : Engine W) → Turns is_after old turns new → IsInOrder (moment_of old.desk) → IsInOrder (moment_of new.desk)
+  pub in_order_after_all : (old : Engine W) (turns : ℕ) (new : Engine W) → Turns is_after old turns new → IsInOrder (moment_of old.desk)
+      → IsInOrder (moment_of new.desk)
   in_order_after_all old turns new no_turn order = order
   in_order_after_all old turns new (one_more n between last so_far (takes_turn serves still room turn)) order =
       (turn.does.in_order (order_as (moment_of between.desk) turn.wire (in_order_after_all old n between so_far order))).1
@@ -47,14 +49,16 @@ some_still [] more left some is = cc some
 some_still (b ∷ held) more left some is = sym (ap is_some_bytes is)
 
 -- where nothing is written, what waits still does
-still_waits : (conn : ℕ) (old new : Option Seat) (calls : List Call) (outs : List Out) → Fate conn old calls outs new → written conn calls ≡ [] → has_some_at old ≡ true
+still_waits : (conn : ℕ) (old new : Option Seat) (calls : List Call) (outs : List Out) → Fate conn old calls outs new → written conn calls ≡ []
+    → has_some_at old ≡ true
     → is_some new ≡ true → has_some_at new ≡ true
 still_waits conn None new calls outs fate nothing some there = cc some
 still_waits conn (Some old) None calls outs fate nothing some there = cc there
 still_waits conn (Some old) (Some new) calls outs fate nothing some there =
     some_still old.outbox.bytes (owed (is_some old.framer) conn outs) new.outbox.bytes some (fate.carried ∙ ap (λ xs. xs ++ new.outbox.bytes) nothing)
 
-had_seat : (conn : ℕ) (old new : Option Seat) (calls : List Call) (outs : List Out) → Fate conn old calls outs new → is_some new ≡ true → is_some old ≡ true
+-- a connection that has a seat had it before
+pub had_seat : (conn : ℕ) (old new : Option Seat) (calls : List Call) (outs : List Out) → Fate conn old calls outs new → is_some new ≡ true → is_some old ≡ true
 had_seat conn None None calls outs fate there = there
 had_seat conn None (Some new) calls outs fate there = absurd fate
 had_seat conn (Some old) new calls outs fate there = refl
@@ -64,10 +68,12 @@ other_seat old new seat true none set some = cc (sym some ∙ ap has_some_at (no
 other_seat old new seat false none set some = set
 
 module _ {W : Type 0} (is_after : W → List Call → Type 0) (room conn : ℕ) where
-  ran_waits : (exchanges : List Call) (first : List Event) (came : ℕ → List ℕ) (old new : Moment W) → written conn exchanges ≡ [] → Ran is_after exchanges first came old new
+  ran_waits : (exchanges : List Call) (first : List Event) (came : ℕ → List ℕ) (old new : Moment W) → written conn exchanges ≡ []
+      → Ran is_after exchanges first came old new
       → has_some_at (old.seats conn) ≡ true → is_some (new.seats conn) ≡ true → has_some_at (new.seats conn) ≡ true
   ran_waits exchanges first came old new nothing ran some there =
-      still_waits conn (old.seats conn) (new.seats conn) ran.calls ran.outs (ran.fates conn) (written_in conn ran.calls ∙ ap (written conn) ran.exchanged ∙ nothing) some there
+      still_waits conn (old.seats conn) (new.seats conn) ran.calls ran.outs (ran.fates conn) (written_in conn ran.calls ∙ ap (written conn) ran.exchanged
+      ∙ nothing) some there
 
   connects_waits : (which : ℕ) (host : List ℕ) (old new : Moment W) → Connects is_after room which host old new → has_some_at (old.seats conn) ≡ true
       → is_some (new.seats conn) ≡ true → has_some_at (new.seats conn) ≡ true
@@ -87,7 +93,8 @@ module _ {W : Type 0} (is_after : W → List Call → Type 0) (room conn : ℕ) 
   reads_waits which old new (not_open shut ran) some there = ran_waits [] [] _ old new refl ran some there
   reads_waits which old new (read_once size answer bytes unshut as_large ran) some there = ran_waits _ [] _ old new refl ran some there
 
-  answers_wait : (report : Ready) (old new : Moment W) → Answers is_after room report old new → has_some_at (old.seats conn) ≡ true → is_some (new.seats conn) ≡ true
+  answers_wait : (report : Ready) (old new : Moment W) → Answers is_after room report old new → has_some_at (old.seats conn) ≡ true
+      → is_some (new.seats conn) ≡ true
       → has_some_at (new.seats conn) ≡ true
   answers_wait Idle old new ran some there = ran_waits [] [] _ old new refl ran some there
   answers_wait (Client which host) old new done some there = connects_waits which host old new done some there
@@ -96,9 +103,11 @@ module _ {W : Type 0} (is_after : W → List Call → Type 0) (room conn : ℕ) 
   answers_wait (Writable which) old new ran some there = ran_waits [] [] _ old new refl ran some there
 
   -- A connection whose outbox was not empty before a turn, and which the turn does not close, is written to once.
-  pub written_in_turn : (old new : Moment W) (turn : Turn is_after room old new) → IsInOrder old → has_some_at (old.seats conn) ≡ true → is_some (new.seats conn) ≡ true
+  pub written_in_turn : (old new : Moment W) (turn : Turn is_after room old new) → IsInOrder old → has_some_at (old.seats conn) ≡ true
+      → is_some (new.seats conn) ≡ true
       → times_written conn turn.does.writes.exchanges ≡ 1
   written_in_turn old new turn order some there =
       ((turn.does.writes.each (turn.does.in_order (order_as old turn.wire order)).0).each conn).unless_closed there
       ∙ ap one_if (answers_wait turn.report (record old { wire = turn.wire }) turn.does.between turn.does.answers some
-      (had_seat conn (turn.does.between.seats conn) (new.seats conn) turn.does.writes.ran.calls turn.does.writes.ran.outs (turn.does.writes.ran.fates conn) there))
+      (had_seat conn (turn.does.between.seats conn) (new.seats conn) turn.does.writes.ran.calls turn.does.writes.ran.outs
+      (turn.does.writes.ran.fates conn) there))
