@@ -190,8 +190,9 @@ module _ {W : Type 0} (is_after : W → List Call → Type 0) where
   flushes_none desk rest pending none is = record {
     exchanges = [];
     ran = ran_marked is_after desk.server _ desk.board rest;
+    told = λ told. told;
     halfway = λ order. record {
-      told = order.all_told;
+      all_told = order.all_told;
       marks = λ q. record {
         noted_is = all_pending (has pending q) (has rest q) (seat_of desk.board.seats q) (none q) (ap (λ s. has s q) is ∙ order.noted q);
         not_done = order.none_done q;
@@ -210,8 +211,9 @@ module _ {W : Type 0} (is_after : W → List Call → Type 0) where
     exchanges = so_far.exchanges ++ wrote.exchanges;
     ran = ran_both is_after so_far.exchanges wrote.exchanges [] nothing_of nothing_of nothing_of (moment_of old) (moment_of now) (moment_of new)
         (λ q. refl) so_far.ran more;
+    told = λ before. told;
     halfway = λ order. let half = so_far.halfway order in record {
-      told = told;
+      all_told = told;
       marks = λ q. keeps q (has later q) (subst (λ (b : Bool). IsMarked b (seat_of mid.seats q) (has mid.waiting q)) (sym (later_is q)) (wrote.marks q
           (has pending q) (half.marks q)));
       flushing = flush_on conn (has pending) (has later) (seat_of old.board.seats) (seat_of now.board.seats)
@@ -238,7 +240,7 @@ module _ {W : Type 0} (is_after : W → List Call → Type 0) where
 
     pub in_order_again : IsInOrder (moment_of old) → IsInOrder (moment_of new)
     in_order_again order = let half = so_far.halfway order in record {
-      all_told = half.told;
+      all_told = half.all_told;
       noted = λ q. (marked q (half.marks q)).noted_is;
       none_done = λ q. (half.marks q).not_done;
     }

@@ -40,14 +40,16 @@ module _ {W : Type 0} (is_after : W → List Call → Type 0) (old between new :
   pub does_both : {E : Type 0} (room : ℕ) (ready : Ready) (result : Result (Unit {0}) E) → Answers is_after room ready (moment_of old) (moment_of between)
       → (AllTold (moment_of old) → AllTold (moment_of between)) → KeepsNotes old.board between.board
       → OnOk result (Flushes is_after (moment_of between) (moment_of new))
+      → OnOk result (AllTold (moment_of between) → AllTold (moment_of new))
       → OnOk result (IsInOrder (moment_of between) → IsInOrder (moment_of new)) → OnOk result (Does is_after room ready (moment_of old) (moment_of new))
-  does_both room ready (Ok done) answers told notes writes still = record {
+  does_both room ready (Ok done) answers told notes writes later still = record {
     between = moment_of between;
     answers = answers;
     writes = writes;
+    all_told = λ before. (told before, later (told before));
     in_order = λ order. (order_between told notes order, still (order_between told notes order));
   }
-  does_both room ready (Err fault) answers told notes writes still = tt
+  does_both room ready (Err fault) answers told notes writes later still = tt
 
 -- one turn is not taken, behind those that were
 pub stops_by : {W : Type 0} (is_after : W → List Call

@@ -140,6 +140,7 @@ pub record Does {W : Type 0} (is_after : W → List Call → Type 0) (room : ℕ
   pub between : Moment W
   pub answers : Answers is_after room report old between
   pub writes : Flushes is_after between new
+  pub all_told : AllTold old → AllTold between × AllTold new
   pub in_order : IsInOrder old → IsInOrder between × IsInOrder new
 
 -- One turn: the wire is asked once what is ready, and that is done.
