@@ -201,7 +201,8 @@ module _ {W : Type 0} (is_after : W → List Call → Type 0) (conn : ℕ) (old 
       }
 
   -- a write that fails
-  pub write_drops : (front : List ℕ) (fault : IoFault) → Drops is_after conn seat (writes conn front (Err fault) ∷ []) old new → Carries is_after (writes conn front (Err fault) ∷ []) old [] new
+  pub write_drops : (front : List ℕ) (fault : IoFault) → Drops is_after conn seat (writes conn front (Err fault) ∷ []) old new
+      → Carries is_after (writes conn front (Err fault) ∷ []) old [] new
   write_drops front fault drops =
       let calls : List Call = writes conn front (Err fault) ∷ closes conn ∷ [] in
       record {

@@ -34,7 +34,8 @@ module _ {W : Type 0} (is_after : W → List Call → Type 0) where
     account = adds_both is_after old.wire mid.wire new.wire one.calls other.calls one.account other.account;
     passage = λ conn. passage_on conn one.calls other.calls x y (seat_of old.seats conn) (seat_of mid.seats conn) (seat_of new.seats conn)
         (has old.lost conn) (has mid.lost conn) (has new.lost conn) (one.passage conn) (other.passage conn);
-    exchanged = filter-append is_exchange one.calls other.calls ∙ ap (λ cs. cs ++ filter is_exchange other.calls) one.exchanged ∙ ap (λ cs. a ++ cs) other.exchanged;
+    exchanged = filter-append is_exchange one.calls other.calls ∙ ap (λ cs. cs ++ filter is_exchange other.calls) one.exchanged ∙ ap
+        (λ cs. a ++ cs) other.exchanged;
     count = omega (arith, one.count, other.count);
   }
 

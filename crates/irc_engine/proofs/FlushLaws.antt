@@ -13,12 +13,12 @@ use Rattle.std.proofs.lemmas.List.Folds.{list_all-append}
 use Rattle.std.proofs.lemmas.List.Sums.{sum_by-append}
 use Rattle.std.proofs.lemmas.Map.Keys.{IsStrictlyIncreasing-from_sorted, le_from_not_gt}
 use Rattle.irc_outbox.specs.Calls.{Call, is_some_bytes, is_write_to, times_written}
-use Rattle.irc_server.specs.declared.event.Out.{Out}
 use Rattle.irc_engine.specs.declared.board.Board.{Board}
 use Rattle.irc_engine.specs.declared.engine.Desk.{Desk}
 use Rattle.irc_engine.specs.declared.seat.Seat.{Seat}
-use Rattle.irc_engine.specs.Carrying.{has_some_at, Fate}
+use Rattle.irc_engine.specs.Carrying.{has_some_at}
 use Rattle.irc_engine.specs.Writing.{one_if, destination, destinations, is_some_write, WritesEach}
+use Rattle.irc_engine.specs.Laws.Turns.{had_seat}
 use Rattle.irc_engine.specs.Loops.Boards.{has, AreWrites, IsMarked, KeepsMarks, Writes}
 use Rattle.irc_engine.specs.Loops.Desks.{moment_of}
 use Rattle.irc_engine.specs.Loops.Flushing.{Flushing, FlushesSoFar}
@@ -67,7 +67,8 @@ once_there true true is = refl
 once_there true false is = cc is
 once_there false s is = refl
 
-writes_more : (conn : ℕ) (seat : Option Seat) (noted : Bool) (more : List Call) → IsMarked true seat noted → AreWrites conn seat more → WritesMore conn (is_some seat) more
+writes_more : (conn : ℕ) (seat : Option Seat) (noted : Bool) (more : List Call) → IsMarked true seat noted → AreWrites conn seat more
+    → WritesMore conn (is_some seat) more
 writes_more conn None noted more mark none =
     subst (λ (cs : List Call). WritesMore conn false cs) (sym none) (record { some_more = refl; goes_to = refl; times = λ q. never_there (nat_eq conn q) })
 writes_more conn (Some seat) noted more mark one =
@@ -148,20 +149,16 @@ module _ (conn : ℕ) (pending later : ℕ → Bool) (was now new : ℕ → Opti
         (all_end (λ d. nat_cmp d q ≡ Less) (destinations calls) conn before (below_by conn q (least q parts.1) parts.0)));
     at_most = λ q.
         subst (λ (n : ℕ). n + one_if (later q) ≤ one_if (has_some_at (was q))) (sym (times_on q))
-        (subst (λ (b : Bool). (times_written q calls + one_if (nat_eq conn q && is_some (now conn))) + one_if b ≤ one_if (has_some_at (was q))) (sym (later_is q))
+        (subst (λ (b : Bool). (times_written q calls + one_if (nat_eq conn q && is_some (now conn))) + one_if b ≤ one_if (has_some_at (was q))) (sym
+        (later_is q))
         (fewer (nat_eq conn q) (pending q) (is_some (now conn)) (times_written q calls) (one_if (has_some_at (was q))) (was_pending q) (so_far.at_most q)));
     unless_closed = λ q there.
         subst (λ (n : ℕ). n + one_if (later q) ≡ one_if (has_some_at (was q))) (sym (times_on q))
-        (subst (λ (b : Bool). (times_written q calls + one_if (nat_eq conn q && is_some (now conn))) + one_if b ≡ one_if (has_some_at (was q))) (sym (later_is q))
+        (subst (λ (b : Bool). (times_written q calls + one_if (nat_eq conn q && is_some (now conn))) + one_if b ≡ one_if (has_some_at (was q))) (sym
+        (later_is q))
         (as_many (nat_eq conn q) (pending q) (is_some (now conn)) (times_written q calls) (one_if (has_some_at (was q))) (was_pending q)
         (λ one. ap (λ p. is_some (now p)) (one_number conn q one) ∙ stays q there) (so_far.unless_closed q (stays q there))));
   }
-
--- a connection that has a seat had it before
-pub had_seat : (conn : ℕ) (old : Option Seat) (calls : List Call) (outs : List Out) (new : Option Seat) → Fate conn old calls outs new → is_some new ≡ true → is_some old ≡ true
-had_seat conn None calls outs None fate there = there
-had_seat conn None calls outs (Some new) fate there = absurd fate
-had_seat conn (Some old) calls outs new fate there = refl
 
 pending_alone : (p : Bool) → ((p && true) || false) ≡ p
 pending_alone true = refl
@@ -193,8 +190,9 @@ module _ {W : Type 0} (is_after : W → List Call → Type 0) where
   flushes_none desk rest pending none is = record {
     exchanges = [];
     ran = ran_marked is_after desk.server _ desk.board rest;
+    told = λ told. told;
     halfway = λ order. record {
-      told = order.all_told;
+      all_told = order.all_told;
       marks = λ q. record {
         noted_is = all_pending (has pending q) (has rest q) (seat_of desk.board.seats q) (none q) (ap (λ s. has s q) is ∙ order.noted q);
         not_done = order.none_done q;
@@ -211,14 +209,18 @@ module _ {W : Type 0} (is_after : W → List Call → Type 0) where
       → KeepsMarks mid new.board → FlushesSoFar is_after pending old now → FlushesSoFar is_after later old new
   flushes_one old now new mid pending later conn popped later_is least wrote ran told keeps so_far = record {
     exchanges = so_far.exchanges ++ wrote.exchanges;
-    ran = ran_both is_after so_far.exchanges wrote.exchanges [] nothing_of nothing_of nothing_of (moment_of old) (moment_of now) (moment_of new) (λ q. refl) so_far.ran more;
+    ran = ran_both is_after so_far.exchanges wrote.exchanges [] nothing_of nothing_of nothing_of (moment_of old) (moment_of now) (moment_of new)
+        (λ q. refl) so_far.ran more;
+    told = λ before. told;
     halfway = λ order. let half = so_far.halfway order in record {
-      told = told;
-      marks = λ q. keeps q (has later q) (subst (λ (b : Bool). IsMarked b (seat_of mid.seats q) (has mid.waiting q)) (sym (later_is q)) (wrote.marks q (has pending q) (half.marks q)));
-      flushing = flush_on conn (has pending) (has later) (seat_of old.board.seats) (seat_of now.board.seats) (seat_of new.board.seats) so_far.exchanges wrote.exchanges
+      all_told = told;
+      marks = λ q. keeps q (has later q) (subst (λ (b : Bool). IsMarked b (seat_of mid.seats q) (has mid.waiting q)) (sym (later_is q)) (wrote.marks q
+          (has pending q) (half.marks q)));
+      flushing = flush_on conn (has pending) (has later) (seat_of old.board.seats) (seat_of now.board.seats)
+          (seat_of new.board.seats) so_far.exchanges wrote.exchanges
           (has now.board.waiting conn) popped later_is least
           (subst (λ (b : Bool). IsMarked b (seat_of now.board.seats conn) (has now.board.waiting conn)) popped (half.marks conn)) wrote.are_writes
-          (λ q there. had_seat q (seat_of now.board.seats q) more.calls more.outs (seat_of new.board.seats q) (more.fates q) there) half.flushing;
+          (λ q there. had_seat q (seat_of now.board.seats q) (seat_of new.board.seats q) more.calls more.outs (more.fates q) there) half.flushing;
     };
     quiet = λ nobody q. later_is q ∙ ap (λ b. cond (nat_eq conn q) false b) (so_far.quiet nobody q) ∙ still_false (nat_eq conn q);
   }
@@ -238,10 +240,11 @@ module _ {W : Type 0} (is_after : W → List Call → Type 0) where
 
     pub in_order_again : IsInOrder (moment_of old) → IsInOrder (moment_of new)
     in_order_again order = let half = so_far.halfway order in record {
-      all_told = half.told;
+      all_told = half.all_told;
       noted = λ q. (marked q (half.marks q)).noted_is;
       none_done = λ q. (half.marks q).not_done;
     }
       where
-        marked : (q : ℕ) → IsMarked (has pending q) (seat_of new.board.seats q) (has new.board.waiting q) → IsMarked false (seat_of new.board.seats q) (has new.board.waiting q)
+        marked : (q : ℕ) → IsMarked (has pending q) (seat_of new.board.seats q) (has new.board.waiting q)
+            → IsMarked false (seat_of new.board.seats q) (has new.board.waiting q)
         marked q is = subst (λ (b : Bool). IsMarked b (seat_of new.board.seats q) (has new.board.waiting q)) (none q) is

@@ -58,7 +58,8 @@ module _ {W : Type 0} (conn : ℕ) (old new : Board W) (others : (q : ℕ) → n
       by q pending false two is = elsewhere q pending two is
 
   -- one connection is not about to be written to any more
-  pub unmarks_by : IsMarked false (seat_of new.seats conn) now → (q : ℕ) (pending : Bool) → IsMarkedAt q pending old → IsMarkedAt q (cond (nat_eq conn q) false pending) new
+  pub unmarks_by : IsMarked false (seat_of new.seats conn) now → (q : ℕ) (pending : Bool) → IsMarkedAt q pending old
+      → IsMarkedAt q (cond (nat_eq conn q) false pending) new
   unmarks_by so = λ q pending. by q pending (nat_eq conn q) refl
     where
       by : (q : ℕ) (pending t : Bool) → nat_eq conn q ≡ t → IsMarkedAt q pending old → IsMarkedAt q (cond (nat_eq conn q) false pending) new
@@ -78,7 +79,8 @@ module _ {W : Type 0} (conn : ℕ) (old new : Board W) where
       by (no_seat none same never) = cc never
       by (at_seat seat now was set (unshut, some, fits, now_is)) =
           marks_by conn old new (set_other (seat_of old.seats) (seat_of new.seats) conn (Some now) set) true noted
-          (λ pending is. subst (λ (s : Option Seat). IsMarked pending s true) (sym (set_here (seat_of old.seats) (seat_of new.seats) conn (Some now) set)) (record {
+          (λ pending is. subst (λ (s : Option Seat). IsMarked pending s true) (sym (set_here (seat_of old.seats) (seat_of new.seats) conn (Some now) set))
+          (record {
             noted_is = or_true (pending && true) ∙ sym (ap (λ (s : Seat). is_some_bytes s.outbox.bytes) now_is ∙ some_behind seat.outbox.bytes bytes some);
             not_done = done_open (is_some now.framer) (is_some_bytes now.outbox.bytes) (ap (λ (s : Seat). is_some s.framer) now_is ∙ unshut);
           }))
@@ -113,7 +115,8 @@ module _ {W : Type 0} (conn : ℕ) (old new : Board W) where
       by (at_seat seat now was set (never, now_is)) = marks_same (same_seats seat now was set now_is) noted
 
   -- it did not fit
-  pub seats_refused : (bytes : List ℕ) (overflow : Overflow) (result : Result Bool Overflow) → result ≡ Err overflow → IsOfferedAt conn bytes old.seats result new.seats
+  pub seats_refused : (bytes : List ℕ) (overflow : Overflow) (result : Result Bool Overflow) → result ≡ Err overflow
+      → IsOfferedAt conn bytes old.seats result new.seats
       → (q : ℕ) → seat_of new.seats q ≡ seat_of old.seats q
   seats_refused bytes overflow result is offered = by (subst (λ r. IsOfferedAt conn bytes old.seats r new.seats) is offered)
     where
@@ -126,7 +129,8 @@ module _ {W : Type 0} (conn : ℕ) (old new : Board W) where
   shut_others (at_seat seat now was set so) q two = set_other (seat_of old.seats) (seat_of new.seats) conn (Some now) set q two
 
   -- the server has closed a connection, and something is left to write
-  pub marks_shut : IsShutAt conn old.seats new.seats → ((q : ℕ) → has new.waiting q ≡ has old.waiting q) → is_done_at (seat_of new.seats conn) ≡ false → KeepsMarks old new
+  pub marks_shut : IsShutAt conn old.seats new.seats → ((q : ℕ) → has new.waiting q ≡ has old.waiting q) → is_done_at (seat_of new.seats conn) ≡ false
+      → KeepsMarks old new
   marks_shut (no_seat none same so) noted undone = marks_same same noted
   marks_shut (at_seat seat now was set now_is) noted undone =
       marks_by conn old new (set_other (seat_of old.seats) (seat_of new.seats) conn (Some now) set) (has old.waiting conn)
@@ -153,7 +157,8 @@ module _ {W : Type 0} (conn : ℕ) (old new : Board W) where
   marks_framed piece (Some taken) (at_seat seat now was set so) noted =
       marks_by conn old new (set_other (seat_of old.seats) (seat_of new.seats) conn (Some now) set) (has old.waiting conn)
       (as_before noted)
-      (λ pending is. subst (λ (s : Option Seat). IsMarked pending s (has old.waiting conn)) (sym (set_here (seat_of old.seats) (seat_of new.seats) conn (Some now) set))
+      (λ pending is. subst (λ (s : Option Seat). IsMarked pending s (has old.waiting conn)) (sym (set_here (seat_of old.seats) (seat_of new.seats) conn
+      (Some now) set))
       (by pending (subst (λ (s : Option Seat). IsMarked pending s (has old.waiting conn)) was is)))
     where
       by : (pending : Bool) → IsMarked pending (Some seat) (has old.waiting conn) → IsMarked pending (Some now) (has old.waiting conn)
@@ -169,7 +174,8 @@ module _ {W : Type 0} (conn : ℕ) (old new : Board W) where
     marks_ended set noted =
         marks_by conn old new (λ q two. set_other (seat_of mid.seats) (seat_of new.seats) conn None set q two ∙ others q two) false
         (λ q. noted q ∙ ap (λ b. cond (nat_eq conn q) false b) (waiting q))
-        (λ pending is. subst (λ (s : Option Seat). IsMarked pending s false) (sym (set_here (seat_of mid.seats) (seat_of new.seats) conn None set)) (marked_none pending))
+        (λ pending is. subst (λ (s : Option Seat). IsMarked pending s false) (sym (set_here (seat_of mid.seats) (seat_of new.seats) conn None set))
+        (marked_none pending))
 
     -- a write failed, or nothing was left after it
     pub unmarks_gone : IsSet (seat_of mid.seats) conn None (seat_of new.seats) → IsNoted mid.waiting conn false new.waiting
@@ -195,7 +201,8 @@ module _ {W : Type 0} (conn : ℕ) (old new : Board W) where
   notes_seated mid room none set waiting keeps = λ q is. keeps q false (by q (nat_eq conn q) refl is)
     where
       at : IsMarkedAt conn false old → IsMarkedAt conn false mid
-      at is = subst (λ (s : Option Seat). IsMarked false s (has mid.waiting conn)) (sym (set_here (seat_of old.seats) (seat_of mid.seats) conn (Some (fresh_seat room)) set))
+      at is = subst (λ (s : Option Seat). IsMarked false s (has mid.waiting conn)) (sym (set_here (seat_of old.seats) (seat_of mid.seats) conn (Some
+          (fresh_seat room)) set))
           (record { noted_is = waiting conn ∙ is.noted_is ∙ ap has_some_at none; not_done = refl })
 
       by : (q : ℕ) (t : Bool) → nat_eq conn q ≡ t → IsMarkedAt q false old → IsMarkedAt q false mid

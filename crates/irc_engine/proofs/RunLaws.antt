@@ -251,7 +251,14 @@ front_after (Err fault) xs rest n room len is fits same long = cc is
 
 -- the engine's board, and what else there is of it, at one moment
 abbrev pub at_board : {W : Type 0} → Option View → ℕ → Board W → Moment W
-at_board server room board = record { server = server; wire = board.wire; seats = seat_of board.seats; lost = has board.lost; waiting = has board.waiting; read_room = room }
+at_board server room board = record {
+  server = server;
+  wire = board.wire;
+  seats = seat_of board.seats;
+  lost = has board.lost;
+  waiting = has board.waiting;
+  read_room = room;
+}
 
 module _ {W : Type 0} (is_after : W → List Call → Type 0) where
   pub ran_both : (a b : List Call) (first : List Event) (f g h : ℕ → List ℕ) (old mid new : Moment W) → ((q : ℕ) → h q ≡ f q ++ g q)
@@ -263,7 +270,8 @@ module _ {W : Type 0} (is_after : W → List Call → Type 0) where
     are_asked = subst (λ (es : List Event). AreAsked old.server es (one.outs ++ other.outs) new.server) (append_assoc first one.events other.events)
         (asked_on old.server mid.server new.server (first ++ one.events) other.events one.outs other.outs one.are_asked other.are_asked);
     account = adds_both is_after old.wire mid.wire new.wire one.calls other.calls one.account other.account;
-    exchanged = filter-append is_exchange one.calls other.calls ∙ ap (λ cs. cs ++ filter is_exchange other.calls) one.exchanged ∙ ap (λ cs. a ++ cs) other.exchanged;
+    exchanged = filter-append is_exchange one.calls other.calls ∙ ap (λ cs. cs ++ filter is_exchange other.calls) one.exchanged ∙ ap
+        (λ cs. a ++ cs) other.exchanged;
     fates = λ conn. fate_on conn one.calls other.calls one.outs other.outs (old.seats conn) (mid.seats conn) (new.seats conn) (one.fates conn) (other.fates conn);
     no_connect = list_any-append is_connect one.events other.events ∙ ap (λ t. t || list_any is_connect other.events) one.no_connect ∙ other.no_connect;
     hears = λ conn. subst (λ (bs : List ℕ). Hears (begun_at (old.seats conn)) bs (lines_by conn (one.events ++ other.events)) (begun_at (new.seats conn))) (sym (is conn))
@@ -281,7 +289,8 @@ module _ {W : Type 0} (is_after : W → List Call → Type 0) where
   ran_then exchanges first f g h old mid new is one other =
       subst (λ (cs : List Call). Ran is_after cs first h old new) (append-nil exchanges) (ran_both exchanges [] first f g h old mid new is one other)
 
-  pub ran_after : (exchanges : List Call) (first : List Event) (came : ℕ → List ℕ) (old mid new : Moment W) → Ran is_after exchanges first came old mid → RanOn is_after mid new
+  pub ran_after : (exchanges : List Call) (first : List Event) (came : ℕ → List ℕ) (old mid new : Moment W) → Ran is_after exchanges first came old mid
+      → RanOn is_after mid new
       → Ran is_after exchanges first came old new
   ran_after exchanges first came old mid new one other =
       ran_then exchanges first came nothing_of came old mid new (λ q. sym (append-nil (came q))) one other
@@ -632,7 +641,8 @@ module _ {W : Type 0} (is_after : W → List Call → Type 0) where
       by (at_seat seat now was set so) = so_then (ap begun_at was ∙ so.0) (λ q. as_before q seat now (nat_eq conn q) refl was so.1 (set q))
 
   -- what a read gave is heard
-  pub ran_fed : (exchanges : List Call) (conn : ℕ) (answer : Result Got IoFault) (buffer after : List ℕ) (n : ℕ) (old mid new : Moment W) → came answer ≡ Some n → take n after ≡ take n buffer
+  pub ran_fed : (exchanges : List Call) (conn : ℕ) (answer : Result Got IoFault) (buffer after : List ℕ) (n : ℕ) (old mid new : Moment W)
+      → came answer ≡ Some n → take n after ≡ take n buffer
       → Ran is_after exchanges [] nothing_of old mid → Ran is_after [] [] (only_of conn (take n after)) mid new
       → Ran is_after exchanges [] (only_of conn (bytes_got answer buffer)) old new
   ran_fed exchanges conn answer buffer after n old mid new is same one other =

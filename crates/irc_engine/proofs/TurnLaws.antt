@@ -30,26 +30,32 @@ nothing_to_do is_after room now ready (inr is) = subst (λ r. Answers is_after r
 
 -- what is ready is done, and then outboxes are written
 module _ {W : Type 0} (is_after : W → List Call → Type 0) (old between new : Desk W) where
-  order_between : (AllTold (moment_of old) → AllTold (moment_of between)) → KeepsNotes old.board between.board → IsInOrder (moment_of old) → IsInOrder (moment_of between)
+  order_between : (AllTold (moment_of old) → AllTold (moment_of between)) → KeepsNotes old.board between.board → IsInOrder (moment_of old)
+      → IsInOrder (moment_of between)
   order_between told notes order = record { all_told = told order.all_told; noted = λ q. (marked q).noted_is; none_done = λ q. (marked q).not_done }
     where
       marked : (q : ℕ) → IsMarkedAt q false between.board
       marked q = notes q (record { noted_is = order.noted q; not_done = order.none_done q })
 
   pub does_both : {E : Type 0} (room : ℕ) (ready : Ready) (result : Result (Unit {0}) E) → Answers is_after room ready (moment_of old) (moment_of between)
-      → (AllTold (moment_of old) → AllTold (moment_of between)) → KeepsNotes old.board between.board → OnOk result (Flushes is_after (moment_of between) (moment_of new))
+      → (AllTold (moment_of old) → AllTold (moment_of between)) → KeepsNotes old.board between.board
+      → OnOk result (Flushes is_after (moment_of between) (moment_of new))
+      → OnOk result (AllTold (moment_of between) → AllTold (moment_of new))
       → OnOk result (IsInOrder (moment_of between) → IsInOrder (moment_of new)) → OnOk result (Does is_after room ready (moment_of old) (moment_of new))
-  does_both room ready (Ok done) answers told notes writes still = record {
+  does_both room ready (Ok done) answers told notes writes later still = record {
     between = moment_of between;
     answers = answers;
     writes = writes;
+    all_told = λ before. (told before, later (told before));
     in_order = λ order. (order_between told notes order, still (order_between told notes order));
   }
-  does_both room ready (Err fault) answers told notes writes still = tt
+  does_both room ready (Err fault) answers told notes writes later still = tt
 
 -- one turn is not taken, behind those that were
-pub stops_by : {W : Type 0} (is_after : W → List Call → Type 0) (old between new : Engine W) (taken turns : ℕ) (result : Result (Unit {0}) EngineFault) (fault : EngineFault)
-    → taken < turns → Turns is_after old taken between → Turned is_after between new (Err fault) → IsErrAnd result (λ e. e ≡ fault) → Runs is_after old turns new result
+pub stops_by : {W : Type 0} (is_after : W → List Call
+    → Type 0) (old between new : Engine W) (taken turns : ℕ) (result : Result (Unit {0}) EngineFault) (fault : EngineFault)
+    → taken < turns → Turns is_after old taken between → Turned is_after between new (Err fault) → IsErrAnd result (λ e. e ≡ fault)
+    → Runs is_after old turns new result
 stops_by is_after old between new taken turns (Ok done) fault less so_far last fails = absurd fails
 stops_by is_after old between new taken turns (Err e) fault less so_far last fails =
     stopped taken between e less so_far (subst (λ f. Turned is_after between new (Err f)) (sym fails) last)

@@ -26,7 +26,8 @@ pub record Wrote {W : Type 0} (is_after : W → List Call → Type 0) (conn : �
   pub carries : Carries is_after exchanges old [] new
   pub are_writes : AreWrites conn (seat_of old.seats conn) exchanges
 
-module _ {W : Type 0} (is_after : W → List Call → Type 0) (conn : ℕ) (old mid : Board W) (lost : mid.lost ≡ old.lost) (count : count_of mid ≤ count_of old) where
+module _ {W : Type 0} (is_after : W → List Call → Type 0) (conn : ℕ) (old mid : Board W) (lost : mid.lost ≡ old.lost)
+    (count : count_of mid ≤ count_of old) where
   -- it does not fail
   wrote : (n : ℕ) → IsWrittenAt is_after conn old.seats old.wire (Ok n) mid.seats mid.wire → Wrote is_after conn old mid
   wrote n (no_seat none same so) = record {
@@ -101,7 +102,8 @@ module _ {W : Type 0} (is_after : W → List Call → Type 0) (conn : ℕ) (old 
                 seats = λ q. loses.seats q ∙ over q (nat_eq conn q) refl (set q);
                 lost = λ q. loses.lost q
                     ∙ ap (λ l. has l q || (nat_eq conn q && is_open_at (seat_of mid.seats conn))) lost
-                    ∙ ap (λ (s : Option Seat). has old.lost q || (nat_eq conn q && is_open_at s)) (set_here (seat_of old.seats) (seat_of mid.seats) conn (Some now) set)
+                    ∙ ap (λ (s : Option Seat). has old.lost q || (nat_eq conn q && is_open_at s)) (set_here (seat_of old.seats) (seat_of mid.seats) conn
+                    (Some now) set)
                     ∙ ap (λ t. has old.lost q || (nat_eq conn q && t)) (ap is_some so.same_framer);
                 count = omega (arith, loses.count, count);
               });

@@ -4,3 +4,4 @@ pub mod Writing
 pub mod Running
 pub mod Turning
 pub mod Loops
+pub mod Laws

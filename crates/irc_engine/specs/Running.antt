@@ -80,9 +80,10 @@ abbrev pub Tells : ℕ → Standing → List Event → List Out → Standing →
 Tells conn was events outs now = IsApart was → IsTold conn was events outs now
 
 -- From one moment to another: the server was asked for some events, calls were made of the wire, and each connection has met its fate. Just these
--- of the calls asked what is ready, read or wrote. The events begin with the given ones; behind them are the lines that the bytes of each connection complete, and
--- that connections are gone.
-pub record Ran {W : Type 0} (is_after : W → List Call → Type 0) (exchanges : List Call) (first : List Event) (came : ℕ → List ℕ) (old new : Moment W) : Type 0 where
+-- of the calls asked what is ready, read or wrote. The events begin with the given ones; behind them are the lines that the bytes of each connection
+-- complete, and that connections are gone.
+pub record Ran {W : Type 0} (is_after : W → List Call → Type 0) (exchanges : List Call) (first : List Event) (came : ℕ → List ℕ)
+    (old new : Moment W) : Type 0 where
   pub events : List Event
   pub outs : List Out
   pub calls : List Call
@@ -139,6 +140,7 @@ pub record Does {W : Type 0} (is_after : W → List Call → Type 0) (room : ℕ
   pub between : Moment W
   pub answers : Answers is_after room report old between
   pub writes : Flushes is_after between new
+  pub all_told : AllTold old → AllTold between × AllTold new
   pub in_order : IsInOrder old → IsInOrder between × IsInOrder new
 
 -- One turn: the wire is asked once what is ready, and that is done.

@@ -28,7 +28,7 @@ brings_nothing Idle = true
 brings_nothing (Writable conn) = true
 brings_nothing report = false
 
--- nor is anything left to write
+-- nothing is ready, and nothing is left to write
 pub record IsNothingToDo {W : Type 0} (report : Ready) (now : Moment W) : Type 0 where
   pub nothing_ready : brings_nothing report ≡ true
   pub nothing_left : (conn : ℕ) → has_some_at (now.seats conn) ≡ false

@@ -280,6 +280,7 @@ impl<W: Wire> Desk<W> {
     /// Writes once from each outbox that is not empty, in order of number.
     fn flush(&mut self) -> Result<(), AllocError>
         ensures done { OnOk result (Flushes W.is_after (moment_of self.old) (moment_of self.new)) }
+        ensures told { OnOk result (KeepsTold self.old self.new) }
         ensures in_order { OnOk result (KeepsOrder self.old self.new) }
         ensures quiet { IsNobodyNoted self.old → result ≡ Ok tt }
     {

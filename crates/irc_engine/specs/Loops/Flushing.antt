@@ -26,12 +26,13 @@ pub record Flushing (pending : ℕ → Bool) (was : ℕ → Option Seat) (calls 
 
 -- so far it is in order, but for those that are pending
 pub record Halfway {W : Type 0} (pending : BTreeSet ℕ) (old : Desk W) (calls : List Call) (now : Desk W) : Type 0 where
-  pub told : AllTold (moment_of now)
+  pub all_told : AllTold (moment_of now)
   pub marks : (q : ℕ) → IsMarkedAt q (has pending q) now.board
   pub flushing : Flushing (has pending) (seat_of old.board.seats) calls (seat_of now.board.seats)
 
 pub record FlushesSoFar {W : Type 0} (is_after : W → List Call → Type 0) (pending : BTreeSet ℕ) (old now : Desk W) : Type 0 where
   pub exchanges : List Call
   pub ran : Ran is_after exchanges [] nothing_of (moment_of old) (moment_of now)
+  pub told : AllTold (moment_of old) → AllTold (moment_of now)
   pub halfway : IsInOrder (moment_of old) → Halfway pending old exchanges now
   pub quiet : IsNobodyNoted old → (q : ℕ) → has pending q ≡ false

@@ -12,7 +12,8 @@ returns-in-Ok-true-clause-carries g c =
 
 pub returns-in-Ok-true-clause-marks : goal.returns-in-Ok-true-clause-marks
 returns-in-Ok-true-clause-marks g c =
-    on_ok c.note.result _ _ (λ noted. marks_taken _ c.args.self.now (record c.args.self.now { seats = c.offer.new.seats; waiting = c.note.new.numbers }) _ c.offer.result
+    on_ok c.note.result _ _ (λ noted. marks_taken _ c.args.self.now
+    (record c.args.self.now { seats = c.offer.new.seats; waiting = c.note.new.numbers }) _ c.offer.result
     (c.in-Ok-true.is ∙ ap Ok c.in-Ok-true.field-0-test) c.offer.ensures.at noted) c.note.ensures.noted
 
 pub returns-in-Ok-false-clause-carries : goal.returns-in-Ok-false-clause-carries
@@ -33,5 +34,6 @@ returns-in-Err-clause-carries g c =
 pub returns-in-Err-clause-marks : goal.returns-in-Err-clause-marks
 returns-in-Err-clause-marks g c =
     on_ok c.lose.result _ _ (λ loses. marks_ended _ c.args.self.now c.lose.new.self (record c.args.self.now { seats = c.offer.new.seats })
-    (λ q two. seats_refused _ c.args.self.now (record c.args.self.now { seats = c.offer.new.seats }) _ _ c.offer.result c.in-Err.is c.offer.ensures.at q) (λ q. refl)
+    (λ q two. seats_refused _ c.args.self.now (record c.args.self.now { seats = c.offer.new.seats }) _ _ c.offer.result c.in-Err.is c.offer.ensures.at q)
+    (λ q. refl)
     loses.seats loses.waiting) c.lose.ensures

@@ -17,7 +17,8 @@ returns-then-is_done-clause-marks g c =
     c.end.ensures.seats c.end.ensures.waiting
 
 pub returns-else-is_done-clause-carries : goal.returns-else-is_done-clause-carries
-returns-else-is_done-clause-carries g c = shut_now _ _ _ _ c.shut.ensures.at c.forget.ensures.forgotten refl (omega (arith, c.shut.ensures.len, c.forget.ensures.len))
+returns-else-is_done-clause-carries g c = shut_now _ _ _ _ c.shut.ensures.at c.forget.ensures.forgotten refl (omega
+    (arith, c.shut.ensures.len, c.forget.ensures.len))
 
 pub returns-else-is_done-clause-marks : goal.returns-else-is_done-clause-marks
 returns-else-is_done-clause-marks g c =

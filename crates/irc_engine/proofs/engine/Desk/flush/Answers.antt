@@ -8,7 +8,8 @@ use Rattle.irc_engine.proofs.SeatLaws.{set_at}
 use Rattle.irc_engine.proofs.engine.Desk.flush.Goals as goal
 
 pub loop-conn-init : goal.loop-conn-init
-loop-conn-init g c = flushes_none _ c.args.self.now _ _ (λ q. ap (λ s. has s q) c.replace-waiting.ensures.after ∙ ap (list_any (is_at (nat_cmp q))) c.new.ensures.empty) c.replace-waiting.ensures.value
+loop-conn-init g c = flushes_none _ c.args.self.now _ _ (λ q. ap (λ s. has s q) c.replace-waiting.ensures.after ∙ ap (list_any (is_at
+    (nat_cmp q))) c.new.ensures.empty) c.replace-waiting.ensures.value
 
 pub loop-conn-preserved : goal.loop-conn-preserved
 loop-conn-preserved g c =

@@ -11,7 +11,9 @@ loop-turn-preserved g c = one_more _ _ _ c.loop-turn.invariant (subst (λ r. Tur
 
 pub returns-in_err-turn : goal.returns-in_err-turn
 returns-in_err-turn g c =
-    stops_by _ _ _ _ _ _ c.from_residual.result c.in_err-turn.field-0.0 c.loop-turn-test.true c.loop-turn.invariant c.in_err-turn.ensures c.from_residual.ensures.1
+    stops_by _ _ _ _ _ _ c.from_residual.result c.in_err-turn.field-0.0 c.loop-turn-test.true c.loop-turn.invariant
+    c.in_err-turn.ensures c.from_residual.ensures.1
 
 pub returns : goal.returns
-returns g c = all_taken (subst (λ n. Turns g.W.Wire.is_after c.args.self.now n c.loop-turn.self) (omega (arith, c.loop-turn-test.false, c.loop-turn.auto._turn-end)) c.loop-turn.invariant)
+returns g c = all_taken (subst (λ n. Turns g.W.Wire.is_after c.args.self.now n c.loop-turn.self) (omega
+    (arith, c.loop-turn-test.false, c.loop-turn.auto._turn-end)) c.loop-turn.invariant)

@@ -1,0 +1,113 @@
+-- What follows of turns: an engine is in order between them, and what waited before a turn is written once.
+use Rattle.std.proofs.Common.{◌≡◌, ℕ, Bool, true, false, cond, nat_eq, is_some, Option, Some, None, Result, List, [], ◌∷◌, ◌++◌, refl, sym, ◌∙◌, ap, subst}
+use Rattle.std.specs.List.{filter}
+use Rattle.std.proofs.lemmas.Bool.{eqb-true}
+use Rattle.irc_outbox.specs.declared.wire.Ready.{Ready}
+use Rattle.irc_outbox.specs.declared.wire.Ready.TheVariants.{Client, Linked, Idle, Readable, Writable}
+use Rattle.irc_outbox.specs.Calls.{Call, asks, reads, writes, closes, is_some_bytes, times_written, written, written_by}
+use Rattle.irc_server.specs.declared.event.Event.{Event}
+use Rattle.irc_server.specs.declared.event.Out.{Out}
+use Rattle.irc_engine.specs.declared.engine.Engine.{Engine}
+use Rattle.irc_engine.specs.declared.engine.EngineFault.{EngineFault}
+use Rattle.irc_engine.specs.declared.seat.Seat.{Seat}
+use Rattle.irc_engine.specs.Carrying.{fresh_seat, has_some_at, is_exchange, owed, Fate}
+use Rattle.irc_engine.specs.Running.{Moment, IsInOrder, Ran, Connects, in_use, takes_seat, RefusesLink, in_use_by_client, closes_it, Reads, not_open, read_once, Answers, Turn}
+use Rattle.irc_engine.specs.Turning.{Turned, takes_turn, device_failed, wants_memory, has_failed, Turns, no_turn, one_more}
+use Rattle.irc_engine.specs.Writing.{one_if}
+use Rattle.irc_engine.specs.Loops.Desks.{moment_of}
+
+order_as : {W : Type 0} (now : Moment W) (wire : W) → IsInOrder now → IsInOrder (record now { wire = wire })
+order_as now wire order = record { all_told = order.all_told; noted = order.noted; none_done = order.none_done }
+
+module _ {W : Type 0} (is_after : W → List Call → Type 0) where
+  -- a turn that does not want memory leaves an engine in order
+  pub in_order_after : (old new : Engine W) (result : Result (Unit {0}) EngineFault) → Turned is_after old new result → new.failed ≡ false
+      → IsInOrder (moment_of old.desk)
+      → IsInOrder (moment_of new.desk)
+  in_order_after old new result (takes_turn serves still room turn) well order = (turn.does.in_order (order_as (moment_of old.desk) turn.wire order)).1
+  in_order_after old new result (device_failed fault serves still room account same) well order =
+      subst (λ (now : Moment W). IsInOrder now) (sym same) (order_as (moment_of old.desk) new.desk.board.wire order)
+  in_order_after old new result (wants_memory report wire serves failed account busy) well order = cc (sym failed ∙ well)
+  in_order_after old new result (has_failed failed same) well order = cc (sym failed ∙ sym (ap (λ (e : Engine W). e.failed) same) ∙ well)
+
+  pub in_order_after_all : (old : Engine W) (turns : ℕ) (new : Engine W) → Turns is_after old turns new → IsInOrder (moment_of old.desk)
+      → IsInOrder (moment_of new.desk)
+  in_order_after_all old turns new no_turn order = order
+  in_order_after_all old turns new (one_more n between last so_far (takes_turn serves still room turn)) order =
+      (turn.does.in_order (order_as (moment_of between.desk) turn.wire (in_order_after_all old n between so_far order))).1
+
+-- what was written is among the calls that ask, read or write
+written_in : (conn : ℕ) (calls : List Call) → written conn calls ≡ written conn (filter is_exchange calls)
+written_in conn [] = refl
+written_in conn (closes which ∷ calls) = written_in conn calls
+written_in conn (asks answer ∷ calls) = written_in conn calls
+written_in conn (reads from room answer bytes ∷ calls) = written_in conn calls
+written_in conn (writes to bytes answer ∷ calls) = ap (λ xs. written_by conn (writes to bytes answer) ++ xs) (written_in conn calls)
+
+some_still : (held more left : List ℕ) → is_some_bytes held ≡ true → held ++ more ≡ left → is_some_bytes left ≡ true
+some_still [] more left some is = cc some
+some_still (b ∷ held) more left some is = sym (ap is_some_bytes is)
+
+-- where nothing is written, what waits still does
+still_waits : (conn : ℕ) (old new : Option Seat) (calls : List Call) (outs : List Out) → Fate conn old calls outs new → written conn calls ≡ []
+    → has_some_at old ≡ true
+    → is_some new ≡ true → has_some_at new ≡ true
+still_waits conn None new calls outs fate nothing some there = cc some
+still_waits conn (Some old) None calls outs fate nothing some there = cc there
+still_waits conn (Some old) (Some new) calls outs fate nothing some there =
+    some_still old.outbox.bytes (owed (is_some old.framer) conn outs) new.outbox.bytes some (fate.carried ∙ ap (λ xs. xs ++ new.outbox.bytes) nothing)
+
+-- a connection that has a seat had it before
+pub had_seat : (conn : ℕ) (old new : Option Seat) (calls : List Call) (outs : List Out) → Fate conn old calls outs new → is_some new ≡ true → is_some old ≡ true
+had_seat conn None None calls outs fate there = there
+had_seat conn None (Some new) calls outs fate there = absurd fate
+had_seat conn (Some old) new calls outs fate there = refl
+
+other_seat : (old new : Option Seat) (seat : Option Seat) (t : Bool) → (t ≡ true → old ≡ None) → new ≡ cond t seat old → has_some_at old ≡ true → new ≡ old
+other_seat old new seat true none set some = cc (sym some ∙ ap has_some_at (none refl))
+other_seat old new seat false none set some = set
+
+module _ {W : Type 0} (is_after : W → List Call → Type 0) (room conn : ℕ) where
+  ran_waits : (exchanges : List Call) (first : List Event) (came : ℕ → List ℕ) (old new : Moment W) → written conn exchanges ≡ []
+      → Ran is_after exchanges first came old new
+      → has_some_at (old.seats conn) ≡ true → is_some (new.seats conn) ≡ true → has_some_at (new.seats conn) ≡ true
+  ran_waits exchanges first came old new nothing ran some there =
+      still_waits conn (old.seats conn) (new.seats conn) ran.calls ran.outs (ran.fates conn) (written_in conn ran.calls ∙ ap (written conn) ran.exchanged
+      ∙ nothing) some there
+
+  connects_waits : (which : ℕ) (host : List ℕ) (old new : Moment W) → Connects is_after room which host old new → has_some_at (old.seats conn) ≡ true
+      → is_some (new.seats conn) ≡ true → has_some_at (new.seats conn) ≡ true
+  connects_waits which host old new (in_use used ran) some there = ran_waits [] [] _ old new refl ran some there
+  connects_waits which host old new (takes_seat between free server wire lost waiting size set ran) some there =
+      let same = other_seat (old.seats conn) (between.seats conn) (Some (fresh_seat room)) (nat_eq which conn)
+      (λ one. ap old.seats (sym (eqb-true which conn one)) ∙ free) (set conn) some in
+      ran_waits [] _ _ between new refl ran (ap has_some_at same ∙ some) there
+
+  refuses_waits : (which : ℕ) (old new : Moment W) → RefusesLink is_after which old new → has_some_at (old.seats conn) ≡ true
+      → is_some (new.seats conn) ≡ true → has_some_at (new.seats conn) ≡ true
+  refuses_waits which old new (in_use_by_client used ran) some there = ran_waits [] [] _ old new refl ran some there
+  refuses_waits which old new (closes_it free account same) some there = ap (λ (now : Moment W). has_some_at (now.seats conn)) same ∙ some
+
+  reads_waits : (which : ℕ) (old new : Moment W) → Reads is_after which old new → has_some_at (old.seats conn) ≡ true
+      → is_some (new.seats conn) ≡ true → has_some_at (new.seats conn) ≡ true
+  reads_waits which old new (not_open shut ran) some there = ran_waits [] [] _ old new refl ran some there
+  reads_waits which old new (read_once size answer bytes unshut as_large ran) some there = ran_waits _ [] _ old new refl ran some there
+
+  answers_wait : (report : Ready) (old new : Moment W) → Answers is_after room report old new → has_some_at (old.seats conn) ≡ true
+      → is_some (new.seats conn) ≡ true
+      → has_some_at (new.seats conn) ≡ true
+  answers_wait Idle old new ran some there = ran_waits [] [] _ old new refl ran some there
+  answers_wait (Client which host) old new done some there = connects_waits which host old new done some there
+  answers_wait (Linked which starts) old new done some there = refuses_waits which old new done some there
+  answers_wait (Readable which) old new done some there = reads_waits which old new done some there
+  answers_wait (Writable which) old new ran some there = ran_waits [] [] _ old new refl ran some there
+
+  -- A connection whose outbox was not empty before a turn, and which the turn does not close, is written to once.
+  pub written_in_turn : (old new : Moment W) (turn : Turn is_after room old new) → IsInOrder old → has_some_at (old.seats conn) ≡ true
+      → is_some (new.seats conn) ≡ true
+      → times_written conn turn.does.writes.exchanges ≡ 1
+  written_in_turn old new turn order some there =
+      ((turn.does.writes.each (turn.does.in_order (order_as old turn.wire order)).0).each conn).unless_closed there
+      ∙ ap one_if (answers_wait turn.report (record old { wire = turn.wire }) turn.does.between turn.does.answers some
+      (had_seat conn (turn.does.between.seats conn) (new.seats conn) turn.does.writes.ran.calls turn.does.writes.ran.outs
+      (turn.does.writes.ran.fates conn) there))
