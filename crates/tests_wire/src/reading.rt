@@ -1,87 +1,177 @@
-//! Lines of a link, each with the effects that it tells of or why it is refused (RFC 2813 section 4).
+//! Lines of a link, each with the effects that it tells of and what is written of these, or why it is refused (RFC 2813 section 4).
 ghost use Rattle.std.specs.Prelude.{◌≡◌};
 ghost use Rattle.irc_room.specs.Effects.{brings_free};
 
-use crate::shown::{Shown, show, show_fault};
+use crate::shown::{Shown, append, show, show_fault};
 use arrayvec::ArrayVec;
 use irc_line::parse;
 use irc_names::{ChannelName, Host, Nick, ServerName, is_server};
 use irc_room::{Effect, Room};
 use irc_routes::{Info, Own, Routes};
 use irc_users::{RealName, User, UserName};
-use irc_wire::read_effect;
+use irc_wire::{read_effect, write_effect};
 use std::alloc::Global;
 use std::process::Abort;
 use std::test::Fail;
 
-/// The link of a line, the line, and what is read of it. The effects are done, so that the next line meets them.
-type Row = (u64, &'static [u8], &'static [u8]);
+/// The link of a line, the line, what is read of it, and what is written of that to another server. The effects are done, so that the next line
+/// meets them.
+type Row = (u64, &'static [u8], &'static [u8], &'static [u8]);
+
+/// The link to another server.
+const ONWARDS: u64 = 2;
 
 /// Users come, and are heard of.
 const USERS: [Row; 15] = [
-    (1, b"NICK bo 1 u h 1 + :Bo", b" adds bo u h Bo b.net no"),
-    (1, b"nick bi 1 u h 1 +i :B I", b" adds bi u h B I b.net yes"),
-    (1, b":bo MODE bo +i", b" hides bo yes"),
-    (1, b":bo MODE BO -i", b" hides bo no"),
-    (1, b":bi NICK by", b" renames bi by"),
-    (1, b":bo PRIVMSG al :hi there", b" says bo no al hi there"),
-    (1, b":bo NOTICE #d :hi", b" says bo yes #d hi"),
-    (1, b":bo INVITE al #d", b" invites bo al #d"),
-    (1, b":by QUIT :bye bye", b" quits by bye bye"),
-    (1, b":by QUIT :bye bye", b""),
-    (1, b":zz QUIT :x", b""),
-    (1, b"NICK dd 1 u h 01 + :D", b" parameters"),
-    (1, b"NICK dd 2 u h 1 + :D", b" parameters"),
-    (1, b"NICK dd 1 u h 9 + :D", b" bad token"),
-    (1, b"NICK 9d 1 u h 1 + :D", b" bad name"),
+    (
+        1,
+        b"NICK bo 1 u h 1 + :Bo",
+        b" adds bo u h Bo b.net no",
+        b"NICK bo 2 u h 2 + :Bo\r\n",
+    ),
+    (
+        1,
+        b"nick bi 1 u h 1 +i :B I",
+        b" adds bi u h B I b.net yes",
+        b"NICK bi 2 u h 2 +i :B I\r\n",
+    ),
+    (
+        1,
+        b":bo MODE bo +i",
+        b" hides bo yes",
+        b":bo MODE bo +i\r\n",
+    ),
+    (1, b":bo MODE BO -i", b" hides bo no", b":bo MODE bo -i\r\n"),
+    (1, b":bi NICK by", b" renames bi by", b":bi NICK by\r\n"),
+    (
+        1,
+        b":bo PRIVMSG al :hi there",
+        b" says bo no al hi there",
+        b":bo PRIVMSG al :hi there\r\n",
+    ),
+    (
+        1,
+        b":bo NOTICE #d :hi",
+        b" says bo yes #d hi",
+        b":bo NOTICE #d :hi\r\n",
+    ),
+    (
+        1,
+        b":bo INVITE al #d",
+        b" invites bo al #d",
+        b":bo INVITE al #d\r\n",
+    ),
+    (
+        1,
+        b":by QUIT :bye bye",
+        b" quits by bye bye",
+        b":by QUIT :bye bye\r\n",
+    ),
+    (1, b":by QUIT :bye bye", b"", b""),
+    (1, b":zz QUIT :x", b"", b""),
+    (1, b"NICK dd 1 u h 01 + :D", b" parameters", b""),
+    (1, b"NICK dd 2 u h 1 + :D", b" parameters", b""),
+    (1, b"NICK dd 1 u h 9 + :D", b" bad token", b""),
+    (1, b"NICK 9d 1 u h 1 + :D", b" bad name", b""),
 ];
 
 /// A channel of users behind the link, and one of a user who is not.
 const CHANNELS: [Row; 14] = [
-    (1, b":bo JOIN #c\x07o", b" joins bo #c yes"),
-    (1, b"NICK bi 1 u h 1 + :B", b" adds bi u h B b.net no"),
-    (1, b":bi JOIN #c", b" joins bi #c no"),
+    (
+        1,
+        b":bo JOIN #c\x07o",
+        b" joins bo #c yes",
+        b":bo JOIN #c\x07o\r\n",
+    ),
+    (
+        1,
+        b"NICK bi 1 u h 1 + :B",
+        b" adds bi u h B b.net no",
+        b"NICK bi 2 u h 2 + :B\r\n",
+    ),
+    (1, b":bi JOIN #c", b" joins bi #c no", b":bi JOIN #c\r\n"),
     (
         1,
         b":bo MODE #c +mv-v bi bo",
         b" modes bo #c yes m yes v bi no v bo",
+        b":bo MODE #c +mv-v bi bo\r\n",
     ),
-    (1, b":bo MODE #c +lk 5 pw", b" modes bo #c yes l 5 yes k pw"),
-    (1, b":bo MODE #c +b a!*@*", b" modes bo #c yes b a!*@*"),
-    (1, b":bo TOPIC #c :hello there", b" topic bo #c hello there"),
-    (1, b":b.net TOPIC #c :x", b" topic * #c x"),
-    (1, b":b.net MODE #c -m", b" modes * #c no m"),
-    (1, b":b.net TOPIC #d :x", b""),
-    (1, b":b.net MODE #d +m", b""),
-    (1, b":bo KICK #c bi :out", b" kicks bo #c bi out"),
-    (1, b":bi PART #c :gone", b" parts bi #c gone"),
-    (1, b":bo PART #c :gone", b" parts bo #c gone"),
+    (
+        1,
+        b":bo MODE #c +lk 5 pw",
+        b" modes bo #c yes l 5 yes k pw",
+        b":bo MODE #c +lk 5 pw\r\n",
+    ),
+    (
+        1,
+        b":bo MODE #c +b a!*@*",
+        b" modes bo #c yes b a!*@*",
+        b":bo MODE #c +b a!*@*\r\n",
+    ),
+    (
+        1,
+        b":bo TOPIC #c :hello there",
+        b" topic bo #c hello there",
+        b":bo TOPIC #c :hello there\r\n",
+    ),
+    (
+        1,
+        b":b.net TOPIC #c :x",
+        b" topic * #c x",
+        b":a.net TOPIC #c :x\r\n",
+    ),
+    (
+        1,
+        b":b.net MODE #c -m",
+        b" modes * #c no m",
+        b":a.net MODE #c -m\r\n",
+    ),
+    (1, b":b.net TOPIC #d :x", b"", b""),
+    (1, b":b.net MODE #d +m", b"", b""),
+    (
+        1,
+        b":bo KICK #c bi :out",
+        b" kicks bo #c bi out",
+        b":bo KICK #c bi :out\r\n",
+    ),
+    (
+        1,
+        b":bi PART #c :gone",
+        b" parts bi #c gone",
+        b":bi PART #c :gone\r\n",
+    ),
+    (
+        1,
+        b":bo PART #c :gone",
+        b" parts bo #c gone",
+        b":bo PART #c :gone\r\n",
+    ),
 ];
 
 /// Lines that are refused, each for the first cause.
 const REFUSED: [Row; 22] = [
-    (1, b"FOO", b" unknown command"),
-    (1, b":b.net SQUIT b.net :x", b" unknown command"),
-    (1, b":bo PART #c", b" parameters"),
-    (1, b"QUIT :x", b" parameters"),
-    (1, b":bo QUIT", b" parameters"),
-    (1, b":bo JOIN #c #d", b" parameters"),
-    (1, b":bo MODE #c", b" parameters"),
-    (1, b":bo MODE #c v bo", b" parameters"),
-    (1, b":bo MODE #c +v", b" parameters"),
-    (1, b":bo MODE #c ++m", b" parameters"),
-    (1, b":bo MODE #c +m bo", b" parameters"),
-    (1, b":bo MODE #c +x", b" parameters"),
-    (1, b":bo MODE al +i", b" parameters"),
-    (1, b":bo MODE bo i", b" parameters"),
-    (1, b"NICK dd 1 u h 1 i :D", b" parameters"),
-    (2, b":bo QUIT :x", b" wrong direction"),
-    (2, b":bo MODE #c +m", b" wrong direction"),
-    (1, b":al QUIT :x", b" wrong direction"),
-    (1, b":c.net TOPIC #c :x", b" wrong direction"),
-    (1, b":bo NICK 9d", b" bad name"),
-    (1, b":bo JOIN c", b" bad name"),
-    (1, b":bo MODE #a:b +m", b" bad name"),
+    (1, b"FOO", b" unknown command", b""),
+    (1, b":b.net SQUIT b.net :x", b" unknown command", b""),
+    (1, b":bo PART #c", b" parameters", b""),
+    (1, b"QUIT :x", b" parameters", b""),
+    (1, b":bo QUIT", b" parameters", b""),
+    (1, b":bo JOIN #c #d", b" parameters", b""),
+    (1, b":bo MODE #c", b" parameters", b""),
+    (1, b":bo MODE #c v bo", b" parameters", b""),
+    (1, b":bo MODE #c +v", b" parameters", b""),
+    (1, b":bo MODE #c ++m", b" parameters", b""),
+    (1, b":bo MODE #c +m bo", b" parameters", b""),
+    (1, b":bo MODE #c +x", b" parameters", b""),
+    (1, b":bo MODE al +i", b" parameters", b""),
+    (1, b":bo MODE bo i", b" parameters", b""),
+    (1, b"NICK dd 1 u h 1 i :D", b" parameters", b""),
+    (2, b":bo QUIT :x", b" wrong direction", b""),
+    (2, b":bo MODE #c +m", b" wrong direction", b""),
+    (1, b":al QUIT :x", b" wrong direction", b""),
+    (1, b":c.net TOPIC #c :x", b" wrong direction", b""),
+    (1, b":bo NICK 9d", b" bad name", b""),
+    (1, b":bo JOIN c", b" bad name", b""),
+    (1, b":bo MODE #a:b +m", b" bad name", b""),
 ];
 
 /// Whether the nickname that an effect brings is free, as whoever applies one has to know.
@@ -101,29 +191,46 @@ fn apply(alloc: Global, room: &mut Room, effect: &Effect) {
     }
 }
 
-/// Shows what is read of a line, and does it.
-fn show_line(alloc: Global, room: &mut Room, routes: &Routes, link: u64, line: &[u8]) -> Shown {
-    let mut shown = ArrayVec::new();
+/// What a server makes of a line.
+#[derive(Drop)]
+struct Said {
+    /// What it reads.
+    shown: Shown,
+    /// What it writes of that to another server.
+    written: Shown,
+}
+
+/// Reads a line, writes what is read of it to another server, and does it.
+fn say_line(alloc: Global, room: &mut Room, routes: &Routes, link: u64, line: &[u8]) -> Said {
+    let mut said = Said {
+        shown: ArrayVec::new(),
+        written: ArrayVec::new(),
+    };
     let Ok(message) = parse(line) else {
-        return shown;
+        return said;
     };
     match read_effect(alloc, &message, room, routes, link) {
         Ok(effects) => {
             for effect in effects.as_slice() {
-                show(effect, &mut shown);
+                show(effect, &mut said.shown);
+                append(
+                    &mut said.written,
+                    &write_effect(effect, room, routes, ONWARDS),
+                );
                 apply(alloc, room, effect);
             }
         }
-        Err(fault) => show_fault(fault, &mut shown),
+        Err(fault) => show_fault(fault, &mut said.shown),
     }
-    shown
+    said
 }
 
-/// Whether of each line is read what its row says.
+/// Whether of each line is read and written what its row says.
 fn rows_hold(alloc: Global, room: &mut Room, routes: &Routes, rows: &[Row]) -> bool {
     let mut all = true;
-    for (link, line, want) in rows {
-        all &= show_line(alloc, room, routes, *link, line).as_slice() == *want;
+    for (link, line, shown, written) in rows {
+        let said = say_line(alloc, room, routes, *link, line);
+        all &= said.shown.as_slice() == *shown && said.written.as_slice() == *written;
     }
     all
 }
@@ -168,7 +275,7 @@ fn add_neighbour(rt: &impl Abort, routes: &mut Routes) {
 }
 
 #[test]
-fn lines_are_read_as_effects(rt: HostRuntime) -> Result<(), Fail> {
+fn lines_are_read_as_effects_and_written_so(rt: HostRuntime) -> Result<(), Fail> {
     let own = Own {
         name: Vec::from_slice(rt.alloc(), b"a.net")?,
         info: Vec::new(rt.alloc()),

@@ -8,7 +8,8 @@ use irc_wire::WireFault;
 /// What is read of a line.
 pub type Shown = ArrayVec<u8, 600>;
 
-fn append(shown: &mut Shown, bytes: &[u8]) {
+/// Appends bytes.
+pub fn append(shown: &mut Shown, bytes: &[u8]) {
     let _ = shown.try_extend_from_slice(bytes);
 }
 
