@@ -21,7 +21,7 @@ use Rattle.irc_server.specs.RoomMachine.{Clients}
 use Rattle.irc_world.specs.World.{home_of}
 use Rattle.irc_world.specs.Stepping.{link, step, clashes_in, merged, meeting_lines, split_text, side_of, leaving_lines}
 use Rattle.irc_world.specs.Refused.{refused, disagree, no_such_client}
-use Rattle.irc_world.specs.Networks.{PeopleMeet, LinkIsLost, LinkIsBack, back_again, b_to_c, three_clients, three_doings, three_people, in_a_line, cut_off, als_clients, als_doings, bos_clients, bos_doings, NicknamesClash, zeds_clients, zeds_doings, other_zeds_clients, other_zeds_doings, with_zed, with_other_zed, hall_after, three_peers, two_apart, als_people, bos_people}
+use Rattle.irc_world.specs.Networks.{TopicsDiffer, als_topic, bos_topic, als_room, bos_room, PeopleMeet, LinkIsLost, LinkIsBack, back_again, b_to_c, three_clients, three_doings, three_people, in_a_line, cut_off, als_clients, als_doings, bos_clients, bos_doings, NicknamesClash, zeds_clients, zeds_doings, other_zeds_clients, other_zeds_doings, with_zed, with_other_zed, hall_after, three_peers, two_apart, als_people, bos_people}
 use Rattle.irc_world.proofs.StaysSound.{first_of, survivor, get-kept, get-merged}
 use Rattle.irc_world.proofs.ListedHalls.{list_lost, list_split, split_listed, InOrderLeaving, list_seen_leaving, leaving_listed, servers_listed, hall_of, list_clashes, clashes_listed, list_meeting, meeting_listed, agree_listed}
 
@@ -102,6 +102,49 @@ people_meet = record {
   to_an = meet_listed 2;
   to_bo = meet_listed 3;
   to_cy = meet_listed 4;
+}
+
+-- ---- two rooms that differ
+
+abbrev als_titled : ListedRoom
+als_titled = list_room als_topic
+
+abbrev bos_titled : ListedRoom
+bos_titled = list_room bos_topic
+
+als_titled_in_order : AreInOrder als_titled
+unfolding fold fold_table
+als_titled_in_order = record { users = tt; channels = tt; members = (tt, tt) }
+
+bos_titled_in_order : AreInOrder bos_titled
+unfolding fold fold_table
+bos_titled_in_order = record { users = tt; channels = tt; members = (tt, tt) }
+
+als_titled_left : AreInOrder (list_without als_titled bos_titled)
+unfolding fold fold_table
+als_titled_left = record { users = tt; channels = tt; members = (tt, tt) }
+
+bos_titled_left : AreInOrder (list_without bos_titled als_titled)
+unfolding fold fold_table
+bos_titled_left = record { users = tt; channels = tt; members = (tt, tt) }
+
+titles_disagree : agree als_room.room bos_room.room ≡ false
+unfolding fold fold_table
+titles_disagree =
+    (λ i. agree (all_listed no_list als_topic i) (all_listed no_list bos_topic i))
+    ∙ agree_listed als_titled bos_titled als_titled_in_order bos_titled_in_order als_titled_left
+
+titles_disagree_back : agree bos_room.room als_room.room ≡ false
+unfolding fold fold_table
+titles_disagree_back =
+    (λ i. agree (all_listed no_list bos_topic i) (all_listed no_list als_topic i))
+    ∙ agree_listed bos_titled als_titled bos_titled_in_order als_titled_in_order bos_titled_left
+
+pub topics_differ : TopicsDiffer
+unfolding refused part fold fold_table
+topics_differ = record {
+  from_a = ap (λ b. if b then None else Some disagree) titles_disagree;
+  from_b = ap (λ b. if b then None else Some disagree) titles_disagree_back;
 }
 
 -- ---- a nickname on both sides

@@ -11,7 +11,7 @@ use Rattle.irc_server.specs.declared.clients.Client.{Client}
 use Rattle.irc_server.specs.declared.clients.Client.TheVariants.{Registered}
 use Rattle.irc_world.specs.World.{Setting, Hall, World, new_world, with_hall}
 use Rattle.irc_world.specs.Stepping.{line, link, cut, Stepped, step}
-use Rattle.irc_world.specs.Refused.{refused, no_such_client}
+use Rattle.irc_world.specs.Refused.{refused, disagree, no_such_client}
 use Rattle.irc_world.specs.Examples.{with_peers, peer}
 
 -- a.net, b.net and c.net; b.net is a peer of both others
@@ -76,6 +76,26 @@ pub record PeopleMeet : Type 0 where
   pub to_bo : (step three_peers (two_apart als_people bos_people) (link (codes "a.net") (codes "b.net"))).lines 3
       ≡ (codes ":al!u@h JOIN #c" ++ crlf) ∷ (codes ":b.net MODE #c +o al" ++ crlf) ∷ []
   pub to_cy : (step three_peers (two_apart als_people bos_people) (link (codes "a.net") (codes "b.net"))).lines 4 ≡ []
+
+-- ---- two rooms that differ
+
+-- as before, and each of the two has given its #c a topic
+abbrev pub als_topic : List Effect
+als_topic = on_a (codes "al") ∷ on_a (codes "an") ∷ Join (codes "al") (codes "#c") true ∷ SetTopic (by.User (codes "al")) (codes "#c") (codes "hello") ∷ []
+
+abbrev pub bos_topic : List Effect
+bos_topic = on_b (codes "bo") ∷ on_b (codes "cy") ∷ Join (codes "bo") (codes "#c") true ∷ SetTopic (by.User (codes "bo")) (codes "#c") (codes "goodbye") ∷ []
+
+abbrev pub als_room : Hall
+als_room = hall_after als_clients als_topic
+
+abbrev pub bos_room : Hall
+bos_room = hall_after bos_clients bos_topic
+
+-- Two servers whose rooms have one channel with two topics are not linked, whichever of them connects.
+pub record TopicsDiffer : Type 0 where
+  pub from_a : refused three_peers (two_apart als_room bos_room) (link (codes "a.net") (codes "b.net")) ≡ Some disagree
+  pub from_b : refused three_peers (two_apart als_room bos_room) (link (codes "b.net") (codes "a.net")) ≡ Some disagree
 
 -- ---- a nickname on both sides
 

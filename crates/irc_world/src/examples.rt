@@ -1,6 +1,6 @@
 //! A small network, by example.
 ghost use Rattle.irc_world.specs.Examples.{FourRefusals};
-ghost use Rattle.irc_world.specs.Networks.{BoIsHeard, LinkIsBack, LinkIsLost, NicknamesClash, PeopleMeet};
+ghost use Rattle.irc_world.specs.Networks.{BoIsHeard, LinkIsBack, LinkIsLost, NicknamesClash, PeopleMeet, TopicsDiffer};
 
 /// What is refused where there are three servers, no link and nobody: names of no server, numbers of no client, a link that is not there to be cut, and
 /// links between servers of which one is no peer, keeps another password, or is the same server.
@@ -11,6 +11,11 @@ pub fn four_refusals()
 /// Two servers are linked, on each of which somebody has made one channel: its members see each other come, and who is in no channel sees nothing.
 pub fn people_meet()
     ensures { PeopleMeet }
+{}
+
+/// Two servers whose rooms have one channel with two topics are not linked.
+pub fn topics_differ()
+    ensures { TopicsDiffer }
 {}
 
 /// Two servers are linked that have users of one nickname: both are killed, and nobody sees anybody come by a channel that one of them alone was in.
