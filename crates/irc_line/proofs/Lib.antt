@@ -1,5 +1,9 @@
+pub mod LineWords
+pub mod LinesRead
 pub mod Pieces
-pub mod Streams
-pub mod Runs
-pub mod WrittenLaws
+pub mod ReadingLaws
+pub mod ReadingSteps
 pub mod RoundTrip
+pub mod Runs
+pub mod Streams
+pub mod WrittenLaws

@@ -1,2 +1,3 @@
-pub mod MaskSteps
 pub mod LengthsApart
+pub mod MaskSteps
+pub mod RuleFacts

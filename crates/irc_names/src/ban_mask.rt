@@ -38,7 +38,7 @@ impl Model for BanMask {
 
 impl BanMask {
     /// The mask that these bytes are, where [`is_ban_mask`] takes them.
-    #[tactic(auto, using(crate::specs::Lemmas::RuleFacts::lengths))]
+    #[tactic(auto, using(crate::proofs::RuleFacts::lengths))]
     pub fn read(bytes: &[u8]) -> Option<Self>
         ensures { SomeIff result (IsBanMask bytes.now) bytes.now }
     {

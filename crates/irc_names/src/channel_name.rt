@@ -38,7 +38,7 @@ impl Model for ChannelName {
 
 impl ChannelName {
     /// The channel's name that these bytes are, where [`is_channel`] takes them.
-    #[tactic(auto, using(crate::specs::Lemmas::RuleFacts::lengths))]
+    #[tactic(auto, using(crate::proofs::RuleFacts::lengths))]
     pub fn read(bytes: &[u8]) -> Option<Self>
         ensures { SomeIff result (IsChannel bytes.now) bytes.now }
     {

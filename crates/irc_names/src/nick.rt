@@ -38,7 +38,7 @@ impl Model for Nick {
 
 impl Nick {
     /// The nickname that these bytes are, where [`is_nick`] takes them.
-    #[tactic(auto, using(crate::specs::Lemmas::RuleFacts::lengths))]
+    #[tactic(auto, using(crate::proofs::RuleFacts::lengths))]
     pub fn read(bytes: &[u8]) -> Option<Self>
         ensures { SomeIff result (IsNick bytes.now) bytes.now }
     {

@@ -29,7 +29,7 @@ impl Model for ServerName {
 
 impl ServerName {
     /// The server's name that these bytes are, where [`is_server`] takes them.
-    #[tactic(auto, using(crate::specs::Lemmas::RuleFacts::lengths))]
+    #[tactic(auto, using(crate::proofs::RuleFacts::lengths))]
     pub fn read(bytes: &[u8]) -> Option<Self>
         ensures { SomeIff result (IsServer bytes.now) bytes.now }
     {

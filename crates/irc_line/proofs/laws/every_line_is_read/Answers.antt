@@ -1,4 +1,4 @@
-use Rattle.irc_line.specs.Lemmas.LinesRead.{every_line_is_read, is_read_so_alone}
+use Rattle.irc_line.proofs.LinesRead.{every_line_is_read, is_read_so_alone}
 use Rattle.irc_line.proofs.laws.every_line_is_read.Goals as goal
 
 pub returns-clause-so : goal.returns-clause-so

@@ -1,4 +1,4 @@
-use Rattle.irc_line.specs.Lemmas.LineWords.{lines_are_carried, words_are_of_the_line}
+use Rattle.irc_line.proofs.LineWords.{lines_are_carried, words_are_of_the_line}
 use Rattle.irc_line.proofs.laws.words_are_of_the_line.Goals as goal
 
 pub returns-clause-lines : goal.returns-clause-lines

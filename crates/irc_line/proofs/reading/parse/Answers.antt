@@ -2,9 +2,9 @@ use Rattle.std.proofs.Common.{ℕ, List, subst, sym, ap, ◌∙◌, rules}
 use Rattle.std.specs.Borrow.{Bor}
 use Rattle.irc_line.specs.Grammar.{CommandAt}
 use Rattle.irc_line.specs.MessageViews.{params_now, optional_now}
-use Rattle.irc_line.specs.Lemmas.ReadingLaws.{read_as_one}
-use Rattle.irc_line.specs.Lemmas.LinesRead.{is_read_so_alone}
-use Rattle.irc_line.specs.Lemmas.ReadingSteps.{plain_line, prefixed_line, not_empty}
+use Rattle.irc_line.proofs.ReadingLaws.{read_as_one}
+use Rattle.irc_line.proofs.LinesRead.{is_read_so_alone}
+use Rattle.irc_line.proofs.ReadingSteps.{plain_line, prefixed_line, not_empty}
 use Rattle.irc_line.proofs.reading.parse.Goals as goal
 use Rattle.irc_line.proofs.reading.parse.Goals.{then-first-eq-COLON+else-is_empty, else-first-eq-COLON}
 

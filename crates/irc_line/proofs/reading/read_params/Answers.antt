@@ -1,6 +1,6 @@
 use Rattle.std.proofs.Common.{[], refl, ap, length, arith}
 use Rattle.std.proofs.lemmas.List.{nil_from_length}
-use Rattle.irc_line.specs.Lemmas.ReadingSteps.{loop_starts, colon_ends, rest_ends, word_goes_on, no_more_comes}
+use Rattle.irc_line.proofs.ReadingSteps.{loop_starts, colon_ends, rest_ends, word_goes_on, no_more_comes}
 use Rattle.irc_line.proofs.reading.read_params.Goals as goal
 
 pub loop-first-init : goal.loop-first-init

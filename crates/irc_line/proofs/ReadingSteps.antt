@@ -9,7 +9,7 @@ use Rattle.irc_line.specs.Limits.{max_parameters}
 use Rattle.irc_line.specs.Bytes.{is_space, is_colon, has_nul, begins, colon}
 use Rattle.irc_line.specs.Grammar.{is_word_byte, IsGap, EndsWord, ReadsParams, no_more, behind_colon, the_rest, one_word, CommandAt, Reads, plain, prefixed}
 use Rattle.irc_line.specs.Loops.Reading.{AfterGap, WordAt}
-use Rattle.irc_line.specs.Lemmas.ReadingLaws.{message}
+use Rattle.irc_line.proofs.ReadingLaws.{message}
 
 two_gaps : (a b : List ℕ) → IsGap a → IsGap b → IsGap (a ++ b)
 two_gaps a b a_is b_is = list_all-append is_space a b ∙ ap (λ v. v && list_all is_space b) a_is ∙ b_is

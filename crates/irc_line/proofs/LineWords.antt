@@ -11,7 +11,7 @@ use Rattle.irc_line.specs.Messages.{Parsed, IsPlainWord}
 use Rattle.irc_line.specs.Grammar.{ReadsParams, no_more, behind_colon, the_rest, one_word, Reads, plain, prefixed, IsReadAs}
 use Rattle.irc_line.specs.Carried.{is_carried_byte, is_carried, IsCarried, IsWordOf, AreLineWords}
 use Rattle.irc_line.specs.Laws.{LinesAreCarried, WordsAreOfTheLine}
-use Rattle.irc_line.specs.Lemmas.LinesRead.{every_line_is_read}
+use Rattle.irc_line.proofs.LinesRead.{every_line_is_read}
 
 pub carried_byte : (nul end : Bool) → nul ≡ false → end ≡ false → not (nul || end) ≡ true
 carried_byte true end nul_not end_not = cc

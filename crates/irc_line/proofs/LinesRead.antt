@@ -9,8 +9,8 @@ use Rattle.irc_line.specs.Grammar.{IsGap, ReadsParams, no_more, behind_colon, th
 use Rattle.irc_line.specs.Reading.{behind_gap, word_of, behind_word, last_param, param_and, params_of, message_at, with_prefix, text_read, read_of}
 use Rattle.irc_line.specs.Laws.{EveryLineIsRead, IsReadSoAlone}
 use Rattle.irc_line.specs.Loops.Reading.{AfterGap, WordAt}
-use Rattle.irc_line.specs.Lemmas.ReadingLaws.{read_as_one}
-use Rattle.irc_line.specs.Lemmas.ReadingSteps.{params_behind_gap, neither, some_word, word_no_colon, plain_line, prefixed_line}
+use Rattle.irc_line.proofs.ReadingLaws.{read_as_one}
+use Rattle.irc_line.proofs.ReadingSteps.{params_behind_gap, neither, some_word, word_no_colon, plain_line, prefixed_line}
 
 gap_found : (text : List ℕ) → AfterGap text (behind_gap text)
 gap_found [] = record { gap = []; gap_is = refl; text_is = refl; no_space = refl }
