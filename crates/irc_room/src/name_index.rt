@@ -91,7 +91,8 @@ fn open(rows: &mut NameTable<NameTable<()>>, alloc: Global, nick: &Nick) -> Resu
     if has_row(rows, nick) {
         return Ok(());
     }
-    rows.insert(nick.as_bytes(), NameTable::new(alloc))
+    let names = NameTable::with_room(alloc, 1)?;
+    rows.insert(nick.as_bytes(), names)
 }
 
 /// Whether a nickname has a row.

@@ -1,5 +1,5 @@
 //! A table by name.
-ghost use Rattle.std.specs.Prelude.{◌≡◌, ℕ, Bool, false, Ok, Err, ◌<◌, ◌≤◌, Option, Some, None, Result, is_some, is_ok, IsTrue, OnOk, OnErr, IsOk, map, length, if◌then◌else◌, IfNone, OnSome, vec_len, vec_capacity};
+ghost use Rattle.std.specs.Prelude.{◌≡◌, ℕ, Bool, false, Ok, Err, ◌<◌, ◌≤◌, Option, Some, None, Result, is_some, is_ok, IsTrue, OnOk, OnErr, IfOk, IsOk, map, length, if◌then◌else◌, IfNone, OnSome, vec_len, vec_capacity};
 ghost use Rattle.std.specs.Option.{option_copied, option_map, option_map_or, option_and_then};
 ghost use Rattle.std.specs.FinMap.{empty, entries, keys};
 ghost use Rattle.irc_names.specs.Fold.{key};
@@ -76,6 +76,18 @@ impl<V: Drop> NameTable<V> {
         NameTable {
             rows: Vec::new(alloc),
         }
+    }
+
+    /// A table without rows, with room for so many.
+    ///
+    /// # Errors
+    /// Where memory runs out.
+    pub fn with_room(alloc: Global, room: usize) -> Result<Self, AllocError>
+        ensures { IfOk result (λ table. table ≡ empty) }
+    {
+        let mut rows = Vec::new(alloc);
+        rows.reserve(room)?;
+        Ok(NameTable { rows })
     }
 
     /// How many rows there are.

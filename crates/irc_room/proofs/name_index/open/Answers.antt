@@ -11,6 +11,6 @@ returns-clause-ok c =
     ok_also c.insert.result
     (λ is. opened c.args.rows.now _ (key c.args.nick.now) (none_of (row c.args.rows.now (key c.args.nick.now)) (sym c.has_row.ensures ∙ c.if-has_row.false))
     (is
-    ∙ ap (λ names. alter (key c.as_bytes.result.now) (λ _. Some names) c.args.rows.now) c.new.ensures
+    ∙ ap (λ names. alter (key c.as_bytes.result.now) (λ _. Some names) c.args.rows.now) c.in_ok-names.ensures
     ∙ ap (λ n. alter (key n) (λ _. Some empty) c.args.rows.now) c.as_bytes.ensures.value))
     c.insert.ensures.ok
