@@ -142,18 +142,18 @@ short (WhoReply (Some place) user host server nick mark hops real) limits =
     (decimal hops ∷ codes " " ∷ real.items ∷ []) (omega (arith, digits hops limits.5, length-mark_text mark, limits.0))
 short (NamReply Public channel names) limits = omega (
   arith,
-  spaced-fits listed 10 names.items
-      (members_fit names.items limits.2),
+  spaced-fits listed 10 names
+      (members_fit names limits.2),
 )
 short (NamReply Private channel names) limits = omega (
   arith,
-  spaced-fits listed 10 names.items
-      (members_fit names.items limits.2),
+  spaced-fits listed 10 names
+      (members_fit names limits.2),
 )
 short (NamReply Secret channel names) limits = omega (
   arith,
-  spaced-fits listed 10 names.items
-      (members_fit names.items limits.2),
+  spaced-fits listed 10 names
+      (members_fit names limits.2),
 )
 short (EndOfNames _) limits = absurd limits
 short (BanList channel mask) limits = omega arith

@@ -42,8 +42,8 @@ IsWithinLimits (Inviting channel nick) = (length channel ≤ max_channel) × (le
 IsWithinLimits (WhoReply channel user host server nick _ hops real) = (IfSome channel (λ c. length c ≤ max_channel)) ×
     (length user.items ≤ max_user_name) × (length host ≤ max_host) × (length server ≤ max_server) × (length nick ≤ max_nick)
     × (hops < 2 ^ 64) × (length real.items ≤ max_real_name)
-IsWithinLimits (NamReply _ channel names) = (length channel ≤ max_channel) × (length names.items ≤ max_names) ×
-    (AllByRecursion (λ member. length member.nick ≤ max_nick) names.items)
+IsWithinLimits (NamReply _ channel names) = (length channel ≤ max_channel) × (length names ≤ max_names) ×
+    (AllByRecursion (λ member. length member.nick ≤ max_nick) names)
 IsWithinLimits (EndOfNames _) = ⊥
 IsWithinLimits (BanList channel mask) = (length channel ≤ max_channel) × (length mask ≤ max_ban_mask)
 IsWithinLimits (EndOfBanList channel) = length channel ≤ max_channel

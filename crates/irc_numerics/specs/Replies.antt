@@ -103,7 +103,7 @@ table (Inviting channel nick) = bare 341 (channel ∷ nick ∷ [])
 table (WhoReply channel user host server nick mark hops real) = says 352
     (unwrap_or channel (codes "*") ∷ user.items ∷ host ∷ server ∷ nick ∷ (codes "H" ++ mark_text mark) ∷ [])
     (in_a_row (decimal hops ∷ codes " " ∷ real.items ∷ []))
-table (NamReply visibility channel names) = says 353 (visibility_text visibility ∷ channel ∷ []) (spaced (map listed names.items))
+table (NamReply visibility channel names) = says 353 (visibility_text visibility ∷ channel ∷ []) (spaced (map listed names))
 table (EndOfNames name) = says 366 (name.items ∷ []) (codes "End of NAMES list")
 table (BanList channel mask) = bare 367 (channel ∷ mask ∷ [])
 table (EndOfBanList channel) = says 368 (channel ∷ []) (codes "End of channel ban list")

@@ -6,12 +6,14 @@ mod channels;
 pub mod laws;
 pub mod limits;
 mod lists;
+mod name_list;
 mod refusals;
 mod replies;
 mod statistics;
 mod users;
 mod writing;
 
+pub use name_list::NameList;
 pub use replies::{
     Created, Info, Key, Listed, Mark, ModeLetters, OnChannel, RealName, Reply, TopicText, UserName,
     Visibility, Words,

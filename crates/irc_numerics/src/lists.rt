@@ -47,7 +47,7 @@ pub(crate) fn list_line(head: Head<'_>, reply: &Reply) -> Text
             visibility,
             channel,
             names,
-        } => names_line(head, visibility, channel, names),
+        } => names_line(head, visibility, channel, names.as_slice()),
         Reply::EndOfNames { name } => head.saying(b"366", &[name], b"End of NAMES list"),
         Reply::BanList { channel, mask } => ban_line(head, channel, mask),
         Reply::EndOfBanList { channel } => head.on(b"368", channel, b"End of channel ban list"),

@@ -3,7 +3,8 @@ ghost use Rattle.std.specs.Prelude.{◌≡◌};
 ghost use Rattle.irc_numerics.specs.Replies.{mark_text, visibility_text};
 ghost use Rattle.irc_numerics.specs.Blanks.{blank_member, blank_place};
 
-use crate::limits::{MAX_MODE_LETTERS, MAX_NAMES, MAX_WHOIS_CHANNELS};
+use crate::limits::{MAX_MODE_LETTERS, MAX_WHOIS_CHANNELS};
+use crate::name_list::NameList;
 use arrayvec::ArrayVec;
 use irc_line::Line;
 use irc_names::{
@@ -247,7 +248,7 @@ pub enum Reply {
     NamReply {
         visibility: Visibility,
         channel: ChannelName,
-        names: ArrayVec<Listed, MAX_NAMES>,
+        names: NameList,
     },
     /// 366, with what was asked for, or `*`.
     EndOfNames {

@@ -16,7 +16,7 @@ pub returns-in-NamReply : goal.returns-in-NamReply
 unfolding number words table
 returns-in-NamReply c =
     is_line c.args.head.server.now c.args.head.name.now c.in-NamReply.is c.names_line.ensures refl
-    (says refl (ap (λ names. spaced (map listed names)) c.deref-in-NamReply.ensures.0))
+    (says refl (ap (λ names. spaced (map listed names)) c.as_slice.ensures))
 
 pub returns-in-EndOfNames : goal.returns-in-EndOfNames
 unfolding number words table
