@@ -56,20 +56,6 @@ pub place_among : (users : List User) (fold : List ℕ) (place : Result ℕ ℕ)
 place_among users fold (Ok place) at = stands_among users fold place at
 place_among users fold (Err place) gap = belongs_among users fold place gap
 
--- ---- what is done to both
-
-pub insert-heads : (users : List User) (place : ℕ) (user : User) → insert (map head users) place (head user) ≡ map head (insert users place user)
-insert-heads users place user =
-    ap (λ front. front ++ head user ∷ drop place (map head users)) (take-map head place users)
-    ∙ ap (λ back. map head (take place users) ++ head user ∷ back) (drop-map head place users)
-    ∙ sym (map-append head (take place users) (user ∷ drop place users))
-
-pub remove-heads : (users : List User) (place : ℕ) → remove (map head users) place ≡ map head (remove users place)
-remove-heads users place =
-    ap (λ front. front ++ drop (suc place) (map head users)) (take-map head place users)
-    ∙ ap (λ back. map head (take place users) ++ back) (drop-map head (suc place) users)
-    ∙ sym (map-append head (take place users) (drop (suc place) users))
-
 -- what is put in and taken out again leaves nothing
 pub insert-remove : {X : Type 0} (xs : List X) (place : ℕ) (x : X) → place ≤ length xs → remove (insert xs place x) place ≡ xs
 insert-remove xs zero x le = refl

@@ -1,3 +1,4 @@
+pub mod Boxes
 pub mod Heads
 pub mod Renamings
 pub mod UserRows

@@ -8,7 +8,7 @@ ghost use Rattle.irc_names.specs.Tables.{row, alter, moved};
 ghost use Rattle.irc_tables.specs.FoldedRows.{table_of, BelongsAt, IsPlaceOf, StandsAt};
 ghost use Rattle.irc_users.specs.UserTable.{entry, with_nick, with_invisible, is_taken, rename_fault, is_home, is_found_by};
 ghost use Rattle.irc_users.specs.declared.user.User.{User};
-ghost use Rattle.irc_users.specs.Rosters.{head, head_entry, IsRoster};
+ghost use Rattle.irc_users.specs.Rosters.{boxed, head, head_entry, IsRoster};
 
 use crate::fault::{RenameFault, UsersFault};
 use crate::user::User;
@@ -37,10 +37,11 @@ impl Head {
     }
 }
 
-/// Users, no two of which have one nickname by the fold. What they are found by lies beside them, so that a search reads little memory.
+/// Users, no two of which have one nickname by the fold. Each lies in memory of its own, so that a user who comes or goes moves no other. What they
+/// are found by lies beside them, so that a search reads little memory.
 #[derive(Drop)]
 pub struct Users {
-    rows: Vec<User, Global>,
+    rows: Vec<Box<User, Global>, Global>,
     heads: Vec<Head, Global>,
 }
 
@@ -50,16 +51,17 @@ impl Model for Users {
     ghost use Rattle.irc_users.specs.declared.user.User.{User};
     ghost use Rattle.irc_tables.specs.FoldedRows.{coded_name, table_of};
     ghost use Rattle.irc_users.specs.UserTable.{user_code, entry};
-    ghost use Rattle.irc_users.specs.Rosters.{IsRoster};
+    ghost use Rattle.irc_users.specs.Rosters.{boxed, IsRoster};
+    ghost use Rattle.std.specs.Prelude.{map};
     ghost use Rattle.std.specs.FinMap.{code};
 
     ghost Value = { Table User };
 
     ghost coded = { code coded_name user_code };
 
-    ghost view = { λ users. table_of entry users.rows.items };
+    ghost view = { λ users. table_of entry (map boxed users.rows.items) };
 
-    ghost invariant = { λ users. IsRoster users.rows.items users.heads.items };
+    ghost invariant = { λ users. IsRoster (map boxed users.rows.items) users.heads.items };
 }
 
 impl Users {
@@ -88,6 +90,9 @@ impl Users {
     {
         let Err(place) = place_of(&self.heads, &user.nick) else {
             return Err(UsersFault::Taken);
+        };
+        let Ok(user) = Box::new(*self.rows.allocator(), user) else {
+            return Err(UsersFault::Memory);
         };
         match insert_at(&mut self.rows, &mut self.heads, place, user) {
             Ok(()) => Ok(()),
@@ -131,7 +136,10 @@ impl Users {
         ensures value { result ≡ row self.old (key nick.now) }
         ensures after { self.new ≡ alter (key nick.now) (λ _. None) self.old }
     {
-        take_out(&mut self.rows, &mut self.heads, nick)
+        match take_out(&mut self.rows, &mut self.heads, nick) {
+            Some(user) => Some(Box::into_inner(user)),
+            None => None,
+        }
     }
 
     /// The user with a nickname, if there is one.
@@ -186,8 +194,8 @@ impl Users {
     }
 
     /// All users, in folded order of their nicknames.
-    pub fn as_slice(&self) -> &[User]
-        ensures { result.now ≡ values self.now }
+    pub fn as_slice(&self) -> &[Box<User, Global>]
+        ensures { map boxed result.now ≡ values self.now }
     {
         self.rows.as_slice()
     }
@@ -216,30 +224,38 @@ impl Users {
 
 /// Those of some users that are connected to a server.
 fn homed_at<'a>(
-    users: &'a [User],
+    users: &'a [Box<User, Global>],
     alloc: Global,
     home: &ServerName,
 ) -> Result<Vec<&'a User, Global>, AllocError>
-    ensures { IfOk result (λ found. map (λ user. user.now) found.items ≡ filter (is_home home.now) users.now) }
+    ensures { IfOk result (λ found. map (λ user. user.now) found.items ≡ filter (is_home home.now) (map boxed users.now)) }
 {
-    users
-        .iter()
-        .filter(|user| user.is_home(home))
-        .collect(alloc)
+    let mut found = Vec::new(alloc);
+    for user in users {
+        if user.is_home(home) {
+            let one: &User = user;
+            found.push(one)?;
+        }
+    }
+    Ok(found)
 }
 
 /// Those of some users of which a mask matches the nickname, the host, the server or the real name.
 fn matched_by<'a>(
-    users: &'a [User],
+    users: &'a [Box<User, Global>],
     alloc: Global,
     mask: &[u8],
 ) -> Result<Vec<&'a User, Global>, AllocError>
-    ensures { IfOk result (λ found. map (λ user. user.now) found.items ≡ filter (is_found_by mask.now) users.now) }
+    ensures { IfOk result (λ found. map (λ user. user.now) found.items ≡ filter (is_found_by mask.now) (map boxed users.now)) }
 {
-    users
-        .iter()
-        .filter(|user| user.is_found_by(mask))
-        .collect(alloc)
+    let mut found = Vec::new(alloc);
+    for user in users {
+        if user.is_found_by(mask) {
+            let one: &User = user;
+            found.push(one)?;
+        }
+    }
+    Ok(found)
 }
 
 /// Whether another user than the one with the first nickname has the second.
@@ -251,16 +267,16 @@ fn is_taken(heads: &[Head], nick: &Nick, new: &Nick) -> bool
 
 /// Puts in a user whose nickname is free, at the place where it belongs. Where there is no memory nothing has changed.
 fn insert_at(
-    rows: &mut Vec<User, Global>,
+    rows: &mut Vec<Box<User, Global>, Global>,
     heads: &mut Vec<Head, Global>,
     place: usize,
-    user: User,
+    user: Box<User, Global>,
 ) -> Result<(), AllocError>
-    requires roster { IsRoster rows.old.items heads.old.items }
-    requires gap { BelongsAt entry rows.old.items (key user.nick) place }
-    ensures ok { OnOk result (table_of entry rows.new.items ≡ alter (key user.nick) (λ _. Some user) (table_of entry rows.old.items)) }
-    ensures refused { OnErr result (rows.new.items ≡ rows.old.items) }
-    ensures roster { IsRoster rows.new.items heads.new.items }
+    requires roster { IsRoster (map boxed rows.old.items) heads.old.items }
+    requires gap { BelongsAt entry (map boxed rows.old.items) (key user.value.nick) place }
+    ensures ok { OnOk result (table_of entry (map boxed rows.new.items) ≡ alter (key user.value.nick) (λ _. Some user.value) (table_of entry (map boxed rows.old.items))) }
+    ensures refused { OnErr result (map boxed rows.new.items ≡ map boxed rows.old.items) }
+    ensures roster { IsRoster (map boxed rows.new.items) heads.new.items }
     ensures room { vec_len rows.old < vec_capacity rows.old → vec_len heads.old < vec_capacity heads.old → IsOk result }
 {
     if heads.insert(place, Head::of(&user)).is_err() {
@@ -277,15 +293,15 @@ fn insert_at(
 
 /// Takes out the user with a nickname, if there is one; there is then room for another.
 fn take_out(
-    rows: &mut Vec<User, Global>,
+    rows: &mut Vec<Box<User, Global>, Global>,
     heads: &mut Vec<Head, Global>,
     nick: &Nick,
-) -> Option<User>
-    requires { IsRoster rows.old.items heads.old.items }
-    ensures value { result ≡ row (table_of entry rows.old.items) (key nick.now) }
-    ensures after { table_of entry rows.new.items ≡ alter (key nick.now) (λ _. None) (table_of entry rows.old.items) }
-    ensures roster { IsRoster rows.new.items heads.new.items }
-    ensures same { IfNone result (rows.new.items ≡ rows.old.items) }
+) -> Option<Box<User, Global>>
+    requires { IsRoster (map boxed rows.old.items) heads.old.items }
+    ensures value { option_map boxed result ≡ row (table_of entry (map boxed rows.old.items)) (key nick.now) }
+    ensures after { table_of entry (map boxed rows.new.items) ≡ alter (key nick.now) (λ _. None) (table_of entry (map boxed rows.old.items)) }
+    ensures roster { IsRoster (map boxed rows.new.items) heads.new.items }
+    ensures same { IfNone result (map boxed rows.new.items ≡ map boxed rows.old.items) }
     ensures room { OnSome result (vec_len rows.new < vec_capacity rows.new × vec_len heads.new < vec_capacity heads.new) }
 {
     match place_of(heads, nick) {
@@ -298,12 +314,16 @@ fn take_out(
 }
 
 /// Puts in a user whose nickname is free, where there is room for it.
-fn put_back(rows: &mut Vec<User, Global>, heads: &mut Vec<Head, Global>, user: User)
-    requires roster { IsRoster rows.old.items heads.old.items }
-    requires free { row (table_of entry rows.old.items) (key user.nick) ≡ None }
+fn put_back(
+    rows: &mut Vec<Box<User, Global>, Global>,
+    heads: &mut Vec<Head, Global>,
+    user: Box<User, Global>,
+)
+    requires roster { IsRoster (map boxed rows.old.items) heads.old.items }
+    requires free { row (table_of entry (map boxed rows.old.items)) (key user.value.nick) ≡ None }
     requires room { vec_len rows.old < vec_capacity rows.old × vec_len heads.old < vec_capacity heads.old }
-    ensures after { table_of entry rows.new.items ≡ alter (key user.nick) (λ _. Some user) (table_of entry rows.old.items) }
-    ensures roster { IsRoster rows.new.items heads.new.items }
+    ensures after { table_of entry (map boxed rows.new.items) ≡ alter (key user.value.nick) (λ _. Some user.value) (table_of entry (map boxed rows.old.items)) }
+    ensures roster { IsRoster (map boxed rows.new.items) heads.new.items }
 {
     match place_of(heads, &user.nick) {
         Ok(_) => unreachable!(),
