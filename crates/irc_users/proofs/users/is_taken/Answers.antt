@@ -1,4 +1,4 @@
-use Rattle.std.proofs.Common.{◌∙◌, ap, rules}
+use Rattle.std.proofs.Common.{rules}
 use Rattle.irc_names.specs.Fold.{key}
 use Rattle.irc_users.specs.UserTable.{entry}
 use Rattle.irc_tables.specs.Lemmas.RowsAsTable.{place-known}

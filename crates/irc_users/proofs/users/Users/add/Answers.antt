@@ -1,4 +1,4 @@
-use Rattle.std.proofs.Common.{◌≡◌, ◌∙◌, ap, sym, rules, None, true, is_ok, is_some}
+use Rattle.std.proofs.Common.{◌≡◌, ◌∙◌, ap, sym, rules, None, true, is_some}
 use Rattle.irc_names.specs.Fold.{key}
 use Rattle.irc_names.specs.Tables.{row}
 use Rattle.irc_tables.specs.Lemmas.RowsAsTable.{row-absent, stands-present}
