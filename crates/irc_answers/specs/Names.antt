@@ -43,7 +43,7 @@ in_lines size names = first_chunks size (div_ceil (length names) size) names
 
 -- a line of names (RFC 2812 section 5.1, reply 353)
 abbrev pub name_line : Channel → List Listed → Act
-name_line channel names = Answer (NamReply (visibility_of channel.modes.privacy) channel.name (record { items = names }))
+name_line channel names = Answer (NamReply (visibility_of channel.modes.privacy) channel.name names)
 
 -- where there is nobody to name there is no line
 abbrev pub name_lines : Channel → List Listed → List Act

@@ -1,5 +1,5 @@
 //! The lines that name a channel's members (RFC 2812 section 5.1, reply 353).
-ghost use Rattle.std.specs.Prelude.{◌≡◌, false, Some, [], ◌∷◌, ◌++◌, map, OnOk};
+ghost use Rattle.std.specs.Prelude.{◌≡◌, false, Some, [], ◌∷◌, ◌++◌, map, IfOk, OnOk};
 ghost use Rattle.std.specs.List.{filter_map};
 ghost use Rattle.std.specs.FinMap.{entries};
 ghost use Rattle.irc_names.specs.Fold.{key};
@@ -19,7 +19,7 @@ use irc_acts::{Act, put};
 use irc_channels::{Channel, Flags};
 use irc_names::{Nick, compare};
 use irc_numerics::limits::MAX_NAMES;
-use irc_numerics::{Listed, Reply};
+use irc_numerics::{Listed, NameList, Reply};
 use irc_room::Room;
 use irc_tables::Row;
 use std::alloc::{AllocError, Global};
@@ -28,14 +28,15 @@ use std::alloc::{AllocError, Global};
 pub(crate) type Held = ArrayVec<Listed, MAX_NAMES>;
 
 /// A line of names.
-fn name_line(channel: &Channel, names: Held) -> Act
-    ensures { result ≡ name_line channel.now names.items }
+fn name_line(alloc: Global, channel: &Channel, names: Held) -> Result<Act, AllocError>
+    ensures { IfOk result (λ act. act ≡ name_line channel.now names.items) }
 {
-    Act::Answer(Reply::NamReply {
+    let names = NameList::new(alloc, names)?;
+    Ok(Act::Answer(Reply::NamReply {
         visibility: visibility_of(channel.modes.privacy),
         channel: channel.name.copy(),
         names,
-    })
+    }))
 }
 
 /// Adds a name to the line; one that is full is sent before.
@@ -48,7 +49,8 @@ fn add_name(
     ensures { OnOk result (Came max_names (name_line channel.now) steps.old.items held.old.items (name ∷ []) steps.new.items held.new.items) }
 {
     if held.is_full() {
-        put(steps, name_line(channel, held.take()))?;
+        let act = name_line(*steps.allocator(), channel, held.take())?;
+        put(steps, act)?;
     }
     held.push(name);
     Ok(())
@@ -65,7 +67,8 @@ pub(crate) fn finish(
     if held.as_slice().is_empty() {
         return Ok(());
     }
-    put(steps, name_line(channel, held))
+    let act = name_line(*steps.allocator(), channel, held)?;
+    put(steps, act)
 }
 
 /// A member as it is listed, where all are named or it has no mode i.

@@ -16,7 +16,7 @@ pub returns : goal.returns
 returns c =
     ok_also c.put.result (λ sent.
     sent
-    ∙ ap (λ a. c.args.steps.now.items ++ a ∷ []) c.name_line.ensures
+    ∙ ap (λ a. c.args.steps.now.items ++ a ∷ []) c.in_ok-act.ensures
     ∙ last_held max_names (name_line c.args.channel.now) c.args.steps.now.items c.args.held.items
     (ap (λ (xs : List Listed). eqb (length xs) 0) (sym c.as_slice.ensures.value) ∙ sym c.is_empty.ensures ∙ c.if-is_empty.false)
     (subst (λ (xs : List Listed). length xs ≤ max_names) c.as_slice.ensures.value c.as_slice.ensures.fits))
