@@ -5,6 +5,7 @@ ghost use Rattle.std.specs.FinMap.{empty, entries, values};
 ghost use Rattle.irc_names.specs.Fold.{key};
 ghost use Rattle.irc_names.specs.Tables.{row};
 ghost use Rattle.irc_tables.specs.RowViews.{row_entry};
+ghost use Rattle.irc_users.specs.Rosters.{boxed};
 ghost use Rattle.irc_users.specs.UserTable.{is_home};
 ghost use Rattle.irc_channels.specs.Channels.{has_member};
 ghost use Rattle.irc_channels.specs.ChannelTable.{members_in};
@@ -133,7 +134,7 @@ impl Room {
     pub fn users(&self) -> Result<Vec<&User, Global>, AllocError>
         ensures { IfOk result (λ found. map (λ user. user.now) found.items ≡ values self.now.room.users) }
     {
-        self.users.as_slice().iter().collect(self.alloc)
+        unboxed(self.users.as_slice(), self.alloc)
     }
 
     /// The users that are connected to a server, in folded order of their nicknames.
@@ -269,6 +270,18 @@ impl Room {
             }
         }
     }
+}
+
+/// The users in some boxes, in their order.
+fn unboxed(users: &[Box<User, Global>], alloc: Global) -> Result<Vec<&User, Global>, AllocError>
+    ensures { IfOk result (λ found. map (λ user. user.now) found.items ≡ map boxed users.now) }
+{
+    let mut found = Vec::new(alloc);
+    for user in users {
+        let one: &User = user;
+        found.push(one)?;
+    }
+    Ok(found)
 }
 
 /// The channels under some names, in their order.
