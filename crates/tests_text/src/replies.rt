@@ -2,7 +2,8 @@
 use arrayvec::ArrayVec;
 use irc_line::body;
 use irc_names::{BanMask, ChannelName, Host, Nick, ServerName, cut_copy};
-use irc_numerics::{Listed, Mark, OnChannel, Reply, Visibility, Words, reply_line};
+use irc_numerics::{Listed, Mark, NameList, OnChannel, Reply, Visibility, Words, reply_line};
+use std::alloc::Global;
 use std::process::Abort;
 
 /// The lines of the server a.net to al, or to a client that has no nickname yet. Other users and what they gave are `bo`, a
@@ -365,7 +366,13 @@ fn shows_channels(given: &Named, mark: Mark, line: &str) -> bool {
 }
 
 /// Whether a channel and two members of it are written as this line.
-fn shows_names(given: &Named, mark: Mark, visibility: Visibility, line: &str) -> bool {
+fn shows_names(
+    alloc: Global,
+    given: &Named,
+    mark: Mark,
+    visibility: Visibility,
+    line: &str,
+) -> bool {
     let mut names = ArrayVec::new();
     for _ in 0..2 {
         let _ = names.try_push(Listed {
@@ -373,6 +380,9 @@ fn shows_names(given: &Named, mark: Mark, visibility: Visibility, line: &str) ->
             nick: given.nick.copy(),
         });
     }
+    let Ok(names) = NameList::new(alloc, names) else {
+        return false;
+    };
     let reply = Reply::NamReply {
         visibility,
         channel: given.channel.copy(),
@@ -396,12 +406,12 @@ fn shows_user(given: &Named, channel: Option<ChannelName>, mark: Mark, line: &st
     says(given, "al", &reply, line)
 }
 
-fn marks_are_written(given: &Named) -> bool {
+fn marks_are_written(alloc: Global, given: &Named) -> bool {
     let mut all = true;
     for (mark, visibility, channels, user, names) in &MARKS {
         all &= shows_channels(given, *mark, channels);
         all &= shows_user(given, Some(given.channel.copy()), *mark, user);
-        all &= shows_names(given, *mark, *visibility, names);
+        all &= shows_names(alloc, given, *mark, *visibility, names);
     }
     all
 }
@@ -409,7 +419,7 @@ fn marks_are_written(given: &Named) -> bool {
 #[test]
 fn members_are_written_with_their_marks(rt: HostRuntime) {
     let given = given(&rt);
-    assert!(rt; marks_are_written(&given));
+    assert!(rt; marks_are_written(rt.alloc(), &given));
     assert!(rt;
         shows_user(
             &given,
