@@ -57,14 +57,14 @@ pub fn visibility_of(privacy: Privacy) -> Visibility
 pub fn is_listed(user: &User, channel: &Channel) -> bool
     ensures { result ≡ is_listed user.now channel.now }
 {
-    channel.has_member(&user.nick) || matches!(channel.modes.privacy, Privacy::Public)
+    matches!(channel.modes.privacy, Privacy::Public) || channel.has_member(&user.nick)
 }
 
 /// Whether a channel is known to a user: to its members, and to others where it is not secret.
 pub fn is_known(user: &User, channel: &Channel) -> bool
     ensures { result ≡ is_known user.now channel.now }
 {
-    channel.has_member(&user.nick) || !matches!(channel.modes.privacy, Privacy::Secret)
+    !matches!(channel.modes.privacy, Privacy::Secret) || channel.has_member(&user.nick)
 }
 
 /// Whether a user is seen by another, whose own channels are given: itself, a user without mode i, and one that is in one of these channels
