@@ -14,7 +14,7 @@ ghost use Rattle.irc_server.specs.RoomMachine.{client_of, with_client, without_c
 ghost use Rattle.irc_server.specs.Loops.Grown.{Grew};
 ghost use Rattle.irc_server.specs.Loops.Stage.{behind, machine_at, so_far, view_of, AreFit, IsFreeOf, IsNoUser, IsReady, Keeps};
 
-use crate::clients::{Client, client_of, seat, take_out};
+use crate::clients::{Client, Waiting, client_of, seat, take_out};
 use crate::event::{Event, Out};
 use crate::stage::{Stage, apply, carry_out};
 use irc_channels::Words;
@@ -35,17 +35,23 @@ fn connect(stage: &mut Stage, conn: u64, host: Host) -> Result<(), AllocError>
     ensures ready { OnOk result (IsReady stage.new) }
     ensures keeps { Keeps stage.old stage.new }
 {
-    let client = Client::Registering(Pending::new(host));
-    seat(&mut stage.clients, conn, client)
+    let waiting = Waiting::new(stage.alloc, Pending::new(host))?;
+    seat(&mut stage.clients, conn, Client::Registering(waiting))
 }
 
 /// What a connection is after a line before registration.
-fn client_after(given: &Registration) -> Client
-    ensures { result ≡ client_after (registered_of given.now) given.now.pending.nick }
+///
+/// # Errors
+/// Where memory runs out.
+fn client_after(alloc: Global, given: &Registration) -> Result<Client, AllocError>
+    ensures { IfOk result (λ client. client ≡ client_after (registered_of given.now) given.now.pending.nick) }
 {
     match &given.pending.nick {
-        Some(nick) if given.registered => Client::Registered(nick.copy()),
-        _ => Client::Registering(given.pending.copy()),
+        Some(nick) if given.registered => Ok(Client::Registered(nick.copy())),
+        _ => {
+            let waiting = Waiting::new(alloc, given.pending.copy())?;
+            Ok(Client::Registering(waiting))
+        }
     }
 }
 
@@ -65,7 +71,8 @@ fn settle(
     ensures keeps { Keeps stage.old stage.new }
     ensures grew { Grew out.old.items out.new.items }
 {
-    seat(&mut stage.clients, conn, client_after(given))?;
+    let client = client_after(stage.alloc, given)?;
+    seat(&mut stage.clients, conn, client)?;
     let name = given.pending.nick.as_ref();
     carry_out(stage, conn, name, &given.steps, given.close, out)
 }
@@ -132,7 +139,8 @@ fn hear(
     laws::registered_stays();
     match client_of(&stage.clients, conn) {
         None => Ok(()),
-        Some(Client::Registering(pending)) => {
+        Some(Client::Registering(waiting)) => {
+            let pending = waiting.pending();
             let given = register(stage.alloc, &stage.room, &stage.routes, pending, message)?;
             settle(stage, conn, &given, out)
         }

@@ -1,5 +1,5 @@
 //! The clients of a server, each under the number of its connection.
-ghost use Rattle.std.specs.Prelude.{◌≡◌, ℕ, List, ◌++◌, Option, Some, Result, OnOk};
+ghost use Rattle.std.specs.Prelude.{◌≡◌, ℕ, List, ◌++◌, Option, Some, Result, IfOk, OnOk};
 ghost use Rattle.std.specs.FinMap.{empty, get, insert, remove};
 ghost use Rattle.std.specs.Option.{option_copied};
 ghost use Rattle.irc_names.specs.Fold.{key};
@@ -16,12 +16,48 @@ use irc_names::{Nick, copied};
 use irc_tables::NameTable;
 use std::alloc::{AllocError, Global};
 use std::collections::BTreeMap;
+use std::marker::Model;
+
+/// What a connection has given that has not registered, in memory of its own: so the row of a user is small.
+#[derive(Drop)]
+pub struct Waiting {
+    pending: Box<Pending, Global>,
+}
+
+/// In a clause it is what the connection has given.
+impl Model for Waiting {
+    ghost use Rattle.irc_commands.specs.declared.pending.Pending.{Pending};
+
+    ghost Value = { Pending };
+
+    ghost view = { λ waiting. waiting.pending.value };
+}
+
+impl Waiting {
+    /// One that has given so much.
+    ///
+    /// # Errors
+    /// Where memory runs out.
+    pub fn new(alloc: Global, pending: Pending) -> Result<Self, AllocError>
+        ensures { IfOk result (λ waiting. waiting ≡ pending) }
+    {
+        let pending = Box::new(alloc, pending)?;
+        Ok(Waiting { pending })
+    }
+
+    /// What it has given.
+    pub fn pending(&self) -> &Pending
+        ensures { result.now ≡ self.now }
+    {
+        &self.pending
+    }
+}
 
 /// A connection: it has not registered, or it is a user.
 #[derive(Drop)]
 pub enum Client {
     /// It has given so much.
-    Registering(Pending),
+    Registering(Waiting),
     /// It is the user with this nickname.
     Registered(Nick),
 }

@@ -9,7 +9,7 @@ pub mod laws;
 mod server;
 mod stage;
 
-pub use clients::Client;
+pub use clients::{Client, Waiting};
 pub use config::{Config, ConfigFault, MAX_PASSWORD, Peer};
 pub use event::{Event, Out, ServerFault};
 pub use server::Server;

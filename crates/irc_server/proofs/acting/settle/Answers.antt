@@ -10,14 +10,14 @@ returns-clause-ok c =
     on_ok c.carry_out.result _ _
     (carried _ c.args.conn _ _ _ _ _ _ _ _ c.args.out.now.items (copied_now _ ∙ c.as_ref-name.ensures.value) c.deref.ensures.value refl
     (ap (λ cs. record (machine_at c.args.stage.now) { clients = cs })
-    (c.in_ok-seat.ensures.ok ∙ ap (insert (clients_of c.args.stage.now.clients) c.args.conn) c.client_after.ensures)))
+    (c.in_ok-seat.ensures.ok ∙ ap (insert (clients_of c.args.stage.now.clients) c.args.conn) c.in_ok-client.ensures)))
     c.carry_out.ensures.ok
 
 pub seat-requires-clause-free : goal.seat-requires-clause-free
-seat-requires-clause-free c = subst (λ client. IsFreeOf client (clients_of c.args.stage.now.clients)) (sym c.client_after.ensures) c.requires.free
+seat-requires-clause-free c = subst (λ client. IsFreeOf client (clients_of c.args.stage.now.clients)) (sym c.in_ok-client.ensures) c.requires.free
 
 pub carry_out-requires-clause-fit : goal.carry_out-requires-clause-fit
 carry_out-requires-clause-fit c =
     subst (AreFit _) (sym c.deref.ensures.value)
     (subst (λ cs. AreFit (record (machine_at c.args.stage.now) { clients = cs }) c.args.given.now.steps.items)
-    (sym (c.in_ok-seat.ensures.ok ∙ ap (insert (clients_of c.args.stage.now.clients) c.args.conn) c.client_after.ensures)) c.requires.fit)
+    (sym (c.in_ok-seat.ensures.ok ∙ ap (insert (clients_of c.args.stage.now.clients) c.args.conn) c.in_ok-client.ensures)) c.requires.fit)
