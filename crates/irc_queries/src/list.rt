@@ -41,6 +41,7 @@ pub fn steps(context: &Context<'_>, params: &[&[u8]]) -> Result<Vec<Act, Global>
 fn put_listed(steps: &mut Vec<Act, Global>, context: &Context<'_>) -> Result<(), AllocError>
     ensures { OnOk result (steps.new.items ≡ steps.old.items ++ listed_entries context.now.room.now.room.users context.now.me.now (values context.now.room.now.room.channels)) }
 {
+    // Room for all and the end at once: a list that grows copies what it has.
     steps.reserve(context.room.channels().len().saturating_add(1))?;
     for row in context.room.channels() {
         put_if_listed(steps, context, &row.value)?;

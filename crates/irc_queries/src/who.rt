@@ -133,6 +133,7 @@ fn put_members(
 ) -> Result<(), AllocError>
     ensures { OnOk result (steps.new.items ≡ steps.old.items ++ filter_map (member_line context.now.room.now.room (place_of context.now.routes.now) (λ user. is_seen_from (map (λ row. row.now.value) own.now) context.now.me.now user) channel.now) (entries channel.now.members)) }
 {
+    // Room for all and the end at once: a list that grows copies what it has.
     steps.reserve(channel.members.len().saturating_add(1))?;
     for row in channel.members.as_slice() {
         put_member(steps, context, own, channel, row)?;
@@ -174,6 +175,7 @@ fn put_users(
     ensures { OnOk result (steps.new.items ≡ steps.old.items ++ users_told (place_of context.now.routes.now) (λ user. is_seen_from (map (λ row. row.now.value) own.now) context.now.me.now user) mask.now (values context.now.room.now.room.users)) }
 {
     let users = context.room.users()?;
+    // As for the members of a channel.
     steps.reserve(users.len().saturating_add(1))?;
     for user in users.as_slice() {
         put_user(steps, context, own, mask, user)?;
