@@ -64,10 +64,10 @@ class Daemon:
             fields = file.read().rsplit(")", 1)[1].split()
         return (int(fields[11]) + int(fields[12])) / TICKS
 
-    def kilobytes(self):
+    def kilobytes(self, what="VmRSS:"):
         """Resident memory."""
         with open(f"/proc/{self.process.pid}/status", encoding="ascii") as file:
-            return next(int(line.split()[1]) for line in file if line.startswith("VmRSS:"))
+            return next(int(line.split()[1]) for line in file if line.startswith(what))
 
     def connect(self, source="127.0.0.1"):
         client = socket.socket()
@@ -190,12 +190,16 @@ def backlog():
         return told("backlog", True, f"200 connections at once, all registered in {time.monotonic() - start:.2f} s")
 
 
+RING = 65536
+
+
 def idle():
     _, hard = resource.getrlimit(resource.RLIMIT_NOFILE)
     resource.setrlimit(resource.RLIMIT_NOFILE, (hard, hard))
     count = min(10000, hard - 100)
     with Daemon() as daemon:
         empty = daemon.kilobytes()
+        room_before = daemon.kilobytes("VmData:")
         clients = []
         start = time.monotonic()
         for number in range(count):
@@ -209,12 +213,14 @@ def idle():
             wait_for(waiting, b" 422 ")
         took = time.monotonic() - start
         full = daemon.kilobytes()
+        beside = (daemon.kilobytes("VmData:") - room_before) * 1024 / count - RING
         before = daemon.seconds()
         time.sleep(5)
         busy = (daemon.seconds() - before) / 5
         answer = asks(clients[count // 2], b"still")
-        return told("idle", busy < 0.05 and answer < 0.5,
-                    f"{count} clients in {took:.1f} s; {empty} kB before, {full} kB with them: {(full - empty) / count:.2f} kB each; "
+        return told("idle", busy < 0.05 and answer < 0.5 and beside < 4096,
+                    f"{count} clients in {took:.1f} s; {empty} kB before, {full} kB with them: {(full - empty) / count:.2f} kB each, "
+                    f"and {beside:.0f} bytes each of memory asked for beside their rings; "
                     f"{busy * 100:.2f} of 100 of a processor while they are idle; a PING takes {answer * 1000:.1f} ms")
 
 
