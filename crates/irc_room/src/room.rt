@@ -92,6 +92,13 @@ impl Room {
         self.users.find_named(name)
     }
 
+    /// The nickname, as it is spelled, of the user that [`Room::user`] finds for these bytes.
+    pub fn spelling(&self, name: &[u8]) -> Option<&Nick>
+        ensures { option_copied result ≡ option_map (λ user. user.nick) (user_at self.now.room (key name.now)) }
+    {
+        self.users.spelling(name)
+    }
+
     /// Whether the user that [`Room::user`] finds for these bytes is without mode i. It is looked for near a place first, as
     /// [`irc_users::Users::is_visible_near`] has it, so a walk over nicknames in folded order finds neighbours at once.
     pub fn is_visible_near(&self, near: &mut usize, name: &[u8]) -> Option<bool>

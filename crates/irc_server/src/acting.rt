@@ -113,8 +113,8 @@ fn obey(
 fn stored_nick(stage: &Stage, nick: &Nick) -> Option<Nick>
     ensures { result ≡ option_map (λ user. user.nick) (row stage.now.room.room.users (key nick.now)) }
 {
-    match stage.room.user(nick.as_bytes()) {
-        Some(user) => Some(user.nick.copy()),
+    match stage.room.spelling(nick.as_bytes()) {
+        Some(spelled) => Some(spelled.copy()),
         None => None,
     }
 }

@@ -78,15 +78,14 @@ impl<V: Drop> NameTable<V> {
         }
     }
 
-    /// A table without rows, with room for so many.
+    /// A table without rows, with room for just so many.
     ///
     /// # Errors
     /// Where memory runs out.
     pub fn with_room(alloc: Global, room: usize) -> Result<Self, AllocError>
         ensures { IfOk result (λ table. table ≡ empty) }
     {
-        let mut rows = Vec::new(alloc);
-        rows.reserve(room)?;
+        let rows = Vec::with_capacity(alloc, room)?;
         Ok(NameTable { rows })
     }
 

@@ -84,10 +84,11 @@ mode-beside users heads place user h invisible beside within is there =
 nobody : User
 nobody = record { nick = []; user = []; host = []; real = []; home = []; invisible = false }
 
-pub visible-there : (users : List User) (heads : List Head) (fold : List ℕ) (place : ℕ) (h : Head) → IsRoster users heads → StandsAt entry users fold place
-    → h ≡ get_or heads place h → Some (not h.invisible) ≡ option_map (λ (user : User). not user.invisible) (row (table_of entry users) fold)
-visible-there users heads fold place h roster at there =
+pub head-there : {B : Type 0} (told : Head → B) (users : List User) (heads : List Head) (fold : List ℕ) (place : ℕ) (h : Head) → IsRoster users heads
+    → StandsAt entry users fold place → h ≡ get_or heads place h
+    → Some (told h) ≡ option_map (λ (user : User). told (head user)) (row (table_of entry users) fold)
+head-there told users heads fold place h roster at there =
     let user = get_or users place nobody in
     let is : user ≡ get_or users place user = get_or_default users place nobody user at.within in
-    ap (λ k. Some (not k.invisible)) (head-at users heads place user h roster.beside at.within is there)
-    ∙ sym (ap (option_map (λ (user : User). not user.invisible)) (row-stands entry users fold place user roster.ordered at is))
+    ap (λ k. Some (told k)) (head-at users heads place user h roster.beside at.within is there)
+    ∙ sym (ap (option_map (λ (user : User). told (head user))) (row-stands entry users fold place user roster.ordered at is))

@@ -193,6 +193,16 @@ impl Users {
         }
     }
 
+    /// The nickname, as it is spelled, of the user that [`Users::find_named`] finds for these bytes. Nothing else of the user is looked at.
+    pub fn spelling(&self, name: &[u8]) -> Option<&Nick>
+        ensures { option_copied result ≡ option_map (λ user. user.nick) (row self.now (key name.now)) }
+    {
+        match place_named(&self.heads, name) {
+            Ok(place) => Some(&self.heads[place].nick),
+            Err(_) => None,
+        }
+    }
+
     /// All users, in folded order of their nicknames.
     pub fn as_slice(&self) -> &[Box<User, Global>]
         ensures { map boxed result.now ≡ values self.now }

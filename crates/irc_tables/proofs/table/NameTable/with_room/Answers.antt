@@ -6,8 +6,8 @@ use Rattle.irc_tables.proofs.table.NameTable.with_room.Goals as goal
 
 pub invariant_of-result : goal.invariant_of-result
 invariant_of-result g c =
-    subst (λ rows. IsInFoldedOrder (row_entry {V = g.row.V.Denot}) rows) (sym (c.reserve.ensures.items ∙ c.new-rows.ensures.items))
+    subst (λ rows. IsInFoldedOrder (row_entry {V = g.row.V.Denot}) rows) (sym c.in_ok-rows.ensures.items)
     (nothing-sorted row_entry)
 
 pub returns : goal.returns
-returns g c = ap (table_of row_entry) (c.reserve.ensures.items ∙ c.new-rows.ensures.items) ∙ nothing-table row_entry
+returns g c = ap (table_of row_entry) c.in_ok-rows.ensures.items ∙ nothing-table row_entry
