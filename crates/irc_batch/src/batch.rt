@@ -1,0 +1,148 @@
+//! A batch: lines to connections, and ends of connections, in order.
+ghost use Rattle.std.specs.Prelude.{◌≡◌, [], ◌∷◌, ◌++◌, length, take, OnOk, OnErr};
+ghost use Rattle.std.specs.Option.{option_map};
+ghost use Rattle.std.specs.List.{slice_get};
+ghost use Rattle.irc_batch.specs.Batches.{end_of, line_to, nothing, told};
+
+use std::alloc::{AllocError, Global};
+use std::marker::Model;
+
+/// One thing that is put out.
+#[derive(Clone, Copy)]
+pub enum Out<'a> {
+    /// A line to a connection, with its CR LF (RFC 2812 section 2.3).
+    Line(u64, &'a [u8]),
+    /// The end of a connection.
+    Close(u64),
+}
+
+/// Where a line lies among the bytes of a batch.
+#[derive(Clone, Copy)]
+struct Span {
+    start: usize,
+    end: usize,
+}
+
+/// What stands for one thing that is put out.
+#[derive(Clone, Copy)]
+enum Mark {
+    Line(u64, Span),
+    Close(u64),
+}
+
+/// Lines to connections, and ends of connections, in order. The bytes of all lines lie one behind another, and a line that goes to many
+/// connections lies there once.
+#[derive(Drop)]
+pub struct Batch {
+    bytes: Vec<u8, Global>,
+    /// The line that is at hand.
+    held: Span,
+    marks: Vec<Mark, Global>,
+}
+
+/// In a clause it is what is put out, and the line that is at hand.
+impl Model for Batch {
+    ghost use Rattle.std.specs.Prelude.{length, map, All};
+    ghost use Rattle.irc_batch.specs.Batches.{Batch};
+    ghost use Rattle.irc_batch.specs.Loops.Marks.{bytes_at, sent_by, IsMark, IsSpan};
+
+    ghost Value = { Batch };
+
+    ghost view = { λ b. record { outs = map (sent_by b.bytes.items) b.marks.items; held = bytes_at b.bytes.items b.held } };
+
+    ghost invariant = { λ b. IsSpan (length b.bytes.items) b.held × All (IsMark (length b.bytes.items)) b.marks.items };
+}
+
+const NOWHERE: Span = Span { start: 0, end: 0 };
+
+impl Batch {
+    /// A batch in which there is nothing.
+    pub fn new(alloc: Global) -> Self
+        ensures { result ≡ nothing }
+    {
+        Batch {
+            bytes: Vec::new(alloc),
+            held: NOWHERE,
+            marks: Vec::new(alloc),
+        }
+    }
+
+    /// How many things are put out.
+    pub fn len(&self) -> usize
+        ensures { result ≡ length self.now.outs }
+    {
+        self.marks.len()
+    }
+
+    /// One of the things that are put out, counted from 0.
+    pub fn get(&self, place: usize) -> Option<Out<'_>>
+        ensures { option_map told result ≡ slice_get self.now.outs place }
+    {
+        match self.marks.get(place) {
+            None => None,
+            Some(Mark::Close(conn)) => Some(Out::Close(*conn)),
+            Some(Mark::Line(conn, span)) => {
+                Some(Out::Line(*conn, &self.bytes[span.start..span.end]))
+            }
+        }
+    }
+
+    /// Takes a line to hand, for [`Batch::send`].
+    ///
+    /// # Errors
+    /// Where memory runs out; nothing has changed then.
+    pub fn hold(&mut self, line: &[u8]) -> Result<(), AllocError>
+        ensures ok { OnOk result (self.new ≡ record self.old { held = line.now }) }
+        ensures refused { OnErr result (self.new ≡ self.old) }
+    {
+        let start = self.bytes.len();
+        self.bytes.extend_from_slice(line)?;
+        let end = self.bytes.len();
+        self.held = Span { start, end };
+        Ok(())
+    }
+
+    /// Puts out the line at hand to a connection.
+    ///
+    /// # Errors
+    /// Where memory runs out; nothing has changed then.
+    pub fn send(&mut self, conn: u64) -> Result<(), AllocError>
+        ensures ok { OnOk result (self.new ≡ record self.old { outs = self.old.outs ++ line_to conn self.old.held ∷ [] }) }
+        ensures refused { OnErr result (self.new ≡ self.old) }
+    {
+        match self.marks.push(Mark::Line(conn, self.held)) {
+            Ok(()) => Ok(()),
+            Err(_) => Err(AllocError),
+        }
+    }
+
+    /// Puts out the end of a connection.
+    ///
+    /// # Errors
+    /// Where memory runs out; nothing has changed then.
+    pub fn close(&mut self, conn: u64) -> Result<(), AllocError>
+        ensures ok { OnOk result (self.new ≡ record self.old { outs = self.old.outs ++ end_of conn ∷ [] }) }
+        ensures refused { OnErr result (self.new ≡ self.old) }
+    {
+        match self.marks.push(Mark::Close(conn)) {
+            Ok(()) => Ok(()),
+            Err(_) => Err(AllocError),
+        }
+    }
+
+    /// Takes out all but the first of the things that are put out, so many at most. The line at hand stays.
+    pub fn truncate(&mut self, count: usize)
+        ensures { self.new ≡ record self.old { outs = take count self.old.outs } }
+    {
+        self.marks.truncate(count);
+    }
+
+    /// Takes out everything; its memory is kept for what comes next.
+    pub fn clear(&mut self)
+        ensures { self.new ≡ nothing }
+    {
+        self.marks.clear();
+        self.held = NOWHERE;
+        self.bytes.clear();
+    }
+}
