@@ -2,7 +2,7 @@
 ghost use Rattle.std.specs.Prelude.{◌≡◌, [], ◌∷◌, ◌++◌, length, take, OnOk, OnErr};
 ghost use Rattle.std.specs.Option.{option_map};
 ghost use Rattle.std.specs.List.{slice_get};
-ghost use Rattle.irc_batch.specs.Batches.{end_of, line_to, nothing, told};
+ghost use Rattle.irc_batch.specs.Batches.{batch_of, end_of, line_to, nothing, told};
 
 use std::alloc::{AllocError, Global};
 use std::marker::Model;
@@ -114,6 +114,18 @@ impl Batch {
             Ok(()) => Ok(()),
             Err(_) => Err(AllocError),
         }
+    }
+
+    /// Puts out a line to a connection, and takes it to hand.
+    ///
+    /// # Errors
+    /// Where memory runs out; nothing more is put out then.
+    pub fn put(&mut self, conn: u64, line: &[u8]) -> Result<(), AllocError>
+        ensures ok { OnOk result (self.new ≡ batch_of (self.old.outs ++ line_to conn line.now ∷ []) line.now) }
+        ensures refused { OnErr result (self.new.outs ≡ self.old.outs) }
+    {
+        self.hold(line)?;
+        self.send(conn)
     }
 
     /// Puts out the end of a connection.

@@ -2,11 +2,9 @@
 use Rattle.std.proofs.Common.{◌≡◌, ℕ, ◌+◌, ◌<◌, ◌≤◌, Bool, true, false, ◌&&◌, ◌||◌, cond, nat_eq, is_some, Option, Some, None, Result, Ok, Err, List, [], ◌∷◌, ◌++◌, length, refl, sym, ◌∙◌, ap, subst, append_assoc, append-nil, arith, length-append}
 use Rattle.std.specs.BTreeMap.{btree_map_len}
 use Rattle.std.specs.BTreeSet.{BTreeSet, btree_set_len}
-use Rattle.arrayvec.specs.ArrayVec.{ArrayVec}
 use Rattle.irc_outbox.specs.declared.wire.IoFault.{IoFault}
 use Rattle.irc_outbox.specs.Calls.{Call, writes, closes, bytes_taken}
-use Rattle.irc_server.specs.declared.event.Out.{Out}
-use Rattle.irc_server.specs.declared.event.Out.TheVariants.{ToClient, CloseClient}
+use Rattle.irc_batch.specs.Batches.{Sent, end_of, line_to}
 use Rattle.irc_engine.specs.declared.board.Board.{Board}
 use Rattle.irc_engine.specs.declared.seat.Seat.{Seat}
 use Rattle.irc_engine.specs.Carrying.{owed, is_open_at, AddsAll, cut_off, overflowed, Passage}
@@ -31,7 +29,7 @@ adds_both is_after old mid new a b one other = λ calls after.
 -- numbers
 
 -- what holds of one connection, and of each other that nothing has happened to
-pub by_number : (conn : ℕ) (old new : ℕ → Option Seat) (was now : ℕ → Bool) (calls : List Call) (outs : List Out)
+pub by_number : (conn : ℕ) (old new : ℕ → Option Seat) (was now : ℕ → Bool) (calls : List Call) (outs : List Sent)
     → ((q : ℕ) → nat_eq conn q ≡ false → new q ≡ old q) → ((q : ℕ) → nat_eq conn q ≡ false → now q ≡ was q)
     → ((q : ℕ) → nat_eq conn q ≡ false → IsElsewhere q calls outs) → Passage conn (old conn) (was conn) calls outs (new conn) (now conn)
     → (q : ℕ) → Passage q (old q) (was q) calls outs (new q) (now q)
@@ -77,15 +75,15 @@ close_elsewhere conn q two = record {
   never_closed = refl;
 }
 
-pub line_elsewhere : (conn q : ℕ) (text : ArrayVec ℕ) → nat_eq conn q ≡ false → IsElsewhere q [] (ToClient conn text ∷ [])
+pub line_elsewhere : (conn q : ℕ) (text : List ℕ) → nat_eq conn q ≡ false → IsElsewhere q [] (line_to conn text ∷ [])
 line_elsewhere conn q text two = record {
   silent = record { nothing = refl; never = refl };
   never_cut = refl;
-  nothing = ap (λ t. cond t text.items [] ++ []) two;
+  nothing = ap (λ t. cond t text [] ++ []) two;
   never_closed = refl;
 }
 
-pub shut_elsewhere : (conn q : ℕ) → nat_eq conn q ≡ false → IsElsewhere q [] (CloseClient conn ∷ [])
+pub shut_elsewhere : (conn q : ℕ) → nat_eq conn q ≡ false → IsElsewhere q [] (end_of conn ∷ [])
 shut_elsewhere conn q two = record {
   silent = record { nothing = refl; never = refl };
   never_cut = refl;
@@ -166,12 +164,12 @@ apart_lost false t o is = ap (λ u. u && o) is
 
 module _ {W : Type 0} (is_after : W → List Call → Type 0) (conn : ℕ) (old new : Board W) (seat : Seat) where
   -- a line that does not fit its outbox
-  pub line_drops : (text : ArrayVec ℕ) → is_some seat.framer ≡ true → seat.outbox.room < length seat.outbox.bytes + length text.items
-      → Drops is_after conn seat [] old new → Carries is_after [] old (ToClient conn text ∷ []) new
+  pub line_drops : (text : List ℕ) → is_some seat.framer ≡ true → seat.outbox.room < length seat.outbox.bytes + length text
+      → Drops is_after conn seat [] old new → Carries is_after [] old (line_to conn text ∷ []) new
   line_drops text unshut more drops =
-      let outs : List Out = ToClient conn text ∷ [] in
-      let owes : owed (is_some seat.framer) conn outs ≡ text.items =
-      ap (λ t. owed t conn outs) unshut ∙ ap (λ xs. xs ++ []) (at_once conn text.items []) ∙ append-nil text.items in
+      let outs : List Sent = line_to conn text ∷ [] in
+      let owes : owed (is_some seat.framer) conn outs ≡ text =
+      ap (λ t. owed t conn outs) unshut ∙ ap (λ xs. xs ++ []) (at_once conn text []) ∙ append-nil text in
       record {
         calls = closes conn ∷ [];
         account = drops.account;

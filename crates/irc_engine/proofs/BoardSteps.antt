@@ -4,11 +4,9 @@ use Rattle.std.specs.List.{filter}
 use Rattle.std.proofs.lemmas.List.Elements.{filter-append}
 use Rattle.std.specs.BTreeMap.{btree_map_len}
 use Rattle.std.specs.BTreeSet.{BTreeSet}
-use Rattle.arrayvec.specs.ArrayVec.{ArrayVec}
 use Rattle.irc_outbox.specs.declared.outbox.Overflow.{Overflow}
 use Rattle.irc_outbox.specs.Calls.{Call, closes, is_some_bytes}
-use Rattle.irc_server.specs.declared.event.Out.{Out}
-use Rattle.irc_server.specs.declared.event.Out.TheVariants.{ToClient, CloseClient}
+use Rattle.irc_batch.specs.Batches.{Sent, end_of, line_to}
 use Rattle.irc_engine.specs.declared.board.Board.{Board}
 use Rattle.irc_engine.specs.declared.seat.Seat.{Seat}
 use Rattle.irc_line.specs.Lines.{Begun}
@@ -27,7 +25,7 @@ and_false true = refl
 and_false false = refl
 
 module _ {W : Type 0} (is_after : W → List Call → Type 0) where
-  pub carries_on : (old mid new : Board W) (a b : List Call) (x y : List Out) → Carries is_after a old x mid → Carries is_after b mid y new
+  pub carries_on : (old mid new : Board W) (a b : List Call) (x y : List Sent) → Carries is_after a old x mid → Carries is_after b mid y new
       → Carries is_after (a ++ b) old (x ++ y) new
   carries_on old mid new a b x y one other = record {
     calls = one.calls ++ other.calls;
@@ -53,7 +51,7 @@ module _ {W : Type 0} (is_after : W → List Call → Type 0) where
 
   module _ (conn : ℕ) (old new : Board W) where
     -- one connection alone has another seat
-    pub one_seat : (calls : List Call) (outs : List Out) (was now : Option Seat) → seat_of old.seats conn ≡ was → seat_of new.seats conn ≡ now
+    pub one_seat : (calls : List Call) (outs : List Sent) (was now : Option Seat) → seat_of old.seats conn ≡ was → seat_of new.seats conn ≡ now
         → ((q : ℕ) → nat_eq conn q ≡ false → seat_of new.seats q ≡ seat_of old.seats q) → ((q : ℕ) → nat_eq conn q ≡ false → has new.lost q ≡ has old.lost q)
         → ((q : ℕ) → nat_eq conn q ≡ false → IsElsewhere q calls outs) → Passage conn was (has old.lost conn) calls outs now (has new.lost conn)
         → (q : ℕ) → Passage q (seat_of old.seats q) (has old.lost q) calls outs (seat_of new.seats q) (has new.lost q)
@@ -62,21 +60,21 @@ module _ {W : Type 0} (is_after : W → List Call → Type 0) where
         (subst (λ (s : Option Seat). Passage conn s (has old.lost conn) calls outs (seat_of new.seats conn) (has new.lost conn)) (sym is_was)
         (subst (λ (s : Option Seat). Passage conn was (has old.lost conn) calls outs s (has new.lost conn)) (sym is_now) here))
 
-    module _ (text : ArrayVec ℕ) (wire : new.wire ≡ old.wire) (lost : new.lost ≡ old.lost) (count : count_of new ≤ count_of old) where
+    module _ (text : List ℕ) (wire : new.wire ≡ old.wire) (lost : new.lost ≡ old.lost) (count : count_of new ≤ count_of old) where
       same_lost : (q : ℕ) → has new.lost q ≡ has old.lost q
       same_lost q = ap (λ l. has l q) lost
 
       -- a line that its outbox takes
-      pub line_taken : (result : Result Bool Overflow) → result ≡ Ok true → IsOfferedAt conn text.items old.seats result new.seats
-          → Carries is_after [] old (ToClient conn text ∷ []) new
-      line_taken result is offered = by (subst (λ r. IsOfferedAt conn text.items old.seats r new.seats) is offered)
+      pub line_taken : (result : Result Bool Overflow) → result ≡ Ok true → IsOfferedAt conn text old.seats result new.seats
+          → Carries is_after [] old (line_to conn text ∷ []) new
+      line_taken result is offered = by (subst (λ r. IsOfferedAt conn text old.seats r new.seats) is offered)
         where
-          by : IsOfferedAt conn text.items old.seats (Ok true) new.seats → Carries is_after [] old (ToClient conn text ∷ []) new
+          by : IsOfferedAt conn text old.seats (Ok true) new.seats → Carries is_after [] old (line_to conn text ∷ []) new
           by (no_seat none same never) = cc never
           by (at_seat seat now was set (unshut, some, fits, now_is)) =
-              let outs : List Out = ToClient conn text ∷ [] in
-              let owes : owed (is_some seat.framer) conn outs ≡ text.items =
-              ap (λ t. owed t conn outs) unshut ∙ ap (λ xs. xs ++ []) (at_once conn text.items []) ∙ append-nil text.items in
+              let outs : List Sent = line_to conn text ∷ [] in
+              let owes : owed (is_some seat.framer) conn outs ≡ text =
+              ap (λ t. owed t conn outs) unshut ∙ ap (λ xs. xs ++ []) (at_once conn text []) ∙ append-nil text in
               record {
                 calls = [];
                 account = adds_none is_after old.wire new.wire wire;
@@ -97,20 +95,20 @@ module _ {W : Type 0} (is_after : W → List Call → Type 0) where
                 count = count;
               }
 
-      none_owed : (unshut : Bool) → (unshut ≡ true → text.items ≡ []) → owed unshut conn (ToClient conn text ∷ []) ≡ []
-      none_owed true never = ap (λ xs. xs ++ []) (at_once conn text.items []) ∙ append-nil text.items ∙ never refl
+      none_owed : (unshut : Bool) → (unshut ≡ true → text ≡ []) → owed unshut conn (line_to conn text ∷ []) ≡ []
+      none_owed true never = ap (λ xs. xs ++ []) (at_once conn text []) ∙ append-nil text ∙ never refl
       none_owed false never = refl
 
       -- a line of nothing, or to a connection that the server has closed, or that has no seat
-      pub line_passed : (result : Result Bool Overflow) → result ≡ Ok false → IsOfferedAt conn text.items old.seats result new.seats
-          → Carries is_after [] old (ToClient conn text ∷ []) new
-      line_passed result is offered = by (subst (λ r. IsOfferedAt conn text.items old.seats r new.seats) is offered)
+      pub line_passed : (result : Result Bool Overflow) → result ≡ Ok false → IsOfferedAt conn text old.seats result new.seats
+          → Carries is_after [] old (line_to conn text ∷ []) new
+      line_passed result is offered = by (subst (λ r. IsOfferedAt conn text old.seats r new.seats) is offered)
         where
-          by : IsOfferedAt conn text.items old.seats (Ok false) new.seats → Carries is_after [] old (ToClient conn text ∷ []) new
+          by : IsOfferedAt conn text old.seats (Ok false) new.seats → Carries is_after [] old (line_to conn text ∷ []) new
           by (no_seat none same never) = record {
             calls = [];
             account = adds_none is_after old.wire new.wire wire;
-            passage = one_seat [] (ToClient conn text ∷ []) None None none (same conn ∙ none) (λ q two. same q) (λ q two. same_lost q)
+            passage = one_seat [] (line_to conn text ∷ []) None None none (same conn ∙ none) (λ q two. same q) (λ q two. same_lost q)
                 (λ q two. line_elsewhere conn q text two)
                 (record { fate = record { nothing = refl; never = refl }; lost_is = same_lost conn ∙ kept_none (has old.lost conn); hears_none = refl });
             exchanged = refl;
@@ -119,7 +117,7 @@ module _ {W : Type 0} (is_after : W → List Call → Type 0) where
           by (at_seat seat now was set (never, now_is)) = record {
             calls = [];
             account = adds_none is_after old.wire new.wire wire;
-            passage = one_seat [] (ToClient conn text ∷ []) (Some seat) (Some now) was (set_here (seat_of old.seats) (seat_of new.seats) conn (Some now) set)
+            passage = one_seat [] (line_to conn text ∷ []) (Some seat) (Some now) was (set_here (seat_of old.seats) (seat_of new.seats) conn (Some now) set)
                 (set_other (seat_of old.seats) (seat_of new.seats) conn (Some now) set) (λ q two. same_lost q) (λ q two. line_elsewhere conn q text two)
                 (record {
                   fate = record {
@@ -142,7 +140,7 @@ module _ {W : Type 0} (is_after : W → List Call → Type 0) where
 
     -- the server has closed a connection
     pub shut_now : IsShutAt conn old.seats new.seats → IsNoted old.lost conn false new.lost → new.wire ≡ old.wire → count_of new ≤ count_of old
-        → Carries is_after [] old (CloseClient conn ∷ []) new
+        → Carries is_after [] old (end_of conn ∷ []) new
     shut_now shut forgotten wire count = by shut
       where
         others_lost : (q : ℕ) → nat_eq conn q ≡ false → has new.lost q ≡ has old.lost q
@@ -151,11 +149,11 @@ module _ {W : Type 0} (is_after : W → List Call → Type 0) where
         not_lost : has new.lost conn ≡ false
         not_lost = forgotten conn ∙ at_once conn false (has old.lost conn)
 
-        by : IsShutAt conn old.seats new.seats → Carries is_after [] old (CloseClient conn ∷ []) new
+        by : IsShutAt conn old.seats new.seats → Carries is_after [] old (end_of conn ∷ []) new
         by (no_seat none same so) = record {
           calls = [];
           account = adds_none is_after old.wire new.wire wire;
-          passage = one_seat [] (CloseClient conn ∷ []) None None none (same conn ∙ none) (λ q two. same q) others_lost (λ q two. shut_elsewhere conn q two)
+          passage = one_seat [] (end_of conn ∷ []) None None none (same conn ∙ none) (λ q two. same q) others_lost (λ q two. shut_elsewhere conn q two)
               (record { fate = record { nothing = refl; never = refl }; lost_is = not_lost ∙ sym (closed_now _); hears_none = refl });
           exchanged = refl;
           count = count;
@@ -163,11 +161,11 @@ module _ {W : Type 0} (is_after : W → List Call → Type 0) where
         by (at_seat seat now was set now_is) = record {
           calls = [];
           account = adds_none is_after old.wire new.wire wire;
-          passage = one_seat [] (CloseClient conn ∷ []) (Some seat) (Some now) was (set_here (seat_of old.seats) (seat_of new.seats) conn (Some now) set)
+          passage = one_seat [] (end_of conn ∷ []) (Some seat) (Some now) was (set_here (seat_of old.seats) (seat_of new.seats) conn (Some now) set)
               (set_other (seat_of old.seats) (seat_of new.seats) conn (Some now) set) others_lost (λ q two. shut_elsewhere conn q two)
               (record {
                 fate = record {
-                  carried = ap (λ xs. seat.outbox.bytes ++ xs) (nothing_owed (is_some seat.framer) conn (CloseClient conn ∷ []) (at_once conn [] []))
+                  carried = ap (λ xs. seat.outbox.bytes ++ xs) (nothing_owed (is_some seat.framer) conn (end_of conn ∷ []) (at_once conn [] []))
                       ∙ append-nil seat.outbox.bytes ∙ sym (ap (λ (s : Seat). s.outbox.bytes) now_is);
                   same_room = ap (λ (s : Seat). s.outbox.room) now_is;
                   still_open = ap (λ (s : Seat). is_some s.framer) now_is ∙ sym (closed_now (is_some seat.framer));
@@ -226,11 +224,11 @@ module _ {W : Type 0} (is_after : W → List Call → Type 0) where
 
   module _ (conn : ℕ) (old mid new : Board W) (loses : Loses is_after conn mid new) (lost : mid.lost ≡ old.lost) (count : count_of mid ≤ count_of old) where
     -- a line does not fit, and the connection is lost
-    pub line_lost : (text : ArrayVec ℕ) (overflow : Overflow) (result : Result Bool Overflow) → result ≡ Err overflow
-        → IsOfferedAt conn text.items old.seats result mid.seats → mid.wire ≡ old.wire → Carries is_after [] old (ToClient conn text ∷ []) new
-    line_lost text overflow result is offered wire = by (subst (λ r. IsOfferedAt conn text.items old.seats r mid.seats) is offered)
+    pub line_lost : (text : List ℕ) (overflow : Overflow) (result : Result Bool Overflow) → result ≡ Err overflow
+        → IsOfferedAt conn text old.seats result mid.seats → mid.wire ≡ old.wire → Carries is_after [] old (line_to conn text ∷ []) new
+    line_lost text overflow result is offered wire = by (subst (λ r. IsOfferedAt conn text old.seats r mid.seats) is offered)
       where
-        by : IsOfferedAt conn text.items old.seats (Err overflow) mid.seats → Carries is_after [] old (ToClient conn text ∷ []) new
+        by : IsOfferedAt conn text old.seats (Err overflow) mid.seats → Carries is_after [] old (line_to conn text ∷ []) new
         by (no_seat none same never) = cc never
         by (at_seat seat now was set (unshut, more, now_is)) =
             line_drops is_after conn old new seat text unshut more (record {

@@ -4,8 +4,7 @@ use Rattle.std.proofs.lemmas.Grind.{flat_map-append}
 use Rattle.std.proofs.lemmas.List.Folds.{list_any-append}
 use Rattle.std.proofs.lemmas.List.Sums.{sum_by-append}
 use Rattle.irc_outbox.specs.Calls.{Call, written, written_by, times_closed, is_close_of}
-use Rattle.irc_server.specs.declared.event.Out.{Out}
-use Rattle.irc_server.specs.declared.event.Out.TheVariants.{ToClient, CloseClient}
+use Rattle.irc_batch.specs.Batches.{Sent, end_of, line_to}
 use Rattle.irc_engine.specs.declared.seat.Seat.{Seat}
 use Rattle.irc_engine.specs.Hearing.{begun_at}
 use Rattle.irc_engine.proofs.HearingLaws.{hears_on, hears_kept}
@@ -20,15 +19,15 @@ times_closed-append conn a b = sum_by-append (λ c. cond (is_close_of conn c) 1 
 pub is_cut_off-append : (conn : ℕ) (a b : List Call) → is_cut_off conn (a ++ b) ≡ (is_cut_off conn a || is_cut_off conn b)
 is_cut_off-append conn a b = list_any-append (ends_at conn) a b
 
-pub is_closed_by-append : (conn : ℕ) (a b : List Out) → is_closed_by conn (a ++ b) ≡ (is_closed_by conn a || is_closed_by conn b)
+pub is_closed_by-append : (conn : ℕ) (a b : List Sent) → is_closed_by conn (a ++ b) ≡ (is_closed_by conn a || is_closed_by conn b)
 is_closed_by-append conn a b = list_any-append (is_closing conn) a b
 
-answers-append : (conn : ℕ) (a b : List Out) → answers conn (a ++ b) ≡ answers conn a ++ owed (not (is_closed_by conn a)) conn b
+answers-append : (conn : ℕ) (a b : List Sent) → answers conn (a ++ b) ≡ answers conn a ++ owed (not (is_closed_by conn a)) conn b
 answers-append conn [] b = refl
-answers-append conn (ToClient to text ∷ a) b =
-    let first : List ℕ = cond (nat_eq to conn) text.items [] in
+answers-append conn (line_to to text ∷ a) b =
+    let first : List ℕ = cond (nat_eq to conn) text [] in
     ap (λ xs. first ++ xs) (answers-append conn a b) ∙ sym (append_assoc first (answers conn a) (owed (not (is_closed_by conn a)) conn b))
-answers-append conn (CloseClient which ∷ a) b = by (nat_eq which conn) (answers-append conn a b)
+answers-append conn (end_of which ∷ a) b = by (nat_eq which conn) (answers-append conn a b)
   where
     by : (t : Bool) → answers conn (a ++ b) ≡ answers conn a ++ owed (not (is_closed_by conn a)) conn b
         → cond t [] (answers conn (a ++ b)) ≡ cond t [] (answers conn a) ++ owed (not (t || is_closed_by conn a)) conn b
@@ -36,7 +35,7 @@ answers-append conn (CloseClient which ∷ a) b = by (nat_eq which conn) (answer
     by false rest = rest
 
 -- what is owed by two stretches, where the first may close the connection
-pub owed-append : (unshut : Bool) (conn : ℕ) (a b : List Out) → owed unshut conn (a ++ b) ≡ owed unshut conn a ++ owed (unshut && not (is_closed_by conn a)) conn b
+pub owed-append : (unshut : Bool) (conn : ℕ) (a b : List Sent) → owed unshut conn (a ++ b) ≡ owed unshut conn a ++ owed (unshut && not (is_closed_by conn a)) conn b
 owed-append true conn a b = answers-append conn a b
 owed-append false conn a b = refl
 
@@ -47,7 +46,7 @@ one_after_other held more further first later mid end one other =
     sym (append_assoc held more further) ∙ ap (λ xs. xs ++ further) one ∙ append_assoc first mid further
     ∙ ap (λ xs. first ++ xs) other ∙ sym (append_assoc first later end)
 
-module _ (conn : ℕ) (a b : List Call) (x y : List Out) where
+module _ (conn : ℕ) (a b : List Call) (x y : List Sent) where
   silent_on : Silent conn a → Silent conn b → Silent conn (a ++ b)
   silent_on one other = record {
     nothing = written-append conn a b ∙ ap (λ xs. xs ++ written conn b) one.nothing ∙ other.nothing;
@@ -190,13 +189,13 @@ module _ (conn : ℕ) (a b : List Call) (x y : List Out) where
   }
 
 -- calls and lines of other connections
-pub record IsElsewhere (conn : ℕ) (calls : List Call) (outs : List Out) : Type 0 where
+pub record IsElsewhere (conn : ℕ) (calls : List Call) (outs : List Sent) : Type 0 where
   pub silent : Silent conn calls
   pub never_cut : is_cut_off conn calls ≡ false
   pub nothing : answers conn outs ≡ []
   pub never_closed : is_closed_by conn outs ≡ false
 
-pub elsewhere_both : (conn : ℕ) (a b : List Call) (x y : List Out) → IsElsewhere conn a x → IsElsewhere conn b y → IsElsewhere conn (a ++ b) (x ++ y)
+pub elsewhere_both : (conn : ℕ) (a b : List Call) (x y : List Sent) → IsElsewhere conn a x → IsElsewhere conn b y → IsElsewhere conn (a ++ b) (x ++ y)
 elsewhere_both conn a b x y one other = record {
   silent = silent_on conn a b x y one.silent other.silent;
   never_cut = is_cut_off-append conn a b ∙ ap (λ t. t || is_cut_off conn b) one.never_cut ∙ other.never_cut;
@@ -205,7 +204,7 @@ elsewhere_both conn a b x y one other = record {
   never_closed = is_closed_by-append conn x y ∙ ap (λ t. t || is_closed_by conn y) one.never_closed ∙ other.never_closed;
 }
 
-pub nothing_owed : (unshut : Bool) (conn : ℕ) (outs : List Out) → answers conn outs ≡ [] → owed unshut conn outs ≡ []
+pub nothing_owed : (unshut : Bool) (conn : ℕ) (outs : List Sent) → answers conn outs ≡ [] → owed unshut conn outs ≡ []
 nothing_owed true conn outs none = none
 nothing_owed false conn outs none = refl
 
@@ -213,7 +212,7 @@ pub still : (t c : Bool) → c ≡ false → t ≡ (t && not c)
 still true c is = ap not (sym is)
 still false c is = refl
 
-pub untouched_fate : (conn : ℕ) (calls : List Call) (outs : List Out) → IsElsewhere conn calls outs → (seat : Option Seat) → Fate conn seat calls outs seat
+pub untouched_fate : (conn : ℕ) (calls : List Call) (outs : List Sent) → IsElsewhere conn calls outs → (seat : Option Seat) → Fate conn seat calls outs seat
 untouched_fate conn calls outs apart None = apart.silent
 untouched_fate conn calls outs apart (Some seat) = record {
   carried =
@@ -238,7 +237,7 @@ kept_lost : (seat : Option Seat) (l c : Bool) → c ≡ false → l ≡ is_lost_
 kept_lost None l c is = kept_none l ∙ ap (λ t. (l || false) && not t) (sym is)
 kept_lost (Some seat) l c is = kept_some l (is_some seat.framer) ∙ ap (λ t. (l || (is_some seat.framer && false)) && not t) (sym is)
 
-pub untouched : (conn : ℕ) (calls : List Call) (outs : List Out) → IsElsewhere conn calls outs → (old new : Option Seat) (was now : Bool) → new ≡ old → now ≡ was
+pub untouched : (conn : ℕ) (calls : List Call) (outs : List Sent) → IsElsewhere conn calls outs → (old new : Option Seat) (was now : Bool) → new ≡ old → now ≡ was
     → Passage conn old was calls outs new now
 untouched conn calls outs apart old new was now same as_lost =
     subst (λ (s : Option Seat). Passage conn old was calls outs s now) (sym same)

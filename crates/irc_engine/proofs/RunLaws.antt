@@ -13,7 +13,7 @@ use Rattle.irc_outbox.specs.declared.wire.Got.TheVariants.{Bytes, Later, End}
 use Rattle.irc_outbox.specs.declared.wire.IoFault.{IoFault}
 use Rattle.irc_outbox.specs.Calls.{Call, reads, closes, bytes_got, Adds, FitsIn}
 use Rattle.irc_server.specs.declared.event.Event.{Event}
-use Rattle.irc_server.specs.declared.event.Out.{Out}
+use Rattle.irc_batch.specs.Batches.{Sent}
 use Rattle.irc_server.specs.declared.event.ServerFault.{ServerFault}
 use Rattle.irc_server.specs.View.{View}
 use Rattle.irc_server.specs.Happening.{IsHandled}
@@ -43,9 +43,9 @@ pub none_there : (seat : Option Seat) → is_some seat ≡ false → seat ≡ No
 none_there None none = refl
 none_there (Some seat) none = cc none
 
-pub asked_on : (old mid new : Option View) (a b : List Event) (x y : List Out) → AreAsked old a x mid → AreAsked mid b y new → AreAsked old (a ++ b) (x ++ y) new
+pub asked_on : (old mid new : Option View) (a b : List Event) (x y : List Sent) → AreAsked old a x mid → AreAsked mid b y new → AreAsked old (a ++ b) (x ++ y) new
 asked_on old mid new [] b x y one other =
-    subst (λ (o : Option View). AreAsked o b (x ++ y) new) one.1 (subst (λ (os : List Out). AreAsked mid b (os ++ y) new) (sym one.0) other)
+    subst (λ (o : Option View). AreAsked o b (x ++ y) new) one.1 (subst (λ (os : List Sent). AreAsked mid b (os ++ y) new) (sym one.0) other)
 asked_on old mid new (event ∷ a) b x y one other = record {
   result = one.result;
   between = one.between;
@@ -61,7 +61,7 @@ either_false true b is = cc is
 either_false false b is = (refl, is)
 
 -- what the server is told of one connection, in two stretches
-tells_on : (conn : ℕ) (was mid now : Standing) (a b : List Event) (x y : List Out) → Tells conn was a x mid → Tells conn mid b y now → Tells conn was (a ++ b) (x ++ y) now
+tells_on : (conn : ℕ) (was mid now : Standing) (a b : List Event) (x y : List Sent) → Tells conn was a x mid → Tells conn mid b y now → Tells conn was (a ++ b) (x ++ y) now
 tells_on conn was mid now a b x y one other = λ apart.
     let first = one apart in
     let then = other first.apart in
@@ -114,7 +114,7 @@ known_left false false true = refl
 known_left false false false = refl
 
 -- the server knows of just those connections of which it knew, but for those that it has closed
-known_after : (conn : ℕ) (old : Option Seat) (was : Bool) (calls : List Call) (outs : List Out) (new : Option Seat) (now : Bool)
+known_after : (conn : ℕ) (old : Option Seat) (was : Bool) (calls : List Call) (outs : List Sent) (new : Option Seat) (now : Bool)
     → Passage conn old was calls outs new now → (now || is_open_at new) ≡ ((was || is_open_at old) && not (is_closed_by conn outs))
 known_after conn None was calls outs None now passed = ap (λ t. t || false) passed.lost_is ∙ known_none was (is_closed_by conn outs)
 known_after conn None was calls outs (Some new) now passed = absurd passed.fate
@@ -136,7 +136,7 @@ apart_some true false false is = refl
 apart_some false true c is = refl
 apart_some false false c is = refl
 
-apart_after : (conn : ℕ) (old : Option Seat) (was : Bool) (calls : List Call) (outs : List Out) (new : Option Seat) (now : Bool)
+apart_after : (conn : ℕ) (old : Option Seat) (was : Bool) (calls : List Call) (outs : List Sent) (new : Option Seat) (now : Bool)
     → Passage conn old was calls outs new now → (was && is_open_at old) ≡ false → (now && is_open_at new) ≡ false
 apart_after conn old was calls outs None now passed apart = never_both now
 apart_after conn None was calls outs (Some new) now passed apart = absurd passed.fate
@@ -146,7 +146,7 @@ apart_after conn (Some old) was calls outs (Some new) now passed apart =
     ∙ apart_some was (is_some old.framer) (is_closed_by conn outs) apart
 
 -- the board has done something: the server is told nothing
-tells_passage : (conn : ℕ) (old : Option Seat) (was : Bool) (calls : List Call) (outs : List Out) (new : Option Seat) (now : Bool)
+tells_passage : (conn : ℕ) (old : Option Seat) (was : Bool) (calls : List Call) (outs : List Sent) (new : Option Seat) (now : Bool)
     → Passage conn old was calls outs new now
     → Tells conn (record { lost = was; unshut = is_open_at old }) [] outs (record { lost = now; unshut = is_open_at new })
 tells_passage conn old was calls outs new now passed = λ apart. record {
@@ -186,7 +186,7 @@ lines_elsewhere : (conn q : ℕ) (line : Option (ArrayVec ℕ)) → nat_eq conn 
 lines_elsewhere conn q None two = refl
 lines_elsewhere conn q (Some line) two = ap (λ t. cond t (line.items ∷ []) [] ++ []) two
 
-told_by_no_line : (q conn : ℕ) (line : Option (ArrayVec ℕ)) (was now : Standing) (events : List Event) (outs : List Out)
+told_by_no_line : (q conn : ℕ) (line : Option (ArrayVec ℕ)) (was now : Standing) (events : List Event) (outs : List Sent)
     → Tells q was events outs now → Tells q was (passed_on conn line ++ events) outs now
 told_by_no_line q conn line was now events outs tells = tells_on q was was now (passed_on conn line) events [] outs (alone line) tells
   where
@@ -332,7 +332,7 @@ module _ {W : Type 0} (is_after : W → List Call → Type 0) where
   }
 
   -- the board has done what the server put out by an event
-  pub ran_event : (server after : Option View) (room : ℕ) (old new : Board W) (event : Event) (result : Result (Unit {0}) ServerFault) (before outs : List Out) → before ≡ []
+  pub ran_event : (server after : Option View) (room : ℕ) (old new : Board W) (event : Event) (result : Result (Unit {0}) ServerFault) (before outs : List Sent) → before ≡ []
       → IsHandled server event before result after outs → Carries is_after [] old outs new
       → Ran is_after [] (event ∷ []) nothing_of (at_board server room old) (at_board after room new)
   ran_event server after room old new event result before outs none handled carries = record {
@@ -344,7 +344,7 @@ module _ {W : Type 0} (is_after : W → List Call → Type 0) where
       between = after;
       first = outs;
       more = [];
-      is_handled = subst (λ (os : List Out). IsHandled server event os result after outs) none handled;
+      is_handled = subst (λ (os : List Sent). IsHandled server event os result after outs) none handled;
       outs_are = sym (append-nil outs);
       rest_is = (refl, refl);
     };
@@ -375,7 +375,7 @@ module _ {W : Type 0} (is_after : W → List Call → Type 0) where
   }
 
   -- The server is told that a connection is gone, which was lost and of which it was to be told.
-  gone_of : (conn q : ℕ) (t l o : Bool) (events : List Event) (outs : List Out) (now : Standing) → nat_eq conn q ≡ t → (t ≡ true → l ≡ true)
+  gone_of : (conn q : ℕ) (t l o : Bool) (events : List Event) (outs : List Sent) (now : Standing) → nat_eq conn q ≡ t → (t ≡ true → l ≡ true)
       → Tells q (record { lost = cond t false l; unshut = o }) events outs now → Tells q (record { lost = l; unshut = o }) (Gone conn ∷ events) outs now
   gone_of conn q true true true events outs now is lost tells = λ apart. cc apart
   gone_of conn q true true false events outs now is lost tells = λ apart.
@@ -420,7 +420,7 @@ module _ {W : Type 0} (is_after : W → List Call → Type 0) where
       at q = ap (λ s. seat_of s q) seats
 
   -- the fate of one connection, and that of the others
-  fate_of_one : (conn : ℕ) (old new : ℕ → Option Seat) (calls : List Call) (outs : List Out) → ((q : ℕ) → nat_eq conn q ≡ false → new q ≡ old q)
+  fate_of_one : (conn : ℕ) (old new : ℕ → Option Seat) (calls : List Call) (outs : List Sent) → ((q : ℕ) → nat_eq conn q ≡ false → new q ≡ old q)
       → ((q : ℕ) → nat_eq conn q ≡ false → IsElsewhere q calls outs) → Fate conn (old conn) calls outs (new conn) → (q : ℕ) → Fate q (old q) calls outs (new q)
   fate_of_one conn old new calls outs same apart here q = by (nat_eq conn q) refl
     where

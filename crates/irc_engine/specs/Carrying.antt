@@ -6,8 +6,7 @@ use Rattle.irc_outbox.specs.declared.wire.Got.TheVariants.{End}
 use Rattle.irc_line.specs.Lines.{nothing_begun}
 use Rattle.irc_outbox.specs.Outboxes.{holding}
 use Rattle.irc_outbox.specs.Calls.{Call, reads, writes, closes, is_some_bytes, written, times_closed}
-use Rattle.irc_server.specs.declared.event.Out.{Out}
-use Rattle.irc_server.specs.declared.event.Out.TheVariants.{ToClient, CloseClient}
+use Rattle.irc_batch.specs.Batches.{Sent, end_of, line_to}
 use Rattle.irc_engine.specs.declared.seat.Seat.{Seat}
 use Rattle.irc_engine.specs.Hearing.{begun_at, Hears}
 
@@ -16,21 +15,21 @@ abbrev pub fresh_seat : ℕ → Seat
 fresh_seat room = record { outbox = holding [] room; framer = Some nothing_begun }
 
 -- the bytes to a connection among what the server puts out, up to where it closes it
-abbrev pub answers : ℕ → List Out → List ℕ
+abbrev pub answers : ℕ → List Sent → List ℕ
 answers conn [] = []
-answers conn (ToClient to text ∷ outs) = (if nat_eq to conn then text.items else []) ++ answers conn outs
-answers conn (CloseClient which ∷ outs) = if nat_eq which conn then [] else answers conn outs
+answers conn (line_to to text ∷ outs) = (if nat_eq to conn then text else []) ++ answers conn outs
+answers conn (end_of which ∷ outs) = if nat_eq which conn then [] else answers conn outs
 
 -- whether the server closes it there
-abbrev pub is_closing : ℕ → Out → Bool
-is_closing conn (CloseClient which) = nat_eq which conn
-is_closing conn (ToClient to text) = false
+abbrev pub is_closing : ℕ → Sent → Bool
+is_closing conn (end_of which) = nat_eq which conn
+is_closing conn (line_to to text) = false
 
-abbrev pub is_closed_by : ℕ → List Out → Bool
+abbrev pub is_closed_by : ℕ → List Sent → Bool
 is_closed_by conn outs = list_any (is_closing conn) outs
 
 -- what is owed to a connection: nothing, once the server has closed it
-abbrev pub owed : Bool → ℕ → List Out → List ℕ
+abbrev pub owed : Bool → ℕ → List Sent → List ℕ
 owed true conn outs = answers conn outs
 owed false conn outs = []
 
@@ -74,7 +73,7 @@ pub record Silent (conn : ℕ) (calls : List Call) : Type 0 where
   pub never : times_closed conn calls ≡ 0
 
 -- A connection stays: what its outbox held, with what the server put out to it behind, is what was written, with what the outbox holds now behind.
-pub record Stays (conn : ℕ) (old : Seat) (calls : List Call) (outs : List Out) (new : Seat) : Type 0 where
+pub record Stays (conn : ℕ) (old : Seat) (calls : List Call) (outs : List Sent) (new : Seat) : Type 0 where
   pub carried : old.outbox.bytes ++ owed (is_some old.framer) conn outs ≡ written conn calls ++ new.outbox.bytes
   pub same_room : new.outbox.room ≡ old.outbox.room
   pub still_open : is_some new.framer ≡ (is_some old.framer && not (is_closed_by conn outs))
@@ -83,19 +82,19 @@ pub record Stays (conn : ℕ) (old : Seat) (calls : List Call) (outs : List Out)
 
 -- Why a connection is closed with this left unwritten: the server closed it, and nothing is left; or the device failed at it, or it ended; or what was
 -- left did not fit its outbox.
-pub data Why (conn : ℕ) (old : Seat) (calls : List Call) (outs : List Out) (left : List ℕ) : Type 0 where
+pub data Why (conn : ℕ) (old : Seat) (calls : List Call) (outs : List Sent) (left : List ℕ) : Type 0 where
   finished : (is_some old.framer && not (is_closed_by conn outs)) ≡ false → left ≡ [] → Why conn old calls outs left
   cut_off : is_cut_off conn calls ≡ true → Why conn old calls outs left
   overflowed : old.outbox.room < length left → Why conn old calls outs left
 
 -- A connection is closed, once: what was written is a front of what its outbox held, with what the server put out to it behind.
-pub record Leaves (conn : ℕ) (old : Seat) (calls : List Call) (outs : List Out) : Type 0 where
+pub record Leaves (conn : ℕ) (old : Seat) (calls : List Call) (outs : List Sent) : Type 0 where
   pub left : List ℕ
   pub carried : old.outbox.bytes ++ owed (is_some old.framer) conn outs ≡ written conn calls ++ left
   pub once : times_closed conn calls ≡ 1
   pub why : Why conn old calls outs left
 
-abbrev pub Fate : ℕ → Option Seat → List Call → List Out → Option Seat → Type 0
+abbrev pub Fate : ℕ → Option Seat → List Call → List Sent → Option Seat → Type 0
 Fate conn None calls outs None = Silent conn calls
 Fate conn None calls outs (Some new) = ⊥
 Fate conn (Some old) calls outs (Some new) = Stays conn old calls outs new
@@ -106,7 +105,7 @@ Fate conn (Some old) calls outs None = Leaves conn old calls outs
 abbrev pub is_lost_after : Option Seat → Bool → Bool → Option Seat → Bool
 is_lost_after old was_lost closed new = (was_lost || (is_open_at old && not (is_some new))) && not closed
 
-pub record Passage (conn : ℕ) (old : Option Seat) (was_lost : Bool) (calls : List Call) (outs : List Out) (new : Option Seat) (is_lost : Bool) : Type 0 where
+pub record Passage (conn : ℕ) (old : Option Seat) (was_lost : Bool) (calls : List Call) (outs : List Sent) (new : Option Seat) (is_lost : Bool) : Type 0 where
   pub fate : Fate conn old calls outs new
   pub lost_is : is_lost ≡ is_lost_after old was_lost (is_closed_by conn outs) new
   pub hears_none : Hears (begun_at old) [] [] (begun_at new)

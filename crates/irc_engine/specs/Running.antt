@@ -8,7 +8,7 @@ use Rattle.irc_outbox.specs.declared.wire.IoFault.{IoFault}
 use Rattle.irc_outbox.specs.Calls.{Call, asks, reads, closes, Adds}
 use Rattle.irc_server.specs.declared.event.Event.{Event}
 use Rattle.irc_server.specs.declared.event.Event.TheVariants.{Connect}
-use Rattle.irc_server.specs.declared.event.Out.{Out}
+use Rattle.irc_batch.specs.Batches.{Sent}
 use Rattle.irc_server.specs.declared.event.ServerFault.{ServerFault}
 use Rattle.irc_server.specs.View.{View}
 use Rattle.irc_server.specs.Happening.{IsHandled}
@@ -55,28 +55,28 @@ pub record IsInOrder {W : Type 0} (now : Moment W) : Type 0 where
   pub none_done : (conn : ℕ) → is_done_at (now.seats conn) ≡ false
 
 -- the server is asked for an event, and then for others
-pub record AskedFirst (old : Option View) (event : Event) (outs : List Out) (rest : Option View → List Out → Type 0) : Type 0 where
+pub record AskedFirst (old : Option View) (event : Event) (outs : List Sent) (rest : Option View → List Sent → Type 0) : Type 0 where
   pub result : Result (Unit {0}) ServerFault
   pub between : Option View
-  pub first : List Out
-  pub more : List Out
+  pub first : List Sent
+  pub more : List Sent
   pub is_handled : IsHandled old event [] result between first
   pub outs_are : outs ≡ first ++ more
   pub rest_is : rest between more
 
 -- The server is asked for these events, one after another, and this is all that it puts out.
-abbrev pub AreAsked : Option View → List Event → List Out → Option View → Type 0
+abbrev pub AreAsked : Option View → List Event → List Sent → Option View → Type 0
 AreAsked old [] outs new = (outs ≡ []) × (new ≡ old)
 AreAsked old (event ∷ events) outs new = AskedFirst old event outs (λ between more. AreAsked between events more new)
 
 -- How often the server is told that one connection is gone: once where it was open or lost before and is neither any more, and else never; nor where
 -- the server has closed it before.
-pub record IsTold (conn : ℕ) (was : Standing) (events : List Event) (outs : List Out) (now : Standing) : Type 0 where
+pub record IsTold (conn : ℕ) (was : Standing) (events : List Event) (outs : List Sent) (now : Standing) : Type 0 where
   pub at_most : times_gone conn events + one_if (is_known now) ≤ one_if (is_known was)
   pub unless_closed : is_closed_by conn outs ≡ false → times_gone conn events + one_if (is_known now) ≡ one_if (is_known was)
   pub apart : IsApart now
 
-abbrev pub Tells : ℕ → Standing → List Event → List Out → Standing → Type 0
+abbrev pub Tells : ℕ → Standing → List Event → List Sent → Standing → Type 0
 Tells conn was events outs now = IsApart was → IsTold conn was events outs now
 
 -- From one moment to another: the server was asked for some events, calls were made of the wire, and each connection has met its fate. Just these
@@ -85,7 +85,7 @@ Tells conn was events outs now = IsApart was → IsTold conn was events outs now
 pub record Ran {W : Type 0} (is_after : W → List Call → Type 0) (exchanges : List Call) (first : List Event) (came : ℕ → List ℕ)
     (old new : Moment W) : Type 0 where
   pub events : List Event
-  pub outs : List Out
+  pub outs : List Sent
   pub calls : List Call
   pub are_asked : AreAsked old.server (first ++ events) outs new.server
   pub account : AddsAll is_after old.wire calls new.wire

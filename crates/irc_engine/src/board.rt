@@ -2,12 +2,11 @@
 ghost use Rattle.std.specs.Prelude.{◌≡◌, ◌+◌, ◌≤◌, true, false, [], ◌∷◌, OnOk};
 ghost use Rattle.std.specs.BTreeSet.{btree_set_len};
 ghost use Rattle.irc_engine.specs.Loops.Boards.{Carries, Ends, IsNoted, KeepsMarks, Loses, Settles, Writes};
-ghost use Rattle.irc_server.specs.declared.event.Out.TheVariants.{ToClient, CloseClient};
+ghost use Rattle.irc_batch.specs.Batches.{end_of, line_to, told};
 
 use crate::seat::{Seat, has_some, is_done, is_open, offer, shut, vacate, write};
-use irc_line::Text;
+use irc_batch::{Batch, Out};
 use irc_outbox::Wire;
-use irc_server::Out;
 use std::alloc::{AllocError, Global};
 use std::collections::{BTreeMap, BTreeSet};
 
@@ -66,11 +65,11 @@ impl<W: Wire> Board<W> {
     }
 
     /// A line goes to a connection's outbox. Where it does not fit, the connection is lost.
-    fn send(&mut self, conn: u64, text: &Text) -> Result<(), AllocError>
-        ensures carries { OnOk result (Carries W.is_after [] self.old (ToClient conn text.now ∷ []) self.new) }
+    fn send(&mut self, conn: u64, line: &[u8]) -> Result<(), AllocError>
+        ensures carries { OnOk result (Carries W.is_after [] self.old (line_to conn line.now ∷ []) self.new) }
         ensures marks { OnOk result (KeepsMarks self.old self.new) }
     {
-        match offer(&mut self.seats, conn, text) {
+        match offer(&mut self.seats, conn, line) {
             Ok(true) => note(&mut self.waiting, conn),
             Ok(false) => Ok(()),
             Err(_) => self.lose(conn),
@@ -79,7 +78,7 @@ impl<W: Wire> Board<W> {
 
     /// The server has closed a connection: it ends once nothing is left to write.
     fn shut(&mut self, conn: u64)
-        ensures carries { Carries W.is_after [] self.old (CloseClient conn ∷ []) self.new }
+        ensures carries { Carries W.is_after [] self.old (end_of conn ∷ []) self.new }
         ensures marks { KeepsMarks self.old self.new }
     {
         forget(&mut self.lost, conn);
@@ -90,25 +89,28 @@ impl<W: Wire> Board<W> {
     }
 
     /// Does one thing that the server has put out.
-    fn deal_one(&mut self, out: &Out) -> Result<(), AllocError>
-        ensures carries { OnOk result (Carries W.is_after [] self.old (out.now ∷ []) self.new) }
+    fn deal_one(&mut self, out: Out<'_>) -> Result<(), AllocError>
+        ensures carries { OnOk result (Carries W.is_after [] self.old (told out.entry ∷ []) self.new) }
         ensures marks { OnOk result (KeepsMarks self.old self.new) }
     {
         match out {
-            Out::ToClient(conn, text) => self.send(*conn, text),
-            Out::CloseClient(conn) => {
-                self.shut(*conn);
+            Out::Line(conn, line) => self.send(conn, line),
+            Out::Close(conn) => {
+                self.shut(conn);
                 Ok(())
             }
         }
     }
 
     /// Does what the server has put out.
-    pub(crate) fn deal(&mut self, outs: &[Out]) -> Result<(), AllocError>
-        ensures carries { OnOk result (Carries W.is_after [] self.old outs.now self.new) }
+    pub(crate) fn deal(&mut self, outs: &Batch) -> Result<(), AllocError>
+        ensures carries { OnOk result (Carries W.is_after [] self.old outs.now.outs self.new) }
         ensures marks { OnOk result (KeepsMarks self.old self.new) }
     {
-        for out in outs {
+        for place in 0..outs.len() {
+            let Some(out) = outs.get(place) else {
+                unreachable!();
+            };
             self.deal_one(out)?;
         }
         Ok(())

@@ -9,10 +9,11 @@ ghost use Rattle.irc_engine.specs.Turning.{brings_nothing, IsNew, Runs, Taken, T
 
 use crate::board::Board;
 use crate::seat::{give_seat, is_open, no_seats, take};
+use irc_batch::Batch;
 use irc_line::Line;
 use irc_names::Host;
 use irc_outbox::{Got, IoFault, Ready, Wire};
-use irc_server::{Event, Out, Server, ServerFault};
+use irc_server::{Event, Server, ServerFault};
 use std::alloc::{AllocError, Global};
 use std::collections::BTreeSet;
 use std::mem::replace;
@@ -50,7 +51,7 @@ pub(crate) struct Desk<W: Wire> {
     pub server: Server,
     pub board: Board<W>,
     /// What the server has put out by the event at hand.
-    pub out: Vec<Out, Global>,
+    pub out: Batch,
     /// Where bytes are read to.
     pub buffer: Vec<u8, Global>,
     pub alloc: Global,
@@ -83,7 +84,7 @@ impl<W: Wire + Drop> Engine<W> {
                     waiting: BTreeSet::new(alloc),
                     lost: BTreeSet::new(alloc),
                 },
-                out: Vec::new(alloc),
+                out: Batch::new(alloc),
                 buffer,
                 alloc,
             },

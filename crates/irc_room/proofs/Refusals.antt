@@ -1,6 +1,5 @@
 -- What a refusal of an effect leaves.
-use Rattle.std.proofs.Common.{◌≡◌, ℕ, Bool, true, false, cond, not, Some, None, Result, Ok, Err, List, ◌++◌, refl, sym, ◌∙◌, ap}
-use Rattle.std.proofs.lemmas.List.{append-nil}
+use Rattle.std.proofs.Common.{◌≡◌, ℕ, Bool, true, false, cond, not, Some, None, Result, Ok, Err, List, [], refl, sym, ◌∙◌, ap}
 use Rattle.std.specs.List.{list_all}
 use Rattle.std.specs.Option.{option_map_or}
 use Rattle.arrayvec.specs.ArrayVec.{ArrayVec}
@@ -10,10 +9,11 @@ use Rattle.irc_channels.specs.declared.channel.Channel.{Channel}
 use Rattle.irc_room.specs.declared.effect.Effect.{Effect}
 use Rattle.irc_room.specs.declared.fault.RoomFault.{RoomFault}
 use Rattle.irc_room.specs.declared.fault.RoomFault.TheVariants.{NoSuchUser, NoSuchChannel, Memory, Failed}
+use Rattle.irc_room.specs.declared.shown_line.ShownLine.{ShownLine}
 use Rattle.irc_room.specs.Room.{Room}
 use Rattle.irc_room.specs.After.{after}
 use Rattle.irc_room.specs.Effects.{has_user, has_channel, is_idle, needs_users, needs_channel}
-use Rattle.irc_room.specs.Applying.{Kept, room_fault, Applied}
+use Rattle.irc_room.specs.Applying.{Kept, room_fault, pairs_of, Applied}
 use Rattle.irc_room.proofs.IdleLaw.{idle_changes_nothing}
 use Rattle.irc_room.proofs.ToldLaw.{idle_tells_nothing}
 
@@ -30,12 +30,12 @@ never_memory kept effect =
     by_causes kept.failed (not (list_all (has_user kept.room) (needs_users effect))) (not (option_map_or (has_channel kept.room) (needs_channel effect) true))
 
 -- a refusal for a cause leaves all as it was
-pub refused : (old : Kept) (effect : Effect) (out : List (List ℕ × ArrayVec ℕ)) (fault : RoomFault) → Some fault ≡ room_fault old effect
-    → Applied old effect out (Err fault) old out
-refused old effect out NoSuchUser is = (sym is, refl, refl)
-refused old effect out NoSuchChannel is = (sym is, refl, refl)
-refused old effect out Memory is = absurd (never_memory old effect (sym is))
-refused old effect out Failed is = (sym is, refl, refl)
+pub refused : (old : Kept) (effect : Effect) (fault : RoomFault) (shown : ShownLine) → Some fault ≡ room_fault old effect → shown.viewers.items ≡ []
+    → Applied old effect (Err fault) old shown
+refused old effect NoSuchUser shown is none = (sym is, refl, none)
+refused old effect NoSuchChannel shown is none = (sym is, refl, none)
+refused old effect Memory shown is none = absurd (never_memory old effect (sym is))
+refused old effect Failed shown is none = (sym is, refl, none)
 
 -- what is so where an effect is not refused
 pub record IsServed (kept : Kept) (effect : Effect) : Type 0 where
@@ -76,11 +76,11 @@ kept_refused inside now users channels is same_users same_channels =
     ∙ ap (λ (k : Kept). record k { failed = true }) is
 
 -- an effect that does nothing leaves all as it was
-pub idle_stays : (old : Kept) (effect : Effect) (out : List (List ℕ × ArrayVec ℕ)) (new : Kept) (out_after : List (List ℕ × ArrayVec ℕ)) → is_idle old.room effect ≡ true
-    → Applied old effect out (Ok tt) new out_after → (new ≡ old) × (out_after ≡ out)
-idle_stays old effect out new out_after idle applied = (
+pub idle_stays : (old : Kept) (effect : Effect) (new : Kept) (shown : ShownLine) → is_idle old.room effect ≡ true
+    → Applied old effect (Ok tt) new shown → (new ≡ old) × (pairs_of shown ≡ [])
+idle_stays old effect new shown idle applied = (
   applied.1 ∙ ap (λ (r : Room). record old { room = r }) (idle_changes_nothing old.room effect idle),
-  applied.2 ∙ ap (λ lines. out ++ lines) (idle_tells_nothing old.own old.room effect idle) ∙ append-nil out,
+  applied.2 ∙ idle_tells_nothing old.own old.room effect idle,
 )
 
 pub not_done : {U E A : Type 0} (e : E) (u : U) → ◌≡◌ {A = Result U E} (Err e) (Ok u) → A

@@ -1,7 +1,7 @@
 -- What an effect shows to the users of one server, user by user, is what it shows there.
-use Rattle.std.proofs.Common.{◌≡◌, ℕ, Bool, true, false, cond, ◌&&◌, T, Option, Some, None, List, [], ◌∷◌, ◌++◌, refl, sym, ◌∙◌, ap, map, filter, filter_map, if◌then◌else◌, option_map}
-use Rattle.std.proofs.lemmas.List.{append_assoc}
-use Rattle.std.specs.Cmp.Lexicographic.{nat_list_cmp_total, bytes_decides}
+use Rattle.std.proofs.Common.{◌≡◌, ℕ, Bool, true, false, cond, ◌&&◌, T, Option, Some, None, List, [], ◌∷◌, ◌++◌, refl, sym, ◌∙◌, ap, map, nat_eq, filter, filter_map, if◌then◌else◌, option_map}
+use Rattle.std.proofs.lemmas.List.{append_assoc, map-append}
+use Rattle.std.specs.Cmp.Lexicographic.{nat_list_cmp_total, bytes_decides, pointwise}
 use Rattle.std.specs.List.{AllByRecursion, cons_option, flat_map}
 use Rattle.std.specs.Option.{option_map_or}
 use Rattle.std.specs.FinMap.{entries, entries_sorted, values, find, is_sorted, get-entries}
@@ -18,7 +18,7 @@ use Rattle.irc_room.specs.Seen.{Showing, seen, shown_to, shown_line, sees}
 use Rattle.irc_room.specs.Applying.{Kept, is_own, handed}
 use Rattle.irc_room.specs.Loops.RoomParts.{ShowsAt}
 use Rattle.irc_room.specs.Loops.Telling.{shown_at, AreNamed}
-use Rattle.irc_room.specs.Loops.Viewing.{told, viewers}
+use Rattle.irc_room.specs.Loops.Viewing.{own_nick, told, viewers}
 
 true_is : (b : Bool) → T b → b ≡ true
 true_is true h = refl
@@ -170,3 +170,19 @@ none_told f none (user ∷ users) = ap (λ t. t ++ flat_map f users) (none user)
 pub no_line_tells_nothing : (own : List ℕ) (room : Room) (effect : Effect) → ShowsAt room effect own None → AreNamed room.users → is_idle room effect ≡ false
     → shown_at own room effect ≡ []
 no_line_tells_nothing own room effect shows named busy = shown_is_told own room effect None shows named busy ∙ none_told _ (λ user. refl) (values room.users)
+
+-- the line, to each of these users that is one of the server
+pub told_each : (own line : List ℕ) (users : List User)
+    → map (λ viewer. (viewer, record { items = line })) (flat_map (own_nick own) users) ≡ flat_map (told own line) users
+told_each own line [] = refl
+told_each own line (user ∷ users) =
+    map-append pair (own_nick own user) (flat_map (own_nick own) users)
+    ∙ ap (λ l. l ++ map pair (flat_map (own_nick own) users)) (told_one (pointwise nat_eq user.home own))
+    ∙ ap (λ l. told own line user ++ l) (told_each own line users)
+  where
+    pair : List ℕ → List ℕ × ArrayVec ℕ
+    pair viewer = (viewer, record { items = line })
+
+    told_one : (b : Bool) → map pair (if b then user.nick ∷ [] else []) ≡ (if b then pair user.nick ∷ [] else [])
+    told_one true = refl
+    told_one false = refl

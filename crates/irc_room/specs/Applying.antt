@@ -1,5 +1,5 @@
 -- A room as a server keeps it, and what comes of asking it for an effect.
-use Rattle.std.specs.Prelude.{◌≡◌, ℕ, Bool, true, false, not, ◌&&◌, is_none, Option, Some, None, Result, Ok, Err, List, ◌++◌, map, filter, if◌then◌else◌}
+use Rattle.std.specs.Prelude.{◌≡◌, ℕ, Bool, true, false, not, ◌&&◌, is_none, Option, Some, None, Result, Ok, Err, List, [], map, filter, if◌then◌else◌}
 use Rattle.std.specs.List.{list_all}
 use Rattle.std.specs.Option.{option_map_or}
 use Rattle.arrayvec.specs.ArrayVec.{ArrayVec}
@@ -7,6 +7,7 @@ use Rattle.irc_names.specs.Fold.{key}
 use Rattle.irc_names.specs.Tables.{row}
 use Rattle.irc_users.specs.UserTable.{is_home}
 use Rattle.irc_room.specs.declared.effect.Effect.{Effect}
+use Rattle.irc_room.specs.declared.shown_line.ShownLine.{ShownLine}
 use Rattle.irc_room.specs.declared.fault.RoomFault.{RoomFault}
 use Rattle.irc_room.specs.declared.fault.RoomFault.TheVariants.{NoSuchUser, NoSuchChannel, Memory, Failed}
 use Rattle.irc_room.specs.Room.{Room}
@@ -47,16 +48,20 @@ handed showing = (showing.viewer, record { items = showing.line })
 abbrev pub shown_here : Kept → Effect → List (List ℕ × ArrayVec ℕ)
 shown_here kept effect = map handed (filter (is_own kept) (seen kept.room effect))
 
--- An effect is applied: the room is the one after it, and what it shows is put out. Where it is refused nothing changes, save that a
--- room for which memory ran out answers Failed from then on.
-abbrev pub Applied : Kept → Effect → List (List ℕ × ArrayVec ℕ) → Result (Unit {0}) RoomFault → Kept → List (List ℕ × ArrayVec ℕ) → Type 0
-Applied old effect out (Ok done) new out_after =
-    (room_fault old effect ≡ None) × (new ≡ record old { room = after old.room effect }) × (out_after ≡ out ++ shown_here old effect)
-Applied old effect out (Err Memory) new out_after = (room_fault old effect ≡ None) × (new ≡ record old { failed = true }) × (out_after ≡ out)
-Applied old effect out (Err fault) new out_after = (room_fault old effect ≡ Some fault) × (new ≡ old) × (out_after ≡ out)
+-- what was shown: the line, to each viewer
+abbrev pub pairs_of : ShownLine → List (List ℕ × ArrayVec ℕ)
+pairs_of shown = map (λ viewer. (viewer, shown.line)) shown.viewers.items
+
+-- An effect is applied: the room is the one after it, and what it shows is put out. Where it is refused nothing changes and nothing is shown, save that
+-- a room for which memory ran out answers Failed from then on.
+abbrev pub Applied : Kept → Effect → Result (Unit {0}) RoomFault → Kept → ShownLine → Type 0
+Applied old effect (Ok done) new shown =
+    (room_fault old effect ≡ None) × (new ≡ record old { room = after old.room effect }) × (pairs_of shown ≡ shown_here old effect)
+Applied old effect (Err Memory) new shown = (room_fault old effect ≡ None) × (new ≡ record old { failed = true }) × (shown.viewers.items ≡ [])
+Applied old effect (Err fault) new shown = (room_fault old effect ≡ Some fault) × (new ≡ old) × (shown.viewers.items ≡ [])
 
 -- An effect that does nothing is refused for the same causes. Where there is none it is done: it takes no memory, changes nothing and
 -- shows nothing.
-abbrev pub IdleStays : Kept → Effect → List (List ℕ × ArrayVec ℕ) → Result (Unit {0}) RoomFault → Kept → List (List ℕ × ArrayVec ℕ) → Type 0
-IdleStays old effect out result new out_after =
-    is_idle old.room effect ≡ true → room_fault old effect ≡ None → (result ≡ Ok tt) × (new ≡ old) × (out_after ≡ out)
+abbrev pub IdleStays : Kept → Effect → Result (Unit {0}) RoomFault → Kept → ShownLine → Type 0
+IdleStays old effect result new shown =
+    is_idle old.room effect ≡ true → room_fault old effect ≡ None → (result ≡ Ok tt) × (new ≡ old) × (pairs_of shown ≡ [])

@@ -1,10 +1,11 @@
 //! The room after an effect.
-ghost use Rattle.std.specs.Prelude.{◌≡◌, Some, None, Ok, true, false, ◌++◌, is_some, length, take, OnOk, OnErr};
+ghost use Rattle.std.specs.Prelude.{◌≡◌, Some, None, Ok, [], true, false, is_some, OnOk, OnErr};
 ghost use Rattle.std.specs.List.{list_all};
 ghost use Rattle.irc_names.specs.Fold.{key};
 ghost use Rattle.irc_names.specs.Tables.{row, alter, moved};
 ghost use Rattle.irc_users.specs.UserTable.{rename_fault, with_nick};
 ghost use Rattle.irc_room.specs.After.{after};
+ghost use Rattle.irc_room.specs.Applying.{pairs_of};
 ghost use Rattle.irc_room.specs.Effects.{brings_free, is_idle, needs_users};
 ghost use Rattle.irc_room.specs.Loops.Telling.{shown_at, AreNamed};
 ghost use Rattle.irc_room.specs.Room.{IsWellFormed};
@@ -14,13 +15,13 @@ use crate::idle::is_idle;
 use crate::indexed_channels::IndexedChannels;
 use crate::room_parts::RoomParts;
 use crate::showing::show;
-use irc_line::Text;
+use crate::shown_line::ShownLine;
 use irc_names::Nick;
 use irc_users::{User, Users, UsersFault};
 use std::alloc::{AllocError, Global};
 
-/// Appends what an effect shows to the users of the server of this name, and makes its change of users and channels; one that does
-/// nothing takes no memory. Whatever comes of it, what was put out before stays at the front.
+/// Puts out what an effect shows to the users of the server of this name, and makes its change of users and channels; one that does
+/// nothing takes no memory.
 ///
 /// # Errors
 /// Where memory runs out; the room has not changed then.
@@ -30,16 +31,16 @@ pub(crate) fn perform(
     users: &mut Users,
     channels: &mut IndexedChannels,
     effect: &Effect,
-    out: &mut Vec<(Nick, Text), Global>,
+    shown: &mut ShownLine,
 ) -> Result<(), AllocError>
     requires named { AreNamed users.old }
     requires well { IsWellFormed (record { users = users.old; channels = channels.old }) }
     requires free { brings_free (record { users = users.old; channels = channels.old }) effect.now ≡ true }
+    requires none { shown.old.viewers.items ≡ [] }
     requires there { list_all (λ nick. is_some (row users.old (key nick))) (needs_users effect.now) ≡ true }
     ensures changed { OnOk result (record { users = users.new; channels = channels.new } ≡ after (record { users = users.old; channels = channels.old }) effect.now) }
-    ensures shown { OnOk result (out.new.items ≡ out.old.items ++ shown_at own.now (record { users = users.old; channels = channels.old }) effect.now) }
+    ensures shown { OnOk result (pairs_of shown.new ≡ shown_at own.now (record { users = users.old; channels = channels.old }) effect.now) }
     ensures refused { OnErr result ((users.new ≡ users.old) × (channels.new ≡ channels.old)) }
-    ensures front { take (length out.old.items) out.new.items ≡ out.old.items }
     ensures idle { is_idle (record { users = users.old; channels = channels.old }) effect.now ≡ true → result ≡ Ok tt }
 {
     let parts = RoomParts {
@@ -49,7 +50,7 @@ pub(crate) fn perform(
     if is_idle(parts, effect) {
         return Ok(());
     }
-    show_and_change(alloc, own, users, channels, effect, out)
+    show_and_change(alloc, own, users, channels, effect, shown)
 }
 
 /// The same for an effect that does something.
@@ -59,23 +60,23 @@ fn show_and_change(
     users: &mut Users,
     channels: &mut IndexedChannels,
     effect: &Effect,
-    out: &mut Vec<(Nick, Text), Global>,
+    shown: &mut ShownLine,
 ) -> Result<(), AllocError>
     requires named { AreNamed users.old }
     requires well { IsWellFormed (record { users = users.old; channels = channels.old }) }
     requires free { brings_free (record { users = users.old; channels = channels.old }) effect.now ≡ true }
+    requires none { shown.old.viewers.items ≡ [] }
     requires there { list_all (λ nick. is_some (row users.old (key nick))) (needs_users effect.now) ≡ true }
     requires busy { is_idle (record { users = users.old; channels = channels.old }) effect.now ≡ false }
     ensures changed { OnOk result (record { users = users.new; channels = channels.new } ≡ after (record { users = users.old; channels = channels.old }) effect.now) }
-    ensures shown { OnOk result (out.new.items ≡ out.old.items ++ shown_at own.now (record { users = users.old; channels = channels.old }) effect.now) }
+    ensures shown { OnOk result (pairs_of shown.new ≡ shown_at own.now (record { users = users.old; channels = channels.old }) effect.now) }
     ensures refused { OnErr result ((users.new ≡ users.old) × (channels.new ≡ channels.old)) }
-    ensures front { take (length out.old.items) out.new.items ≡ out.old.items }
 {
     let parts = RoomParts {
         users: &*users,
         channels: &*channels,
     };
-    show(alloc, own, parts, effect, out)?;
+    show(alloc, own, parts, effect, shown)?;
     change(users, channels, effect)
 }
 

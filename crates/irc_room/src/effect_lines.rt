@@ -1,7 +1,7 @@
 //! The line that an effect shows at a server: one, for all its viewers (RFC 2812 section 3).
 ghost use Rattle.std.specs.Prelude.{◌≡◌, is_some, IfOk};
 ghost use Rattle.irc_users.specs.declared.user.User.{User};
-ghost use Rattle.irc_room.specs.Loops.LineViews.{line_bytes};
+ghost use Rattle.irc_room.specs.Loops.LineViews.{line_if};
 ghost use Rattle.irc_room.specs.Loops.RoomParts.{room_of, IsByUser, IsOfUsers, ShowsAll, ShowsAt};
 ghost use Rattle.irc_room.specs.Seen.{from_by, shown_line};
 
@@ -14,14 +14,16 @@ use crate::room_parts::{RoomParts, from_by, from_nick, stored_channel, stored_ni
 use irc_line::Text;
 use std::alloc::{AllocError, Global};
 
-/// The line that an effect on a room shows at the server of this name to those who see it, where it shows one.
+/// Writes the line that an effect on a room shows at the server of this name to those who see it, where it shows one. Here and below: tells
+/// whether it did.
 pub(crate) fn effect_line(
     alloc: Global,
     own: &[u8],
     parts: RoomParts<'_>,
     effect: &Effect,
-) -> Result<Option<Text>, AllocError>
-    ensures { IfOk result (λ line. ShowsAt (room_of parts.entry) effect.now own.now (line_bytes line)) }
+    line: &mut Text,
+) -> Result<bool, AllocError>
+    ensures { IfOk result (λ there. ShowsAt (room_of parts.entry) effect.now own.now (line_if there line.new)) }
 {
     match effect {
         Effect::ChangeModes {
@@ -34,13 +36,15 @@ pub(crate) fn effect_line(
             from_by(own, parts, by),
             stored_channel(parts, channel),
             changes.as_slice(),
+            line,
         ),
         Effect::SetTopic { by, channel, text } => Ok(topic_line(
             from_by(own, parts, by),
             stored_channel(parts, channel),
             text.as_bytes(),
+            line,
         )),
-        _ => Ok(member_line(parts, effect)),
+        _ => Ok(member_line(parts, effect, line)),
     }
 }
 
@@ -73,14 +77,15 @@ fn is_there(parts: RoomParts<'_>, by: &By) -> bool
 }
 
 /// The line of an effect that only a user brings about.
-fn member_line(parts: RoomParts<'_>, effect: &Effect) -> Option<Text>
+fn member_line(parts: RoomParts<'_>, effect: &Effect, line: &mut Text) -> bool
     requires { IsByUser effect.now }
-    ensures { ShowsAll (room_of parts.entry) effect.now (line_bytes result) }
+    ensures { ShowsAll (room_of parts.entry) effect.now (line_if result line.new) }
 {
     match effect {
         Effect::Join { nick, channel, .. } => join_line(
             from_nick(parts, nick),
             stored_channel(parts, channel),
+            line,
         ),
         Effect::Part {
             nick,
@@ -90,6 +95,7 @@ fn member_line(parts: RoomParts<'_>, effect: &Effect) -> Option<Text>
             from_nick(parts, nick),
             stored_channel(parts, channel),
             text.as_bytes(),
+            line,
         ),
         Effect::Kick {
             by,
@@ -101,25 +107,27 @@ fn member_line(parts: RoomParts<'_>, effect: &Effect) -> Option<Text>
             stored_channel(parts, channel),
             stored_nick(parts, nick.as_bytes()),
             text.as_bytes(),
+            line,
         ),
         Effect::Invite { by, nick, channel } => invite_line(
             from_nick(parts, by),
             stored_nick(parts, nick.as_bytes()),
             stored_channel(parts, channel),
+            line,
         ),
-        _ => user_line(parts, effect),
+        _ => user_line(parts, effect, line),
     }
 }
 
 /// The line of an effect on users alone, or of a text.
-fn user_line(parts: RoomParts<'_>, effect: &Effect) -> Option<Text>
+fn user_line(parts: RoomParts<'_>, effect: &Effect, line: &mut Text) -> bool
     requires { IsOfUsers effect.now }
-    ensures { ShowsAll (room_of parts.entry) effect.now (line_bytes result) }
+    ensures { ShowsAll (room_of parts.entry) effect.now (line_if result line.new) }
 {
     match effect {
-        Effect::AddUser(_) => None,
-        Effect::Rename { nick, new } => nick_line(from_nick(parts, nick), new.as_bytes()),
-        Effect::Quit { nick, text } => quit_line(from_nick(parts, nick), text.as_bytes()),
+        Effect::AddUser(_) => false,
+        Effect::Rename { nick, new } => nick_line(from_nick(parts, nick), new.as_bytes(), line),
+        Effect::Quit { nick, text } => quit_line(from_nick(parts, nick), text.as_bytes(), line),
         Effect::Say {
             by,
             notice,
@@ -130,11 +138,13 @@ fn user_line(parts: RoomParts<'_>, effect: &Effect) -> Option<Text>
             *notice,
             target_name(parts, target),
             text.as_slice(),
+            line,
         ),
         Effect::UserMode { nick, invisible } => user_mode_line(
             from_nick(parts, nick),
             stored_nick(parts, nick.as_bytes()),
             *invisible,
+            line,
         ),
         _ => unreachable!(),
     }

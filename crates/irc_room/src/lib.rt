@@ -19,8 +19,10 @@ mod refusing;
 mod room;
 mod room_parts;
 mod showing;
+mod shown_line;
 mod viewers;
 
 pub use effect::{By, Effect, ModeChanges, Target};
 pub use fault::RoomFault;
 pub use room::Room;
+pub use shown_line::ShownLine;

@@ -4,7 +4,7 @@ ghost use Rattle.std.specs.Option.{option_map};
 ghost use Rattle.irc_line.specs.MessageViews.{optional_now};
 ghost use Rattle.irc_line.specs.PartViews.{sender, words_now};
 ghost use Rattle.irc_room.specs.Seen.{changes_words, full_sender, line_of};
-ghost use Rattle.irc_room.specs.Loops.LineViews.{line_bytes};
+ghost use Rattle.irc_room.specs.Loops.LineViews.{line_if};
 ghost use Rattle.irc_room.specs.Loops.RoomParts.{room_of};
 
 use crate::mode_letters::{letters_text, words_behind};
@@ -25,52 +25,56 @@ pub(crate) fn full_prefix(user: &User) -> Prefix<'_>
     }
 }
 
-/// The line with these parts, if there is somebody who sends it.
-fn line_of(
+/// Writes the line with these parts, if there is somebody who sends it. Here and below: tells whether it did.
+fn write_line(
     doer: Option<Prefix<'_>>,
     command: &[u8],
     middle: &[&[u8]],
     last: Option<&[u8]>,
-) -> Option<Text>
-    ensures { line_bytes result ≡ line_of command.now (words_now middle.now) (optional_now last.entry) (option_map sender doer.entry) }
+    line: &mut Text,
+) -> bool
+    ensures { line_if result line.new ≡ line_of command.now (words_now middle.now) (optional_now last.entry) (option_map sender doer.entry) }
 {
     match doer {
-        None => None,
-        Some(prefix) => Some(write_message(&Parts {
-            prefix,
-            command,
-            middle,
-            last,
-        })),
+        None => false,
+        Some(prefix) => {
+            *line = write_message(&Parts {
+                prefix,
+                command,
+                middle,
+                last,
+            });
+            true
+        }
     }
 }
 
 /// A user has another nickname (RFC 2812 section 3.1.2).
-pub(crate) fn nick_line(doer: Option<Prefix<'_>>, new: &[u8]) -> Option<Text>
-    ensures { line_bytes result ≡ line_of (codes "NICK") (new.now ∷ []) None (option_map sender doer.entry) }
+pub(crate) fn nick_line(doer: Option<Prefix<'_>>, new: &[u8], line: &mut Text) -> bool
+    ensures { line_if result line.new ≡ line_of (codes "NICK") (new.now ∷ []) None (option_map sender doer.entry) }
 {
-    line_of(doer, b"NICK", &[new], None)
+    write_line(doer, b"NICK", &[new], None, line)
 }
 
 /// A user leaves (RFC 2812 section 3.1.7).
-pub(crate) fn quit_line(doer: Option<Prefix<'_>>, reason: &[u8]) -> Option<Text>
-    ensures { line_bytes result ≡ line_of (codes "QUIT") [] (Some reason.now) (option_map sender doer.entry) }
+pub(crate) fn quit_line(doer: Option<Prefix<'_>>, reason: &[u8], line: &mut Text) -> bool
+    ensures { line_if result line.new ≡ line_of (codes "QUIT") [] (Some reason.now) (option_map sender doer.entry) }
 {
-    line_of(doer, b"QUIT", &[], Some(reason))
+    write_line(doer, b"QUIT", &[], Some(reason), line)
 }
 
 /// A user joins a channel (RFC 2812 section 3.2.1).
-pub(crate) fn join_line(doer: Option<Prefix<'_>>, channel: &[u8]) -> Option<Text>
-    ensures { line_bytes result ≡ line_of (codes "JOIN") (channel.now ∷ []) None (option_map sender doer.entry) }
+pub(crate) fn join_line(doer: Option<Prefix<'_>>, channel: &[u8], line: &mut Text) -> bool
+    ensures { line_if result line.new ≡ line_of (codes "JOIN") (channel.now ∷ []) None (option_map sender doer.entry) }
 {
-    line_of(doer, b"JOIN", &[channel], None)
+    write_line(doer, b"JOIN", &[channel], None, line)
 }
 
 /// A member leaves a channel (RFC 2812 section 3.2.2).
-pub(crate) fn part_line(doer: Option<Prefix<'_>>, channel: &[u8], reason: &[u8]) -> Option<Text>
-    ensures { line_bytes result ≡ line_of (codes "PART") (channel.now ∷ []) (Some reason.now) (option_map sender doer.entry) }
+pub(crate) fn part_line(doer: Option<Prefix<'_>>, channel: &[u8], reason: &[u8], line: &mut Text) -> bool
+    ensures { line_if result line.new ≡ line_of (codes "PART") (channel.now ∷ []) (Some reason.now) (option_map sender doer.entry) }
 {
-    line_of(doer, b"PART", &[channel], Some(reason))
+    write_line(doer, b"PART", &[channel], Some(reason), line)
 }
 
 /// A member is made to leave a channel (RFC 2812 section 3.2.8).
@@ -79,10 +83,11 @@ pub(crate) fn kick_line<'a>(
     channel: &'a [u8],
     nick: &'a [u8],
     reason: &[u8],
-) -> Option<Text>
-    ensures { line_bytes result ≡ line_of (codes "KICK") (channel.now ∷ nick.now ∷ []) (Some reason.now) (option_map sender doer.entry) }
+    line: &mut Text,
+) -> bool
+    ensures { line_if result line.new ≡ line_of (codes "KICK") (channel.now ∷ nick.now ∷ []) (Some reason.now) (option_map sender doer.entry) }
 {
-    line_of(doer, b"KICK", &[channel, nick], Some(reason))
+    write_line(doer, b"KICK", &[channel, nick], Some(reason), line)
 }
 
 /// A channel's modes change (RFC 2812 section 3.2.3).
@@ -92,19 +97,20 @@ pub(crate) fn mode_line(
     doer: Option<Prefix<'_>>,
     channel: &[u8],
     changes: &[ModeChange],
-) -> Result<Option<Text>, AllocError>
-    ensures { IfOk result (λ line. line_bytes line ≡ line_of (codes "MODE") (channel.now ∷ changes_words (room_of parts.entry) changes.now) None (option_map sender doer.entry)) }
+    line: &mut Text,
+) -> Result<bool, AllocError>
+    ensures { IfOk result (λ there. line_if there line.new ≡ line_of (codes "MODE") (channel.now ∷ changes_words (room_of parts.entry) changes.now) None (option_map sender doer.entry)) }
 {
     let letters = letters_text(alloc, changes)?;
     let words = words_behind(alloc, parts, channel, &letters, changes)?;
-    Ok(line_of(doer, b"MODE", &words, None))
+    Ok(write_line(doer, b"MODE", &words, None, line))
 }
 
 /// A channel's topic changes (RFC 2812 section 3.2.4).
-pub(crate) fn topic_line(doer: Option<Prefix<'_>>, channel: &[u8], topic: &[u8]) -> Option<Text>
-    ensures { line_bytes result ≡ line_of (codes "TOPIC") (channel.now ∷ []) (Some topic.now) (option_map sender doer.entry) }
+pub(crate) fn topic_line(doer: Option<Prefix<'_>>, channel: &[u8], topic: &[u8], line: &mut Text) -> bool
+    ensures { line_if result line.new ≡ line_of (codes "TOPIC") (channel.now ∷ []) (Some topic.now) (option_map sender doer.entry) }
 {
-    line_of(doer, b"TOPIC", &[channel], Some(topic))
+    write_line(doer, b"TOPIC", &[channel], Some(topic), line)
 }
 
 /// A text is said (RFC 2812 section 3.3).
@@ -113,11 +119,12 @@ pub(crate) fn say_line(
     notice: bool,
     target: &[u8],
     words: &[u8],
-) -> Option<Text>
-    ensures { line_bytes result ≡ line_of (if notice then codes "NOTICE" else codes "PRIVMSG") (target.now ∷ []) (Some words.now) (option_map sender doer.entry) }
+    line: &mut Text,
+) -> bool
+    ensures { line_if result line.new ≡ line_of (if notice then codes "NOTICE" else codes "PRIVMSG") (target.now ∷ []) (Some words.now) (option_map sender doer.entry) }
 {
     let command: &[u8] = if notice { b"NOTICE" } else { b"PRIVMSG" };
-    line_of(doer, command, &[target], Some(words))
+    write_line(doer, command, &[target], Some(words), line)
 }
 
 /// A user is invited to a channel (RFC 2812 section 3.2.7).
@@ -125,16 +132,17 @@ pub(crate) fn invite_line<'a>(
     doer: Option<Prefix<'_>>,
     nick: &'a [u8],
     channel: &'a [u8],
-) -> Option<Text>
-    ensures { line_bytes result ≡ line_of (codes "INVITE") (nick.now ∷ channel.now ∷ []) None (option_map sender doer.entry) }
+    line: &mut Text,
+) -> bool
+    ensures { line_if result line.new ≡ line_of (codes "INVITE") (nick.now ∷ channel.now ∷ []) None (option_map sender doer.entry) }
 {
-    line_of(doer, b"INVITE", &[nick, channel], None)
+    write_line(doer, b"INVITE", &[nick, channel], None, line)
 }
 
 /// A user's mode i changes (RFC 2812 section 3.1.5).
-pub(crate) fn user_mode_line(doer: Option<Prefix<'_>>, nick: &[u8], invisible: bool) -> Option<Text>
-    ensures { line_bytes result ≡ line_of (codes "MODE") (nick.now ∷ (if invisible then codes "+i" else codes "-i") ∷ []) None (option_map sender doer.entry) }
+pub(crate) fn user_mode_line(doer: Option<Prefix<'_>>, nick: &[u8], invisible: bool, line: &mut Text) -> bool
+    ensures { line_if result line.new ≡ line_of (codes "MODE") (nick.now ∷ (if invisible then codes "+i" else codes "-i") ∷ []) None (option_map sender doer.entry) }
 {
     let mode = if invisible { b"+i" } else { b"-i" };
-    line_of(doer, b"MODE", &[nick, mode], None)
+    write_line(doer, b"MODE", &[nick, mode], None, line)
 }

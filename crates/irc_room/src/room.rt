@@ -26,8 +26,8 @@ use crate::idle::is_idle;
 use crate::indexed_channels::IndexedChannels;
 use crate::refusing::{missing, refusal};
 use crate::room_parts::RoomParts;
+use crate::shown_line::ShownLine;
 use irc_channels::{Channel, Flags};
-use irc_line::Text;
 use irc_names::{Nick, ServerName};
 use irc_tables::Row;
 use irc_users::{User, Users};
@@ -233,29 +233,28 @@ impl Room {
         audience(self.alloc, parts, effect)
     }
 
-    /// Applies an effect: the room is the one after it, and what it shows to the server's own users is appended to `out`, in
-    /// folded order of the viewers.
+    /// Applies an effect: the room is the one after it, and `shown` is what it shows to the server's own users.
     ///
     /// The nickname of a user that is added is free, and so is the new one of a Rename, save that it may be the renamer's own.
     ///
     /// # Errors
     /// [`RoomFault::Failed`] where memory ran out before; [`RoomFault::NoSuchUser`] where a user that it names is not there;
     /// [`RoomFault::NoSuchChannel`] where the channel that it names is not there, but for a Join, which makes it, and an Invite.
-    /// Nothing has changed then. [`RoomFault::Memory`] where memory runs out, which an effect that does nothing takes none of: `out` is
-    /// as it was, and the room answers Failed from then on.
+    /// Nothing has changed then. [`RoomFault::Memory`] where memory runs out, which an effect that does nothing takes none of: the room
+    /// answers Failed from then on. Nobody is shown anything in any of these.
     pub fn apply(
         &mut self,
         effect: &Effect,
-        out: &mut Vec<(Nick, Text), Global>,
+        shown: &mut ShownLine,
     ) -> Result<(), RoomFault>
         requires { brings_free self.old.room effect.now ≡ true }
-        ensures applied { Applied self.old effect.now out.old.items result self.new out.new.items }
-        ensures idle { IdleStays self.old effect.now out.old.items result self.new out.new.items }
+        ensures applied { Applied self.old effect.now result self.new shown.new }
+        ensures idle { IdleStays self.old effect.now result self.new shown.new }
     {
+        shown.viewers.clear();
         if let Some(fault) = refusal(self.failed, &self.users, &self.channels, effect) {
             return Err(fault);
         }
-        let before = out.len();
         let stay = staying(&self.own, &self.users, self.at_home, effect);
         self.failed = true;
         match perform(
@@ -264,7 +263,7 @@ impl Room {
             &mut self.users,
             &mut self.channels,
             effect,
-            out,
+            shown,
         ) {
             Ok(()) => {
                 self.failed = false;
@@ -272,7 +271,7 @@ impl Room {
                 Ok(())
             }
             Err(_) => {
-                out.truncate(before);
+                shown.viewers.clear();
                 Err(RoomFault::Memory)
             }
         }

@@ -20,7 +20,7 @@ use Rattle.irc_room.specs.Applying.{Kept, room_fault, is_own, handed, shown_here
 use Rattle.irc_room.specs.Seen.{Showing, seen, shown_to}
 use Rattle.irc_room.specs.Lemmas.ViewerLaws.{both_true, below_none, own_showing}
 use Rattle.irc_server.specs.declared.clients.Client.TheVariants.{Registered}
-use Rattle.irc_server.specs.declared.event.Out.{Out}
+use Rattle.irc_batch.specs.Batches.{Sent}
 use Rattle.irc_server.specs.RoomMachine.{Clients, RoomMachine, client_of}
 use Rattle.irc_server.specs.Handle.{to_viewer, clients_after, machine_after, with_effect}
 use Rattle.irc_server.specs.Loops.Stage.{shown_of, all_shown, IsFit, IsSound}
@@ -129,7 +129,7 @@ by_causes false true true a b c = refl
 -- an effect on the room, what it hands out, and the clients that follow it
 pub effect_applied : (machine : RoomMachine) (kept now : Kept) (effect : Effect) → kept.room ≡ machine.room → kept.own ≡ machine.place.name → IsSound kept
     → IsFit machine effect
-    → (clients : Clients) (shown : List (List ℕ × ArrayVec ℕ)) (out out_after : List Out) → now ≡ record kept { room = after kept.room effect }
+    → (clients : Clients) (shown : List (List ℕ × ArrayVec ℕ)) (out out_after : List Sent) → now ≡ record kept { room = after kept.room effect }
     → shown ≡ shown_here kept effect → out_after ≡ out ++ all_shown machine.clients shown → clients ≡ clients_after effect machine.clients
     → record { machine = record machine { clients = clients; room = now.room }; out = out_after } ≡ with_effect effect (record { machine = machine; out = out })
 effect_applied machine kept now effect room_is own_is sound fit clients shown out out_after now_is shown_is out_is clients_are =

@@ -11,11 +11,9 @@ use Rattle.irc_names.specs.Tables.{Table, row}
 use Rattle.irc_room.specs.Seen.{Showing}
 use Rattle.irc_room.specs.Lemmas.Rows.{same_some}
 use Rattle.irc_room.specs.Lemmas.ViewerLaws.{both_true}
-use Rattle.irc_acts.specs.Acts.{kept}
 use Rattle.irc_server.specs.declared.clients.Client.{Client}
 use Rattle.irc_server.specs.declared.clients.Client.TheVariants.{Registering, Registered}
-use Rattle.irc_server.specs.declared.event.Out.{Out}
-use Rattle.irc_server.specs.declared.event.Out.TheVariants.{ToClient}
+use Rattle.irc_batch.specs.Batches.{Sent, line_to}
 use Rattle.irc_server.specs.RoomMachine.{Clients}
 use Rattle.irc_server.specs.Handle.{is_client, to_viewer}
 use Rattle.irc_server.specs.Loops.Stage.{all_shown, shown_of, IsIndex}
@@ -26,8 +24,8 @@ use Rattle.irc_server.proofs.Index.{differs, named_is}
 abbrev Entry : Type 0
 Entry = ℕ × Client
 
-module _ (test : Client → Bool) (line : ℕ → Out) where
-  abbrev chosen : Entry → Option Out
+module _ (test : Client → Bool) (line : ℕ → Sent) where
+  abbrev chosen : Entry → Option Sent
   chosen e = if test e.1 then Some (line e.0) else None
 
   none_chosen : (es : List Entry) → T (is_sorted nat_cmp es) → ((q : ℕ) (c : Client) → find nat_cmp q es ≡ Some c → test c ≡ false) → filter_map chosen es ≡ []
@@ -68,8 +66,8 @@ module _ (test : Client → Bool) (line : ℕ → Out) where
           ap (λ t. cons_option (if t then Some (line e.0) else None) (filter_map chosen es)) two
           ∙ rest (behind_it (same_number conn e.0) refl two)
 
-abbrev line_out : Showing → ℕ → Out
-line_out showing conn = ToClient conn (kept showing.line)
+abbrev line_out : Showing → ℕ → Sent
+line_out showing conn = line_to conn showing.line
 
 -- no client is the viewer
 pub shown_to_none : (clients : Clients) (showing : Showing)
@@ -86,7 +84,7 @@ module _ (clients : Clients) (by_nick : Table ℕ) (index : IsIndex clients by_n
   not_indexed none = shown_to_none clients showing (λ conn name is. differs name showing.viewer
       (λ one. let found = index.found conn name is in let folds = ap (row by_nick) one in cc))
 
-  pub indexed : (conn : ℕ) → row by_nick (key showing.viewer) ≡ Some conn → to_viewer clients showing ≡ ToClient conn (kept showing.line) ∷ []
+  pub indexed : (conn : ℕ) → row by_nick (key showing.viewer) ≡ Some conn → to_viewer clients showing ≡ line_to conn showing.line ∷ []
   indexed conn is_conn =
       named_is (key showing.viewer) (get clients conn) (index.there (key showing.viewer) conn is_conn) (λ mine mine_is named.
       one_chosen (is_client showing.viewer) (line_out showing) (entries clients) (entries_sorted clients) conn (Registered mine)

@@ -18,7 +18,7 @@ use Rattle.irc_commands.specs.Decide.{decide}
 use Rattle.irc_server.specs.declared.clients.Client.{Client}
 use Rattle.irc_server.specs.declared.event.Event.{Event}
 use Rattle.irc_server.specs.declared.event.Event.TheVariants.{Connect, Line, Gone}
-use Rattle.irc_server.specs.declared.event.Out.{Out}
+use Rattle.irc_batch.specs.Batches.{Sent}
 use Rattle.irc_server.specs.declared.event.ServerFault.{ServerFault}
 use Rattle.irc_server.specs.declared.event.ServerFault.TheVariants.{Memory, Failed}
 use Rattle.irc_server.specs.declared.config.Peer.{Peer}
@@ -39,7 +39,7 @@ copied_now (Some bytes) = refl
 
 -- a decision that is carried out
 pub carried : (after : Handled) (conn : ℕ) (name name' : Option (List ℕ)) (acts acts' : List Act) (close close' : Bool) (machine machine' : RoomMachine)
-    (out : List Out)
+    (out : List Sent)
     → name ≡ name' → acts ≡ acts' → close ≡ close' → machine ≡ machine'
     → after ≡ closing close conn (all_stepped conn name acts (record { machine = machine; out = out }))
     → after ≡ behind out (closing close' conn (all_stepped conn name' acts' (unchanged machine')))
@@ -64,19 +64,19 @@ lost_is_whole = refl
 
 -- what each kind of event does to the machine
 
-pub connected_is : (old new : RoomMachine) (event : Event) (out : List Out) (conn : ℕ) (host : List ℕ) → event ≡ Connect conn host
+pub connected_is : (old new : RoomMachine) (event : Event) (out : List Sent) (conn : ℕ) (host : List ℕ) → event ≡ Connect conn host
     → new ≡ with_client old conn (fresh host) → record { machine = new; out = out } ≡ behind out (handled old (happening_of event))
 unfolding handled
 connected_is old new event out conn host event_is new_is =
     subst (λ (e : Event). record { machine = new; out = out } ≡ behind out (handled old (happening_of e))) (sym event_is)
     (ap (λ (m : RoomMachine). record { machine = m; out = out }) new_is ∙ nothing_behind (with_client old conn (fresh host)) out)
 
-pub gone_is : (old : RoomMachine) (event : Event) (out : List Out) (after : Handled) (conn : ℕ) → event ≡ Gone conn
+pub gone_is : (old : RoomMachine) (event : Event) (out : List Sent) (after : Handled) (conn : ℕ) → event ≡ Gone conn
     → after ≡ behind out (gone old conn (client_of old conn)) → after ≡ behind out (handled old (happening_of event))
 unfolding handled
 gone_is old event out after conn event_is is = subst (λ (e : Event). after ≡ behind out (handled old (happening_of e))) (sym event_is) is
 
-pub said_is : (old : RoomMachine) (event : Event) (out : List Out) (after : Handled) (conn : ℕ) (line : ArrayVec ℕ) (bytes : List ℕ)
+pub said_is : (old : RoomMachine) (event : Event) (out : List Sent) (after : Handled) (conn : ℕ) (line : ArrayVec ℕ) (bytes : List ℕ)
     (read : Result Parsed LineFault)
     → event ≡ Line conn line → bytes ≡ line.items → read ≡ read_of bytes
     → after ≡ behind out (read_as old conn read) → after ≡ behind out (handled old (happening_of event))
@@ -87,7 +87,7 @@ said_is old event out after conn line bytes read event_is bytes_are read_is is =
 
 -- and so to the server
 
-pub does : (old new : Stage) (event : Event) (out out_after : List Out) → Keeps old new → so_far new out_after ≡ behind out (handled (machine_at old) (happening_of event))
+pub does : (old new : Stage) (event : Event) (out out_after : List Sent) → Keeps old new → so_far new out_after ≡ behind out (handled (machine_at old) (happening_of event))
     → Does (view_of old) event out (view_of new) out_after
 unfolding served
 does old new event out out_after keeps is = record {
@@ -100,23 +100,23 @@ does old new event out out_after keeps is = record {
 
 -- what comes of each way out of `handle`
 
-pub failed_stays : (now : Option View) (event : Event) (out : List Out) → now ≡ None → IsHandled now event out (Err Failed) now out
+pub failed_stays : (now : Option View) (event : Event) (out : List Sent) → now ≡ None → IsHandled now event out (Err Failed) now out
 failed_stays now event out is = subst (λ (v : Option View). IsHandled v event out (Err Failed) v out) (sym is) has_failed
 
-pub taken : (now : Option View) (old new : View) (event : Event) (out out_after : List Out) → now ≡ Some old → fault_of old event ≡ None
+pub taken : (now : Option View) (old new : View) (event : Event) (out out_after : List Sent) → now ≡ Some old → fault_of old event ≡ None
     → Does old event out new out_after → IsHandled now event out (Ok tt) (Some new) out_after
 taken now old new event out out_after now_is none does =
     subst (λ (v : Option View). IsHandled v event out (Ok tt) (Some new) out_after) (sym now_is) (takes_it none does)
 
-pub refused : (now : Option View) (view : View) (event : Event) (out : List Out) (fault : ServerFault) → now ≡ Some view → fault_of view event ≡ Some fault
+pub refused : (now : Option View) (view : View) (event : Event) (out : List Sent) (fault : ServerFault) → now ≡ Some view → fault_of view event ≡ Some fault
     → IsHandled now event out (Err fault) now out
 refused now view event out fault now_is is =
     subst (λ (v : Option View). IsHandled v event out (Err fault) v out) (sym now_is) (refuses_it is)
 
-cut_back : (out new : List Out) (n : ℕ) → Grew out new → n ≡ length out → take n new ≡ out
+cut_back : (out new : List Sent) (n : ℕ) → Grew out new → n ≡ length out → take n new ≡ out
 cut_back out new n grew n_is = ap (λ m. take m new) n_is ∙ ap (take (length out)) grew.new_is ∙ take-append_seam out grew.more
 
-pub ran_out : (now : Option View) (view : View) (event : Event) (out new : List Out) (n : ℕ) → now ≡ Some view → fault_of view event ≡ None → Grew out new
+pub ran_out : (now : Option View) (view : View) (event : Event) (out new : List Sent) (n : ℕ) → now ≡ Some view → fault_of view event ≡ None → Grew out new
     → n ≡ length out → IsHandled now event out (Err Memory) None (take n new)
 ran_out now view event out new n now_is none grew n_is =
     subst (λ (v : Option View). IsHandled v event out (Err Memory) None (take n new)) (sym now_is)
@@ -136,7 +136,7 @@ due_by view (Connect conn host) owed = nobody_there (client_of (machine_of view)
 due_by view (Line conn line) owed = tt
 due_by view (Gone conn) owed = tt
 
-pub matched_after : ServedStaysMatched → (old new : View) (event : Event) (out out_after : List Out) → AreMatched old → IsWellFormed old.room → fault_of old event ≡ None
+pub matched_after : ServedStaysMatched → (old new : View) (event : Event) (out out_after : List Sent) → AreMatched old → IsWellFormed old.room → fault_of old event ≡ None
     → Does old event out new out_after → AreMatched new
 matched_after stays old new event out out_after matched well owed does =
     subst AreMatched (sym does.view_is) (stays old matched well (happening_of event) (due_by old event owed))

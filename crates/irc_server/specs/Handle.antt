@@ -16,13 +16,11 @@ use Rattle.irc_room.specs.After.{after}
 use Rattle.irc_room.specs.Seen.{Showing, seen}
 use Rattle.irc_acts.specs.declared.act.Act.{Act}
 use Rattle.irc_acts.specs.declared.act.Act.TheVariants.{Answer, Raw, Do}
-use Rattle.irc_acts.specs.Acts.{kept}
 use Rattle.irc_commands.specs.Decisions.{Decided}
 use Rattle.irc_commands.specs.Decisions.{Registered as Given}
 use Rattle.irc_commands.specs.Decide.{decide}
 use Rattle.irc_commands.specs.Register.{register}
-use Rattle.irc_server.specs.declared.event.Out.{Out}
-use Rattle.irc_server.specs.declared.event.Out.TheVariants.{ToClient, CloseClient}
+use Rattle.irc_batch.specs.Batches.{Sent, end_of, line_to}
 use Rattle.irc_server.specs.declared.clients.Client.{Client}
 use Rattle.irc_server.specs.declared.clients.Client.TheVariants.{Registering, Registered}
 use Rattle.irc_server.specs.RoomMachine.{Clients, RoomMachine, client_of, with_client, without_client, each_client}
@@ -35,7 +33,7 @@ pub data Happening : Type 0 where
 
 pub record Handled : Type 0 where
   pub machine : RoomMachine
-  pub out : List Out
+  pub out : List Sent
 
 -- whether a client is the user with a nickname
 abbrev pub is_client : List ℕ → Client → Bool
@@ -43,9 +41,9 @@ is_client nick (Registering pending) = false
 is_client nick (Registered name) = same name nick
 
 -- a line to the viewer, where it is a client of this server
-abbrev pub to_viewer : Clients → Showing → List Out
+abbrev pub to_viewer : Clients → Showing → List Sent
 to_viewer clients showing =
-    filter_map (λ (c : ℕ × Client). if is_client showing.viewer c.1 then Some (ToClient c.0 (kept showing.line)) else None) (entries clients)
+    filter_map (λ (c : ℕ × Client). if is_client showing.viewer c.1 then Some (line_to c.0 showing.line) else None) (entries clients)
 
 -- a client whose user takes another nickname is that user still
 abbrev pub renamed_in : List ℕ → List ℕ → Client → Client
@@ -68,8 +66,8 @@ with_effect effect before = record {
 -- One step: an answer and a line go to the client itself. Replies are sent to this name.
 abbrev pub stepped : ℕ → Option (List ℕ) → Act → Handled → Handled
 stepped conn name (Answer reply) before =
-    record before { out = before.out ++ ToClient conn (kept (reply_text before.machine.place.name name reply)) ∷ [] }
-stepped conn name (Raw line) before = record before { out = before.out ++ ToClient conn line ∷ [] }
+    record before { out = before.out ++ line_to conn (reply_text before.machine.place.name name reply) ∷ [] }
+stepped conn name (Raw line) before = record before { out = before.out ++ line_to conn line.items ∷ [] }
 stepped conn name (Do effect) before = with_effect effect before
 
 -- the steps, one after another
@@ -83,7 +81,7 @@ unchanged machine = record { machine = machine; out = [] }
 
 -- a client that is closed is one no more
 abbrev pub closing : Bool → ℕ → Handled → Handled
-closing true conn before = record { machine = without_client before.machine conn; out = before.out ++ CloseClient conn ∷ [] }
+closing true conn before = record { machine = without_client before.machine conn; out = before.out ++ end_of conn ∷ [] }
 closing false conn before = before
 
 abbrev pub decided : RoomMachine → ℕ → Option (List ℕ) → Decided → Handled

@@ -2,8 +2,7 @@
 use Rattle.std.specs.Prelude.{◌≡◌, ℕ, Option, Some, None, List, [], ◌∷◌, ◌++◌, map, nat_eq, if◌then◌else◌}
 use Rattle.std.specs.List.{filter_map}
 use Rattle.irc_server.specs.declared.event.Event.{Event}
-use Rattle.irc_server.specs.declared.event.Out.{Out}
-use Rattle.irc_server.specs.declared.event.Out.TheVariants.{ToClient, CloseClient}
+use Rattle.irc_batch.specs.Batches.{Sent, end_of, line_to}
 use Rattle.irc_server.specs.RoomMachine.{RoomMachine}
 use Rattle.irc_server.specs.View.{View, machine_of}
 use Rattle.irc_server.specs.Handle.{Happening, handled}
@@ -11,13 +10,13 @@ use Rattle.irc_server.specs.Served.{served}
 use Rattle.irc_server.specs.Happening.{happening_of}
 
 -- a line, where it is one to this connection
-abbrev pub line_to : ℕ → Out → Option (List ℕ)
-line_to conn (ToClient to line) = if nat_eq to conn then Some (line.items) else None
-line_to conn (CloseClient to) = None
+abbrev pub line_for : ℕ → Sent → Option (List ℕ)
+line_for conn (line_to to line) = if nat_eq to conn then Some line else None
+line_for conn (end_of to) = None
 
 -- what a connection receives of what is put out
-abbrev pub lines_to : ℕ → List Out → List (List ℕ)
-lines_to conn out = filter_map (line_to conn) out
+abbrev pub lines_to : ℕ → List Sent → List (List ℕ)
+lines_to conn out = filter_map (line_for conn) out
 
 -- the server after these happenings
 abbrev pub after_all : View → List Happening → View
@@ -34,6 +33,6 @@ abbrev pub happenings_of : List Event → List Happening
 happenings_of events = map happening_of events
 
 -- From one view of a server to another by these events, each connection has received what the room machine that the server was to it owes it.
-pub record Receives (old : View) (events : List Event) (out : List Out) (new : Option View) (out_after : List Out) : Type 0 where
+pub record Receives (old : View) (events : List Event) (out : List Sent) (new : Option View) (out_after : List Sent) : Type 0 where
   pub view_is : new ≡ Some (after_all old (happenings_of events))
   pub received : (conn : ℕ) → lines_to conn out_after ≡ lines_to conn out ++ owed conn (machine_of old) (happenings_of events)

@@ -4,7 +4,7 @@ use Rattle.irc_room.specs.Room.{IsWellFormed}
 use Rattle.irc_server.specs.declared.clients.Client.{Client}
 use Rattle.irc_server.specs.declared.event.Event.{Event}
 use Rattle.irc_server.specs.declared.event.Event.TheVariants.{Connect, Line, Gone}
-use Rattle.irc_server.specs.declared.event.Out.{Out}
+use Rattle.irc_batch.specs.Batches.{Sent}
 use Rattle.irc_server.specs.declared.event.ServerFault.{ServerFault}
 use Rattle.irc_server.specs.declared.event.ServerFault.TheVariants.{NoSuchConnection, ConnectionThere}
 use Rattle.irc_server.specs.RoomMachine.{client_of}
@@ -14,7 +14,7 @@ use Rattle.irc_server.specs.Matched.{IsDue, IsMatched}
 
 pub record Served : Type 0 where
   pub view : View
-  pub out : List Out
+  pub out : List Sent
 
 -- a view whose clients and room are those that its machine has then
 abbrev pub put_back : View → Handled → Served

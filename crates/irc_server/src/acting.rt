@@ -15,8 +15,9 @@ ghost use Rattle.irc_server.specs.Loops.Grown.{Grew};
 ghost use Rattle.irc_server.specs.Loops.Stage.{behind, machine_at, so_far, view_of, AreFit, IsFreeOf, IsNoUser, IsReady, Keeps};
 
 use crate::clients::{Client, Waiting, client_of, seat, take_out};
-use crate::event::{Event, Out};
+use crate::event::Event;
 use crate::stage::{Stage, apply, carry_out};
+use irc_batch::Batch;
 use irc_channels::Words;
 use irc_commands::{Pending, Registration, decide, laws, register};
 use irc_line::{Message, parse};
@@ -60,16 +61,16 @@ fn settle(
     stage: &mut Stage,
     conn: u64,
     given: &Registration,
-    out: &mut Vec<Out, Global>,
+    out: &mut Batch,
 ) -> Result<(), AllocError>
     requires ready { IsReady stage.old }
     requires no_user { IsNoUser (client_of (machine_at stage.old) conn) }
     requires free { IsFreeOf (client_after (registered_of given.now) given.now.pending.nick) (machine_at stage.old).clients }
     requires fit { AreFit (with_client (machine_at stage.old) conn (client_after (registered_of given.now) given.now.pending.nick)) given.now.steps.items }
-    ensures ok { OnOk result (so_far stage.new out.new.items ≡ behind out.old.items (pending_decided (machine_at stage.old) conn (registered_of given.now))) }
+    ensures ok { OnOk result (so_far stage.new out.new.outs ≡ behind out.old.outs (pending_decided (machine_at stage.old) conn (registered_of given.now))) }
     ensures ready { OnOk result (IsReady stage.new) }
     ensures keeps { Keeps stage.old stage.new }
-    ensures grew { Grew out.old.items out.new.items }
+    ensures grew { Grew out.old.outs out.new.outs }
 {
     let client = client_after(stage.alloc, given)?;
     seat(&mut stage.clients, conn, client)?;
@@ -83,14 +84,14 @@ fn obey(
     conn: u64,
     nick: &Nick,
     message: &Message<'_>,
-    out: &mut Vec<Out, Global>,
+    out: &mut Batch,
 ) -> Result<(), AllocError>
     requires ready { IsReady stage.old }
     requires matched { IsMatched (machine_at stage.old) }
-    ensures ok { OnOk result (so_far stage.new out.new.items ≡ behind out.old.items (user_decided (machine_at stage.old) conn (row stage.old.room.room.users (key nick.now)) (parsed message.now))) }
+    ensures ok { OnOk result (so_far stage.new out.new.outs ≡ behind out.old.outs (user_decided (machine_at stage.old) conn (row stage.old.room.room.users (key nick.now)) (parsed message.now))) }
     ensures ready { OnOk result (IsReady stage.new) }
     ensures keeps { Keeps stage.old stage.new }
-    ensures grew { Grew out.old.items out.new.items }
+    ensures grew { Grew out.old.outs out.new.outs }
 {
     laws::decided_is_possible();
     laws::who_stays_is_user();
@@ -124,14 +125,14 @@ fn hear(
     stage: &mut Stage,
     conn: u64,
     message: &Message<'_>,
-    out: &mut Vec<Out, Global>,
+    out: &mut Batch,
 ) -> Result<(), AllocError>
     requires ready { IsReady stage.old }
     requires matched { IsMatched (machine_at stage.old) }
-    ensures ok { OnOk result (so_far stage.new out.new.items ≡ behind out.old.items (said_by (machine_at stage.old) conn (client_of (machine_at stage.old) conn) (parsed message.now))) }
+    ensures ok { OnOk result (so_far stage.new out.new.outs ≡ behind out.old.outs (said_by (machine_at stage.old) conn (client_of (machine_at stage.old) conn) (parsed message.now))) }
     ensures ready { OnOk result (IsReady stage.new) }
     ensures keeps { Keeps stage.old stage.new }
-    ensures grew { Grew out.old.items out.new.items }
+    ensures grew { Grew out.old.outs out.new.outs }
 {
     laws::registering_is_possible();
     laws::registered_is_added();
@@ -162,13 +163,13 @@ fn user_of(stage: &Stage, conn: u64) -> Option<Nick>
 }
 
 /// A client is gone: its user quits, and it is told nothing.
-fn go(stage: &mut Stage, conn: u64, out: &mut Vec<Out, Global>) -> Result<(), AllocError>
+fn go(stage: &mut Stage, conn: u64, out: &mut Batch) -> Result<(), AllocError>
     requires ready { IsReady stage.old }
     requires matched { IsMatched (machine_at stage.old) }
-    ensures ok { OnOk result (so_far stage.new out.new.items ≡ behind out.old.items (gone (machine_at stage.old) conn (client_of (machine_at stage.old) conn))) }
+    ensures ok { OnOk result (so_far stage.new out.new.outs ≡ behind out.old.outs (gone (machine_at stage.old) conn (client_of (machine_at stage.old) conn))) }
     ensures ready { OnOk result (IsReady stage.new) }
     ensures keeps { Keeps stage.old stage.new }
-    ensures grew { Grew out.old.items out.new.items }
+    ensures grew { Grew out.old.outs out.new.outs }
 {
     let user = user_of(stage, conn);
     take_out(&mut stage.clients, conn);
@@ -183,15 +184,15 @@ fn go(stage: &mut Stage, conn: u64, out: &mut Vec<Out, Global>) -> Result<(), Al
 pub(crate) fn act(
     stage: &mut Stage,
     event: Event,
-    out: &mut Vec<Out, Global>,
+    out: &mut Batch,
 ) -> Result<(), AllocError>
     requires ready { IsReady stage.old }
     requires matched { IsMatched (machine_at stage.old) }
     requires owed { fault_of (view_of stage.old) event ≡ None }
-    ensures ok { OnOk result (Does (view_of stage.old) event out.old.items (view_of stage.new) out.new.items) }
+    ensures ok { OnOk result (Does (view_of stage.old) event out.old.outs (view_of stage.new) out.new.outs) }
     ensures ready { OnOk result (IsReady stage.new) }
     ensures keeps { Keeps stage.old stage.new }
-    ensures grew { Grew out.old.items out.new.items }
+    ensures grew { Grew out.old.outs out.new.outs }
 {
     match event {
         Event::Connect(conn, host) => connect(stage, conn, host),

@@ -4,15 +4,16 @@ ghost use Rattle.std.specs.FinMap.{empty, get, insert, remove};
 ghost use Rattle.std.specs.Option.{option_copied};
 ghost use Rattle.irc_names.specs.Fold.{key};
 ghost use Rattle.irc_names.specs.Tables.{row};
+ghost use Rattle.irc_room.specs.Applying.{pairs_of};
 ghost use Rattle.irc_server.specs.RoomMachine.{each_client};
 ghost use Rattle.irc_server.specs.Handle.{renamed_in, to_viewer};
 ghost use Rattle.irc_server.specs.Loops.Stage.{all_shown, clients_of, departed, entered, numbered, IsFreeFor, IsFreeOf, IsIndexed, IsNoUser};
 ghost use Rattle.irc_server.specs.Loops.Grown.{Grew};
 
-use crate::event::Out;
+use irc_batch::Batch;
 use irc_commands::Pending;
-use irc_line::Text;
-use irc_names::{Nick, copied};
+use irc_names::Nick;
+use irc_room::ShownLine;
 use irc_tables::NameTable;
 use std::alloc::{AllocError, Global};
 use std::collections::BTreeMap;
@@ -168,35 +169,31 @@ fn number_of(clients: &ClientTable, nick: &Nick) -> Option<u64>
     }
 }
 
-/// A line to the user with a nickname, where it is a client.
-fn show(
-    clients: &ClientTable,
-    nick: &Nick,
-    line: &Text,
-    out: &mut Vec<Out, Global>,
-) -> Result<(), AllocError>
+/// The line at hand, to the user with a nickname, where it is a client.
+fn show(clients: &ClientTable, nick: &Nick, out: &mut Batch) -> Result<(), AllocError>
     requires indexed { IsIndexed clients.now }
-    ensures ok { OnOk result (out.new.items ≡ out.old.items ++ to_viewer (clients_of clients.now) (record { viewer = nick.now; line = line.now.items })) }
-    ensures grew { Grew out.old.items out.new.items }
+    ensures ok { OnOk result (out.new ≡ record out.old { outs = out.old.outs ++ to_viewer (clients_of clients.now) (record { viewer = nick.now; line = out.old.held }) }) }
+    ensures grew { Grew out.old.outs out.new.outs }
 {
     if let Some(conn) = number_of(clients, nick) {
-        out.push(Out::ToClient(conn, copied(line)))?;
+        out.send(conn)?;
     }
     Ok(())
 }
 
-/// Lines to users by their nicknames, where they are clients.
+/// A line to each of its viewers that is a client.
 pub(crate) fn show_all(
     clients: &ClientTable,
-    shown: &[(Nick, Text)],
-    out: &mut Vec<Out, Global>,
+    shown: &ShownLine,
+    out: &mut Batch,
 ) -> Result<(), AllocError>
     requires indexed { IsIndexed clients.now }
-    ensures ok { OnOk result (out.new.items ≡ out.old.items ++ all_shown (clients_of clients.now) shown.now) }
-    ensures grew { Grew out.old.items out.new.items }
+    ensures ok { OnOk result (out.new.outs ≡ out.old.outs ++ all_shown (clients_of clients.now) (pairs_of shown.now)) }
+    ensures grew { Grew out.old.outs out.new.outs }
 {
-    for (nick, line) in shown {
-        show(clients, nick, line, out)?;
+    out.hold(&shown.line)?;
+    for nick in &shown.viewers {
+        show(clients, nick, out)?;
     }
     Ok(())
 }

@@ -1,5 +1,5 @@
-//! What happens to a server, what it puts out, and what it refuses.
-use irc_line::{Line, Text};
+//! What happens to a server, and what it refuses.
+use irc_line::Line;
 use irc_names::Host;
 use thiserror::Error;
 
@@ -12,15 +12,6 @@ pub enum Event {
     Line(u64, Line),
     /// A client is gone.
     Gone(u64),
-}
-
-/// What a server puts out.
-#[derive(Drop)]
-pub enum Out {
-    /// A line to a client.
-    ToClient(u64, Text),
-    /// The connection of a client ends.
-    CloseClient(u64),
 }
 
 /// Why an event is refused, in the order in which causes are looked for after [`ServerFault::Failed`], and [`ServerFault::Memory`] last.

@@ -11,5 +11,5 @@ mod stage;
 
 pub use clients::{Client, Waiting};
 pub use config::{Config, ConfigFault, MAX_PASSWORD, Peer};
-pub use event::{Event, Out, ServerFault};
+pub use event::{Event, ServerFault};
 pub use server::Server;

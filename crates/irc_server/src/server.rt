@@ -10,10 +10,11 @@ ghost use Rattle.irc_server.specs.View.{View};
 use crate::acting::act;
 use crate::clients::{client_of, no_clients};
 use crate::config::{Config, ConfigFault, config_fault};
-use crate::event::{Event, Out, ServerFault};
+use crate::event::{Event, ServerFault};
 use crate::laws;
 use crate::stage::Stage;
-use irc_room::Room;
+use irc_batch::Batch;
+use irc_room::{Room, ShownLine};
 use irc_routes::Routes;
 use std::alloc::Global;
 use std::marker::Model;
@@ -70,6 +71,7 @@ impl Server {
                 peers: config.peers,
                 clients,
                 room,
+                shown: ShownLine::new(alloc),
                 alloc,
             },
         })
@@ -81,8 +83,8 @@ impl Server {
     /// [`ServerFault::Failed`] where memory ran out before; then [`ServerFault::NoSuchConnection`] for a line of, or the loss of, a
     /// connection that is not there, and [`ServerFault::ConnectionThere`] for one that connects and is there: nothing has changed
     /// then. [`ServerFault::Memory`] where memory runs out: `out` is as it was, and the server answers Failed from then on.
-    pub fn handle(&mut self, event: Event, out: &mut Vec<Out, Global>) -> Result<(), ServerFault>
-        ensures { IsHandled self.old event out.old.items result self.new out.new.items }
+    pub fn handle(&mut self, event: Event, out: &mut Batch) -> Result<(), ServerFault>
+        ensures { IsHandled self.old event out.old.outs result self.new out.new.outs }
     {
         laws::stays_matched();
         if self.failed {
@@ -113,10 +115,10 @@ impl Server {
     pub fn handle_all(
         &mut self,
         events: Vec<Event, Global>,
-        out: &mut Vec<Out, Global>,
+        out: &mut Batch,
     ) -> Result<(), ServerFault>
-        ensures handled { AreHandled self.old events.items out.old.items result self.new out.new.items }
-        ensures owed { OnOk result ((view : View) → self.old ≡ Some view → Receives view events.items out.old.items self.new out.new.items) }
+        ensures handled { AreHandled self.old events.items out.old.outs result self.new out.new.outs }
+        ensures owed { OnOk result ((view : View) → self.old ≡ Some view → Receives view events.items out.old.outs self.new out.new.outs) }
     {
         let mut rest = events.into_iter();
         while let Some(event) = rest.next() {

@@ -1,8 +1,8 @@
 //! One server while an event is handled: what each step of a decision does to it, and what it puts out.
-ghost use Rattle.std.specs.Prelude.{◌≡◌, [], ◌∷◌, OnOk, IfOk};
+ghost use Rattle.std.specs.Prelude.{◌≡◌, [], ◌∷◌, OnOk};
 ghost use Rattle.irc_line.specs.MessageViews.{optional_now};
 ghost use Rattle.irc_room.specs.After.{after};
-ghost use Rattle.irc_room.specs.Applying.{shown_here};
+ghost use Rattle.irc_room.specs.Applying.{pairs_of, shown_here};
 ghost use Rattle.irc_room.specs.Effects.{IsPossible};
 ghost use Rattle.irc_server.specs.Handle.{all_stepped, clients_after, closing, stepped, with_effect};
 ghost use Rattle.irc_server.specs.Loops.Grown.{Grew};
@@ -10,12 +10,11 @@ ghost use Rattle.irc_server.specs.Loops.Stage.{clients_of, machine_at, so_far, A
 
 use crate::clients::{ClientTable, rename, show_all, take_out};
 use crate::config::Peer;
-use crate::event::Out;
 use irc_acts::Act;
-use irc_line::Text;
-use irc_names::{Nick, copied};
+use irc_batch::Batch;
+use irc_names::Nick;
 use irc_numerics::reply_line;
-use irc_room::{Effect, Room, RoomFault, laws};
+use irc_room::{Effect, Room, RoomFault, ShownLine, laws};
 use irc_routes::Routes;
 use std::alloc::{AllocError, Global};
 
@@ -30,26 +29,23 @@ pub(crate) struct Stage {
     pub clients: ClientTable,
     /// Its room.
     pub room: Room,
+    /// What the effect at hand shows.
+    pub shown: ShownLine,
     /// Where it takes memory from.
     pub alloc: Global,
 }
 
-/// Applies an effect to a room in which it is possible, and gives what it shows.
-fn happen(
-    alloc: Global,
-    room: &mut Room,
-    effect: &Effect,
-) -> Result<Vec<(Nick, Text), Global>, AllocError>
+/// Applies an effect to a room in which it is possible; `shown` is what it shows.
+fn happen(room: &mut Room, effect: &Effect, shown: &mut ShownLine) -> Result<(), AllocError>
     requires sound { IsSound room.old }
     requires possible { IsPossible room.old.room effect.now }
     ensures after { OnOk result (room.new ≡ record room.old { room = after room.old.room effect.now }) }
-    ensures shown { IfOk result (λ shown. shown.items ≡ shown_here room.old effect.now) }
+    ensures shown { OnOk result (pairs_of shown.new ≡ shown_here room.old effect.now) }
     ensures sound { OnOk result (IsSound room.new) }
 {
     laws::after_is_well_formed();
-    let mut shown = Vec::new(alloc);
-    match room.apply(effect, &mut shown) {
-        Ok(()) => Ok(shown),
+    match room.apply(effect, shown) {
+        Ok(()) => Ok(()),
         Err(RoomFault::Memory) => Err(AllocError),
         Err(_) => unreachable!(),
     }
@@ -72,17 +68,17 @@ fn follow(clients: &mut ClientTable, effect: &Effect) -> Result<(), AllocError>
 pub(crate) fn apply(
     stage: &mut Stage,
     effect: &Effect,
-    out: &mut Vec<Out, Global>,
+    out: &mut Batch,
 ) -> Result<(), AllocError>
     requires ready { IsReady stage.old }
     requires fit { IsFit (machine_at stage.old) effect.now }
-    ensures ok { OnOk result (so_far stage.new out.new.items ≡ with_effect effect.now (so_far stage.old out.old.items)) }
+    ensures ok { OnOk result (so_far stage.new out.new.outs ≡ with_effect effect.now (so_far stage.old out.old.outs)) }
     ensures ready { OnOk result (IsReady stage.new) }
     ensures keeps { Keeps stage.old stage.new }
-    ensures grew { Grew out.old.items out.new.items }
+    ensures grew { Grew out.old.outs out.new.outs }
 {
-    let shown = happen(stage.alloc, &mut stage.room, effect)?;
-    show_all(&stage.clients, &shown, out)?;
+    happen(&mut stage.room, effect, &mut stage.shown)?;
+    show_all(&stage.clients, &stage.shown, out)?;
     follow(&mut stage.clients, effect)
 }
 
@@ -92,25 +88,21 @@ fn step(
     conn: u64,
     name: Option<&Nick>,
     act: &Act,
-    out: &mut Vec<Out, Global>,
+    out: &mut Batch,
 ) -> Result<(), AllocError>
     requires ready { IsReady stage.old }
     requires fit { AreFit (machine_at stage.old) (act.now ∷ []) }
-    ensures ok { OnOk result (so_far stage.new out.new.items ≡ stepped conn (optional_now name.entry) act.now (so_far stage.old out.old.items)) }
+    ensures ok { OnOk result (so_far stage.new out.new.outs ≡ stepped conn (optional_now name.entry) act.now (so_far stage.old out.old.outs)) }
     ensures ready { OnOk result (IsReady stage.new) }
     ensures keeps { Keeps stage.old stage.new }
-    ensures grew { Grew out.old.items out.new.items }
+    ensures grew { Grew out.old.outs out.new.outs }
 {
     match act {
         Act::Answer(reply) => {
             let line = reply_line(stage.routes.name(), name, reply);
-            out.push(Out::ToClient(conn, line))?;
-            Ok(())
+            out.put(conn, &line)
         }
-        Act::Raw(line) => {
-            out.push(Out::ToClient(conn, copied(line)))?;
-            Ok(())
-        }
+        Act::Raw(line) => out.put(conn, line),
         Act::Do(effect) => apply(stage, effect, out),
     }
 }
@@ -121,14 +113,14 @@ fn take_steps(
     conn: u64,
     name: Option<&Nick>,
     steps: &[Act],
-    out: &mut Vec<Out, Global>,
+    out: &mut Batch,
 ) -> Result<(), AllocError>
     requires ready { IsReady stage.old }
     requires fit { AreFit (machine_at stage.old) steps.now }
-    ensures ok { OnOk result (so_far stage.new out.new.items ≡ all_stepped conn (optional_now name.entry) steps.now (so_far stage.old out.old.items)) }
+    ensures ok { OnOk result (so_far stage.new out.new.outs ≡ all_stepped conn (optional_now name.entry) steps.now (so_far stage.old out.old.outs)) }
     ensures ready { OnOk result (IsReady stage.new) }
     ensures keeps { Keeps stage.old stage.new }
-    ensures grew { Grew out.old.items out.new.items }
+    ensures grew { Grew out.old.outs out.new.outs }
 {
     for act in steps {
         step(stage, conn, name, act, out)?;
@@ -143,19 +135,19 @@ pub(crate) fn carry_out(
     name: Option<&Nick>,
     steps: &[Act],
     close: bool,
-    out: &mut Vec<Out, Global>,
+    out: &mut Batch,
 ) -> Result<(), AllocError>
     requires ready { IsReady stage.old }
     requires fit { AreFit (machine_at stage.old) steps.now }
-    ensures ok { OnOk result (so_far stage.new out.new.items ≡ closing close conn (all_stepped conn (optional_now name.entry) steps.now (so_far stage.old out.old.items))) }
+    ensures ok { OnOk result (so_far stage.new out.new.outs ≡ closing close conn (all_stepped conn (optional_now name.entry) steps.now (so_far stage.old out.old.outs))) }
     ensures ready { OnOk result (IsReady stage.new) }
     ensures keeps { Keeps stage.old stage.new }
-    ensures grew { Grew out.old.items out.new.items }
+    ensures grew { Grew out.old.outs out.new.outs }
 {
     take_steps(stage, conn, name, steps, out)?;
     if close {
         take_out(&mut stage.clients, conn);
-        out.push(Out::CloseClient(conn))?;
+        out.close(conn)?;
     }
     Ok(())
 }

@@ -38,8 +38,7 @@ use Rattle.irc_commands.specs.Say.{say_steps, is_raised, says, to_channel}
 use Rattle.irc_commands.specs.Table.{row_of}
 use Rattle.irc_routes.specs.Place.{Place}
 use Rattle.irc_server.specs.declared.clients.Client.{Client}
-use Rattle.irc_server.specs.declared.event.Out.{Out}
-use Rattle.irc_server.specs.declared.event.Out.TheVariants.{ToClient}
+use Rattle.irc_batch.specs.Batches.{Sent, line_to}
 use Rattle.irc_server.specs.RoomMachine.{RoomMachine}
 use Rattle.irc_server.specs.Handle.{says as speaks, handled, said_by, user_decided, decided, is_client}
 use Rattle.irc_server.specs.Owed.{lines_to}
@@ -139,8 +138,8 @@ clients_listed es rise =
     get-from_entries nat_cmp_total es q ∙ sym (get-from_sorted nat_cmp es q rise)))
     ∙ entries-from_sorted nat_cmp es rise
 
-abbrev list_viewer : Showing → List Out
-list_viewer showing = filter_map (λ (c : ℕ × Client). if is_client showing.viewer c.1 then Some (ToClient c.0 (kept showing.line)) else None) three_clients
+abbrev list_viewer : Showing → List Sent
+list_viewer showing = filter_map (λ (c : ℕ × Client). if is_client showing.viewer c.1 then Some (line_to c.0 showing.line) else None) three_clients
 
 -- ---- what each client receives
 
@@ -155,7 +154,7 @@ module _ (place : Place) where
       ∙ ap (λ o. (said_by machine 2 o message).out) (get-from_entries nat_cmp_total three_clients 2)
       ∙ ap (λ o. (user_decided machine 2 o message).out) bo_there
       ∙ ap (λ d. (decided machine 2 (Some (codes "bo")) d).out) (decides place)
-      ∙ (λ i. flat_map (λ showing. filter_map (λ (c : ℕ × Client). if is_client showing.viewer c.1 then Some (ToClient c.0 (kept showing.line)) else None)
+      ∙ (λ i. flat_map (λ showing. filter_map (λ (c : ℕ × Client). if is_client showing.viewer c.1 then Some (line_to c.0 showing.line) else None)
       (clients_listed three_clients tt i)) (seen_is i))
 
 heard : (client : ℕ) → bo_speaks.lines client ≡ lines_to client (flat_map list_viewer (filter_map list_shown (map (λ e. e.1) three.users)))

@@ -1,7 +1,7 @@
 -- A script runs in one way.
 use Rattle.std.proofs.Common.{◌≡◌, ℕ, Option, Some, None, Ok, Err, List, [], ◌++◌, ap, sym, subst, refl, ◌∙◌}
 use Rattle.irc_server.specs.declared.event.Event.{Event}
-use Rattle.irc_server.specs.declared.event.Out.{Out}
+use Rattle.irc_batch.specs.Batches.{Sent}
 use Rattle.irc_server.specs.declared.event.ServerFault.{ServerFault}
 use Rattle.irc_server.specs.View.{View}
 use Rattle.irc_server.specs.Happening.{IsHandled, takes_it, refuses_it, wants_memory, has_failed}
@@ -15,7 +15,7 @@ record SameAnswer (answer other : Answer) (new after : Option (Option View)) : T
   answer_is : answer ≡ other
   new_is : new ≡ after
 
-both_taken : {old new after : Option View} {e : Event} {outs more : List Out} → IsHandled old e [] (Ok tt) new outs → IsHandled old e [] (Ok tt) after more
+both_taken : {old new after : Option View} {e : Event} {outs more : List Sent} → IsHandled old e [] (Ok tt) new outs → IsHandled old e [] (Ok tt) after more
     → SameAnswer (puts_out outs) (puts_out more) (Some new) (Some after)
 both_taken (takes_it owed does) (takes_it owed' does') = record {
   answer_is = ap puts_out (does.out_is ∙ sym does'.out_is);
@@ -23,7 +23,7 @@ both_taken (takes_it owed does) (takes_it owed' does') = record {
 }
 
 -- what is taken is not refused
-taken_not_refused : {old new after : Option View} {e : Event} {outs : List Out} {fault : ServerFault} {number : ℕ}
+taken_not_refused : {old new after : Option View} {e : Event} {outs : List Sent} {fault : ServerFault} {number : ℕ}
     → IsHandled old e [] (Ok tt) new outs → refusal_number fault ≡ Some number
     → IsHandled old e [] (Err fault) after [] → ⊥
 taken_not_refused (takes_it owed does) is (refuses_it owed') = cc (owed, owed')
@@ -39,7 +39,7 @@ both_refused is has_failed is' q = cc is
 
 -- what an answer says of the server
 data AnswersSo (old : Option View) (e : Event) : Answer → Option (Option View) → Type 0 where
-  so_taken : {new : Option View} {outs : List Out} → IsHandled old e [] (Ok tt) new outs → AnswersSo old e (puts_out outs) (Some new)
+  so_taken : {new : Option View} {outs : List Sent} → IsHandled old e [] (Ok tt) new outs → AnswersSo old e (puts_out outs) (Some new)
   so_refused : {new : Option View} {number : ℕ} → IsRefused old e number new → AnswersSo old e (refuses number) (Some new)
 
 answers_so : (old : Option View) (new : Option (Option View)) (e : Event) (answer : Answer) → AnswersAt (Some old) e answer new → AnswersSo old e answer new

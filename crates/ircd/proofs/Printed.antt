@@ -15,21 +15,28 @@ appends_both (Some xs) None new first more p q = absurd p
 appends_both (Some xs) (Some ys) None first more p q = absurd q
 appends_both (Some xs) (Some ys) (Some zs) first more p q = q ∙ ap (λ bytes. bytes ++ more) p ∙ append_assoc xs first more
 
--- one element more
-pub one_more : {X : Type 0} (f : X → List ℕ) (xs : List X) (i : ℕ) (d : X) → i < length xs → d ≡ get_or xs i d → flat_map f (take (i + 1) xs) ≡ flat_map f (take i xs) ++ f d
-one_more f xs i d within is =
+-- one element more, by its place
+pub more_at : {X : Type 0} (f : X → List ℕ) (xs : List X) (i : ℕ) (d : X) → i < length xs → flat_map f (take (i + 1) xs) ≡ flat_map f (take i xs) ++ f (get_or xs i d)
+more_at f xs i d within =
     ap (flat_map f) (take_more xs i d within) ∙ flat_map-append f (take i xs) (get_or xs i d ∷ [])
     ∙ ap (λ last. flat_map f (take i xs) ++ last) (append-nil (f (get_or xs i d)))
-    ∙ ap (λ x. flat_map f (take i xs) ++ f x) (sym is)
 
 -- the elements before one, that one, and those behind it
+pub around_at : {X : Type 0} (f : X → List ℕ) (xs : List X) (i : ℕ) (d : X) → i < length xs
+    → flat_map f xs ≡ (flat_map f (take i xs) ++ f (get_or xs i d)) ++ flat_map f (drop (i + 1) xs)
+around_at f xs i d within =
+    ap (flat_map f) (sym (take-append-drop i xs) ∙ ap (λ ds. take i xs ++ ds) (drop_more xs i d within))
+    ∙ flat_map-append f (take i xs) (get_or xs i d ∷ drop (i + 1) xs)
+    ∙ sym (append_assoc (flat_map f (take i xs)) (f (get_or xs i d)) (flat_map f (drop (i + 1) xs)))
+
+-- the same of an element that is known
+pub one_more : {X : Type 0} (f : X → List ℕ) (xs : List X) (i : ℕ) (d : X) → i < length xs → d ≡ get_or xs i d → flat_map f (take (i + 1) xs) ≡ flat_map f (take i xs) ++ f d
+one_more f xs i d within is = more_at f xs i d within ∙ ap (λ x. flat_map f (take i xs) ++ f x) (sym is)
+
 pub all_around : {X : Type 0} (f : X → List ℕ) (xs : List X) (i : ℕ) (d : X) → i < length xs → d ≡ get_or xs i d
     → flat_map f xs ≡ (flat_map f (take i xs) ++ f d) ++ flat_map f (drop (i + 1) xs)
 all_around f xs i d within is =
-    ap (flat_map f) (sym (take-append-drop i xs) ∙ ap (λ ds. take i xs ++ ds) (drop_more xs i d within))
-    ∙ flat_map-append f (take i xs) (get_or xs i d ∷ drop (i + 1) xs)
-    ∙ ap (λ x. flat_map f (take i xs) ++ (f x ++ flat_map f (drop (i + 1) xs))) (sym is)
-    ∙ sym (append_assoc (flat_map f (take i xs)) (f d) (flat_map f (drop (i + 1) xs)))
+    around_at f xs i d within ∙ ap (λ x. (flat_map f (take i xs) ++ f x) ++ flat_map f (drop (i + 1) xs)) (sym is)
 
 pub keeps_appended : (old middle new : Option (List ℕ)) (bytes : List ℕ) → Appends old middle bytes → Keeps middle new → Appends old new bytes
 keeps_appended None middle new bytes p q = tt

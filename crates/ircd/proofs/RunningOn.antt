@@ -3,7 +3,7 @@ use Rattle.std.proofs.Common.{◌≡◌, ℕ, Option, Some, None, Ok, Err, List,
 use Rattle.std.specs.Bool.{⊤}
 use Rattle.irc_server.specs.declared.event.Event.{Event}
 use Rattle.irc_server.specs.declared.event.Event.TheVariants.{Connect, Line, Gone}
-use Rattle.irc_server.specs.declared.event.Out.{Out}
+use Rattle.irc_batch.specs.Batches.{Sent}
 use Rattle.irc_server.specs.declared.event.ServerFault.{ServerFault}
 use Rattle.irc_server.specs.declared.event.ServerFault.TheVariants.{NoSuchConnection, ConnectionThere}
 use Rattle.irc_server.specs.declared.clients.Client.{Client}
@@ -30,7 +30,7 @@ first_lives None = tt
 first_lives (Some name) = tt
 
 -- a server that handled an event, or refused it, lives
-handled_lives : {old new : Option View} {e : Event} {outs : List Out} → IsHandled old e [] (Ok tt) new outs → Lives (Some new)
+handled_lives : {old new : Option View} {e : Event} {outs : List Sent} → IsHandled old e [] (Ok tt) new outs → Lives (Some new)
 handled_lives (takes_it owed does) = tt
 
 refused_lives : {old new : Option View} {e : Event} {number : ℕ} {fault : ServerFault}

@@ -90,3 +90,15 @@ written_off (Err trouble) old new text waiting after e f p q = record {
     whole = append-nil waiting ∙ sym e ∙ q.prints.whole ∙ ap (λ a. q.prints.written ++ (a ++ q.lost)) (sym f);
   };
 }
+
+-- what comes of a text behind one that is printed
+pub printed_behind : (r : Result (Unit {0}) Trouble) (a b c : Sink) (s t : List ℕ) → Prints a b s → IsPrinted r b c t → IsPrinted r a c (s ++ t)
+printed_behind (Ok _) a b c s t p q = prints_both p q
+printed_behind (Err trouble) a b c s t p q = prints_loses p q
+
+-- bytes that are written where nothing waits
+pub written_out : (r : Result (Unit {0}) Trouble) (old new : Option (List ℕ)) (bytes after : List ℕ) → after ≡ [] → OnOk r (Appends old new bytes)
+    → Tells old new bytes → IsPrinted r (sink old []) (sink new after) bytes
+written_out (Ok _) old new bytes after none whole front =
+    record { written = bytes; appended = whole; whole = sym (append-nil bytes) ∙ ap (λ a. bytes ++ a) (sym none) }
+written_out (Err trouble) old new bytes after none whole front = subst (λ a. Loses (sink old []) (sink new a) bytes) (sym none) front

@@ -1,13 +1,9 @@
--- The limits of scripts and of what is printed. All are our own choice, but for the longest text, which is the standard's.
+-- The limits of scripts and of what is printed. All are our own choice.
 use Rattle.std.specs.Prelude.{ℕ}
 
 -- the greatest number that a script may have in it, and the last number of a client: 64 bits; our own choice
 unfoldable pub max_number : ℕ
 max_number = 18446744073709551615
-
--- the most digits of such a number
-abbrev pub max_digits : ℕ
-max_digits = 20
 
 -- how many reads may be made of a script; our own choice
 unfoldable pub max_reads : ℕ
@@ -24,10 +20,6 @@ max_writes = 16777216
 -- how many bytes may wait to be written; our own choice
 abbrev pub waiting_room : ℕ
 waiting_room = 16384
-
--- the longest line that is printed: 20 digits, a space, a text of 512 bytes (RFC 2812 section 2.3), LF
-abbrev pub max_printed : ℕ
-max_printed = 534
 
 -- the longest line on a bad script: 11 bytes, 20 digits, 13 bytes; our own choice
 abbrev pub max_bad_script : ℕ

@@ -2,8 +2,7 @@
 use Rattle.std.specs.Prelude.{ℕ, ◌-◌, Option, Some, None, List, [], ◌∷◌, ◌++◌, length, take, drop, codes, decimal, if◌then◌else◌}
 use Rattle.std.specs.Str.{bytes_eq}
 use Rattle.irc_line.specs.Bytes.{crlf, space, line_feed}
-use Rattle.irc_server.specs.declared.event.Out.{Out}
-use Rattle.irc_server.specs.declared.event.Out.TheVariants.{ToClient, CloseClient}
+use Rattle.irc_batch.specs.Batches.{Sent, end_of, line_to}
 use Rattle.irc_server.specs.declared.event.ServerFault.{ServerFault}
 use Rattle.irc_server.specs.declared.event.ServerFault.TheVariants.{Memory, Failed, NoSuchConnection, ConnectionThere, NoSuchLink, LinkThere}
 
@@ -16,9 +15,9 @@ abbrev pub printed_line : ℕ → List ℕ → List ℕ
 printed_line client text = decimal client ++ space ∷ body_of text ++ line_feed ∷ []
 
 -- the end of a connection is not printed
-abbrev pub printed : Out → List ℕ
-printed (ToClient client text) = printed_line client text.items
-printed (CloseClient client) = []
+abbrev pub printed : Sent → List ℕ
+printed (line_to client text) = printed_line client text
+printed (end_of client) = []
 
 -- the place of a refusal among the faults of a server, counted from 1; want of memory is no refusal
 abbrev pub refusal_number : ServerFault → Option ℕ

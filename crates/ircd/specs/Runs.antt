@@ -5,7 +5,7 @@ use Rattle.std.specs.List.{flat_map}
 use Rattle.std.specs.FinMap.{empty}
 use Rattle.irc_server.specs.declared.event.Event.{Event}
 use Rattle.irc_server.specs.declared.event.Event.TheVariants.{Connect, Line, Gone}
-use Rattle.irc_server.specs.declared.event.Out.{Out}
+use Rattle.irc_batch.specs.Batches.{Sent}
 use Rattle.irc_server.specs.declared.event.ServerFault.{ServerFault}
 use Rattle.irc_server.specs.declared.event.ServerFault.TheVariants.{NoSuchConnection}
 use Rattle.irc_server.specs.View.{View}
@@ -21,7 +21,7 @@ use Rattle.ircd.specs.Printing.{printed, refusal_line, refusal_number}
 
 -- what an event comes to: the server puts something out, or refuses it
 pub data Answer : Type 0 where
-  puts_out : (outs : List Out) → Answer
+  puts_out : (outs : List Sent) → Answer
   refuses : (number : ℕ) → Answer
 
 abbrev pub answer_text : Answer → List ℕ

@@ -1,10 +1,9 @@
 //! What holds of scripts, and of the program's constants. Each law is a function that does nothing, and its contract is the law.
 ghost use Rattle.std.specs.Prelude.{◌≡◌};
-ghost use Rattle.ircd.specs.Limits.{max_bad_script, max_digits, max_printed, max_reads, max_writes, read_size, waiting_room};
+ghost use Rattle.ircd.specs.Limits.{max_bad_script, max_reads, max_writes, read_size, waiting_room};
 ghost use Rattle.ircd.specs.RunLaws.{EachRuns, RunsOneWay};
 
 use crate::fault::MAX_BAD_SCRIPT;
-use crate::printing::{MAX_DIGITS, MAX_PRINTED};
 use crate::sim::{MAX_READS, READ_SIZE};
 use crate::sink::{MAX_WRITES, WAITING_ROOM};
 
@@ -12,8 +11,6 @@ use crate::sink::{MAX_WRITES, WAITING_ROOM};
 #[tactic(auto, unfolding(crate::specs::Limits::max_reads, crate::specs::Limits::max_writes))]
 pub fn limits_are_so()
     ensures bad_script { MAX_BAD_SCRIPT ≡ max_bad_script }
-    ensures digits { MAX_DIGITS ≡ max_digits }
-    ensures printed { MAX_PRINTED ≡ max_printed }
     ensures reads { MAX_READS ≡ max_reads }
     ensures read { READ_SIZE ≡ read_size }
     ensures writes { MAX_WRITES ≡ max_writes }

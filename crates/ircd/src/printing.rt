@@ -1,24 +1,16 @@
 //! What is printed.
-ghost use Rattle.std.specs.Prelude.{◌≡◌, ◌++◌, ◌≤◌, ◌+◌, length};
-ghost use Rattle.arrayvec.specs.ArrayVec.{array_vec_len};
-ghost use Rattle.ircd.specs.Limits.{max_printed, waiting_room};
+ghost use Rattle.std.specs.Prelude.{◌≡◌};
+ghost use Rattle.irc_batch.specs.Batches.{told};
 ghost use Rattle.ircd.specs.Sinks.{IsPrinted, sink};
 ghost use Rattle.std.specs.List.{flat_map};
 ghost use Rattle.ircd.specs.Printing.{printed, printed_line, refusal_line, refusal_number, body_of};
 
 use crate::fault::Trouble;
-use crate::sink::{Waiting, make_room};
-use irc_line::limits::MAX_TEXT;
-use irc_line::{Text, body};
-use irc_server::{Out, ServerFault};
+use crate::sink::{Waiting, print_pieces};
+use irc_batch::{Batch, Out};
+use irc_server::ServerFault;
 use itoa::Buffer;
 use std::io::Write;
-
-/// The most digits of a number of 64 bits.
-pub const MAX_DIGITS: usize = 20;
-
-/// The longest line that is printed: a number, a space, a text and LF.
-pub const MAX_PRINTED: usize = MAX_DIGITS + 1 + MAX_TEXT + 1;
 
 /// The number of the refusal of an event for a client that is not there.
 pub const NO_SUCH_CLIENT: u64 = 3;
@@ -42,40 +34,47 @@ pub fn refusal_number(fault: ServerFault) -> Option<u64>
 /// # Errors
 /// Here and below: where a write fails.
 pub fn print_lines<W: Write>(
-    outs: &[Out],
+    outs: &Batch,
     waiting: &mut Waiting,
     output: &mut W,
 ) -> Result<(), Trouble>
-    ensures { IsPrinted result (sink (W.contents output.old) waiting.old.items) (sink (W.contents output.new) waiting.new.items) (flat_map printed outs.now) }
+    ensures { IsPrinted result (sink (W.contents output.old) waiting.old.items) (sink (W.contents output.new) waiting.new.items) (flat_map printed outs.now.outs) }
 {
-    for out in outs {
+    for place in 0..outs.len() {
+        let Some(out) = outs.get(place) else {
+            unreachable!();
+        };
         print_out(out, waiting, output)?;
     }
     Ok(())
 }
 
 /// Prints a line to a client. The end of a connection is not printed.
-fn print_out<W: Write>(out: &Out, waiting: &mut Waiting, output: &mut W) -> Result<(), Trouble>
-    ensures { IsPrinted result (sink (W.contents output.old) waiting.old.items) (sink (W.contents output.new) waiting.new.items) (printed out.now) }
+fn print_out<W: Write>(
+    out: Out<'_>,
+    waiting: &mut Waiting,
+    output: &mut W,
+) -> Result<(), Trouble>
+    ensures { IsPrinted result (sink (W.contents output.old) waiting.old.items) (sink (W.contents output.new) waiting.new.items) (printed (told out.entry)) }
 {
     match out {
-        Out::ToClient(client, text) => print_line(*client, text, waiting, output),
-        Out::CloseClient(_) => Ok(()),
+        Out::Line(client, text) => print_line(client, text, waiting, output),
+        Out::Close(_) => Ok(()),
     }
 }
 
 /// Prints a line to a client: the number of the client, a space, and the line.
 fn print_line<W: Write>(
     client: u64,
-    text: &Text,
+    text: &[u8],
     waiting: &mut Waiting,
     output: &mut W,
 ) -> Result<(), Trouble>
-    ensures { IsPrinted result (sink (W.contents output.old) waiting.old.items) (sink (W.contents output.new) waiting.new.items) (printed_line client text.now.items) }
+    ensures { IsPrinted result (sink (W.contents output.old) waiting.old.items) (sink (W.contents output.new) waiting.new.items) (printed_line client text.now) }
 {
-    make_room(MAX_PRINTED, waiting, output)?;
-    push_line(client, text, waiting);
-    Ok(())
+    let mut digits = Buffer::new();
+    let number = digits.format(client).as_bytes();
+    print_pieces(&[number, b" ", line_body(text), b"\n"], waiting, output)
 }
 
 /// Prints the number of a refusal.
@@ -86,35 +85,14 @@ pub fn print_refusal<W: Write>(
 ) -> Result<(), Trouble>
     ensures { IsPrinted result (sink (W.contents output.old) waiting.old.items) (sink (W.contents output.new) waiting.new.items) (refusal_line number) }
 {
-    make_room(MAX_PRINTED, waiting, output)?;
-    push_refusal(number, waiting);
-    Ok(())
+    let mut digits = Buffer::new();
+    let number = digits.format(number).as_bytes();
+    print_pieces(&[b"! ", number, b"\n"], waiting, output)
 }
 
-fn push_line(client: u64, text: &Text, waiting: &mut Waiting)
-    requires { array_vec_len waiting.old + max_printed ≤ waiting_room }
-    ensures { waiting.new.items ≡ waiting.old.items ++ printed_line client text.now.items }
+/// A text without its CR LF (RFC 2812 section 2.3).
+fn line_body(text: &[u8]) -> &[u8]
+    ensures { result.now ≡ body_of text.now }
 {
-    let _whole = text.as_slice();
-    let _ = waiting.try_extend_from_slice(Buffer::new().format(client).as_bytes());
-    let _ = waiting.try_extend_from_slice(b" ");
-    let _ = waiting.try_extend_from_slice(line_body(text));
-    let _ = waiting.try_extend_from_slice(b"\n");
-}
-
-fn push_refusal(number: u64, waiting: &mut Waiting)
-    requires { array_vec_len waiting.old + max_printed ≤ waiting_room }
-    ensures { waiting.new.items ≡ waiting.old.items ++ refusal_line number }
-{
-    let _ = waiting.try_extend_from_slice(b"! ");
-    let _ = waiting.try_extend_from_slice(Buffer::new().format(number).as_bytes());
-    let _ = waiting.try_extend_from_slice(b"\n");
-}
-
-/// A text without its CR LF.
-fn line_body(text: &Text) -> &[u8]
-    ensures value { result.now ≡ body_of text.now.items }
-    ensures fits { length result.now ≤ length text.now.items }
-{
-    body(text)
+    text.strip_suffix(b"\r\n").unwrap_or(text)
 }

@@ -1,8 +1,8 @@
 //! How text goes out: it waits until there is much of it, and then goes out in one write.
-ghost use Rattle.std.specs.Prelude.{◌≡◌, ◌+◌, ◌≤◌, [], IfOk, OnOk, OnErr};
+ghost use Rattle.std.specs.Prelude.{◌≡◌, [], IfOk, OnOk, OnErr};
+ghost use Rattle.std.specs.List.{flat_map};
 ghost use Rattle.std.specs.Io.KnownBytes.{Appends, Keeps};
 ghost use Rattle.arrayvec.specs.ArrayVec.{array_vec_len};
-ghost use Rattle.ircd.specs.Limits.{waiting_room};
 ghost use Rattle.ircd.specs.Sinks.{IsPrinted, Prints, Tells, sink};
 
 use crate::fault::Trouble;
@@ -18,23 +18,37 @@ pub const MAX_WRITES: u32 = 16_777_216;
 /// What is printed and not yet written.
 pub type Waiting = ArrayVec<u8, WAITING_ROOM>;
 
-/// Makes room for so many bytes: where there is not enough, all that waits is written.
+/// Prints pieces of a text, one behind another.
 ///
 /// # Errors
-/// Where the write fails. Then nothing waits.
-pub fn make_room<W: Write>(
-    bytes: usize,
+/// Here and below: where a write fails.
+pub fn print_pieces<W: Write>(
+    pieces: &[&[u8]],
     waiting: &mut Waiting,
     output: &mut W,
 ) -> Result<(), Trouble>
-    requires { bytes ≤ waiting_room }
-    ensures prints { IsPrinted result (sink (W.contents output.old) waiting.old.items) (sink (W.contents output.new) waiting.new.items) [] }
-    ensures room { OnOk result (array_vec_len waiting.new + bytes ≤ waiting_room) }
+    ensures { IsPrinted result (sink (W.contents output.old) waiting.old.items) (sink (W.contents output.new) waiting.new.items) (flat_map (λ piece. piece.now) pieces.now) }
 {
-    if waiting.remaining_capacity() < bytes {
-        write_waiting(waiting, output)
-    } else {
-        Ok(())
+    for piece in pieces {
+        print_bytes(piece, waiting, output)?;
+    }
+    Ok(())
+}
+
+/// Prints bytes: they wait where there is room for them; else all that waits is written, and then they are.
+fn print_bytes<W: Write>(
+    bytes: &[u8],
+    waiting: &mut Waiting,
+    output: &mut W,
+) -> Result<(), Trouble>
+    ensures { IsPrinted result (sink (W.contents output.old) waiting.old.items) (sink (W.contents output.new) waiting.new.items) bytes.now }
+{
+    match waiting.try_extend_from_slice(bytes) {
+        Ok(()) => Ok(()),
+        Err(_) => {
+            write_waiting(waiting, output)?;
+            write_whole(bytes, output)
+        }
     }
 }
 

@@ -12,9 +12,10 @@ use crate::fault::Trouble;
 use crate::printing::{NO_SUCH_CLIENT, print_lines, print_refusal, refusal_number};
 use crate::script::Command;
 use crate::sink::Waiting;
+use irc_batch::Batch;
 use irc_names::{Host, ServerName};
 use irc_routes::Own;
-use irc_server::{Config, Event, Out, Server};
+use irc_server::{Config, Event, Server};
 use std::alloc::{AllocError, Global};
 use std::io::Write;
 use std::marker::Model;
@@ -34,7 +35,7 @@ pub struct Stage {
     alloc: Global,
     server: Option<Server>,
     next: u64,
-    out: Vec<Out, Global>,
+    out: Batch,
 }
 
 /// In a clause it is the number for the next client, and the server, if there is one.
@@ -66,7 +67,7 @@ impl Stage {
             alloc,
             server,
             next: FIRST_CLIENT,
-            out: Vec::new(alloc),
+            out: Batch::new(alloc),
         })
     }
 
@@ -142,9 +143,9 @@ impl Stage {
 fn refusal_of(
     server: &mut Option<Server>,
     event: Event,
-    out: &mut Vec<Out, Global>,
+    out: &mut Batch,
 ) -> Result<Option<u64>, Trouble>
-    ensures { IfOk result (λ number. AnswersAt server.old event (answer_by number out.new.items) server.new) }
+    ensures { IfOk result (λ number. AnswersAt server.old event (answer_by number out.new.outs) server.new) }
 {
     out.clear();
     let Some(server) = server else {

@@ -15,10 +15,10 @@ ghost use Rattle.irc_room.specs.Effects.{brings_free};
 
 use arrayvec::ArrayVec;
 use irc_channels::{Channel, Words};
-use irc_line::{Text, body};
+use irc_line::body;
 use irc_modes::{ModeItem, Modes, Privacy, read_modes};
 use irc_names::{ChannelName, Host, Nick, ServerName, cut_copy};
-use irc_room::{By, Effect, ModeChanges, Room, RoomFault, Target};
+use irc_room::{By, Effect, ModeChanges, Room, RoomFault, ShownLine, Target};
 use irc_users::{RealName, User, UserName};
 use itoa::Buffer;
 use std::alloc::Global;
@@ -190,12 +190,12 @@ fn brings_free(room: &Room, effect: &Effect) -> bool
 }
 
 /// Shows who sees an effect, and what those of the own server are told.
-fn show_viewers(viewers: &[Nick], out: &[(Nick, Text)], shown: &mut Shown) {
-    let mut left = out;
+fn show_viewers(viewers: &[Nick], told: &ShownLine, shown: &mut Shown) {
+    let mut left = told.viewers.as_slice();
     for viewer in viewers {
         match left.split_first() {
-            Some((first, rest)) if first.0 == *viewer => {
-                append_word(shown, b"", first.0.as_bytes());
+            Some((first, rest)) if *first == *viewer => {
+                append_word(shown, b"", first.as_bytes());
                 left = rest;
             }
             _ => {
@@ -204,21 +204,21 @@ fn show_viewers(viewers: &[Nick], out: &[(Nick, Text)], shown: &mut Shown) {
             }
         }
     }
-    if let Some(last) = out.last() {
-        append_word(shown, b"", body(&last.1));
+    if !told.viewers.is_empty() {
+        append_word(shown, b"", body(&told.line));
     }
 }
 
 /// Applies an effect, and shows what came of it.
 fn apply(alloc: Global, room: &mut Room, effect: &Effect, shown: &mut Shown) {
     let viewers = room.audience(effect).unwrap_or(Vec::new(alloc));
-    let mut out = Vec::new(alloc);
+    let mut told = ShownLine::new(alloc);
     if !brings_free(room, effect) {
         append(shown, b" taken");
         return;
     }
-    match room.apply(effect, &mut out) {
-        Ok(()) => show_viewers(&viewers, &out, shown),
+    match room.apply(effect, &mut told) {
+        Ok(()) => show_viewers(&viewers, &told, shown),
         Err(RoomFault::NoSuchUser) => append(shown, b" no user"),
         Err(RoomFault::NoSuchChannel) => append(shown, b" no channel"),
         Err(_) => append(shown, b" no memory"),

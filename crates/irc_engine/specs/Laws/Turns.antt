@@ -6,7 +6,7 @@ use Rattle.irc_outbox.specs.declared.wire.Ready.{Ready}
 use Rattle.irc_outbox.specs.declared.wire.Ready.TheVariants.{Client, Linked, Idle, Readable, Writable}
 use Rattle.irc_outbox.specs.Calls.{Call, asks, reads, writes, closes, is_some_bytes, times_written, written, written_by}
 use Rattle.irc_server.specs.declared.event.Event.{Event}
-use Rattle.irc_server.specs.declared.event.Out.{Out}
+use Rattle.irc_batch.specs.Batches.{Sent}
 use Rattle.irc_engine.specs.declared.engine.Engine.{Engine}
 use Rattle.irc_engine.specs.declared.engine.EngineFault.{EngineFault}
 use Rattle.irc_engine.specs.declared.seat.Seat.{Seat}
@@ -49,7 +49,7 @@ some_still [] more left some is = cc some
 some_still (b ∷ held) more left some is = sym (ap is_some_bytes is)
 
 -- where nothing is written, what waits still does
-still_waits : (conn : ℕ) (old new : Option Seat) (calls : List Call) (outs : List Out) → Fate conn old calls outs new → written conn calls ≡ []
+still_waits : (conn : ℕ) (old new : Option Seat) (calls : List Call) (outs : List Sent) → Fate conn old calls outs new → written conn calls ≡ []
     → has_some_at old ≡ true
     → is_some new ≡ true → has_some_at new ≡ true
 still_waits conn None new calls outs fate nothing some there = cc some
@@ -58,7 +58,7 @@ still_waits conn (Some old) (Some new) calls outs fate nothing some there =
     some_still old.outbox.bytes (owed (is_some old.framer) conn outs) new.outbox.bytes some (fate.carried ∙ ap (λ xs. xs ++ new.outbox.bytes) nothing)
 
 -- a connection that has a seat had it before
-pub had_seat : (conn : ℕ) (old new : Option Seat) (calls : List Call) (outs : List Out) → Fate conn old calls outs new → is_some new ≡ true → is_some old ≡ true
+pub had_seat : (conn : ℕ) (old new : Option Seat) (calls : List Call) (outs : List Sent) → Fate conn old calls outs new → is_some new ≡ true → is_some old ≡ true
 had_seat conn None None calls outs fate there = there
 had_seat conn None (Some new) calls outs fate there = absurd fate
 had_seat conn (Some old) new calls outs fate there = refl

@@ -6,7 +6,7 @@ use Rattle.std.specs.BTreeMap.{btree_map_len}
 use Rattle.std.specs.BTreeSet.{BTreeSet, contains}
 use Rattle.irc_outbox.specs.Calls.{Call, writes, closes, is_some_bytes, Adds}
 use Rattle.irc_outbox.specs.declared.wire.IoFault.{IoFault}
-use Rattle.irc_server.specs.declared.event.Out.{Out}
+use Rattle.irc_batch.specs.Batches.{Sent}
 use Rattle.irc_engine.specs.declared.seat.Seat.{Seat}
 use Rattle.irc_engine.specs.declared.board.Board.{Board}
 use Rattle.irc_engine.specs.Carrying.{AddsAll, Passage, has_some_at, is_done_at, is_exchange, is_open_at}
@@ -43,7 +43,7 @@ pub data Settles {W : Type 0} (is_after : W → List Call → Type 0) (conn : �
       → IsNoted old.waiting conn (has_some_at (seat_of old.seats conn)) new.waiting → Settles is_after conn old new
 
 -- What the server has put out is done, and other calls are made of the wire; just these of them ask what is ready, read or write.
-pub record Carries {W : Type 0} (is_after : W → List Call → Type 0) (exchanges : List Call) (old : Board W) (outs : List Out) (new : Board W) : Type 0 where
+pub record Carries {W : Type 0} (is_after : W → List Call → Type 0) (exchanges : List Call) (old : Board W) (outs : List Sent) (new : Board W) : Type 0 where
   pub calls : List Call
   pub account : AddsAll is_after old.wire calls new.wire
   pub passage : (conn : ℕ) → Passage conn (seat_of old.seats conn) (has old.lost conn) calls outs (seat_of new.seats conn) (has new.lost conn)

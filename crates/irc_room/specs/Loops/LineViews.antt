@@ -1,8 +1,8 @@
 -- What the code's lines say.
-use Rattle.std.specs.Prelude.{ℕ, Option, List}
-use Rattle.std.specs.Option.{option_map}
+use Rattle.std.specs.Prelude.{ℕ, Bool, true, false, Option, Some, None, List}
 use Rattle.arrayvec.specs.ArrayVec.{ArrayVec}
 
--- the bytes of a line, if there is one
-abbrev pub line_bytes : Option (ArrayVec ℕ) → Option (List ℕ)
-line_bytes = option_map (λ (line : ArrayVec ℕ). line.items)
+-- the bytes of a line, if it was written
+abbrev pub line_if : Bool → ArrayVec ℕ → Option (List ℕ)
+line_if true line = Some line.items
+line_if false line = None

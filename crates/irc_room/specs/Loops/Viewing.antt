@@ -30,6 +30,10 @@ Finds room test found = map (λ (user : Bor User). user.now) found ≡ users_who
 abbrev pub told : List ℕ → List ℕ → User → List (List ℕ × ArrayVec ℕ)
 told own line user = if pointwise nat_eq user.home own then (user.nick, record { items = line }) ∷ [] else []
 
+-- the nickname of a user, where it is one of the server of this name
+abbrev pub own_nick : List ℕ → User → List (List ℕ)
+own_nick own user = if pointwise nat_eq user.home own then user.nick ∷ [] else []
+
 -- whether a channel has both members
 abbrev pub joins_both : List ℕ → List ℕ → Channel → Bool
 joins_both one other channel = has_member one channel && has_member other channel

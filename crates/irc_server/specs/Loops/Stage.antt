@@ -19,7 +19,7 @@ use Rattle.irc_acts.specs.declared.act.Act.TheVariants.{Do}
 use Rattle.irc_server.specs.declared.clients.Client.{Client}
 use Rattle.irc_server.specs.declared.clients.Client.TheVariants.{Registered}
 use Rattle.irc_server.specs.declared.clients.ClientTable.{ClientTable}
-use Rattle.irc_server.specs.declared.event.Out.{Out}
+use Rattle.irc_batch.specs.Batches.{Sent}
 use Rattle.irc_server.specs.declared.stage.Stage.{Stage}
 use Rattle.irc_server.specs.RoomMachine.{Clients, RoomMachine, client_of}
 use Rattle.irc_server.specs.View.{View, known_peer, machine_of}
@@ -29,7 +29,7 @@ use Rattle.irc_server.specs.Handle.{Handled, to_viewer, machine_after}
 abbrev pub shown_of : List ℕ × ArrayVec ℕ → Showing
 shown_of pair = record { viewer = pair.0; line = pair.1.items }
 
-abbrev pub all_shown : Clients → List (List ℕ × ArrayVec ℕ) → List Out
+abbrev pub all_shown : Clients → List (List ℕ × ArrayVec ℕ) → List Sent
 all_shown clients pairs = flat_map (to_viewer clients) (map shown_of pairs)
 
 -- the clients by their numbers
@@ -81,11 +81,11 @@ pub record Keeps (old new : Stage) : Type 0 where
   pub peers : new.peers ≡ old.peers
 
 -- the server now, and what has been put out
-abbrev pub so_far : Stage → List Out → Handled
+abbrev pub so_far : Stage → List Sent → Handled
 so_far stage out = record { machine = machine_at stage; out = out }
 
 -- what was put out before stands in front
-abbrev pub behind : List Out → Handled → Handled
+abbrev pub behind : List Sent → Handled → Handled
 behind out h = record { machine = h.machine; out = out ++ h.out }
 
 -- a room that serves

@@ -1,7 +1,7 @@
 -- What the steps of a run are at: what was played so far, and what of it is printed.
 use Rattle.std.specs.Prelude.{◌≡◌, ℕ, Option, Some, None, Result, Ok, Err, List, [], ◌∷◌, ◌++◌}
 use Rattle.irc_server.specs.declared.event.Event.{Event}
-use Rattle.irc_server.specs.declared.event.Out.{Out}
+use Rattle.irc_batch.specs.Batches.{Sent}
 use Rattle.ircd.specs.declared.fault.Trouble.{Trouble}
 use Rattle.ircd.specs.Events.{events_of}
 use Rattle.ircd.specs.Runs.{Standing, Answer, puts_out, refuses, Plays, Runs}
@@ -9,7 +9,7 @@ use Rattle.ircd.specs.Scripts.{Request}
 use Rattle.ircd.specs.Sinks.{Sink, Prints, Loses}
 
 -- an answer as the code has it: the number of a refusal, or what was put out
-abbrev pub answer_by : Option ℕ → List Out → Answer
+abbrev pub answer_by : Option ℕ → List Sent → Answer
 answer_by None outs = puts_out outs
 answer_by (Some number) outs = refuses number
 

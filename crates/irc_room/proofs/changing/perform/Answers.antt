@@ -1,5 +1,4 @@
-use Rattle.std.proofs.Common.{◌∙◌, ap, sym, ◌++◌}
-use Rattle.std.proofs.lemmas.List.{append-nil}
+use Rattle.std.proofs.Common.{◌∙◌, ap, map, sym}
 use Rattle.irc_room.specs.Room.{Room}
 use Rattle.irc_room.proofs.IdleLaw.{idle_changes_nothing}
 use Rattle.irc_room.specs.Lemmas.Rows.{not_true}
@@ -12,10 +11,9 @@ returns-then-is_idle-clause-changed c =
 
 pub returns-then-is_idle-clause-shown : goal.returns-then-is_idle-clause-shown
 returns-then-is_idle-clause-shown c =
-    let out = c.args.out.now.items in
     let room : Room = record { users = c.args.users.now; channels = c.args.channels.now } in
-    sym (append-nil out)
-    ∙ ap (λ t. out ++ t) (sym (idle_tells_nothing c.args.own.now room c.args.effect.now (sym c.is_idle.ensures ∙ c.if-is_idle.true)))
+    ap (map (λ viewer. (viewer, c.args.shown.now.line))) c.requires.none
+    ∙ sym (idle_tells_nothing c.args.own.now room c.args.effect.now (sym c.is_idle.ensures ∙ c.if-is_idle.true))
 
 pub returns-clause-idle : goal.returns-clause-idle
 returns-clause-idle c = λ idle. not_true (sym c.if-is_idle.false ∙ c.is_idle.ensures ∙ idle)

@@ -1,22 +1,27 @@
-use Rattle.std.specs.Prelude.{OnOk}
-use Rattle.std.proofs.Common.{◌≡◌, ◌∙◌, ap, sym, subst, ◌++◌}
-use Rattle.std.proofs.lemmas.List.{append-nil}
-use Rattle.irc_room.specs.Loops.LineViews.{line_bytes}
+use Rattle.std.proofs.Common.{List, ℕ, ◌++◌, ap, map, subst, sym, ◌∙◌}
+use Rattle.std.specs.List.{flat_map}
+use Rattle.irc_room.specs.Loops.LineViews.{line_if}
 use Rattle.irc_room.specs.Loops.RoomParts.{room_of, ShowsAt}
-use Rattle.irc_room.proofs.ToldLaw.{all_is_told, no_line_tells_nothing}
+use Rattle.irc_room.specs.Loops.Viewing.{own_nick, viewers}
+use Rattle.irc_room.proofs.ToldLaw.{all_is_told, no_line_tells_nothing, told_each}
 use Rattle.irc_room.proofs.showing.show.Goals as goal
 
-pub returns-in-Some-clause-ok : goal.returns-in-Some-clause-ok
-returns-in-Some-clause-ok c =
-    let shows = subst (λ l. ShowsAt (room_of c.args.parts) c.args.effect.now c.args.own.now (line_bytes l)) c.in-Some.is c.in_ok-line.ensures in
-    subst (λ lines. OnOk c.tell_viewers.result (c.tell_viewers.new.out.items ≡ c.args.out.now.items ++ lines))
-    (sym (all_is_told c.args.own.now (room_of c.args.parts) c.args.effect.now _ shows c.requires.named c.requires.busy))
-    c.tell_viewers.ensures.ok
+pub returns-in_ok-add_viewers : goal.returns-in_ok-add_viewers
+returns-in_ok-add_viewers c =
+    let own = c.args.own.now in
+    let room = room_of c.args.parts in
+    let effect = c.args.effect.now in
+    let line = c.effect_line.new.line in
+    let shows = subst (λ there. ShowsAt room effect own (line_if there line)) c.if-branch.true c.in_ok-effect_line.ensures in
+    ap (map (λ viewer. (viewer, line))) (c.in_ok-add_viewers.ensures ∙ ap (λ l. l ++ flat_map (own_nick own) (viewers room effect)) c.requires.none)
+    ∙ told_each own line.items (viewers room effect)
+    ∙ sym (all_is_told own room effect _ shows c.requires.named c.requires.busy)
 
-pub returns-in-None-clause-ok : goal.returns-in-None-clause-ok
-returns-in-None-clause-ok c =
-    let out = c.args.out.now.items in
-    let shows = subst (λ l. ShowsAt (room_of c.args.parts) c.args.effect.now c.args.own.now (line_bytes l)) c.in-None.is c.in_ok-line.ensures in
-    sym (append-nil out)
-    ∙ ap (λ t. out ++ t)
-    (sym (no_line_tells_nothing c.args.own.now (room_of c.args.parts) c.args.effect.now shows c.requires.named c.requires.busy))
+pub returns-else-branch : goal.returns-else-branch
+returns-else-branch c =
+    let own = c.args.own.now in
+    let room = room_of c.args.parts in
+    let effect = c.args.effect.now in
+    let line = c.effect_line.new.line in
+    let shows = subst (λ there. ShowsAt room effect own (line_if there line)) c.if-branch.false c.in_ok-effect_line.ensures in
+    ap (map (λ viewer. (viewer, line))) c.requires.none ∙ sym (no_line_tells_nothing own room effect shows c.requires.named c.requires.busy)

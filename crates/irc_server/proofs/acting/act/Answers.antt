@@ -9,7 +9,7 @@ use Rattle.irc_server.proofs.acting.act.Goals as goal
 
 pub returns-in-Connect-clause-ok : goal.returns-in-Connect-clause-ok
 returns-in-Connect-clause-ok c =
-    let out = c.args.out.now.items in
+    let out = c.args.out.now.outs in
     on_ok c.connect.result _ _
     (λ is. does c.args.stage.now c.connect.new.stage c.args.event out out c.connect.ensures.keeps
     (connected_is (machine_at c.args.stage.now) (machine_at c.connect.new.stage) c.args.event out c.in-Connect.conn c.in-Connect.host c.in-Connect.is is))
@@ -18,10 +18,10 @@ returns-in-Connect-clause-ok c =
 pub returns-in-Ok-clause-ok : goal.returns-in-Ok-clause-ok
 returns-in-Ok-clause-ok c =
     let machine = machine_at c.args.stage.now in
-    let out = c.args.out.now.items in
+    let out = c.args.out.now.outs in
     on_ok c.hear.result _ _
-    (λ is. does c.args.stage.now c.hear.new.stage c.args.event out c.hear.new.out.items c.hear.ensures.keeps
-    (said_is machine c.args.event out (so_far c.hear.new.stage c.hear.new.out.items) c.in-Line.conn c.in-Line.line
+    (λ is. does c.args.stage.now c.hear.new.stage c.args.event out c.hear.new.out.outs c.hear.ensures.keeps
+    (said_is machine c.args.event out (so_far c.hear.new.stage c.hear.new.out.outs) c.in-Line.conn c.in-Line.line
     c.deref.result.now (parsed_result c.parse.result) c.in-Line.is c.deref.ensures.0 c.parse.ensures.as_function
     (is ∙ ap (λ r. behind out (read_as machine c.in-Line.conn (parsed_result r))) (sym c.in-Ok.is))))
     c.hear.ensures.ok
@@ -29,7 +29,7 @@ returns-in-Ok-clause-ok c =
 pub returns-in-Err-clause-ok : goal.returns-in-Err-clause-ok
 returns-in-Err-clause-ok c =
     let machine = machine_at c.args.stage.now in
-    let out = c.args.out.now.items in
+    let out = c.args.out.now.outs in
     does c.args.stage.now c.args.stage.now c.args.event out out (record { routes = refl; peers = refl })
     (said_is machine c.args.event out (so_far c.args.stage.now out) c.in-Line.conn c.in-Line.line
     c.deref.result.now (parsed_result c.parse.result) c.in-Line.is c.deref.ensures.0 c.parse.ensures.as_function
@@ -37,10 +37,10 @@ returns-in-Err-clause-ok c =
 
 pub returns-in-Gone-clause-ok : goal.returns-in-Gone-clause-ok
 returns-in-Gone-clause-ok c =
-    let out = c.args.out.now.items in
+    let out = c.args.out.now.outs in
     on_ok c.go.result _ _
-    (λ is. does c.args.stage.now c.go.new.stage c.args.event out c.go.new.out.items c.go.ensures.keeps
-    (gone_is (machine_at c.args.stage.now) c.args.event out (so_far c.go.new.stage c.go.new.out.items) c.in-Gone.conn c.in-Gone.is is))
+    (λ is. does c.args.stage.now c.go.new.stage c.args.event out c.go.new.out.outs c.go.ensures.keeps
+    (gone_is (machine_at c.args.stage.now) c.args.event out (so_far c.go.new.stage c.go.new.out.outs) c.in-Gone.conn c.in-Gone.is is))
     c.go.ensures.ok
 
 pub connect-requires-clause-absent : goal.connect-requires-clause-absent

@@ -12,7 +12,7 @@ use Rattle.irc_server.proofs.acting.go.Goals as goal
 pub returns-in_default-clause-ok : goal.returns-in_default-clause-ok
 returns-in_default-clause-ok c =
     let machine = machine_at c.args.stage.now in
-    let out = c.args.out.now.items in
+    let out = c.args.out.now.outs in
     ap (λ cs. record { machine = record (machine_at c.args.stage.now) { clients = cs }; out = out }) c.take_out.ensures.out
     ∙ nothing_behind (without_client machine c.args.conn) out
     ∙ ap (λ u. behind out (quits u (unchanged (without_client machine c.args.conn)))) (sym c.in_default.is ∙ c.user_of-user.ensures)
@@ -26,7 +26,7 @@ apply-requires-clause-fit c =
 pub returns-clause-ok : goal.returns-clause-ok
 returns-clause-ok c =
     let machine = machine_at c.args.stage.now in
-    let out = c.args.out.now.items in
+    let out = c.args.out.now.outs in
     on_ok c.apply.result _ _
     (λ is. is
     ∙ ap (λ cs. with_effect (Quit c.in-Some.nick c.cut-text.result) (record { machine = record (machine_at c.args.stage.now) { clients = cs }; out = out })) c.take_out.ensures.out

@@ -19,8 +19,8 @@ returns-clause-ok c =
     let machine = machine_at c.args.stage.now in
     let message = parsed c.args.message.now in
     on_ok c.carry_out.result _ _
-    (λ is. carried _ c.args.conn (Some c.in-Some.name) (Some c.in-Some.name) _ _ _ _ machine machine c.args.out.now.items refl
+    (λ is. carried _ c.args.conn (Some c.in-Some.name) (Some c.in-Some.name) _ _ _ _ machine machine c.args.out.now.outs refl
     (c.deref.ensures.value ∙ ap (λ (d : Decided). d.steps) c.in_ok-decision.ensures) (ap (λ (d : Decided). d.close) c.in_ok-decision.ensures) refl is
-    ∙ ap (behind c.args.out.now.items)
+    ∙ ap (behind c.args.out.now.outs)
     (decided_by_name machine c.args.conn (row c.args.stage.now.room.room.users (key c.args.nick.now)) c.in-Some.name message (sym c.stored_nick.ensures ∙ c.in-Some.is)))
     c.carry_out.ensures.ok

@@ -8,7 +8,7 @@ use Rattle.irc_server.proofs.acting.settle.Goals as goal
 pub returns-clause-ok : goal.returns-clause-ok
 returns-clause-ok c =
     on_ok c.carry_out.result _ _
-    (carried _ c.args.conn _ _ _ _ _ _ _ _ c.args.out.now.items (copied_now _ ∙ c.as_ref-name.ensures.value) c.deref.ensures.value refl
+    (carried _ c.args.conn _ _ _ _ _ _ _ _ c.args.out.now.outs (copied_now _ ∙ c.as_ref-name.ensures.value) c.deref.ensures.value refl
     (ap (λ cs. record (machine_at c.args.stage.now) { clients = cs })
     (c.in_ok-seat.ensures.ok ∙ ap (insert (clients_of c.args.stage.now.clients) c.args.conn) c.in_ok-client.ensures)))
     c.carry_out.ensures.ok

@@ -1,4 +1,5 @@
 use Rattle.std.proofs.Common.{refl, ◌∙◌}
+use Rattle.irc_room.specs.Applying.{pairs_of}
 use Rattle.irc_server.specs.Loops.Stage.{clients_of, machine_at}
 use Rattle.irc_server.proofs.HomeRoom.{effect_applied}
 use Rattle.irc_server.proofs.Growing.{on_ok}
@@ -8,6 +9,6 @@ pub returns-clause-ok : goal.returns-clause-ok
 returns-clause-ok c =
     on_ok c.follow.result _ _
     (λ is. effect_applied (machine_at c.args.stage.now) c.args.stage.now.room c.happen.new.room c.args.effect.now refl c.requires.ready.own_is c.requires.ready.sound c.requires.fit
-    (clients_of c.follow.new.clients) c.deref.result.now c.args.out.now.items c.show_all.new.out.items c.in_ok-shown.ensures.after
-    (c.deref.ensures.value ∙ c.in_ok-shown.ensures.shown) c.in_ok-show_all.ensures.ok is)
+    (clients_of c.follow.new.clients) (pairs_of c.happen.new.shown) c.args.out.now.outs c.show_all.new.out.outs c.in_ok-happen.ensures.after
+    c.in_ok-happen.ensures.shown c.in_ok-show_all.ensures.ok is)
     c.follow.ensures.ok

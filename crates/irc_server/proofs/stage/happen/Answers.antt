@@ -3,9 +3,6 @@ use Rattle.irc_room.specs.Applying.{shown_here}
 use Rattle.irc_server.specs.Loops.Stage.{IsSound}
 use Rattle.irc_server.proofs.stage.happen.Goals as goal
 
-pub returns-in-Ok-clause-shown : goal.returns-in-Ok-clause-shown
-returns-in-Ok-clause-shown c = c.in-Ok.ensures.applied.2 ∙ ap (λ l. l ++ shown_here c.args.room.now c.args.effect.now) c.new-shown.ensures.items
-
 pub returns-in-Ok-clause-sound : goal.returns-in-Ok-clause-sound
 returns-in-Ok-clause-sound c =
     subst IsSound (sym c.in-Ok.ensures.applied.1)

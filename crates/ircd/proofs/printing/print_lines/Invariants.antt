@@ -5,6 +5,6 @@ use Rattle.ircd.specs.Sinks.{Prints, sink}
 use Rattle.ircd.proofs.printing.print_lines.Given as goal
 
 -- what was put out so far is printed
-abbrev pub invariant-loop-out : goal.invariant-loop-out
-invariant-loop-out g l =
-    Prints (sink (g.W.Write.contents l.fn.output) l.fn.waiting.items) (sink (g.W.Write.contents l.output) l.waiting.items) (flat_map printed (take l.out-index l.outs))
+abbrev pub invariant-loop-place : goal.invariant-loop-place
+invariant-loop-place g l =
+    Prints (sink (g.W.Write.contents l.fn.output) l.fn.waiting.items) (sink (g.W.Write.contents l.output) l.waiting.items) (flat_map printed (take l.place l.outs.outs))

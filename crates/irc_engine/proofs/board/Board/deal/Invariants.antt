@@ -3,8 +3,8 @@ use Rattle.irc_engine.specs.Loops.Boards.{Carries, KeepsMarks}
 use Rattle.irc_engine.proofs.board.Board.deal.Given as goal
 
 -- what has been put out so far is done
-abbrev pub invariant-loop-out : goal.invariant-loop-out
-invariant-loop-out g l = record {
-  carries : Carries g.W.Wire.is_after [] l.fn.self (take l.out-index l.outs) l.self;
+abbrev pub invariant-loop-place : goal.invariant-loop-place
+invariant-loop-place g l = record {
+  carries : Carries g.W.Wire.is_after [] l.fn.self (take l.place l.outs.outs) l.self;
   marks : KeepsMarks l.fn.self l.self;
 }

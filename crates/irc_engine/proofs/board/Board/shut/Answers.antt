@@ -1,12 +1,12 @@
 use Rattle.std.proofs.Common.{◌∷◌, [], refl, sym, ◌∙◌, arith}
-use Rattle.irc_server.specs.declared.event.Out.TheVariants.{CloseClient}
+use Rattle.irc_batch.specs.Batches.{end_of}
 use Rattle.irc_engine.proofs.BoardSteps.{shut_now, ends_done, carries_on}
 use Rattle.irc_engine.proofs.MarkLaws.{marks_ended, marks_shut, shut_others}
 use Rattle.irc_engine.proofs.board.Board.shut.Goals as goal
 
 pub returns-then-is_done-clause-carries : goal.returns-then-is_done-clause-carries
 returns-then-is_done-clause-carries g c =
-    carries_on _ _ _ _ [] [] (CloseClient c.args.conn ∷ []) []
+    carries_on _ _ _ _ [] [] (end_of c.args.conn ∷ []) []
     (shut_now _ _ _ _ c.shut.ensures.at c.forget.ensures.forgotten refl (omega (arith, c.shut.ensures.len, c.forget.ensures.len)))
     (ends_done _ _ _ _ (sym c.is_done.ensures ∙ c.if-is_done.true) c.end.ensures)
 

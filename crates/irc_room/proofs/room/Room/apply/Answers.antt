@@ -12,8 +12,8 @@ use Rattle.irc_room.proofs.room.Room.apply.Goals as goal
 
 pub returns-in-Some-clause-applied : goal.returns-in-Some-clause-applied
 returns-in-Some-clause-applied c =
-    refused c.args.self.now c.args.effect.now c.args.out.now.items c.in-Some.fault
-    (c.in-Some.ensures c.self.inside.own ∙ ap (λ k. room_fault k c.args.effect.now) c.self.view_is)
+    refused c.args.self.now c.args.effect.now c.in-Some.fault (record c.args.shown.now { viewers = c.clear.new.self })
+    (c.in-Some.ensures c.self.inside.own ∙ ap (λ k. room_fault k c.args.effect.now) c.self.view_is) c.clear.ensures.items
 
 pub perform-requires-clause-there : goal.perform-requires-clause-there
 perform-requires-clause-there c =
@@ -47,8 +47,8 @@ returns-in-Ok-clause-applied c =
       ap (λ k. room_fault k c.args.effect.now) (sym c.self.view_is) ∙ none,
       kept_changed kept c.args.self.now _ c.args.effect.now c.self.view_is (served kept c.args.effect.now none).alive c.in-Ok.ensures.changed,
       c.in-Ok.ensures.shown
-          ∙ ap (λ own. c.args.out.now.items ++ shown_at own kept.room c.args.effect.now) c.as_bytes.ensures.value
-          ∙ ap (λ k. c.args.out.now.items ++ shown_here k c.args.effect.now) c.self.view_is,
+          ∙ ap (λ own. shown_at own kept.room c.args.effect.now) c.as_bytes.ensures.value
+          ∙ ap (λ k. shown_here k c.args.effect.now) c.self.view_is,
     )
 
 pub returns-in-Err-clause-applied : goal.returns-in-Err-clause-applied
@@ -56,7 +56,7 @@ returns-in-Err-clause-applied c =
     let kept : Kept = record { own = c.self.inside.own; failed = c.self.inside.failed; room = record { users = c.self.inside.users; channels = c.self.inside.channels } } in (
       ap (λ k. room_fault k c.args.effect.now) (sym c.self.view_is) ∙ sym (c.refusal.ensures c.self.inside.own) ∙ c.in_default.is,
       kept_refused kept c.args.self.now _ _ c.self.view_is c.in-Err.ensures.refused.0 c.in-Err.ensures.refused.1,
-      c.truncate.ensures.items ∙ ap (λ n. take n c.perform.new.out.items) (c.len-before.ensures ∙ c.args.out.now.ok.0) ∙ c.in-Err.ensures.front,
+      c.clear-in-Err.ensures.items,
     )
 
 pub returns-in-Some-clause-idle : goal.returns-in-Some-clause-idle
@@ -65,7 +65,7 @@ returns-in-Some-clause-idle c = λ idle none.
 
 pub returns-in-Ok-clause-idle : goal.returns-in-Ok-clause-idle
 returns-in-Ok-clause-idle c = λ idle none.
-    let stays = idle_stays c.args.self.now c.args.effect.now c.args.out.now.items _ _ idle (returns-in-Ok-clause-applied c) in
+    let stays = idle_stays c.args.self.now c.args.effect.now _ c.perform.new.shown idle (returns-in-Ok-clause-applied c) in
     (refl, stays.0, stays.1)
 
 pub returns-in-Err-clause-idle : goal.returns-in-Err-clause-idle

@@ -1,9 +1,7 @@
 use Rattle.std.proofs.Common.{subst, refl, [], ◌∷◌}
-use Rattle.std.specs.List.{flat_map}
-use Rattle.ircd.specs.Printing.{printed}
 use Rattle.ircd.specs.Loops.Steps.{IsPlayed, answer_by}
 use Rattle.ircd.specs.Runs.{Standing, AnswersAt, puts_out, refuses}
-use Rattle.ircd.specs.Sinks.{IsPrinted, sink}
+use Rattle.ircd.specs.Sinks.{sink}
 use Rattle.ircd.proofs.Playing.{breaks_first, played_one, playing_failed}
 use Rattle.ircd.proofs.stage.Stage.give.Goals as goal
 
@@ -16,7 +14,7 @@ returns-in-Some g c =
     let last : Standing = record { next = c.self.inside.next; server = c.refusal_of.new.server } in
     let old = sink (g.W.Write.contents c.args.output.now) c.args.waiting.now.items in
     let new = sink (g.W.Write.contents c.print_refusal.new.output) c.print_refusal.new.waiting.items in
-    let at = subst (λ number. AnswersAt inside.server c.args.event (answer_by number c.refusal_of.new.out.items) last.server) c.in-Some.is c.in_ok-number.ensures in
+    let at = subst (λ number. AnswersAt inside.server c.args.event (answer_by number c.refusal_of.new.out.outs) last.server) c.in-Some.is c.in_ok-number.ensures in
     subst (λ first. IsPlayed c.print_refusal.result first (c.args.event ∷ []) last old new) c.self.view_is
     (played_one c.print_refusal.result inside last c.args.event (refuses c.in-Some.number) old new at refl c.print_refusal.ensures)
 
@@ -26,7 +24,6 @@ returns g c =
     let last : Standing = record { next = c.next_if_taken-next.result; server = c.refusal_of.new.server } in
     let old = sink (g.W.Write.contents c.args.output.now) c.args.waiting.now.items in
     let new = sink (g.W.Write.contents c.print_lines.new.output) c.print_lines.new.waiting.items in
-    let at = subst (λ number. AnswersAt inside.server c.args.event (answer_by number c.refusal_of.new.out.items) last.server) c.in_default.is c.in_ok-number.ensures in
-    let shown = subst (λ outs. IsPrinted c.print_lines.result old new (flat_map printed outs)) c.deref.ensures.value c.print_lines.ensures in
+    let at = subst (λ number. AnswersAt inside.server c.args.event (answer_by number c.refusal_of.new.out.outs) last.server) c.in_default.is c.in_ok-number.ensures in
     subst (λ first. IsPlayed c.print_lines.result first (c.args.event ∷ []) last old new) c.self.view_is
-    (played_one c.print_lines.result inside last c.args.event (puts_out c.refusal_of.new.out.items) old new at c.next_if_taken-next.ensures shown)
+    (played_one c.print_lines.result inside last c.args.event (puts_out c.refusal_of.new.out.outs) old new at c.next_if_taken-next.ensures c.print_lines.ensures)

@@ -1,7 +1,0 @@
-use Rattle.ircd.specs.Printing.{refusal_line}
-use Rattle.ircd.proofs.Sinking.{loses_more, printing_failed}
-use Rattle.ircd.proofs.printing.print_refusal.Goals as goal
-
-pub returns-in_err-make_room : goal.returns-in_err-make_room
-returns-in_err-make_room g c =
-    printing_failed _ _ _ _ c.from_residual.ensures.0 (loses_more (refusal_line c.args.number) c.in_err-make_room.ensures.prints)
