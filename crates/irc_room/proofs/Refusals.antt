@@ -1,8 +1,7 @@
 -- What a refusal of an effect leaves.
-use Rattle.std.proofs.Common.{◌≡◌, ℕ, Bool, true, false, cond, not, Some, None, Result, Ok, Err, List, [], refl, sym, ◌∙◌, ap}
+use Rattle.std.proofs.Common.{◌≡◌, Bool, true, false, cond, not, Some, None, Result, Ok, Err, [], refl, sym, ◌∙◌, ap}
 use Rattle.std.specs.List.{list_all}
 use Rattle.std.specs.Option.{option_map_or}
-use Rattle.arrayvec.specs.ArrayVec.{ArrayVec}
 use Rattle.irc_names.specs.Tables.{Table}
 use Rattle.irc_users.specs.declared.user.User.{User}
 use Rattle.irc_channels.specs.declared.channel.Channel.{Channel}

@@ -71,7 +71,12 @@ pub(crate) fn join_line(doer: Option<Prefix<'_>>, channel: &[u8], line: &mut Tex
 }
 
 /// A member leaves a channel (RFC 2812 section 3.2.2).
-pub(crate) fn part_line(doer: Option<Prefix<'_>>, channel: &[u8], reason: &[u8], line: &mut Text) -> bool
+pub(crate) fn part_line(
+    doer: Option<Prefix<'_>>,
+    channel: &[u8],
+    reason: &[u8],
+    line: &mut Text,
+) -> bool
     ensures { line_if result line.new ≡ line_of (codes "PART") (channel.now ∷ []) (Some reason.now) (option_map sender doer.entry) }
 {
     write_line(doer, b"PART", &[channel], Some(reason), line)
@@ -107,7 +112,12 @@ pub(crate) fn mode_line(
 }
 
 /// A channel's topic changes (RFC 2812 section 3.2.4).
-pub(crate) fn topic_line(doer: Option<Prefix<'_>>, channel: &[u8], topic: &[u8], line: &mut Text) -> bool
+pub(crate) fn topic_line(
+    doer: Option<Prefix<'_>>,
+    channel: &[u8],
+    topic: &[u8],
+    line: &mut Text,
+) -> bool
     ensures { line_if result line.new ≡ line_of (codes "TOPIC") (channel.now ∷ []) (Some topic.now) (option_map sender doer.entry) }
 {
     write_line(doer, b"TOPIC", &[channel], Some(topic), line)
@@ -140,7 +150,12 @@ pub(crate) fn invite_line<'a>(
 }
 
 /// A user's mode i changes (RFC 2812 section 3.1.5).
-pub(crate) fn user_mode_line(doer: Option<Prefix<'_>>, nick: &[u8], invisible: bool, line: &mut Text) -> bool
+pub(crate) fn user_mode_line(
+    doer: Option<Prefix<'_>>,
+    nick: &[u8],
+    invisible: bool,
+    line: &mut Text,
+) -> bool
     ensures { line_if result line.new ≡ line_of (codes "MODE") (nick.now ∷ (if invisible then codes "+i" else codes "-i") ∷ []) None (option_map sender doer.entry) }
 {
     let mode = if invisible { b"+i" } else { b"-i" };

@@ -242,11 +242,7 @@ impl Room {
     /// [`RoomFault::NoSuchChannel`] where the channel that it names is not there, but for a Join, which makes it, and an Invite.
     /// Nothing has changed then. [`RoomFault::Memory`] where memory runs out, which an effect that does nothing takes none of: the room
     /// answers Failed from then on. Nobody is shown anything in any of these.
-    pub fn apply(
-        &mut self,
-        effect: &Effect,
-        shown: &mut ShownLine,
-    ) -> Result<(), RoomFault>
+    pub fn apply(&mut self, effect: &Effect, shown: &mut ShownLine) -> Result<(), RoomFault>
         requires { brings_free self.old.room effect.now ≡ true }
         ensures applied { Applied self.old effect.now result self.new shown.new }
         ensures idle { IdleStays self.old effect.now result self.new shown.new }

@@ -51,11 +51,7 @@ fn add_viewers(
 }
 
 /// Adds each of these users that is one of the server.
-fn add_each(
-    own: &[u8],
-    users: &[&User],
-    nicks: &mut Vec<Nick, Global>,
-) -> Result<(), AllocError>
+fn add_each(own: &[u8], users: &[&User], nicks: &mut Vec<Nick, Global>) -> Result<(), AllocError>
     ensures { OnOk result (nicks.new.items ≡ nicks.old.items ++ flat_map (own_nick own.now) (map (λ user. user.now) users.now)) }
 {
     for user in users {

@@ -1,7 +1,5 @@
 -- What is put out grows, and what comes of a call that goes well.
-use Rattle.std.proofs.Common.{◌≡◌, Result, Ok, Err, OnOk, List, [], ◌++◌, sym, ◌∙◌, ap, append-nil, append_assoc}
-use Rattle.irc_batch.specs.Batches.{Sent}
-use Rattle.irc_server.specs.Loops.Grown.{Grew}
+use Rattle.std.proofs.Common.{Result, Ok, Err, OnOk}
 
 pub on_ok : {E : Type 0} (result : Result (Unit {0}) E) (P Q : Type 0) → (P → Q) → OnOk result P → OnOk result Q
 on_ok (Ok done) P Q then holds = then holds

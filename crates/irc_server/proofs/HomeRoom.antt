@@ -1,6 +1,6 @@
 -- What a room hands out goes to those that are clients.
 use Rattle.std.proofs.Common.{◌≡◌, ℕ, Bool, true, false, cond, not, T, Option, Some, None, List, [], ◌∷◌, ◌++◌, refl, sym, ◌∙◌, ap, map, filter, filter_map, if◌then◌else◌}
-use Rattle.std.specs.List.{AllByRecursion, cons_option, list_all, flat_map}
+use Rattle.std.specs.List.{AllByRecursion, cons_option, flat_map}
 use Rattle.std.specs.Option.{option_map_or}
 use Rattle.std.specs.FinMap.{entries, entries_sorted, values, find, is_sorted, get-entries}
 use Rattle.std.specs.FinMap.Entries.{below_all}
@@ -14,9 +14,9 @@ use Rattle.irc_users.specs.UserTable.{is_home}
 use Rattle.irc_room.specs.declared.effect.Effect.{Effect}
 use Rattle.irc_room.specs.declared.fault.RoomFault.TheVariants.{NoSuchUser, NoSuchChannel, Failed}
 use Rattle.irc_room.specs.Room.{Room}
-use Rattle.irc_room.specs.Effects.{IsPossible, is_idle, has_user, has_channel, needs_users, needs_channel}
+use Rattle.irc_room.specs.Effects.{is_idle}
 use Rattle.irc_room.specs.After.{after}
-use Rattle.irc_room.specs.Applying.{Kept, room_fault, is_own, handed, shown_here}
+use Rattle.irc_room.specs.Applying.{Kept, is_own, handed, shown_here}
 use Rattle.irc_room.specs.Seen.{Showing, seen, shown_to}
 use Rattle.irc_room.specs.Lemmas.ViewerLaws.{both_true, below_none, own_showing}
 use Rattle.irc_server.specs.declared.clients.Client.TheVariants.{Registered}

@@ -1,11 +1,9 @@
 -- Lines to viewers: to the one client that is the viewer, where there is one.
-use Rattle.std.proofs.Common.{◌≡◌, ℕ, ◌+◌, ◌<◌, ◌≤◌, Bool, true, false, cond, T, Option, Some, None, List, [], ◌∷◌, ◌++◌, length, drop, get_or, refl, sym, ◌∙◌, ap, append-nil, append_assoc, filter_map, if◌then◌else◌}
+use Rattle.std.proofs.Common.{◌≡◌, ℕ, Bool, true, false, cond, T, Option, Some, None, List, [], ◌∷◌, refl, sym, ◌∙◌, ap, filter_map, if◌then◌else◌}
 use Rattle.std.specs.List.{cons_option}
 use Rattle.std.specs.Ordering.{nat_cmp}
 use Rattle.std.specs.FinMap.{get, entries, entries_sorted, find, is_sorted, get-entries}
 use Rattle.std.specs.FinMap.Entries.{below_all}
-use Rattle.std.proofs.lemmas.List.{drop_more, drop_all}
-use Rattle.arrayvec.specs.ArrayVec.{ArrayVec}
 use Rattle.irc_names.specs.Fold.{key, same}
 use Rattle.irc_names.specs.Tables.{Table, row}
 use Rattle.irc_room.specs.Seen.{Showing}
@@ -16,7 +14,7 @@ use Rattle.irc_server.specs.declared.clients.Client.TheVariants.{Registering, Re
 use Rattle.irc_batch.specs.Batches.{Sent, line_to}
 use Rattle.irc_server.specs.RoomMachine.{Clients}
 use Rattle.irc_server.specs.Handle.{is_client, to_viewer}
-use Rattle.irc_server.specs.Loops.Stage.{all_shown, shown_of, IsIndex}
+use Rattle.irc_server.specs.Loops.Stage.{IsIndex}
 use Rattle.irc_server.specs.Lemmas.Numbers.{here, later, none_behind, same_number}
 use Rattle.irc_server.specs.Lemmas.Matching.{same_by_key, key_by_same}
 use Rattle.irc_server.proofs.Index.{differs, named_is}

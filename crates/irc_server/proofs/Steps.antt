@@ -1,16 +1,14 @@
 -- The steps of a decision, one after another.
-use Rattle.std.proofs.Common.{◌≡◌, ℕ, ◌+◌, ◌<◌, ◌≤◌, Bool, true, false, Option, List, [], ◌∷◌, ◌++◌, length, drop, get_or, refl, sym, ◌∙◌, ap, subst, append-nil, append_assoc}
+use Rattle.std.proofs.Common.{◌≡◌, ℕ, Bool, true, false, Option, List, [], ◌∷◌, ◌++◌, refl, sym, ◌∙◌, ap, append-nil, append_assoc}
 use Rattle.std.specs.List.{flat_map}
-use Rattle.std.proofs.lemmas.List.{drop_more, drop_all}
 use Rattle.irc_numerics.specs.Replies.{reply_text}
-use Rattle.irc_room.specs.declared.effect.Effect.{Effect}
 use Rattle.irc_room.specs.Seen.{seen}
 use Rattle.irc_acts.specs.declared.act.Act.{Act}
 use Rattle.irc_acts.specs.declared.act.Act.TheVariants.{Answer, Raw, Do}
 use Rattle.irc_batch.specs.Batches.{Sent, end_of, line_to}
 use Rattle.irc_server.specs.RoomMachine.{RoomMachine}
 use Rattle.irc_server.specs.Handle.{Handled, stepped, all_stepped, closing, unchanged, with_effect, to_viewer}
-use Rattle.irc_server.specs.Loops.Stage.{behind, AreFit}
+use Rattle.irc_server.specs.Loops.Stage.{behind}
 
 -- the first step, and those behind it
 

@@ -181,11 +181,7 @@ fn go(stage: &mut Stage, conn: u64, out: &mut Batch) -> Result<(), AllocError>
 }
 
 /// What an event does for which no fault is owed.
-pub(crate) fn act(
-    stage: &mut Stage,
-    event: Event,
-    out: &mut Batch,
-) -> Result<(), AllocError>
+pub(crate) fn act(stage: &mut Stage, event: Event, out: &mut Batch) -> Result<(), AllocError>
     requires ready { IsReady stage.old }
     requires matched { IsMatched (machine_at stage.old) }
     requires owed { fault_of (view_of stage.old) event ≡ None }

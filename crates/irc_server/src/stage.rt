@@ -65,11 +65,7 @@ fn follow(clients: &mut ClientTable, effect: &Effect) -> Result<(), AllocError>
 }
 
 /// An effect changes the room, and is shown to its viewers.
-pub(crate) fn apply(
-    stage: &mut Stage,
-    effect: &Effect,
-    out: &mut Batch,
-) -> Result<(), AllocError>
+pub(crate) fn apply(stage: &mut Stage, effect: &Effect, out: &mut Batch) -> Result<(), AllocError>
     requires ready { IsReady stage.old }
     requires fit { IsFit (machine_at stage.old) effect.now }
     ensures ok { OnOk result (so_far stage.new out.new.outs ≡ with_effect effect.now (so_far stage.old out.old.outs)) }

@@ -50,11 +50,7 @@ pub fn print_lines<W: Write>(
 }
 
 /// Prints a line to a client. The end of a connection is not printed.
-fn print_out<W: Write>(
-    out: Out<'_>,
-    waiting: &mut Waiting,
-    output: &mut W,
-) -> Result<(), Trouble>
+fn print_out<W: Write>(out: Out<'_>, waiting: &mut Waiting, output: &mut W) -> Result<(), Trouble>
     ensures { IsPrinted result (sink (W.contents output.old) waiting.old.items) (sink (W.contents output.new) waiting.new.items) (printed (told out.entry)) }
 {
     match out {

@@ -36,11 +36,7 @@ pub fn print_pieces<W: Write>(
 }
 
 /// Prints bytes: they wait where there is room for them; else all that waits is written, and then they are.
-fn print_bytes<W: Write>(
-    bytes: &[u8],
-    waiting: &mut Waiting,
-    output: &mut W,
-) -> Result<(), Trouble>
+fn print_bytes<W: Write>(bytes: &[u8], waiting: &mut Waiting, output: &mut W) -> Result<(), Trouble>
     ensures { IsPrinted result (sink (W.contents output.old) waiting.old.items) (sink (W.contents output.new) waiting.new.items) bytes.now }
 {
     match waiting.try_extend_from_slice(bytes) {

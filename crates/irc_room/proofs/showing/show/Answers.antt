@@ -1,4 +1,4 @@
-use Rattle.std.proofs.Common.{List, ℕ, ◌++◌, ap, map, subst, sym, ◌∙◌}
+use Rattle.std.proofs.Common.{◌++◌, ap, map, subst, sym, ◌∙◌}
 use Rattle.std.specs.List.{flat_map}
 use Rattle.irc_room.specs.Loops.LineViews.{line_if}
 use Rattle.irc_room.specs.Loops.RoomParts.{room_of, ShowsAt}

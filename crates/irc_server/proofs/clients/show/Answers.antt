@@ -1,5 +1,4 @@
-use Rattle.std.proofs.Common.{[], ◌∷◌, ◌++◌, sym, ◌∙◌, ap, append-nil}
-use Rattle.irc_batch.specs.Batches.{Batch}
+use Rattle.std.proofs.Common.{◌++◌, sym, ◌∙◌, ap, append-nil}
 use Rattle.irc_server.specs.Loops.Stage.{clients_of}
 use Rattle.irc_server.proofs.Showings.{indexed, not_indexed}
 use Rattle.irc_server.proofs.clients.show.Goals as goal

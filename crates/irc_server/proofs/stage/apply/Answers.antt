@@ -1,4 +1,4 @@
-use Rattle.std.proofs.Common.{refl, ◌∙◌}
+use Rattle.std.proofs.Common.{refl}
 use Rattle.irc_room.specs.Applying.{pairs_of}
 use Rattle.irc_server.specs.Loops.Stage.{clients_of, machine_at}
 use Rattle.irc_server.proofs.HomeRoom.{effect_applied}

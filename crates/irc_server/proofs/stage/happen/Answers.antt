@@ -1,5 +1,4 @@
-use Rattle.std.proofs.Common.{◌++◌, sym, ◌∙◌, ap, subst}
-use Rattle.irc_room.specs.Applying.{shown_here}
+use Rattle.std.proofs.Common.{sym, subst}
 use Rattle.irc_server.specs.Loops.Stage.{IsSound}
 use Rattle.irc_server.proofs.stage.happen.Goals as goal
 

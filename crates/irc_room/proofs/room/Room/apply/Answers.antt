@@ -1,4 +1,4 @@
-use Rattle.std.proofs.Common.{◌∙◌, ap, sym, subst, take, ◌++◌, refl}
+use Rattle.std.proofs.Common.{◌∙◌, ap, sym, subst, refl}
 use Rattle.irc_room.specs.Applying.{Kept, room_fault, shown_here}
 use Rattle.irc_room.specs.Effects.{brings_free, is_idle}
 use Rattle.irc_room.specs.Room.{Room, IsWellFormed}
