@@ -176,7 +176,7 @@ impl<W: Wire> Desk<W> {
             return Ok(());
         }
         give_seat(self.alloc, &mut self.board.seats, conn, client_room)?;
-        self.pass(Event::Connect(conn, host))
+        self.pass(&Event::Connect(conn, host))
     }
 
     /// A server is connected. Servers cannot be linked yet, so it is closed at once. A number that is in use is passed over.
@@ -235,14 +235,14 @@ impl<W: Wire> Desk<W> {
         ensures same { self.new.buffer ≡ self.old.buffer }
     {
         match line {
-            Some(line) => self.pass(Event::Line(conn, line)),
+            Some(line) => self.pass(&Event::Line(conn, line)),
             None => Ok(()),
         }
     }
 
     /// Passes an event on to the server, and does what it puts out. Then it is told of each connection that was lost by this.
-    fn pass(&mut self, event: Event) -> Result<(), AllocError>
-        ensures ran { OnOk result (Ran W.is_after [] (event ∷ []) nothing_of (moment_of self.old) (moment_of self.new)) }
+    fn pass(&mut self, event: &Event) -> Result<(), AllocError>
+        ensures ran { OnOk result (Ran W.is_after [] (event.now ∷ []) nothing_of (moment_of self.old) (moment_of self.new)) }
         ensures told { OnOk result (AllTold (moment_of self.new)) }
         ensures marks { OnOk result (KeepsMarks self.old.board self.new.board) }
         ensures same { self.new.buffer ≡ self.old.buffer }
@@ -259,15 +259,15 @@ impl<W: Wire> Desk<W> {
         ensures same { self.new.buffer ≡ self.old.buffer }
     {
         while let Some(conn) = self.board.lost.pop_first() {
-            self.handle(Event::Gone(conn))?;
+            self.handle(&Event::Gone(conn))?;
         }
         Ok(())
     }
 
     /// Passes an event on to the server, and does what it puts out.
-    fn handle(&mut self, event: Event) -> Result<(), AllocError>
+    fn handle(&mut self, event: &Event) -> Result<(), AllocError>
         ensures count { OnOk result (count_of self.new.board ≤ count_of self.old.board) }
-        ensures ran { OnOk result (Ran W.is_after [] (event ∷ []) nothing_of (moment_of self.old) (moment_of self.new)) }
+        ensures ran { OnOk result (Ran W.is_after [] (event.now ∷ []) nothing_of (moment_of self.old) (moment_of self.new)) }
         ensures marks { OnOk result (KeepsMarks self.old.board self.new.board) }
         ensures same { self.new.buffer ≡ self.old.buffer }
     {

@@ -181,21 +181,21 @@ fn go(stage: &mut Stage, conn: u64, out: &mut Batch) -> Result<(), AllocError>
 }
 
 /// What an event does for which no fault is owed.
-pub(crate) fn act(stage: &mut Stage, event: Event, out: &mut Batch) -> Result<(), AllocError>
+pub(crate) fn act(stage: &mut Stage, event: &Event, out: &mut Batch) -> Result<(), AllocError>
     requires ready { IsReady stage.old }
     requires matched { IsMatched (machine_at stage.old) }
-    requires owed { fault_of (view_of stage.old) event ≡ None }
-    ensures ok { OnOk result (Does (view_of stage.old) event out.old.outs (view_of stage.new) out.new.outs) }
+    requires owed { fault_of (view_of stage.old) event.now ≡ None }
+    ensures ok { OnOk result (Does (view_of stage.old) event.now out.old.outs (view_of stage.new) out.new.outs) }
     ensures ready { OnOk result (IsReady stage.new) }
     ensures keeps { Keeps stage.old stage.new }
     ensures grew { Grew out.old.outs out.new.outs }
 {
     match event {
-        Event::Connect(conn, host) => connect(stage, conn, host),
-        Event::Line(conn, line) => match parse(&line) {
-            Ok(message) => hear(stage, conn, &message, out),
+        Event::Connect(conn, host) => connect(stage, *conn, host.copy()),
+        Event::Line(conn, line) => match parse(line) {
+            Ok(message) => hear(stage, *conn, &message, out),
             Err(_) => Ok(()),
         },
-        Event::Gone(conn) => go(stage, conn, out),
+        Event::Gone(conn) => go(stage, *conn, out),
     }
 }

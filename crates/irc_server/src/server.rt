@@ -83,14 +83,14 @@ impl Server {
     /// [`ServerFault::Failed`] where memory ran out before; then [`ServerFault::NoSuchConnection`] for a line of, or the loss of, a
     /// connection that is not there, and [`ServerFault::ConnectionThere`] for one that connects and is there: nothing has changed
     /// then. [`ServerFault::Memory`] where memory runs out: `out` is as it was, and the server answers Failed from then on.
-    pub fn handle(&mut self, event: Event, out: &mut Batch) -> Result<(), ServerFault>
-        ensures { IsHandled self.old event out.old.outs result self.new out.new.outs }
+    pub fn handle(&mut self, event: &Event, out: &mut Batch) -> Result<(), ServerFault>
+        ensures { IsHandled self.old event.now out.old.outs result self.new out.new.outs }
     {
         laws::stays_matched();
         if self.failed {
             return Err(ServerFault::Failed);
         }
-        if let Some(fault) = fault_of(&self.stage, &event) {
+        if let Some(fault) = fault_of(&self.stage, event) {
             return Err(fault);
         }
         let before = out.len();
@@ -122,7 +122,7 @@ impl Server {
     {
         let mut rest = events.into_iter();
         while let Some(event) = rest.next() {
-            self.handle(event, out)?;
+            self.handle(&event, out)?;
         }
         Ok(())
     }

@@ -86,7 +86,7 @@ impl Stage {
         match command {
             Command::Connect(host) => self.connect(host, waiting, output),
             Command::Say(client, rest) => self.say(*client, rest, waiting, output),
-            Command::Gone(client) => self.give(Event::Gone(*client), waiting, output),
+            Command::Gone(client) => self.give(&Event::Gone(*client), waiting, output),
         }
     }
 
@@ -100,7 +100,7 @@ impl Stage {
         ensures { IsPlayed result self.old (events_of self.old.next (connects host.now)) self.new (sink (W.contents output.old) waiting.old.items) (sink (W.contents output.new) waiting.new.items) }
     {
         let event = Event::Connect(self.next, host.copy());
-        self.give(event, waiting, output)
+        self.give(&event, waiting, output)
     }
 
     /// The same of the lines that a client says.
@@ -116,7 +116,7 @@ impl Stage {
         let lines = lines_said(self.alloc, rest)?;
         let mut left = lines.into_iter();
         while let Some(line) = left.next() {
-            self.give(Event::Line(client, line), waiting, output)?;
+            self.give(&Event::Line(client, line), waiting, output)?;
         }
         Ok(())
     }
@@ -124,13 +124,13 @@ impl Stage {
     /// Gives one event to the server, and prints the lines that it puts out, or the number of its refusal.
     fn give<W: Write>(
         &mut self,
-        event: Event,
+        event: &Event,
         waiting: &mut Waiting,
         output: &mut W,
     ) -> Result<(), Trouble>
-        ensures { IsPlayed result self.old (event ∷ []) self.new (sink (W.contents output.old) waiting.old.items) (sink (W.contents output.new) waiting.new.items) }
+        ensures { IsPlayed result self.old (event.now ∷ []) self.new (sink (W.contents output.old) waiting.old.items) (sink (W.contents output.new) waiting.new.items) }
     {
-        let next = next_if_taken(&event, self.next);
+        let next = next_if_taken(event, self.next);
         if let Some(number) = refusal_of(&mut self.server, event, &mut self.out)? {
             return print_refusal(number, waiting, output);
         }
@@ -142,10 +142,10 @@ impl Stage {
 /// Lets the server handle an event. Says by which number the event is refused; else `out` is what the server put out.
 fn refusal_of(
     server: &mut Option<Server>,
-    event: Event,
+    event: &Event,
     out: &mut Batch,
 ) -> Result<Option<u64>, Trouble>
-    ensures { IfOk result (λ number. AnswersAt server.old event (answer_by number out.new.outs) server.new) }
+    ensures { IfOk result (λ number. AnswersAt server.old event.now (answer_by number out.new.outs) server.new) }
 {
     out.clear();
     let Some(server) = server else {

@@ -14,9 +14,9 @@ returns-in-Some g c =
     let last : Standing = record { next = c.self.inside.next; server = c.refusal_of.new.server } in
     let old = sink (g.W.Write.contents c.args.output.now) c.args.waiting.now.items in
     let new = sink (g.W.Write.contents c.print_refusal.new.output) c.print_refusal.new.waiting.items in
-    let at = subst (λ number. AnswersAt inside.server c.args.event (answer_by number c.refusal_of.new.out.outs) last.server) c.in-Some.is c.in_ok-number.ensures in
-    subst (λ first. IsPlayed c.print_refusal.result first (c.args.event ∷ []) last old new) c.self.view_is
-    (played_one c.print_refusal.result inside last c.args.event (refuses c.in-Some.number) old new at refl c.print_refusal.ensures)
+    let at = subst (λ number. AnswersAt inside.server c.args.event.now (answer_by number c.refusal_of.new.out.outs) last.server) c.in-Some.is c.in_ok-number.ensures in
+    subst (λ first. IsPlayed c.print_refusal.result first (c.args.event.now ∷ []) last old new) c.self.view_is
+    (played_one c.print_refusal.result inside last c.args.event.now (refuses c.in-Some.number) old new at refl c.print_refusal.ensures)
 
 pub returns : goal.returns
 returns g c =
@@ -24,6 +24,6 @@ returns g c =
     let last : Standing = record { next = c.next_if_taken-next.result; server = c.refusal_of.new.server } in
     let old = sink (g.W.Write.contents c.args.output.now) c.args.waiting.now.items in
     let new = sink (g.W.Write.contents c.print_lines.new.output) c.print_lines.new.waiting.items in
-    let at = subst (λ number. AnswersAt inside.server c.args.event (answer_by number c.refusal_of.new.out.outs) last.server) c.in_default.is c.in_ok-number.ensures in
-    subst (λ first. IsPlayed c.print_lines.result first (c.args.event ∷ []) last old new) c.self.view_is
-    (played_one c.print_lines.result inside last c.args.event (puts_out c.refusal_of.new.out.outs) old new at c.next_if_taken-next.ensures c.print_lines.ensures)
+    let at = subst (λ number. AnswersAt inside.server c.args.event.now (answer_by number c.refusal_of.new.out.outs) last.server) c.in_default.is c.in_ok-number.ensures in
+    subst (λ first. IsPlayed c.print_lines.result first (c.args.event.now ∷ []) last old new) c.self.view_is
+    (played_one c.print_lines.result inside last c.args.event.now (puts_out c.refusal_of.new.out.outs) old new at c.next_if_taken-next.ensures c.print_lines.ensures)
