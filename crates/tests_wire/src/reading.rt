@@ -6,7 +6,7 @@ use crate::shown::{Shown, append, show, show_fault};
 use arrayvec::ArrayVec;
 use irc_line::parse;
 use irc_names::{ChannelName, Host, Nick, ServerName, is_server};
-use irc_room::{Effect, Room};
+use irc_room::{Effect, Room, ShownLine};
 use irc_routes::{Info, Own, Routes};
 use irc_users::{RealName, User, UserName};
 use irc_wire::{read_effect, write_effect};
@@ -187,7 +187,7 @@ fn brings_free(room: &Room, effect: &Effect) -> bool
 
 fn apply(alloc: Global, room: &mut Room, effect: &Effect) {
     if brings_free(room, effect) {
-        let _ = room.apply(effect, &mut Vec::new(alloc));
+        let _ = room.apply(effect, &mut ShownLine::new(alloc));
     }
 }
 
