@@ -1,13 +1,3 @@
-pub mod NumbersWritten
-pub mod LineEnds
-pub mod ScriptSteps
-pub mod Printed
-pub mod Sinking
-pub mod Playing
-pub mod RunningOn
-pub mod OneRun
-pub mod CutShort
-pub mod LineBodies
 mod SettingUp
 mod GoingOn
 mod Ready

@@ -8,9 +8,9 @@ use Rattle.ircd.specs.declared.fault.Stop.TheVariants.{Usage, BadScript, BadConf
 use Rattle.ircd.specs.declared.setup.Setup.{Setup}
 use Rattle.ircd.specs.Loops.Turns.{HasGone, IsOfFile}
 use Rattle.ircd.specs.Serving.{IsReadSetup, IsTextOf, Serves, ServesFile, ServesText, ready_text}
-use Rattle.ircd.specs.Sinks.{Tells, sink}
-use Rattle.ircd.proofs.Printed.{keeps_appended}
-use Rattle.ircd.proofs.Sinking.{all_lost, no_loss}
+use Rattle.irc_script.specs.Sinks.{Tells, sink}
+use Rattle.irc_script.specs.Lemmas.Printed.{keeps_appended}
+use Rattle.irc_script.specs.Lemmas.Sinking.{all_lost, no_loss}
 
 -- nothing written is a front, and so is all
 pub tells_nothing : (held : Option (List ℕ)) (text : List ℕ) → Tells held held text

@@ -1,8 +1,8 @@
 -- How the program ends a run.
 use Rattle.std.specs.Prelude.{◌≡◌, ℕ, Option, Result, List}
-use Rattle.ircd.specs.declared.fault.SimFault.{SimFault}
-use Rattle.ircd.specs.Runs.{Ran}
-use Rattle.ircd.specs.Sinks.{Tells}
+use Rattle.irc_script.specs.declared.fault.SimFault.{SimFault}
+use Rattle.irc_script.specs.Runs.{Ran}
+use Rattle.irc_script.specs.Sinks.{Tells}
 use Rattle.ircd.specs.Statuses.{ending_of, exit_status, told_of}
 
 -- the status is that of how the script's run ended, and so is what is said on standard error

@@ -1,15 +1,6 @@
 pub mod Limits
 pub mod Statuses
 pub mod Words
-pub mod Numbers
-pub mod Scripts
-pub mod ScriptViews
-pub mod Events
-pub mod Printing
-pub mod Sinks
-pub mod Runs
-pub mod RunLaws
 pub mod Loops
 pub mod Endings
 pub mod Serving
-pub mod Codes

@@ -1,25 +1,5 @@
--- The limits of scripts and of what is printed. All are our own choice.
+-- The limit of what the program says. It is our own choice.
 use Rattle.std.specs.Prelude.{ℕ}
-
--- the greatest number that a script may have in it, and the last number of a client: 64 bits; our own choice
-unfoldable pub max_number : ℕ
-max_number = 18446744073709551615
-
--- how many reads may be made of a script; our own choice
-unfoldable pub max_reads : ℕ
-max_reads = 16777216
-
--- how many bytes one read asks for; our own choice
-abbrev pub read_size : ℕ
-read_size = 4096
-
--- how many writes one text may take; our own choice
-unfoldable pub max_writes : ℕ
-max_writes = 16777216
-
--- how many bytes may wait to be written; our own choice
-abbrev pub waiting_room : ℕ
-waiting_room = 16384
 
 -- the longest line on a bad script: 11 bytes, 20 digits, 13 bytes; our own choice
 abbrev pub max_bad_script : ℕ

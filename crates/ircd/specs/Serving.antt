@@ -17,7 +17,7 @@ use Rattle.irc_engine.specs.Turning.{Turned}
 use Rattle.ircd.specs.declared.fault.Stop.{Stop}
 use Rattle.ircd.specs.declared.fault.Stop.TheVariants.{Usage, BadScript, BadConfiguration, Failed}
 use Rattle.ircd.specs.declared.setup.Setup.{Setup}
-use Rattle.ircd.specs.Sinks.{Tells}
+use Rattle.irc_script.specs.Sinks.{Tells}
 use Rattle.ircd.specs.Statuses.{exit_status, told_of}
 
 -- no address is written so

@@ -4,16 +4,10 @@ use Rattle.irc_settings.specs.declared.fault.SettingsFault.{SettingsFault}
 use Rattle.irc_settings.specs.declared.fault.SettingsFault.TheVariants as settings
 use Rattle.irc_server.specs.declared.config.ConfigFault.{ConfigFault}
 use Rattle.irc_server.specs.declared.config.ConfigFault.TheVariants as config
-use Rattle.ircd.specs.declared.fault.SimFault.{SimFault}
-use Rattle.ircd.specs.declared.fault.SimFault.TheVariants as fault
-use Rattle.ircd.specs.declared.fault.Trouble.{Trouble}
-use Rattle.ircd.specs.declared.fault.Trouble.TheVariants as trouble
+use Rattle.irc_script.specs.declared.fault.SimFault.{SimFault}
+use Rattle.irc_script.specs.declared.fault.SimFault.TheVariants as fault
 use Rattle.ircd.specs.declared.fault.Stop.{Stop}
 use Rattle.ircd.specs.declared.fault.Stop.TheVariants as stop
-
-abbrev pub fault_of : Trouble → SimFault
-fault_of trouble.Memory = fault.Failed
-fault_of trouble.Device = fault.Device
 
 abbrev pub stop_of : SimFault → Stop
 stop_of (fault.BadScript line) = stop.BadScript line

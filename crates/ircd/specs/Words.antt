@@ -3,8 +3,8 @@ use Rattle.std.specs.Prelude.{ℕ, Option, Some, None, List, [], ◌∷◌, map,
 use Rattle.std.specs.Str.{bytes_eq}
 use Rattle.ircd.specs.declared.words.Task.{Task}
 use Rattle.ircd.specs.declared.words.Task.TheVariants as task
-use Rattle.ircd.specs.Limits.{max_number}
-use Rattle.ircd.specs.Numbers.{number_of}
+use Rattle.irc_script.specs.Limits.{max_number}
+use Rattle.irc_script.specs.Numbers.{number_of}
 
 -- what the program may be asked to do: to run a script, and to serve as a file says for so many turns
 pub data Errand : Type 0 where

@@ -1,70 +1,17 @@
 //! Why the program ends before its work is done, what it says then, and its exit status.
 ghost use Rattle.std.specs.Prelude.{◌≡◌, OnOk};
 ghost use Rattle.std.specs.Io.KnownBytes.{Appends};
-ghost use Rattle.ircd.specs.declared.fault.SimFault.TheVariants.{Failed};
 ghost use Rattle.ircd.specs.declared.fault.Stop.TheVariants.{BadScript};
-ghost use Rattle.ircd.specs.declared.fault.Trouble.TheVariants.{Memory};
-ghost use Rattle.ircd.specs.Sinks.{Tells};
-ghost use Rattle.ircd.specs.Statuses.{status_of, told, stop_of, stopped, stop_of_settings, stop_of_config, fault_of};
+ghost use Rattle.irc_script.specs.Sinks.{Tells};
+ghost use Rattle.ircd.specs.Statuses.{status_of, told, stop_of, stopped, stop_of_settings, stop_of_config};
 
-use crate::sink::write_whole;
 use arrayvec::ArrayVec;
+use irc_script::{SimFault, Trouble, write_whole};
 use irc_server::ConfigFault;
 use irc_settings::SettingsFault;
 use itoa::Buffer;
 use std::alloc::AllocError;
 use std::io::Write;
-use thiserror::Error;
-
-/// What can go wrong with any script.
-#[derive(Clone, Copy, Drop, PartialEq, Eq)]
-pub enum Trouble {
-    /// Memory ran out.
-    Memory,
-    /// A read or a write failed, or the script did not end.
-    Device,
-}
-
-impl From<AllocError> for Trouble {
-    ghost from_gives = { λ _ trouble. trouble ≡ Memory };
-
-    fn from(_error: AllocError) -> Self {
-        Trouble::Memory
-    }
-}
-
-/// Why a script is not run to its end.
-#[derive(Clone, Copy, Debug, Drop, Error, PartialEq, Eq)]
-pub enum SimFault {
-    /// A line is none that a script can have: the first such line, counted from 1. Nothing was run.
-    #[error("line {0}: bad script")]
-    BadScript(u64),
-    /// Memory ran out.
-    #[error("out of memory")]
-    Failed,
-    /// A read or a write failed, or the script did not end.
-    #[error("a read or a write failed")]
-    Device,
-}
-
-impl From<AllocError> for SimFault {
-    ghost from_gives = { λ _ fault. fault ≡ Failed };
-
-    fn from(_error: AllocError) -> Self {
-        SimFault::Failed
-    }
-}
-
-impl From<Trouble> for SimFault {
-    ghost from_gives = { λ trouble fault. fault ≡ fault_of trouble };
-
-    fn from(trouble: Trouble) -> Self {
-        match trouble {
-            Trouble::Memory => SimFault::Failed,
-            Trouble::Device => SimFault::Device,
-        }
-    }
-}
 
 /// Why the program ends with another status than 0.
 #[derive(Clone, Copy, Drop, PartialEq, Eq)]

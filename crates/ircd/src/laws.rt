@@ -1,24 +1,10 @@
-//! What holds of scripts, and of the program's constants. Each law is a function that does nothing, and its contract is the law.
+//! What holds of the program's constant. The law is a function that does nothing, and its contract is the law.
 ghost use Rattle.std.specs.Prelude.{◌≡◌};
-ghost use Rattle.ircd.specs.Limits.{max_bad_script, max_reads, max_writes, read_size, waiting_room};
-ghost use Rattle.ircd.specs.RunLaws.{EachRuns, RunsOneWay};
+ghost use Rattle.ircd.specs.Limits.{max_bad_script};
 
 use crate::fault::MAX_BAD_SCRIPT;
-use crate::sim::{MAX_READS, READ_SIZE};
-use crate::sink::{MAX_WRITES, WAITING_ROOM};
 
-/// The constants of the code are the numbers that the definitions name.
-#[tactic(auto, unfolding(crate::specs::Limits::max_reads, crate::specs::Limits::max_writes))]
+/// The constant of the code is the number that the definitions name.
 pub fn limits_are_so()
     ensures bad_script { MAX_BAD_SCRIPT ≡ max_bad_script }
-    ensures reads { MAX_READS ≡ max_reads }
-    ensures read { READ_SIZE ≡ read_size }
-    ensures writes { MAX_WRITES ≡ max_writes }
-    ensures waiting { WAITING_ROOM ≡ waiting_room }
-{}
-
-/// Each script can be run to its end, and runs in one way: what it prints, and where it comes to, is one.
-pub fn scripts_run_one_way()
-    ensures each { EachRuns }
-    ensures one_way { RunsOneWay }
 {}

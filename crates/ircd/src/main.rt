@@ -1,40 +1,15 @@
 //! `ircd sim` runs a script of clients on one IRC server; `ircd serve` serves clients on TCP sockets.
 #![tactic(auto)]
 
-#[cfg(test)]
-mod channel_tests;
-mod events;
 mod fault;
-#[cfg(test)]
-mod invite_tests;
-#[cfg(test)]
-mod kick_tests;
 mod laws;
-#[cfg(test)]
-mod leaving_tests;
-#[cfg(test)]
-mod message_tests;
-#[cfg(test)]
-mod mode_tests;
-#[cfg(test)]
-mod nickname_tests;
-mod number;
-mod printing;
 mod program;
 #[cfg(test)]
-mod query_tests;
-#[cfg(test)]
-mod registration_tests;
-mod script;
+mod program_tests;
 mod serve;
 #[cfg(test)]
 mod serve_tests;
 mod setup;
-mod sim;
-mod sink;
-mod stage;
-#[cfg(test)]
-mod tests;
 mod words;
 
 use program::{run, stop_with};

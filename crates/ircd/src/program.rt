@@ -3,14 +3,14 @@ ghost use Rattle.std.specs.Prelude.{◌≡◌, ℕ, List, Some, None};
 ghost use Rattle.ircd.specs.declared.fault.Stop.TheVariants.{Usage};
 ghost use Rattle.ircd.specs.Endings.{EndsRun};
 ghost use Rattle.ircd.specs.Serving.{EndsServing};
-ghost use Rattle.ircd.specs.Sinks.{Tells};
+ghost use Rattle.irc_script.specs.Sinks.{Tells};
 ghost use Rattle.ircd.specs.Statuses.{ending_of, exit_status, status_of, told, told_of};
 ghost use Rattle.ircd.specs.Words.{runs_script, serves, task_of, texts_of};
 
-use crate::fault::{SimFault, Stop};
+use crate::fault::Stop;
 use crate::serve::serve;
-use crate::sim::run_sim;
 use crate::words::Task;
+use irc_script::{SimFault, run_sim};
 use std::alloc::Global;
 use std::fs::Files;
 use std::io::{Read, Write};

@@ -6,9 +6,9 @@ ghost use Rattle.ircd.specs.Serving.{Serves, ServesFile, ServesText};
 
 use crate::fault::Stop;
 use crate::setup::{Setup, read_setup};
-use crate::sink::{flush, write_whole};
 use irc_engine::{Engine, EngineFault};
 use irc_outbox::Wire;
+use irc_script::{flush, write_whole};
 use irc_sockets::MioWire;
 use std::alloc::Global;
 use std::fs::{Files, read_to_string};

@@ -1,6 +1,6 @@
 //! `ircd serve` on files: its words, its statuses, and what it says. What it does over sockets stands in `tests_sockets` and `tests/`.
 use crate::program::run;
-use crate::tests::add_words;
+use crate::program_tests::add_words;
 use std::fs;
 use std::io::empty;
 

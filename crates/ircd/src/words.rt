@@ -1,10 +1,10 @@
 //! What the words of the command line ask for.
 ghost use Rattle.std.specs.Prelude.{◌≡◌, option_map};
-ghost use Rattle.ircd.specs.Numbers.{number_of};
+ghost use Rattle.irc_script.specs.Numbers.{number_of};
 ghost use Rattle.ircd.specs.Words.{errand, serves, task_of, texts_of};
 
 use crate::fault::Stop;
-use crate::number::read_number;
+use irc_script::read_number;
 use std::env::{Env, args};
 use std::io::ErrorKind;
 
@@ -19,7 +19,7 @@ pub enum Task<'a> {
 
 impl<'a> Task<'a> {
     /// What the words behind the program's name ask for; none where they are no words of a task.
-    #[tactic(auto, unfolding(crate::specs::Limits::max_number))]
+    #[tactic(auto, unfolding(irc_script::specs::Limits::max_number))]
     pub fn read(words: &'a [String]) -> Option<Self>
         ensures { option_map errand result ≡ task_of (texts_of words.now) }
     {

@@ -1,6 +1,6 @@
 use Rattle.std.proofs.Common.{◌∙◌, subst, OnOk}
 use Rattle.std.specs.Io.KnownBytes.{Appends}
-use Rattle.ircd.specs.Sinks.{Tells}
+use Rattle.irc_script.specs.Sinks.{Tells}
 use Rattle.ircd.proofs.fault.tell_bad_script.Goals as goal
 
 pub returns-clause-whole : goal.returns-clause-whole

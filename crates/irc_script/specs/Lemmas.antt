@@ -1,0 +1,3 @@
+-- Lemmas, with their proofs, that the crate above cites too. No rule stands here.
+pub mod Printed
+pub mod Sinking

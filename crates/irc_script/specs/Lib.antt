@@ -1,0 +1,13 @@
+pub mod Limits
+pub mod Faults
+pub mod Numbers
+pub mod Scripts
+pub mod ScriptViews
+pub mod Events
+pub mod Printing
+pub mod Sinks
+pub mod Runs
+pub mod RunLaws
+pub mod Loops
+pub mod Lemmas
+pub mod Codes

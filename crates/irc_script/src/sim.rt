@@ -1,0 +1,111 @@
+//! `ircd sim`: a script is read to its end, and run.
+ghost use Rattle.std.specs.Prelude.{◌≡◌, ◌≤◌, [], length, take, IfOk};
+ghost use Rattle.std.specs.Io.KnownBytes.{Consumes, IsAtEnd};
+ghost use Rattle.irc_script.specs.Limits.{read_size};
+ghost use Rattle.irc_script.specs.Loops.Reading.{IsReadTo};
+ghost use Rattle.irc_script.specs.Loops.Steps.{HasRun};
+ghost use Rattle.irc_script.specs.Runs.{Ran, IsTextOf};
+ghost use Rattle.irc_script.specs.ScriptViews.{requests};
+ghost use Rattle.irc_script.specs.Sinks.{sink};
+
+use crate::fault::{SimFault, Trouble};
+use crate::script::{Command, read_script};
+use crate::sink::{Waiting, flush, write_waiting};
+use crate::stage::Stage;
+use std::alloc::Global;
+use std::io::{Read, Write};
+
+/// How many reads a script may take.
+pub const MAX_READS: u32 = 16_777_216;
+
+/// How many bytes are asked for in one read.
+pub const READ_SIZE: usize = 4096;
+
+/// Runs a script on one server, and prints each line that a client receives, as the client's number and the line, in the order
+/// of the calls.
+///
+/// # Errors
+/// - [`SimFault::BadScript`] where a line is none that a script can have. Then nothing was run and nothing printed.
+/// - [`SimFault::Failed`] where memory runs out.
+/// - [`SimFault::Device`] where a read or a write fails, or [`MAX_READS`] reads do not end the script.
+pub fn run_sim<R: Read, W: Write>(
+    alloc: Global,
+    input: &mut R,
+    output: &mut W,
+) -> Result<(), SimFault>
+    ensures { Ran (R.remaining input.old) result (W.contents output.old) (W.contents output.new) }
+{
+    let text = read_text(alloc, input)?;
+    let script = read_script(alloc, &text)?;
+    let mut stage = Stage::new(alloc, script.server.as_ref())?;
+    run_all(&mut stage, &script.commands, output)?;
+    Ok(())
+}
+
+/// All that a reader gives.
+fn read_text<R: Read>(alloc: Global, input: &mut R) -> Result<Vec<u8, Global>, Trouble>
+    ensures { IfOk result (λ text. IsTextOf text.items (R.remaining input.old)) }
+{
+    let mut text = Vec::new(alloc);
+    if reads_to_end(input, &mut text)? {
+        Ok(text)
+    } else {
+        Err(Trouble::Device)
+    }
+}
+
+/// Reads into an empty text until the reader has no more, in at most [`MAX_READS`] reads. Says whether it came to the end.
+fn reads_to_end<R: Read>(input: &mut R, text: &mut Vec<u8, Global>) -> Result<bool, Trouble>
+    requires { text.old.items ≡ [] }
+    ensures { IfOk result (λ ended. IsReadTo ended text.new.items (R.remaining input.old)) }
+{
+    let mut piece = [0; READ_SIZE];
+    for _ in 0..MAX_READS {
+        let count = read_some(input, &mut piece)?;
+        if count == 0 {
+            return Ok(true);
+        }
+        text.extend_from_slice(&piece[..count])?;
+    }
+    Ok(false)
+}
+
+/// One read: how many bytes it gave, none only where the reader has no more.
+fn read_some<R: Read>(input: &mut R, piece: &mut [u8]) -> Result<usize, Trouble>
+    requires { length piece.old ≡ read_size }
+    ensures within { IfOk result (λ count. count ≤ length piece.new) }
+    ensures bytes { IfOk result (λ count. Consumes (R.remaining input.old) (R.remaining input.new) (take count piece.new)) }
+    ensures end { IfOk result (λ count. count ≡ 0 → IsAtEnd (R.remaining input.new)) }
+{
+    input.read(piece).map_err(|_| Trouble::Device)
+}
+
+/// Runs commands, and writes all that they print; also where memory runs out, what was printed before that.
+fn run_all<W: Write>(
+    stage: &mut Stage,
+    commands: &[Command<'_>],
+    output: &mut W,
+) -> Result<(), Trouble>
+    ensures { HasRun result stage.old (requests commands.now) stage.new (sink (W.contents output.old) []) (sink (W.contents output.new) []) }
+{
+    let mut waiting = Waiting::new();
+    let performed = perform_all(stage, commands, &mut waiting, output);
+    let written = write_waiting(&mut waiting, output);
+    performed?;
+    written?;
+    flush(output)
+}
+
+fn perform_all<W: Write>(
+    stage: &mut Stage,
+    commands: &[Command<'_>],
+    waiting: &mut Waiting,
+    output: &mut W,
+) -> Result<(), Trouble>
+    ensures { HasRun result stage.old (requests commands.now) stage.new (sink (W.contents output.old) waiting.old.items) (sink (W.contents output.new) waiting.new.items) }
+{
+    for command in commands {
+        stage.perform(command, waiting, output)?;
+    }
+    Ok(())
+}
