@@ -3,7 +3,7 @@ use Rattle.std.proofs.Common.{◌≡◌, ℕ, Bool, true, false, cond, Option, S
 use Rattle.std.specs.FinMap.{empty, get, insert, remove, get-empty}
 use Rattle.std.specs.Ordering.{nat_cmp}
 use Rattle.irc_names.specs.Fold.{key, same}
-use Rattle.irc_names.specs.Tables.{Table, row, alter, moved, fold_cmp}
+use Rattle.irc_names.specs.Tables.{Table, row, alter, moved, put_row, fold_cmp}
 use Rattle.irc_names.specs.TableLaws.{same_fold, same_fold-refl, one_fold, row-alter, row-moved}
 use Rattle.irc_room.specs.Lemmas.Rows.{same_some}
 use Rattle.irc_server.specs.declared.clients.Client.{Client}
@@ -228,11 +228,17 @@ left_indexed clients by_nick index conn (Some (Registered nick)) is now table no
     subst (IsIndex now) (sym table_is)
     (subst (λ cs. IsIndex cs (alter (key nick) (λ _. None) by_nick)) (sym now_is) (user_left clients by_nick index conn nick is))
 
+-- taken out at one fold and put at another is moved
+as_moved : (old new : List ℕ) (conn : ℕ) (table : Table ℕ) → row table old ≡ Some conn
+    → alter new (λ _. Some conn) (alter old (λ _. None) table) ≡ moved old new (λ value. value) table
+unfolding moved
+as_moved old new conn table at = sym (ap (λ o. put_row o new (λ value. value) (alter old (λ _. None) table)) at)
+
 pub rename_indexed : (clients : Clients) (by_nick : Table ℕ) → IsIndex clients by_nick → (old new : List ℕ) (conn : ℕ) → row by_nick (key old) ≡ Some conn → IsFreeFor old new clients
-    → (name first second : List ℕ) (now : Clients) (table : Table ℕ) → name ≡ new → first ≡ old → second ≡ new → now ≡ insert clients conn (Registered name)
-    → table ≡ moved (key first) (key second) (λ value. value) by_nick → IsIndex now table
-rename_indexed clients by_nick index old new conn is_conn free name first second now table name_is first_is second_is now_is table_is =
+    → (name : List ℕ) (now : Clients) (table : Table ℕ) → name ≡ new → now ≡ insert clients conn (Registered name)
+    → table ≡ alter (key new) (λ _. Some conn) (alter (key old) (λ _. None) by_nick) → IsIndex now table
+rename_indexed clients by_nick index old new conn is_conn free name now table name_is now_is table_is =
     subst (IsIndex now)
-    (sym (table_is ∙ ap (λ b. moved (key b) (key second) (λ value. value) by_nick) first_is ∙ ap (λ b. moved (key old) (key b) (λ value. value) by_nick) second_is))
+    (sym (table_is ∙ as_moved (key old) (key new) conn by_nick is_conn))
     (subst (λ cs. IsIndex cs (moved (key old) (key new) (λ value. value) by_nick)) (sym (now_is ∙ ap (λ n. insert clients conn (Registered n)) name_is))
     (renamed_indexed clients by_nick index old new conn is_conn free))

@@ -14,7 +14,7 @@ use irc_batch::Batch;
 use irc_commands::Pending;
 use irc_names::Nick;
 use irc_room::ShownLine;
-use irc_tables::NameTable;
+use irc_tables::NickMap;
 use std::alloc::{AllocError, Global};
 use std::collections::BTreeMap;
 use std::marker::Model;
@@ -69,7 +69,7 @@ pub(crate) struct ClientTable {
     /// Each by the number of its connection.
     pub by_number: BTreeMap<u64, Client, Global>,
     /// The connection of each that is a user, by its nickname.
-    pub by_nick: NameTable<u64>,
+    pub by_nick: NickMap<u64>,
 }
 
 /// No clients.
@@ -79,7 +79,7 @@ pub(crate) fn no_clients(alloc: Global) -> ClientTable
 {
     ClientTable {
         by_number: BTreeMap::new(alloc),
-        by_nick: NameTable::new(alloc),
+        by_nick: NickMap::new(alloc),
     }
 }
 
@@ -127,21 +127,21 @@ pub(crate) fn take_out(clients: &mut ClientTable, conn: u64)
 }
 
 /// A client that is a user stands in the index.
-fn enter(by_nick: &mut NameTable<u64>, conn: u64, client: &Client) -> Result<(), AllocError>
+fn enter(by_nick: &mut NickMap<u64>, conn: u64, client: &Client) -> Result<(), AllocError>
     ensures { OnOk result (by_nick.new ≡ entered conn client.now by_nick.old) }
 {
     match client {
-        Client::Registered(nick) => by_nick.insert(nick.as_bytes(), conn),
+        Client::Registered(nick) => by_nick.insert(nick, conn),
         Client::Registering(_) => Ok(()),
     }
 }
 
 /// A client that was a user stands in the index no more.
-fn depart(by_nick: &mut NameTable<u64>, client: &Option<Client>)
+fn depart(by_nick: &mut NickMap<u64>, client: &Option<Client>)
     ensures { by_nick.new ≡ departed client.now by_nick.old }
 {
     if let Some(Client::Registered(nick)) = client {
-        by_nick.remove(nick.as_bytes());
+        by_nick.remove(nick);
     }
 }
 
@@ -155,7 +155,8 @@ pub(crate) fn rename(clients: &mut ClientTable, old: &Nick, new: &Nick) -> Resul
     let Some(conn) = number_of(clients, old) else {
         return Ok(());
     };
-    clients.by_nick.rename(old.as_bytes(), new.as_bytes());
+    clients.by_nick.remove(old);
+    clients.by_nick.insert(new, conn)?;
     put(&mut clients.by_number, conn, Client::Registered(new.copy()))
 }
 
@@ -163,7 +164,7 @@ pub(crate) fn rename(clients: &mut ClientTable, old: &Nick, new: &Nick) -> Resul
 fn number_of(clients: &ClientTable, nick: &Nick) -> Option<u64>
     ensures { result ≡ row clients.now.by_nick (key nick.now) }
 {
-    match clients.by_nick.get(nick.as_bytes()) {
+    match clients.by_nick.get(nick) {
         Some(conn) => Some(*conn),
         None => None,
     }

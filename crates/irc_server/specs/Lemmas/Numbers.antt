@@ -2,14 +2,14 @@
 use Rattle.std.proofs.Common.{◌≡◌, ℕ, Bool, true, false, cond, T, Some, None, List, [], ◌∷◌, refl, sym, ◌∙◌, ap, map, option_map}
 use Rattle.std.specs.Ordering.{nat_cmp, eq_by_cmp, is_eq}
 use Rattle.std.specs.Cmp.{nat_cmp_total, eq_by_cmp_equiv, Equal-is}
-use Rattle.std.specs.Map.{lookup}
-use Rattle.std.specs.BTreeMap.{BTreeMap, UpdatesBy, is_at, get as number_in}
+use Rattle.std.specs.BTreeMap.{BTreeMap, UpdatesBy, get as number_in}
 use Rattle.std.specs.FinMap.Entries.{below_all}
 use Rattle.irc_tables.specs.Lemmas.OrderedEntries.{above-is, find-above}
 use Rattle.std.specs.FinMap.{get, insert, remove, entries, find, get-from_entries, get-entries, get-insert, get-remove, same_map, nat_cmp-IsAntisymmetric}
 use Rattle.irc_server.specs.declared.clients.Client.{Client}
 use Rattle.irc_server.specs.RoomMachine.{Clients, each_client}
 use Rattle.irc_server.specs.Loops.Stage.{numbered}
+use Rattle.irc_tables.specs.Lemmas.OrderedMaps.{get-mapped, put-mapped, taken-mapped}
 
 -- whether two numbers are one
 abbrev pub same_number : ℕ → ℕ → Bool
@@ -51,29 +51,16 @@ get-each change clients q =
 
 -- the code's map
 
-looked_up : (q : ℕ) (es : List (ℕ × Client)) → find nat_cmp q es ≡ lookup (is_at (nat_cmp q)) es
-looked_up q [] = refl
-looked_up q (e ∷ es) = ap (cond (is_eq (nat_cmp q e.0)) (Some e.1)) (looked_up q es)
-
 pub get-numbered : (m : BTreeMap ℕ Client) (q : ℕ) → get (numbered m) q ≡ number_in nat_cmp m q
-get-numbered m q = get-from_entries nat_cmp_total m.entries q ∙ looked_up q m.entries
-
-turned : {X : Type 0} (conn q : ℕ) (x y : X) → cond (is_at (nat_cmp conn) q) x y ≡ cond (same_number q conn) x y
-turned conn q x y = ap (λ b. cond b x y) ((eq_by_cmp_equiv nat_cmp_total).symm conn q)
+get-numbered = get-mapped nat_cmp_total nat_cmp-IsAntisymmetric
 
 pub put-numbered : (old new : BTreeMap ℕ Client) (conn : ℕ) (client : Client) → UpdatesBy nat_cmp (nat_cmp conn) old new (Some client)
     → numbered new ≡ insert (numbered old) conn client
-put-numbered old new conn client updates = same_clients _ _ (λ q.
-    get-numbered new q ∙ updates.0 q ∙ turned conn q _ _
-    ∙ ap (cond (same_number q conn) (Some client)) (sym (get-numbered old q))
-    ∙ sym (get-with (numbered old) conn client q))
+put-numbered = put-mapped nat_cmp_total nat_cmp-IsAntisymmetric
 
 pub taken-numbered : (old new : BTreeMap ℕ Client) (conn : ℕ) → UpdatesBy nat_cmp (nat_cmp conn) old new None
     → numbered new ≡ remove (numbered old) conn
-taken-numbered old new conn updates = same_clients _ _ (λ q.
-    get-numbered new q ∙ updates.0 q ∙ turned conn q _ _
-    ∙ ap (cond (same_number q conn) None) (sym (get-numbered old q))
-    ∙ sym (get-without (numbered old) conn q))
+taken-numbered = taken-mapped nat_cmp_total nat_cmp-IsAntisymmetric
 
 -- entries in the order of their numbers
 

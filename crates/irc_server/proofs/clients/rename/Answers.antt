@@ -1,5 +1,7 @@
-use Rattle.std.proofs.Common.{sym, ◌∙◌, ap}
+use Rattle.std.proofs.Common.{sym, ◌∙◌, ap, Some}
 use Rattle.std.specs.FinMap.{insert}
+use Rattle.irc_names.specs.Fold.{key}
+use Rattle.irc_names.specs.Tables.{alter}
 use Rattle.irc_server.specs.declared.clients.Client.TheVariants.{Registered}
 use Rattle.irc_server.specs.Loops.Stage.{clients_of, numbered}
 use Rattle.irc_server.proofs.Index.{nobody_renamed, one_renamed, rename_indexed}
@@ -23,6 +25,6 @@ pub returns-clause-indexed : goal.returns-clause-indexed
 returns-clause-indexed c =
     on_ok c.put.result _ _
     (λ is. rename_indexed (clients_of c.args.clients.now) c.args.clients.now.by_nick c.requires.indexed c.args.old.now c.args.new.now c.in-Some.conn
-    (sym c.number_of.ensures ∙ c.in-Some.is) c.requires.free c.copy.result c.as_bytes.result.now c.as_bytes-2.result.now (numbered c.put.new.clients) c.rename.new.self
-    c.copy.ensures c.as_bytes.ensures.value c.as_bytes-2.ensures.value is c.rename.ensures)
+    (sym c.number_of.ensures ∙ c.in-Some.is) c.requires.free c.copy.result (numbered c.put.new.clients) c.insert.new.self
+    c.copy.ensures is (c.in_ok-insert.ensures.ok ∙ ap (alter (key c.args.new.now) (λ _. Some c.in-Some.conn)) c.remove.ensures.after))
     c.put.ensures
