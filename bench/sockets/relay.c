@@ -65,7 +65,13 @@ static void obey(struct client *c, char *line) {
     if (!strncmp(line, "NICK ", 5)) {
         snprintf(c->nick, sizeof c->nick, "%s", line + 5);
     } else if (!strncmp(line, "USER ", 5)) {
-        n = snprintf(text, sizeof text, ":a.net 001 %s :Welcome\r\n:a.net 422 %s :MOTD File is missing\r\n", c->nick, c->nick);
+        n = snprintf(text, sizeof text,
+                     ":a.net 001 %s :Welcome to the Internet Relay Network %s!u@127.0.0.1\r\n"
+                     ":a.net 002 %s :Your host is a.net, running version treeircd-1\r\n"
+                     ":a.net 003 %s :This server was created 2024-01-01\r\n"
+                     ":a.net 004 %s a.net treeircd-1 i biklmnopstv\r\n"
+                     ":a.net 422 %s :MOTD File is missing\r\n",
+                     c->nick, c->nick, c->nick, c->nick, c->nick, c->nick);
         put(c, text, n);
     } else if (!strncmp(line, "JOIN ", 5)) {
         if (!c->in_room) room[room_count++] = c->fd;

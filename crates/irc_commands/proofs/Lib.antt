@@ -15,3 +15,4 @@ pub mod PendingWithin
 pub mod QueriesAlike
 pub mod CommandsAlike
 pub mod ComingLaws
+pub mod ToldInPart

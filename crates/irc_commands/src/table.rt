@@ -1,12 +1,15 @@
 //! The command table.
-ghost use Rattle.std.specs.Prelude.{◌≡◌, List, [], ◌∷◌, IfOk};
+ghost use Rattle.std.specs.Prelude.{◌≡◌, Some, List, [], ◌∷◌, ◌++◌, IfOk, OnOk};
+ghost use Rattle.irc_batch.specs.Growing.{Grew};
 ghost use Rattle.irc_line.specs.MessageViews.{parsed};
 ghost use Rattle.irc_routes.specs.Known.{place_of};
 ghost use Rattle.irc_acts.specs.declared.act.Act.{Act};
 ghost use Rattle.irc_acts.specs.declared.act.Act.TheVariants.{Answer};
+ghost use Rattle.irc_queries.specs.Said.{all_said};
+ghost use Rattle.irc_commands.specs.AtOnce.{at_once, left, IsToldInPart};
 ghost use Rattle.irc_commands.specs.CodeViews.{decided_of};
 ghost use Rattle.irc_commands.specs.Decisions.{does, nothing};
-ghost use Rattle.irc_commands.specs.Table.{command_of, row_for, same_letters, unknown};
+ghost use Rattle.irc_commands.specs.Table.{command_of, row_for, row_of, same_letters, unknown};
 
 use crate::decision::Decision;
 use crate::say::Verb;
@@ -14,6 +17,7 @@ use crate::{nick, ping, quit, say, topic};
 use irc_acts::words::client_words;
 use irc_acts::{Act, Context, only};
 use irc_answers::names;
+use irc_batch::Batch;
 use irc_line::Message;
 use irc_membership::{invite, join, kick, part};
 use irc_moderation::mode;
@@ -114,18 +118,54 @@ fn is_word(word: &[u8], name: &[u8]) -> bool
     word.eq_ignore_ascii_case(name)
 }
 
-/// The row of the command table that the line of a user fits.
-#[tactic(auto, unfolding(crate::specs::Table::row_of))]
+/// The row of the command table that the line of a user fits. A LIST or a WHO is answered at once.
 pub(crate) fn decide_for(
     context: &Context<'_>,
     message: &Message<'_>,
+    conn: u64,
+    out: &mut Batch,
 ) -> Result<Decision, AllocError>
-    ensures { IfOk result (λ d. decided_of d ≡ row_for context.now.room.now.room (place_of context.now.routes.now) context.now.me.now (parsed message.now)) }
+    ensures told { IfOk result (λ d. IsToldInPart (place_of context.now.routes.now) (Some context.now.me.now.nick) conn (row_for context.now.room.now.room (place_of context.now.routes.now) context.now.me.now (parsed message.now)) out.old.outs out.new.outs (decided_of d)) }
+    ensures grew { Grew out.old.outs out.new.outs }
+{
+    let command = Command::read(message.command);
+    answer_at_once(context, command, message, conn, out)?;
+    row_of(context, command, message)
+}
+
+/// Puts out what a query of many answers is answered with; nothing for another command.
+#[tactic(auto, unfolding(crate::specs::Table::row_of))]
+fn answer_at_once(
+    context: &Context<'_>,
+    command: Option<Command>,
+    message: &Message<'_>,
+    conn: u64,
+    out: &mut Batch,
+) -> Result<(), AllocError>
+    ensures ok { OnOk result (out.new.outs ≡ out.old.outs ++ all_said (place_of context.now.routes.now) (Some context.now.me.now.nick) conn (at_once command (row_of context.now.room.now.room (place_of context.now.routes.now) context.now.me.now (parsed message.now) command))) }
+    ensures grew { Grew out.old.outs out.new.outs }
 {
     let params = message.params.as_slice();
-    match Command::read(message.command) {
+    match command {
+        Some(Command::List) => list::answer(context, params, conn, out),
+        Some(Command::Who) => who::answer(context, params, conn, out),
+        _ => Ok(()),
+    }
+}
+
+/// What is left to do of the row of a command.
+#[tactic(auto, unfolding(crate::specs::Table::row_of))]
+fn row_of(
+    context: &Context<'_>,
+    command: Option<Command>,
+    message: &Message<'_>,
+) -> Result<Decision, AllocError>
+    ensures { IfOk result (λ d. decided_of d ≡ left command (row_of context.now.room.now.room (place_of context.now.routes.now) context.now.me.now (parsed message.now) command)) }
+{
+    let params = message.params.as_slice();
+    match command {
         Some(Command::Pass | Command::User) => answer(context.alloc, Reply::AlreadyRegistered),
-        Some(Command::Pong) => Ok(nothing(context.alloc)),
+        Some(Command::Pong | Command::List | Command::Who) => Ok(nothing(context.alloc)),
         Some(Command::Motd) => answer(context.alloc, Reply::NoMotd),
         Some(Command::Ping) => stays(ping::steps(context.alloc, context.routes, params)),
         Some(Command::Quit) => quit::decided(context, params),
@@ -141,9 +181,7 @@ pub(crate) fn decide_for(
         Some(Command::Mode) => stays(mode::steps(context, params)),
         Some(Command::Ison) => stays(ison::steps(context, params)),
         Some(Command::Lusers) => stays(lusers::steps(context)),
-        Some(Command::List) => stays(list::steps(context, params)),
         Some(Command::Whois) => stays(whois::steps(context, params)),
-        Some(Command::Who) => stays(who::steps(context, params)),
         None => unknown(context.alloc, message.command),
     }
 }

@@ -1,3 +1,4 @@
+pub mod Said
 pub mod Ison
 pub mod Lusers
 pub mod List

@@ -5,5 +5,6 @@ pub mod ison;
 pub mod list;
 pub mod lusers;
 mod own_rows;
+mod saying;
 pub mod who;
 pub mod whois;

@@ -1,110 +1,125 @@
 //! LIST.
-ghost use Rattle.std.specs.Prelude.{◌≡◌, is_some, [], ◌∷◌, ◌++◌, filter, length, IfOk, OnOk};
+ghost use Rattle.std.specs.Prelude.{◌≡◌, is_some, Some, [], ◌∷◌, ◌++◌, filter, length, OnOk};
 ghost use Rattle.std.specs.List.{flat_map};
 ghost use Rattle.std.specs.FinMap.{values};
+ghost use Rattle.irc_batch.specs.Growing.{Grew};
 ghost use Rattle.irc_line.specs.PartViews.{words_now};
 ghost use Rattle.irc_tables.specs.RowViews.{row_entry};
+ghost use Rattle.irc_routes.specs.Known.{place_of};
+ghost use Rattle.irc_acts.specs.CommaLists.{entries};
+ghost use Rattle.irc_acts.specs.declared.act.Act.TheVariants.{Answer};
 ghost use Rattle.irc_answers.specs.Names.{listed, named_members};
 ghost use Rattle.irc_answers.specs.Loops.NameLines.{is_shown};
-ghost use Rattle.irc_acts.specs.CommaLists.{entries};
 ghost use Rattle.irc_queries.specs.List.{asked_entry, channel_entry, list_steps, listed_entries};
+ghost use Rattle.irc_queries.specs.Said.{all_said};
 ghost use Rattle.irc_queries.specs.Laws.ListLaw.{ListOnlyAnswers};
 
+use crate::saying::say;
+use irc_acts::Context;
 use irc_acts::comma_lists::next_entry;
 use irc_acts::standing::{is_known, is_listed};
-use irc_acts::{Act, Context, put};
+use irc_batch::Batch;
 use irc_channels::{Channel, Flags};
 use irc_names::copied;
 use irc_numerics::Reply;
 use irc_room::Room;
 use irc_tables::Row;
-use std::alloc::{AllocError, Global};
+use std::alloc::AllocError;
 
-/// What a LIST does (RFC 2812 section 3.2.6).
+/// Puts out what a LIST is answered with (RFC 2812 section 3.2.6), to the user that asks.
 ///
 /// # Errors
-/// Where memory runs out.
+/// Where memory runs out; nothing that was put out before has changed then.
 #[tactic(auto, unfolding(crate::specs::List::list_steps))]
-pub fn steps(context: &Context<'_>, params: &[&[u8]]) -> Result<Vec<Act, Global>, AllocError>
-    ensures { IfOk result (λ steps. steps.items ≡ list_steps context.now.room.now.room context.now.me.now (words_now params.now)) }
+pub fn answer(
+    context: &Context<'_>,
+    params: &[&[u8]],
+    conn: u64,
+    out: &mut Batch,
+) -> Result<(), AllocError>
+    ensures ok { OnOk result (out.new.outs ≡ out.old.outs ++ all_said (place_of context.now.routes.now) (Some context.now.me.now.nick) conn (list_steps context.now.room.now.room context.now.me.now (words_now params.now))) }
+    ensures grew { Grew out.old.outs out.new.outs }
 {
-    let mut steps = Vec::new(context.alloc);
     match params.first() {
-        Some(list) => put_list(&mut steps, context, list)?,
-        None => put_listed(&mut steps, context)?,
+        Some(list) => say_list(context, list, conn, out)?,
+        None => say_listed(context, conn, out)?,
     }
-    put(&mut steps, Act::Answer(Reply::ListEnd))?;
-    Ok(steps)
+    say(context, &Reply::ListEnd, conn, out)
 }
 
-/// Appends the entry of every channel that is listed for a user.
-fn put_listed(steps: &mut Vec<Act, Global>, context: &Context<'_>) -> Result<(), AllocError>
-    ensures { OnOk result (steps.new.items ≡ steps.old.items ++ listed_entries context.now.room.now.room.users context.now.me.now (values context.now.room.now.room.channels)) }
+/// Puts out the entry of every channel that is listed for a user.
+fn say_listed(context: &Context<'_>, conn: u64, out: &mut Batch) -> Result<(), AllocError>
+    ensures ok { OnOk result (out.new.outs ≡ out.old.outs ++ all_said (place_of context.now.routes.now) (Some context.now.me.now.nick) conn (listed_entries context.now.room.now.room.users context.now.me.now (values context.now.room.now.room.channels))) }
+    ensures grew { Grew out.old.outs out.new.outs }
 {
-    // Room for all and the end at once: a list that grows copies what it has.
-    steps.reserve(context.room.channels().len().saturating_add(1))?;
     for row in context.room.channels() {
-        put_if_listed(steps, context, &row.value)?;
+        say_if_listed(context, &row.value, conn, out)?;
     }
     Ok(())
 }
 
-/// Appends the entry of a channel, if it is listed for a user.
-fn put_if_listed(
-    steps: &mut Vec<Act, Global>,
+/// Puts out the entry of a channel, if it is listed for a user.
+fn say_if_listed(
     context: &Context<'_>,
     channel: &Channel,
+    conn: u64,
+    out: &mut Batch,
 ) -> Result<(), AllocError>
-    ensures { OnOk result (steps.new.items ≡ steps.old.items ++ listed_entries context.now.room.now.room.users context.now.me.now (channel.now ∷ [])) }
+    ensures ok { OnOk result (out.new.outs ≡ out.old.outs ++ all_said (place_of context.now.routes.now) (Some context.now.me.now.nick) conn (listed_entries context.now.room.now.room.users context.now.me.now (channel.now ∷ []))) }
+    ensures grew { Grew out.old.outs out.new.outs }
 {
     if is_listed(context.me, channel) {
-        put(steps, channel_entry(context, channel))
+        say(context, &channel_entry(context, channel), conn, out)
     } else {
         Ok(())
     }
 }
 
-/// Appends the entries of the channels of a comma list.
-fn put_list(
-    steps: &mut Vec<Act, Global>,
+/// Puts out the entries of the channels of a comma list.
+fn say_list(
     context: &Context<'_>,
     list: &[u8],
+    conn: u64,
+    out: &mut Batch,
 ) -> Result<(), AllocError>
-    ensures { OnOk result (steps.new.items ≡ steps.old.items ++ flat_map (asked_entry context.now.room.now.room context.now.me.now) (entries list.now)) }
+    ensures ok { OnOk result (out.new.outs ≡ out.old.outs ++ all_said (place_of context.now.routes.now) (Some context.now.me.now.nick) conn (flat_map (asked_entry context.now.room.now.room context.now.me.now) (entries list.now))) }
+    ensures grew { Grew out.old.outs out.new.outs }
 {
     let mut rest = list;
     while let Some((asked, behind)) = next_entry(rest) {
-        put_asked(steps, context, asked)?;
+        say_asked(context, asked, conn, out)?;
         rest = behind;
     }
     Ok(())
 }
 
-/// Appends the entry of the channel that is asked for, where it is there and known to the user.
-fn put_asked(
-    steps: &mut Vec<Act, Global>,
+/// Puts out the entry of the channel that is asked for, where it is there and known to the user.
+fn say_asked(
     context: &Context<'_>,
     asked: &[u8],
+    conn: u64,
+    out: &mut Batch,
 ) -> Result<(), AllocError>
-    ensures { OnOk result (steps.new.items ≡ steps.old.items ++ asked_entry context.now.room.now.room context.now.me.now asked.now) }
+    ensures ok { OnOk result (out.new.outs ≡ out.old.outs ++ all_said (place_of context.now.routes.now) (Some context.now.me.now.nick) conn (asked_entry context.now.room.now.room context.now.me.now asked.now)) }
+    ensures grew { Grew out.old.outs out.new.outs }
 {
     match context.room.channel(asked) {
         Some(channel) if is_known(context.me, channel) => {
-            put(steps, channel_entry(context, channel))
+            say(context, &channel_entry(context, channel), conn, out)
         }
         _ => Ok(()),
     }
 }
 
 /// A channel, with how many of its members a user may know of, and its topic.
-fn channel_entry(context: &Context<'_>, channel: &Channel) -> Act
-    ensures { result ≡ channel_entry context.now.room.now.room.users context.now.me.now channel.now }
+fn channel_entry(context: &Context<'_>, channel: &Channel) -> Reply
+    ensures { Answer result ≡ channel_entry context.now.room.now.room.users context.now.me.now channel.now }
 {
-    Act::Answer(Reply::List {
+    Reply::List {
         channel: channel.name.copy(),
         count: named_count(context, channel),
         topic: copied(channel.topic.as_bytes()),
-    })
+    }
 }
 
 /// How many members of a channel NAMES would name to a user.

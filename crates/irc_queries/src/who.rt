@@ -1,8 +1,8 @@
 //! WHO.
-ghost use Rattle.std.specs.Prelude.{◌≡◌, ◌&&◌, None, Some, [], ◌∷◌, ◌++◌, codes, map, option_to_list, IfOk, OnOk};
+ghost use Rattle.std.specs.Prelude.{◌≡◌, ◌&&◌, None, Some, [], ◌∷◌, ◌++◌, map, OnOk};
 ghost use Rattle.std.specs.List.{filter_map};
 ghost use Rattle.std.specs.FinMap.{entries, values};
-ghost use Rattle.std.specs.Option.{option_copied};
+ghost use Rattle.irc_batch.specs.Growing.{Grew};
 ghost use Rattle.irc_names.specs.Fold.{key};
 ghost use Rattle.irc_names.specs.Tables.{row};
 ghost use Rattle.irc_line.specs.PartViews.{words_now};
@@ -10,20 +10,24 @@ ghost use Rattle.irc_tables.specs.RowViews.{row_entry};
 ghost use Rattle.irc_numerics.specs.declared.replies.Mark.TheVariants.{Plain};
 ghost use Rattle.irc_routes.specs.Known.{place_of};
 ghost use Rattle.irc_acts.specs.Standing.{is_seen_from};
+ghost use Rattle.irc_acts.specs.declared.act.Act.TheVariants.{Answer};
 ghost use Rattle.irc_queries.specs.Who.{asks_for_operators, end_of_who, hops_to, is_asked_for, is_channel_asked, member_line, members_told, told, told_of_seen, user_line, users_told, who_steps};
+ghost use Rattle.irc_queries.specs.Said.{all_said};
 ghost use Rattle.irc_queries.specs.Laws.WhoLaw.{WhoOnlyAnswers};
 
 use crate::own_rows::own_rows;
+use crate::saying::say;
+use irc_acts::Context;
 use irc_acts::standing::{is_known, is_seen, mark_of};
 use irc_acts::words::client_words;
-use irc_acts::{Act, Context, only, put};
+use irc_batch::Batch;
 use irc_channels::{Channel, Flags};
 use irc_names::{ChannelName, ServerName, copied};
 use irc_numerics::{Mark, Reply};
 use irc_routes::{Routes, laws};
 use irc_tables::Row;
 use irc_users::User;
-use std::alloc::{AllocError, Global};
+use std::alloc::AllocError;
 
 /// What asks for all users.
 const ALL: &[u8] = b"0";
@@ -31,21 +35,27 @@ const ALL: &[u8] = b"0";
 /// What asks for operators of the network alone.
 const OPERATORS: &[u8] = b"o";
 
-/// What a WHO does (RFC 2812 section 3.6.1).
+/// Puts out what a WHO is answered with (RFC 2812 section 3.6.1), to the user that asks.
 ///
 /// # Errors
-/// Where memory runs out.
+/// Where memory runs out; nothing that was put out before has changed then.
 #[tactic(auto, unfolding(crate::specs::Who::who_steps))]
-pub fn steps(context: &Context<'_>, params: &[&[u8]]) -> Result<Vec<Act, Global>, AllocError>
-    ensures { IfOk result (λ steps. steps.items ≡ who_steps context.now.room.now.room (place_of context.now.routes.now) context.now.me.now (words_now params.now)) }
+pub fn answer(
+    context: &Context<'_>,
+    params: &[&[u8]],
+    conn: u64,
+    out: &mut Batch,
+) -> Result<(), AllocError>
+    ensures ok { OnOk result (out.new.outs ≡ out.old.outs ++ all_said (place_of context.now.routes.now) (Some context.now.me.now.nick) conn (who_steps context.now.room.now.room (place_of context.now.routes.now) context.now.me.now (words_now params.now))) }
+    ensures grew { Grew out.old.outs out.new.outs }
 {
     let Some((asked, more)) = params.split_first() else {
-        return told_to_the_end(context, ALL, b"*");
+        return say_to_the_end(context, ALL, b"*", conn, out);
     };
     if asks_for_operators(more) {
-        only(context.alloc, end_of_who(asked))
+        say(context, &end_of_who(asked), conn, out)
     } else {
-        told_to_the_end(context, asked, asked)
+        say_to_the_end(context, asked, asked, conn, out)
     }
 }
 
@@ -59,43 +69,59 @@ fn asks_for_operators(more: &[&[u8]]) -> bool
     }
 }
 
-/// What is told of whom a word asks for, and the end with another.
-fn told_to_the_end(
+/// Puts out what is told of whom a word asks for, and the end with another.
+fn say_to_the_end(
     context: &Context<'_>,
     asked: &[u8],
     given: &[u8],
-) -> Result<Vec<Act, Global>, AllocError>
-    ensures { IfOk result (λ steps. steps.items ≡ told context.now.room.now.room (place_of context.now.routes.now) context.now.me.now asked.now ++ end_of_who given.now ∷ []) }
+    conn: u64,
+    out: &mut Batch,
+) -> Result<(), AllocError>
+    ensures ok { OnOk result (out.new.outs ≡ out.old.outs ++ all_said (place_of context.now.routes.now) (Some context.now.me.now.nick) conn (told context.now.room.now.room (place_of context.now.routes.now) context.now.me.now asked.now ++ end_of_who given.now ∷ [])) }
+    ensures grew { Grew out.old.outs out.new.outs }
+{
+    say_whom(context, asked, conn, out)?;
+    say(context, &end_of_who(given), conn, out)
+}
+
+/// Puts out what is told of whom a word asks for.
+fn say_whom(
+    context: &Context<'_>,
+    asked: &[u8],
+    conn: u64,
+    out: &mut Batch,
+) -> Result<(), AllocError>
+    ensures ok { OnOk result (out.new.outs ≡ out.old.outs ++ all_said (place_of context.now.routes.now) (Some context.now.me.now.nick) conn (told context.now.room.now.room (place_of context.now.routes.now) context.now.me.now asked.now)) }
+    ensures grew { Grew out.old.outs out.new.outs }
 {
     let own = own_rows(context.room, context.me)?;
-    let mut steps = Vec::new(context.alloc);
-    put_told(&mut steps, context, own.as_slice(), asked)?;
-    put(&mut steps, end_of_who(given))?;
-    Ok(steps)
+    say_told(context, own.as_slice(), asked, conn, out)
 }
 
 /// The end, with what was given.
-fn end_of_who(given: &[u8]) -> Act
-    ensures { result ≡ end_of_who given.now }
+fn end_of_who(given: &[u8]) -> Reply
+    ensures { Answer result ≡ end_of_who given.now }
 {
-    Act::Answer(Reply::EndOfWho {
+    Reply::EndOfWho {
         name: client_words(given),
-    })
+    }
 }
 
-/// Appends what is told of whom a word asks for to a user that is in these channels.
-fn put_told(
-    steps: &mut Vec<Act, Global>,
+/// Puts out what is told of whom a word asks for, to a user that is in these channels.
+fn say_told(
     context: &Context<'_>,
     own: &[&Row<Channel>],
     asked: &[u8],
+    conn: u64,
+    out: &mut Batch,
 ) -> Result<(), AllocError>
-    ensures { OnOk result (steps.new.items ≡ steps.old.items ++ told_of_seen context.now.room.now.room (place_of context.now.routes.now) (λ user. is_seen_from (map (λ row. row.now.value) own.now) context.now.me.now user) context.now.me.now asked.now) }
+    ensures ok { OnOk result (out.new.outs ≡ out.old.outs ++ all_said (place_of context.now.routes.now) (Some context.now.me.now.nick) conn (told_of_seen context.now.room.now.room (place_of context.now.routes.now) (λ user. is_seen_from (map (λ row. row.now.value) own.now) context.now.me.now user) context.now.me.now asked.now)) }
+    ensures grew { Grew out.old.outs out.new.outs }
 {
     if is_channel_asked(asked) {
-        put_channel(steps, context, own, asked)
+        say_channel(context, own, asked, conn, out)
     } else {
-        put_users(steps, context, own, asked)
+        say_users(context, own, asked, conn, out)
     }
 }
 
@@ -109,92 +135,97 @@ fn is_channel_asked(asked: &[u8]) -> bool
     }
 }
 
-/// Appends the members of a channel that is there and known, where they are seen.
-fn put_channel(
-    steps: &mut Vec<Act, Global>,
+/// Puts out the members of a channel that is there and known, where they are seen.
+fn say_channel(
     context: &Context<'_>,
     own: &[&Row<Channel>],
     asked: &[u8],
+    conn: u64,
+    out: &mut Batch,
 ) -> Result<(), AllocError>
-    ensures { OnOk result (steps.new.items ≡ steps.old.items ++ members_told context.now.room.now.room (place_of context.now.routes.now) (λ user. is_seen_from (map (λ row. row.now.value) own.now) context.now.me.now user) context.now.me.now (row context.now.room.now.room.channels (key asked.now))) }
+    ensures ok { OnOk result (out.new.outs ≡ out.old.outs ++ all_said (place_of context.now.routes.now) (Some context.now.me.now.nick) conn (members_told context.now.room.now.room (place_of context.now.routes.now) (λ user. is_seen_from (map (λ row. row.now.value) own.now) context.now.me.now user) context.now.me.now (row context.now.room.now.room.channels (key asked.now)))) }
+    ensures grew { Grew out.old.outs out.new.outs }
 {
     match context.room.channel(asked) {
-        Some(channel) if is_known(context.me, channel) => put_members(steps, context, own, channel),
+        Some(channel) if is_known(context.me, channel) => {
+            say_members(context, own, channel, conn, out)
+        }
         _ => Ok(()),
     }
 }
 
-/// Appends the members of a channel that are seen.
-fn put_members(
-    steps: &mut Vec<Act, Global>,
+/// Puts out the members of a channel that are seen.
+fn say_members(
     context: &Context<'_>,
     own: &[&Row<Channel>],
     channel: &Channel,
+    conn: u64,
+    out: &mut Batch,
 ) -> Result<(), AllocError>
-    ensures { OnOk result (steps.new.items ≡ steps.old.items ++ filter_map (member_line context.now.room.now.room (place_of context.now.routes.now) (λ user. is_seen_from (map (λ row. row.now.value) own.now) context.now.me.now user) channel.now) (entries channel.now.members)) }
+    ensures ok { OnOk result (out.new.outs ≡ out.old.outs ++ all_said (place_of context.now.routes.now) (Some context.now.me.now.nick) conn (filter_map (member_line context.now.room.now.room (place_of context.now.routes.now) (λ user. is_seen_from (map (λ row. row.now.value) own.now) context.now.me.now user) channel.now) (entries channel.now.members))) }
+    ensures grew { Grew out.old.outs out.new.outs }
 {
-    // Room for all and the end at once: a list that grows copies what it has.
-    steps.reserve(channel.members.len().saturating_add(1))?;
     for row in channel.members.as_slice() {
-        put_member(steps, context, own, channel, row)?;
+        say_member(context, own, channel, row, conn, out)?;
     }
     Ok(())
 }
 
-/// Appends a member of a channel, if it is seen.
-fn put_member(
-    steps: &mut Vec<Act, Global>,
+/// Puts out a member of a channel, if it is seen.
+fn say_member(
     context: &Context<'_>,
     own: &[&Row<Channel>],
     channel: &Channel,
     member: &Row<Flags>,
+    conn: u64,
+    out: &mut Batch,
 ) -> Result<(), AllocError>
-    ensures { OnOk result (steps.new.items ≡ steps.old.items ++ filter_map (member_line context.now.room.now.room (place_of context.now.routes.now) (λ user. is_seen_from (map (λ row. row.now.value) own.now) context.now.me.now user) channel.now) (row_entry member.now ∷ [])) }
+    ensures ok { OnOk result (out.new.outs ≡ out.old.outs ++ all_said (place_of context.now.routes.now) (Some context.now.me.now.nick) conn (filter_map (member_line context.now.room.now.room (place_of context.now.routes.now) (λ user. is_seen_from (map (λ row. row.now.value) own.now) context.now.me.now user) channel.now) (row_entry member.now ∷ []))) }
+    ensures grew { Grew out.old.outs out.new.outs }
 {
     match context.room.user(member.name.as_slice()) {
-        Some(user) if is_seen(context.me, own, user) => put(
-            steps,
-            user_line(
-                context.routes,
-                Some(channel.name.copy()),
-                mark_of(member.value),
-                user,
-            ),
-        ),
+        Some(user) if is_seen(context.me, own, user) => {
+            let name = Some(channel.name.copy());
+            let line = user_line(context.routes, name, mark_of(member.value), user);
+            say(context, &line, conn, out)
+        }
         _ => Ok(()),
     }
 }
 
-/// Appends the users that a mask asks for and that are seen.
-fn put_users(
-    steps: &mut Vec<Act, Global>,
+/// Puts out the users that a mask asks for and that are seen.
+fn say_users(
     context: &Context<'_>,
     own: &[&Row<Channel>],
     mask: &[u8],
+    conn: u64,
+    out: &mut Batch,
 ) -> Result<(), AllocError>
-    ensures { OnOk result (steps.new.items ≡ steps.old.items ++ users_told (place_of context.now.routes.now) (λ user. is_seen_from (map (λ row. row.now.value) own.now) context.now.me.now user) mask.now (values context.now.room.now.room.users)) }
+    ensures ok { OnOk result (out.new.outs ≡ out.old.outs ++ all_said (place_of context.now.routes.now) (Some context.now.me.now.nick) conn (users_told (place_of context.now.routes.now) (λ user. is_seen_from (map (λ row. row.now.value) own.now) context.now.me.now user) mask.now (values context.now.room.now.room.users))) }
+    ensures grew { Grew out.old.outs out.new.outs }
 {
     let users = context.room.users()?;
-    // As for the members of a channel.
-    steps.reserve(users.len().saturating_add(1))?;
     for user in users.as_slice() {
-        put_user(steps, context, own, mask, user)?;
+        say_user(context, own, mask, user, conn, out)?;
     }
     Ok(())
 }
 
-/// Appends a user, if a mask asks for it and it is seen.
-fn put_user(
-    steps: &mut Vec<Act, Global>,
+/// Puts out a user, if a mask asks for it and it is seen.
+fn say_user(
     context: &Context<'_>,
     own: &[&Row<Channel>],
     mask: &[u8],
     user: &User,
+    conn: u64,
+    out: &mut Batch,
 ) -> Result<(), AllocError>
-    ensures { OnOk result (steps.new.items ≡ steps.old.items ++ users_told (place_of context.now.routes.now) (λ user. is_seen_from (map (λ row. row.now.value) own.now) context.now.me.now user) mask.now (user.now ∷ [])) }
+    ensures ok { OnOk result (out.new.outs ≡ out.old.outs ++ all_said (place_of context.now.routes.now) (Some context.now.me.now.nick) conn (users_told (place_of context.now.routes.now) (λ user. is_seen_from (map (λ row. row.now.value) own.now) context.now.me.now user) mask.now (user.now ∷ []))) }
+    ensures grew { Grew out.old.outs out.new.outs }
 {
     if is_asked_for(mask, user) && is_seen(context.me, own, user) {
-        put(steps, user_line(context.routes, None, Mark::Plain, user))
+        let line = user_line(context.routes, None, Mark::Plain, user);
+        say(context, &line, conn, out)
     } else {
         Ok(())
     }
@@ -208,10 +239,10 @@ fn is_asked_for(mask: &[u8], user: &User) -> bool
 }
 
 /// A user, and what it is in the channel that was asked for, if one was.
-fn user_line(routes: &Routes, channel: Option<ChannelName>, mark: Mark, user: &User) -> Act
-    ensures { result ≡ user_line (place_of routes.now) channel mark user.now }
+fn user_line(routes: &Routes, channel: Option<ChannelName>, mark: Mark, user: &User) -> Reply
+    ensures { Answer result ≡ user_line (place_of routes.now) channel mark user.now }
 {
-    Act::Answer(Reply::WhoReply {
+    Reply::WhoReply {
         channel,
         user: copied(user.user.as_bytes()),
         host: user.host.copy(),
@@ -220,7 +251,7 @@ fn user_line(routes: &Routes, channel: Option<ChannelName>, mark: Mark, user: &U
         mark,
         hops: hops_to(routes, &user.home),
         real: copied(user.real.as_bytes()),
-    })
+    }
 }
 
 /// How many links away the server of a name is.

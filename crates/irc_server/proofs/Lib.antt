@@ -4,6 +4,7 @@ pub mod Showings
 pub mod HomeRoom
 pub mod Steps
 pub mod OneMachine
+pub mod ToldInPart
 pub mod WhatEventsDo
 pub mod NewServer
 pub mod Receiving

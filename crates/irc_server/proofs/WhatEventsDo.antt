@@ -29,7 +29,7 @@ use Rattle.irc_server.specs.Handle.{Handled, handled, fresh, gone, read_as, unch
 use Rattle.irc_server.specs.Happening.{happening_of, Does, IsHandled, takes_it, refuses_it, wants_memory, has_failed}
 use Rattle.irc_server.specs.Matched.{IsDue}
 use Rattle.irc_server.specs.Served.{put_back, served, there, fault_of, AreMatched, ServedStaysMatched}
-use Rattle.irc_server.specs.Loops.Grown.{Grew}
+use Rattle.irc_batch.specs.Growing.{Grew}
 use Rattle.irc_server.specs.Loops.Stage.{behind, so_far, view_of, machine_at, Keeps}
 use Rattle.irc_server.proofs.Steps.{carried_behind, nothing_behind}
 

@@ -1,3 +1,2 @@
 pub mod Codes
-pub mod Grown
 pub mod Stage

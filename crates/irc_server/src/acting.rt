@@ -11,7 +11,7 @@ ghost use Rattle.irc_server.specs.Happening.{Does};
 ghost use Rattle.irc_server.specs.Matched.{IsMatched};
 ghost use Rattle.irc_server.specs.Served.{fault_of};
 ghost use Rattle.irc_server.specs.RoomMachine.{client_of, with_client, without_client};
-ghost use Rattle.irc_server.specs.Loops.Grown.{Grew};
+ghost use Rattle.irc_batch.specs.Growing.{Grew};
 ghost use Rattle.irc_server.specs.Loops.Stage.{behind, machine_at, so_far, view_of, AreFit, IsFreeOf, IsNoUser, IsReady, Keeps};
 
 use crate::clients::{Client, Waiting, client_of, seat, take_out};
@@ -99,7 +99,15 @@ fn obey(
     let Some(name) = stored_nick(stage, nick) else {
         return Ok(());
     };
-    let decision = decide(stage.alloc, &stage.room, &stage.routes, &name, message)?;
+    let decision = decide(
+        stage.alloc,
+        &stage.room,
+        &stage.routes,
+        &name,
+        message,
+        conn,
+        out,
+    )?;
     carry_out(
         stage,
         conn,

@@ -8,7 +8,7 @@ ghost use Rattle.irc_room.specs.Applying.{pairs_of};
 ghost use Rattle.irc_server.specs.RoomMachine.{each_client};
 ghost use Rattle.irc_server.specs.Handle.{renamed_in, to_viewer};
 ghost use Rattle.irc_server.specs.Loops.Stage.{all_shown, clients_of, departed, entered, numbered, IsFreeFor, IsFreeOf, IsIndexed, IsNoUser};
-ghost use Rattle.irc_server.specs.Loops.Grown.{Grew};
+ghost use Rattle.irc_batch.specs.Growing.{Grew};
 
 use irc_batch::Batch;
 use irc_commands::Pending;

@@ -5,7 +5,7 @@ ghost use Rattle.irc_room.specs.After.{after};
 ghost use Rattle.irc_room.specs.Applying.{pairs_of, shown_here};
 ghost use Rattle.irc_room.specs.Effects.{IsPossible};
 ghost use Rattle.irc_server.specs.Handle.{all_stepped, clients_after, closing, stepped, with_effect};
-ghost use Rattle.irc_server.specs.Loops.Grown.{Grew};
+ghost use Rattle.irc_batch.specs.Growing.{Grew};
 ghost use Rattle.irc_server.specs.Loops.Stage.{clients_of, machine_at, so_far, AreFit, IsFit, IsIndexed, IsReady, IsSound, Keeps, LeavesApart};
 
 use crate::clients::{ClientTable, rename, show_all, take_out};

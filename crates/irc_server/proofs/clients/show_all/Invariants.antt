@@ -1,6 +1,6 @@
 use Rattle.std.proofs.Common.{◌≡◌, ◌++◌, drop, map}
 use Rattle.irc_room.specs.Applying.{pairs_of}
-use Rattle.irc_server.specs.Loops.Grown.{Grew}
+use Rattle.irc_batch.specs.Growing.{Grew}
 use Rattle.irc_server.specs.Loops.Stage.{all_shown, clients_of}
 use Rattle.irc_server.proofs.clients.show_all.Given as goal
 

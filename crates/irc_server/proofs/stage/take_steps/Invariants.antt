@@ -1,7 +1,7 @@
 use Rattle.std.proofs.Common.{◌≡◌, drop}
 use Rattle.irc_line.specs.MessageViews.{optional_now}
 use Rattle.irc_server.specs.Handle.{all_stepped}
-use Rattle.irc_server.specs.Loops.Grown.{Grew}
+use Rattle.irc_batch.specs.Growing.{Grew}
 use Rattle.irc_server.specs.Loops.Stage.{so_far, machine_at, AreFit, IsReady, Keeps}
 use Rattle.irc_server.proofs.stage.take_steps.Given as goal
 
