@@ -1,5 +1,5 @@
 -- What is put out to connections, in order.
-use Rattle.std.specs.Prelude.{ℕ, List, []}
+use Rattle.std.specs.Prelude.{ℕ, Bool, false, not, nat_eq, Option, Some, None, List, [], map, filter}
 use Rattle.irc_batch.specs.declared.batch.Out.{Out}
 use Rattle.irc_batch.specs.declared.batch.Out.TheVariants.{Line, Close}
 
@@ -18,6 +18,14 @@ batch_of outs held = record { outs = outs; held = held }
 
 abbrev pub nothing : Batch
 nothing = batch_of [] []
+
+-- a line, in turn to each of these connections but for one
+abbrev pub is_number : Option ℕ → ℕ → Bool
+is_number None conn = false
+is_number (Some one) conn = nat_eq one conn
+
+abbrev pub to_others : List ℕ → Option ℕ → List ℕ → List Sent
+to_others line one conns = map (λ conn. line_to conn line) (filter (λ conn. not (is_number one conn)) conns)
 
 -- what the code's value says
 abbrev pub told : Out → Sent

@@ -2,7 +2,8 @@
 ghost use Rattle.std.specs.Prelude.{◌≡◌, [], ◌∷◌, ◌++◌, length, take, OnOk, OnErr};
 ghost use Rattle.std.specs.Option.{option_map};
 ghost use Rattle.std.specs.List.{slice_get};
-ghost use Rattle.irc_batch.specs.Batches.{batch_of, end_of, line_to, nothing, told};
+ghost use Rattle.irc_batch.specs.Batches.{batch_of, end_of, line_to, nothing, to_others, told};
+ghost use Rattle.irc_batch.specs.Growing.{Grew};
 
 use std::alloc::{AllocError, Global};
 use std::marker::Model;
@@ -113,6 +114,31 @@ impl Batch {
         match self.marks.push(Mark::Line(conn, self.held)) {
             Ok(()) => Ok(()),
             Err(_) => Err(AllocError),
+        }
+    }
+
+    /// Puts out the line at hand to each of these connections in turn, but for one.
+    ///
+    /// # Errors
+    /// Where memory runs out; it has been put out to some of them then.
+    pub fn send_to_others(&mut self, conns: &[u64], one: Option<u64>) -> Result<(), AllocError>
+        ensures ok { OnOk result (self.new ≡ record self.old { outs = self.old.outs ++ to_others self.old.held one conns.now }) }
+        ensures grew { Grew self.old.outs self.new.outs }
+    {
+        for conn in conns {
+            self.send_unless(*conn, one)?;
+        }
+        Ok(())
+    }
+
+    /// Puts out the line at hand to a connection, unless it is this one.
+    fn send_unless(&mut self, conn: u64, one: Option<u64>) -> Result<(), AllocError>
+        ensures ok { OnOk result (self.new ≡ record self.old { outs = self.old.outs ++ to_others self.old.held one (conn ∷ []) }) }
+        ensures refused { OnErr result (self.new ≡ self.old) }
+    {
+        match one {
+            Some(number) if number == conn => Ok(()),
+            _ => self.send(conn),
         }
     }
 

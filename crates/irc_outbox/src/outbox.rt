@@ -1,17 +1,15 @@
 //! Bytes that wait for a connection to take them.
-ghost use Rattle.std.specs.Prelude.{◌≡◌, [], length, drop, IfOk};
-ghost use Rattle.circular_buffer.specs.Buffer.{buffer};
-ghost use Rattle.irc_outbox.specs.Outboxes.{holding, IsFront, IsPushed, WritesSome};
+ghost use Rattle.std.specs.Prelude.{◌≡◌, ◌+◌, ◌≤◌, ◌++◌, [], length, drop, vec_capacity, IfOk};
+ghost use Rattle.irc_outbox.specs.Outboxes.{holding, IsPushed, WritesSome};
 
 use crate::wire::{IoFault, Wire};
-use circular_buffer::HeapCircularBuffer;
 use std::alloc::{AllocError, Global};
-use std::cmp::min;
 use std::marker::Model;
 use thiserror::Error;
 
-/// How many bytes the near part of an outbox holds, at most. The number is our own choice: what a client is greeted with is some 600 bytes.
-const NEAR_ROOM: usize = 1_024;
+/// Memory is taken for the room and one byte more for each so many bytes of it. Bytes that wait are moved to the beginning once the end of the memory
+/// is reached: at most so many are moved for each byte that was written (our own choice).
+const SLACK: usize = 8;
 
 /// Why bytes are not taken into an outbox.
 #[derive(Clone, Copy, Debug, Drop, Error, PartialEq, Eq)]
@@ -23,26 +21,28 @@ pub enum Overflow {
 
 /// Bytes that wait for a connection to take them, in order. There is room for a fixed number of them.
 ///
-/// It has two parts, since a ring that is used goes through all of its memory in time. While a connection keeps up, what is short goes through
-/// the near part alone, and the memory of the far part stays untouched.
+/// They lie in one piece, so that they are copied at once and one write takes them all. Once all are written the next ones go to the beginning
+/// again: a connection that keeps up uses the same little memory, and the rest of it stays untouched.
 #[derive(Drop)]
 pub struct Outbox {
-    /// What goes out first: little room, so that a connection that keeps up touches little memory.
-    near: HeapCircularBuffer<u8, Global>,
-    /// What waits behind it. Its room is that of the outbox, whose bytes would all fit in here.
-    far: HeapCircularBuffer<u8, Global>,
+    /// Bytes that were written, and behind them those that wait.
+    bytes: Vec<u8, Global>,
+    /// How many were written.
+    written: usize,
+    /// How many may wait.
+    room: usize,
 }
 
 /// In a clause it is the bytes that it holds, and its room.
 impl Model for Outbox {
-    ghost use Rattle.std.specs.Prelude.{◌+◌, ◌≤◌, ◌++◌, length};
+    ghost use Rattle.std.specs.Prelude.{◌+◌, ◌≤◌, length, drop, vec_capacity};
     ghost use Rattle.irc_outbox.specs.Outboxes.{Held, holding};
 
     ghost Value = { Held };
 
-    ghost view = { λ o. holding (o.near.items ++ o.far.items) o.far.capacity };
+    ghost view = { λ o. holding (drop o.written o.bytes.items) o.room };
 
-    ghost invariant = { λ o. length o.near.items + length o.far.items ≤ o.far.capacity };
+    ghost invariant = { λ o. (o.written ≤ length o.bytes.items) × (length o.bytes.items ≤ o.written + o.room) × (o.room ≤ vec_capacity o.bytes) };
 }
 
 impl Outbox {
@@ -53,16 +53,19 @@ impl Outbox {
     pub fn with_capacity(alloc: Global, room: usize) -> Result<Self, AllocError>
         ensures { IfOk result (λ outbox. outbox ≡ holding [] room) }
     {
-        let near = HeapCircularBuffer::with_capacity(alloc, min(NEAR_ROOM, room))?;
-        let far = HeapCircularBuffer::with_capacity(alloc, room)?;
-        Ok(Outbox { near, far })
+        let bytes = Vec::with_capacity(alloc, room.saturating_add(room / SLACK))?;
+        Ok(Outbox {
+            bytes,
+            written: 0,
+            room,
+        })
     }
 
     /// How many bytes it holds.
     pub fn len(&self) -> usize
         ensures { result ≡ length self.now.bytes }
     {
-        self.near.len() + self.far.len()
+        self.bytes.len() - self.written
     }
 
     /// Appends bytes, all of them or none.
@@ -72,14 +75,14 @@ impl Outbox {
     pub fn push(&mut self, bytes: &[u8]) -> Result<(), Overflow>
         ensures { IsPushed self.old bytes.now result self.new }
     {
-        if bytes.len() > self.far.capacity() - self.len() {
+        if bytes.len() > self.room - self.len() {
             return Err(Overflow::TooLong);
         }
-        if self.far.is_empty() && bytes.len() <= self.near.capacity() - self.near.len() {
-            self.near.fill_from_slice(bytes);
-            return Ok(());
+        if bytes.len() > self.bytes.capacity() - self.bytes.len() {
+            close_up(&mut self.bytes, self.written);
+            self.written = 0;
         }
-        self.far.fill_from_slice(bytes);
+        append(&mut self.bytes, bytes);
         Ok(())
     }
 
@@ -90,44 +93,49 @@ impl Outbox {
     pub fn write_some<W: Wire>(&mut self, wire: &mut W, conn: u64) -> Result<usize, IoFault>
         ensures { WritesSome W.is_after conn self.old wire.old result self.new wire.new }
     {
-        if self.near.is_empty() {
-            write_front(&mut self.far, wire, conn)
+        let taken = wire.write(conn, self.waiting())?;
+        self.take_off(taken);
+        Ok(taken)
+    }
+
+    /// The bytes that it holds.
+    fn waiting(&self) -> &[u8]
+        ensures { result.now ≡ self.now.bytes }
+    {
+        &self.bytes[self.written..]
+    }
+
+    /// So many of its bytes are written. Where these are all, the next ones go to the beginning again.
+    fn take_off(&mut self, count: usize)
+        ensures { self.new ≡ holding (drop count self.old.bytes) self.old.room }
+    {
+        if count >= self.len() {
+            self.bytes.clear();
+            self.written = 0;
         } else {
-            write_front(&mut self.near, wire, conn)
+            self.written += count;
         }
     }
 }
 
-/// Writes once to a connection, from the front of a buffer on: just the bytes that the wire took leave it.
-fn write_front<W: Wire>(
-    ring: &mut HeapCircularBuffer<u8, Global>,
-    wire: &mut W,
-    conn: u64,
-) -> Result<usize, IoFault>
-    ensures { WritesSome W.is_after conn (holding ring.old.items ring.old.capacity) wire.old result (holding ring.new.items ring.new.capacity) wire.new }
+/// Moves all but so many of the first bytes to the beginning.
+fn close_up(bytes: &mut Vec<u8, Global>, written: usize)
+    requires { written ≤ length bytes.old.items }
+    ensures items { bytes.new.items ≡ drop written bytes.old.items }
+    ensures capacity { vec_capacity bytes.new ≡ vec_capacity bytes.old }
 {
-    let taken = wire.write(conn, front(ring))?;
-    take_off(ring, taken);
-    Ok(taken)
+    let left = bytes.len() - written;
+    bytes.copy_within(written.., 0);
+    bytes.truncate(left);
 }
 
-/// Takes so many bytes off the front of a buffer. Where these are all, the next ones go into the same memory again: `clear` leaves the place at which
-/// the buffer starts, and `truncate_front` moves it on.
-fn take_off(ring: &mut HeapCircularBuffer<u8, Global>, count: usize)
-    ensures { ring.new ≡ buffer (drop count ring.old.items) ring.old.capacity }
+/// Appends bytes for which there is memory.
+fn append(to: &mut Vec<u8, Global>, bytes: &[u8])
+    requires { length to.old.items + length bytes.now ≤ vec_capacity to.old }
+    ensures items { to.new.items ≡ to.old.items ++ bytes.now }
+    ensures capacity { vec_capacity to.old ≤ vec_capacity to.new }
 {
-    let len = ring.len();
-    if count >= len {
-        ring.clear();
-    } else {
-        ring.truncate_front(len - count);
-    }
-}
-
-/// Bytes at the front of a buffer that lie in one piece.
-fn front(buffer: &HeapCircularBuffer<u8, Global>) -> &[u8]
-    ensures { IsFront buffer.now.items result.now }
-{
-    let (first, second) = buffer.as_slices();
-    if first.is_empty() { second } else { first }
+    let Ok(()) = to.extend_from_slice(bytes) else {
+        unreachable!()
+    };
 }

@@ -77,11 +77,15 @@ of_users : (users : List (Bor User)) → map (λ (user : Bor User). user.now.nic
 of_users [] = refl
 of_users (user ∷ users) = ap (λ xs. user.now.nick ∷ xs) (of_users users)
 
+-- the nicknames of users that were found
+pub nicknames_found : (users : List (Bor User)) (all : List User) → map (λ (user : Bor User). user.now) users ≡ all
+    → map (λ (user : Bor User). user.now.nick) users ≡ map (λ (user : User). user.nick) all
+nicknames_found users all are = of_users users ∙ ap (map (λ (user : User). user.nick)) are
+
 pub viewers_are_seen : (room : Room) (effect : Effect) → is_idle room effect ≡ false → IsLined room effect true → (users : List (Bor User))
     → map (λ (user : Bor User). user.now) users ≡ viewers room effect → map (λ (user : Bor User). user.now.nick) users ≡ nicks (seen room effect)
 unfolding seen
 viewers_are_seen room effect busy lined users are =
-    of_users users
-    ∙ ap (map (λ (user : User). user.nick)) are
+    nicknames_found users (viewers room effect) are
     ∙ all_seen room effect lined (values room.users)
     ∙ ap (λ b. nicks (if b then [] else filter_map (shown_to room effect) (values room.users))) (sym busy)

@@ -1,10 +1,11 @@
 //! One room.
-ghost use Rattle.std.specs.Prelude.{◌≡◌, ◌++◌, false, true, not, filter, length, map, option_to_list, IfOk, OnOk};
+ghost use Rattle.std.specs.Prelude.{◌≡◌, ◌++◌, false, true, not, Some, None, filter, length, map, option_to_list, IfOk, OnOk, if◌then◌else◌};
 ghost use Rattle.std.specs.Option.{option_copied, option_map};
 ghost use Rattle.std.specs.FinMap.{empty, entries, values};
 ghost use Rattle.irc_names.specs.Fold.{key};
 ghost use Rattle.irc_names.specs.Tables.{row};
 ghost use Rattle.irc_tables.specs.RowViews.{row_entry};
+ghost use Rattle.irc_users.specs.declared.user.User.{User};
 ghost use Rattle.irc_users.specs.Rosters.{boxed};
 ghost use Rattle.irc_users.specs.UserTable.{is_home};
 ghost use Rattle.irc_channels.specs.Channels.{has_member};
@@ -13,13 +14,14 @@ ghost use Rattle.irc_room.specs.Applying.{Kept, Applied, IdleStays, does};
 ghost use Rattle.irc_room.specs.Effects.{brings_free};
 ghost use Rattle.irc_room.specs.Indexes.{entries_under};
 ghost use Rattle.irc_room.specs.Laws.{no_room};
-ghost use Rattle.irc_room.specs.Readers.{user_at, channel_at, flags_at, is_invited_at};
+ghost use Rattle.irc_room.specs.Readers.{user_at, channel_at, flags_at, is_invited_at, nicks_in};
 ghost use Rattle.irc_room.specs.Room.{IsWellFormed};
-ghost use Rattle.irc_room.specs.Seen.{seen};
+ghost use Rattle.irc_room.specs.Seen.{seen, shown_line};
 
-use crate::audience::audience;
+use crate::audience::{audience, member_nicks};
 use crate::changing::perform;
 use crate::effect::Effect;
+use crate::effect_lines::effect_line;
 use crate::fault::RoomFault;
 use crate::home_count::{homed, staying, with_newcomer};
 use crate::idle::is_idle;
@@ -28,7 +30,8 @@ use crate::refusing::{missing, refusal};
 use crate::room_parts::RoomParts;
 use crate::shown_line::ShownLine;
 use irc_channels::{Channel, Flags};
-use irc_names::{Nick, ServerName};
+use irc_line::Text;
+use irc_names::{ChannelName, Nick, ServerName};
 use irc_tables::Row;
 use irc_users::{User, Users};
 use std::alloc::{AllocError, Global};
@@ -231,6 +234,35 @@ impl Room {
             channels: &self.channels,
         };
         audience(self.alloc, parts, effect)
+    }
+
+    /// The nicknames of the members of a channel, on whichever server, in folded order; none where there is no such channel.
+    ///
+    /// # Errors
+    /// Where memory runs out.
+    pub fn member_nicks(&self, channel: &ChannelName) -> Result<Vec<Nick, Global>, AllocError>
+        ensures { IfOk result (λ nicks. nicks.items ≡ nicks_in self.now.room channel.now) }
+    {
+        let parts = RoomParts {
+            users: &self.users,
+            channels: &self.channels,
+        };
+        member_nicks(self.alloc, parts, channel)
+    }
+
+    /// Writes the line that an effect shows to each user of the room's own server who sees it, with its CR LF (RFC 2812 section 2.3), and
+    /// tells whether it shows one at all. Where it does not, the line is any.
+    ///
+    /// # Errors
+    /// Where memory runs out.
+    pub fn write_line(&self, effect: &Effect, line: &mut Text) -> Result<bool, AllocError>
+        ensures { IfOk result (λ there. (viewer : User) → viewer.home ≡ self.now.own → shown_line self.now.room effect.now viewer ≡ (if there then Some line.new.items else None)) }
+    {
+        let parts = RoomParts {
+            users: &self.users,
+            channels: &self.channels,
+        };
+        effect_line(self.alloc, self.own.as_bytes(), parts, effect, line)
     }
 
     /// Applies an effect: the room is the one after it, and `shown` is what it shows to the server's own users.

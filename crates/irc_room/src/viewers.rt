@@ -79,7 +79,7 @@ fn only<'a>(
 }
 
 /// The members of a channel.
-fn members<'a>(
+pub(crate) fn members<'a>(
     alloc: Global,
     parts: RoomParts<'a>,
     channel: &ChannelName,

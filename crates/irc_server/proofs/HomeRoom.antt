@@ -28,7 +28,7 @@ use Rattle.irc_server.proofs.Showings.{shown_to_none}
 use Rattle.irc_server.proofs.Index.{differs}
 
 -- what holds of each row holds of each entry
-each_entry : (P : List ℕ → User → Type 0) (es : List (List ℕ × User)) → T (is_sorted fold_cmp es)
+pub each_entry : (P : List ℕ → User → Type 0) (es : List (List ℕ × User)) → T (is_sorted fold_cmp es)
     → ((q : List ℕ) (user : User) → find fold_cmp q es ≡ Some user → P q user) → AllByRecursion (λ (e : List ℕ × User). P e.0 e.1) es
 each_entry P [] rise holds = tt
 each_entry P (e ∷ es) rise holds =

@@ -2,6 +2,7 @@ pub mod Index
 pub mod Growing
 pub mod Showings
 pub mod HomeRoom
+pub mod Hearing
 pub mod Steps
 pub mod OneMachine
 pub mod ToldInPart

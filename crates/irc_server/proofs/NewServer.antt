@@ -1,5 +1,5 @@
 -- A new server has an empty room of its own, and no clients.
-use Rattle.std.proofs.Common.{◌≡◌, ℕ, false, List, refl, sym, ◌∙◌, ap, subst}
+use Rattle.std.proofs.Common.{◌≡◌, ℕ, false, Some, None, List, refl, sym, ◌∙◌, ap, subst}
 use Rattle.std.specs.Ordering.{nat_cmp}
 use Rattle.std.specs.FinMap.{empty, get, get-empty}
 use Rattle.irc_names.specs.Tables.{fold_cmp, row}
@@ -18,11 +18,12 @@ nobody : (own : List ℕ) → IsSound (record { own = own; failed = false; room 
 nobody own = record { serves = refl; well_formed = no_room_is_well_formed }
 
 pub is_ready : (stage : Stage) (own : List ℕ) → own ≡ stage.routes.name → stage.room ≡ record { own = own; failed = false; room = no_room } → IsIndexed stage.clients
-    → IsReady stage
-is_ready stage own own_is room_is indexed = record {
+    → stage.hearers.channel ≡ None → IsReady stage
+is_ready stage own own_is room_is indexed none = record {
   own_is = ap (λ (k : Kept). k.own) room_is ∙ own_is;
   sound = subst IsSound (sym room_is) (nobody own);
   indexed = indexed;
+  heard = λ channel is. cc;
 }
 
 pub is_matched : (machine : RoomMachine) → machine.clients ≡ empty → machine.room ≡ no_room → IsMatched machine

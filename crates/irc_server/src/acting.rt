@@ -37,6 +37,7 @@ fn connect(stage: &mut Stage, conn: u64, host: Host) -> Result<(), AllocError>
     ensures keeps { Keeps stage.old stage.new }
 {
     let waiting = Waiting::new(stage.alloc, Pending::new(host))?;
+    stage.hearers.forget();
     seat(&mut stage.clients, conn, Client::Registering(waiting))
 }
 
@@ -73,6 +74,7 @@ fn settle(
     ensures grew { Grew out.old.outs out.new.outs }
 {
     let client = client_after(stage.alloc, given)?;
+    stage.hearers.forget();
     seat(&mut stage.clients, conn, client)?;
     let name = given.pending.nick.as_ref();
     carry_out(stage, conn, name, &given.steps, given.close, out)
@@ -180,6 +182,7 @@ fn go(stage: &mut Stage, conn: u64, out: &mut Batch) -> Result<(), AllocError>
     ensures grew { Grew out.old.outs out.new.outs }
 {
     let user = user_of(stage, conn);
+    stage.hearers.forget();
     take_out(&mut stage.clients, conn);
     let Some(nick) = user else {
         return Ok(());

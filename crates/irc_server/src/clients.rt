@@ -161,7 +161,7 @@ pub(crate) fn rename(clients: &mut ClientTable, old: &Nick, new: &Nick) -> Resul
 }
 
 /// The connection of the user with a nickname, where it is a client.
-fn number_of(clients: &ClientTable, nick: &Nick) -> Option<u64>
+pub(crate) fn number_of(clients: &ClientTable, nick: &Nick) -> Option<u64>
     ensures { result ≡ row clients.now.by_nick (key nick.now) }
 {
     match clients.by_nick.get(nick) {

@@ -5,6 +5,7 @@ mod acting;
 mod clients;
 mod config;
 mod event;
+mod hearers;
 pub mod laws;
 mod server;
 mod stage;

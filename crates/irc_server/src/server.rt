@@ -11,6 +11,7 @@ use crate::acting::act;
 use crate::clients::{client_of, no_clients};
 use crate::config::{Config, ConfigFault, config_fault};
 use crate::event::{Event, ServerFault};
+use crate::hearers::Hearers;
 use crate::laws;
 use crate::stage::Stage;
 use irc_batch::Batch;
@@ -71,6 +72,7 @@ impl Server {
                 peers: config.peers,
                 clients,
                 room,
+                hearers: Hearers::new(alloc),
                 shown: ShownLine::new(alloc),
                 alloc,
             },

@@ -6,15 +6,17 @@ ghost use Rattle.irc_room.specs.Applying.{pairs_of, shown_here};
 ghost use Rattle.irc_room.specs.Effects.{IsPossible};
 ghost use Rattle.irc_server.specs.Handle.{all_stepped, clients_after, closing, stepped, with_effect};
 ghost use Rattle.irc_batch.specs.Growing.{Grew};
+ghost use Rattle.irc_server.specs.Loops.Hearing.{IsSaidBy};
 ghost use Rattle.irc_server.specs.Loops.Stage.{clients_of, machine_at, so_far, AreFit, IsFit, IsIndexed, IsReady, IsSound, Keeps, LeavesApart};
 
-use crate::clients::{ClientTable, rename, show_all, take_out};
+use crate::clients::{ClientTable, number_of, rename, show_all, take_out};
 use crate::config::Peer;
+use crate::hearers::Hearers;
 use irc_acts::Act;
 use irc_batch::Batch;
-use irc_names::Nick;
+use irc_names::{ChannelName, Nick};
 use irc_numerics::reply_line;
-use irc_room::{Effect, Room, RoomFault, ShownLine, laws};
+use irc_room::{Effect, Room, RoomFault, ShownLine, Target, laws};
 use irc_routes::Routes;
 use std::alloc::{AllocError, Global};
 
@@ -29,6 +31,8 @@ pub(crate) struct Stage {
     pub clients: ClientTable,
     /// Its room.
     pub room: Room,
+    /// Who hears what is said in the channel that something was said in last.
+    pub hearers: Hearers,
     /// What the effect at hand shows.
     pub shown: ShownLine,
     /// Where it takes memory from.
@@ -64,7 +68,8 @@ fn follow(clients: &mut ClientTable, effect: &Effect) -> Result<(), AllocError>
     }
 }
 
-/// An effect changes the room, and is shown to its viewers.
+/// An effect changes the room, and is shown to its viewers. What is said in a channel changes nothing, and there is the most of it, to the most
+/// viewers: so it has a way of its own.
 pub(crate) fn apply(stage: &mut Stage, effect: &Effect, out: &mut Batch) -> Result<(), AllocError>
     requires ready { IsReady stage.old }
     requires fit { IsFit (machine_at stage.old) effect.now }
@@ -73,6 +78,51 @@ pub(crate) fn apply(stage: &mut Stage, effect: &Effect, out: &mut Batch) -> Resu
     ensures keeps { Keeps stage.old stage.new }
     ensures grew { Grew out.old.outs out.new.outs }
 {
+    match effect {
+        Effect::Say {
+            by,
+            target: Target::Channel(channel),
+            ..
+        } => pass_on(stage, effect, by, channel, out),
+        _ => change(stage, effect, out),
+    }
+}
+
+/// What a user says in a channel is passed on to those who hear it there.
+fn pass_on(
+    stage: &mut Stage,
+    effect: &Effect,
+    by: &Nick,
+    channel: &ChannelName,
+    out: &mut Batch,
+) -> Result<(), AllocError>
+    requires ready { IsReady stage.old }
+    requires fit { IsFit (machine_at stage.old) effect.now }
+    requires said { IsSaidBy by.now channel.now effect.now }
+    ensures ok { OnOk result (so_far stage.new out.new.outs ≡ with_effect effect.now (so_far stage.old out.old.outs)) }
+    ensures ready { OnOk result (IsReady stage.new) }
+    ensures keeps { Keeps stage.old stage.new }
+    ensures grew { Grew out.old.outs out.new.outs }
+{
+    stage.hearers.find(&stage.room, &stage.clients, channel)?;
+    if stage.room.write_line(effect, &mut stage.shown.line)? {
+        out.hold(&stage.shown.line)?;
+        let own = number_of(&stage.clients, by);
+        return out.send_to_others(stage.hearers.conns.as_slice(), own);
+    }
+    Ok(())
+}
+
+/// An effect changes the room, and is shown to its viewers.
+fn change(stage: &mut Stage, effect: &Effect, out: &mut Batch) -> Result<(), AllocError>
+    requires ready { IsReady stage.old }
+    requires fit { IsFit (machine_at stage.old) effect.now }
+    ensures ok { OnOk result (so_far stage.new out.new.outs ≡ with_effect effect.now (so_far stage.old out.old.outs)) }
+    ensures ready { OnOk result (IsReady stage.new) }
+    ensures keeps { Keeps stage.old stage.new }
+    ensures grew { Grew out.old.outs out.new.outs }
+{
+    stage.hearers.forget();
     happen(&mut stage.room, effect, &mut stage.shown)?;
     show_all(&stage.clients, &stage.shown, out)?;
     follow(&mut stage.clients, effect)
@@ -142,6 +192,7 @@ pub(crate) fn carry_out(
 {
     take_steps(stage, conn, name, steps, out)?;
     if close {
+        stage.hearers.forget();
         take_out(&mut stage.clients, conn);
         out.close(conn)?;
     }

@@ -24,6 +24,7 @@ use Rattle.irc_server.specs.declared.stage.Stage.{Stage}
 use Rattle.irc_server.specs.RoomMachine.{Clients, RoomMachine, client_of}
 use Rattle.irc_server.specs.View.{View, known_peer, machine_of}
 use Rattle.irc_server.specs.Handle.{Handled, to_viewer, machine_after}
+use Rattle.irc_server.specs.Loops.Hearing.{AreSo}
 
 -- what a room hands out, as it is shown
 abbrev pub shown_of : List ℕ × ArrayVec ℕ → Showing
@@ -93,11 +94,12 @@ pub record IsSound (kept : Kept) : Type 0 where
   pub serves : kept.failed ≡ false
   pub well_formed : IsWellFormed kept.room
 
--- the room is the server's own, and serves
+-- the room is the server's own, and serves; who hears what is said, where it is kept, is so
 pub record IsReady (stage : Stage) : Type 0 where
   pub own_is : stage.room.own ≡ stage.routes.name
   pub sound : IsSound stage.room
   pub indexed : IsIndexed stage.clients
+  pub heard : AreSo stage.hearers stage.room.room stage.clients.by_nick
 
 -- a connection that is no client, or one that has not registered
 abbrev pub IsNoUser : Option Client → Type 0

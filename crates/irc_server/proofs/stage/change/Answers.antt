@@ -3,7 +3,7 @@ use Rattle.irc_room.specs.Applying.{pairs_of}
 use Rattle.irc_server.specs.Loops.Stage.{clients_of, machine_at}
 use Rattle.irc_server.proofs.HomeRoom.{effect_applied}
 use Rattle.irc_server.proofs.Growing.{on_ok}
-use Rattle.irc_server.proofs.stage.apply.Goals as goal
+use Rattle.irc_server.proofs.stage.change.Goals as goal
 
 pub returns-clause-ok : goal.returns-clause-ok
 returns-clause-ok c =

@@ -1,0 +1,36 @@
+-- Who hears what is said in a channel, as the code keeps it.
+use Rattle.std.specs.Prelude.{◌≡◌, ℕ, Bool, false, Option, Some, None, List, ◌++◌, option_to_list}
+use Rattle.std.specs.List.{flat_map}
+use Rattle.irc_names.specs.Fold.{key, same}
+use Rattle.irc_names.specs.Tables.{Table, row}
+use Rattle.irc_room.specs.declared.effect.Effect.{Effect}
+use Rattle.irc_room.specs.declared.effect.Effect.TheVariants.{Say}
+use Rattle.irc_room.specs.declared.effect.Target.TheVariants.{Channel}
+use Rattle.irc_room.specs.Room.{Room}
+use Rattle.irc_room.specs.Readers.{nicks_in}
+use Rattle.irc_server.specs.declared.hearers.Hearers.{Hearers}
+
+-- the connections of these users, as far as they are clients
+abbrev pub conns_of : Table ℕ → List (List ℕ) → List ℕ
+conns_of by_nick nicks = flat_map (λ nick. option_to_list (row by_nick (key nick))) nicks
+
+-- those of the members of a channel
+abbrev pub heard_by : Room → Table ℕ → List ℕ → List ℕ
+heard_by room by_nick channel = conns_of by_nick (nicks_in room channel)
+
+-- whether what is kept is of a channel
+abbrev pub is_at : Option (List ℕ) → List ℕ → Bool
+is_at None channel = false
+is_at (Some name) channel = same name channel
+
+abbrev pub is_for : Hearers → List ℕ → Bool
+is_for hearers channel = is_at hearers.channel channel
+
+-- what is kept, if anything, is right
+abbrev pub AreSo : Hearers → Room → Table ℕ → Type 0
+AreSo hearers room by_nick = (channel : List ℕ) → hearers.channel ≡ Some channel → hearers.conns.items ≡ heard_by room by_nick channel
+
+-- this user says something in this channel
+abbrev pub IsSaidBy : List ℕ → List ℕ → Effect → Type 0
+IsSaidBy by channel (Say who notice (Channel where_to) words) = (who ≡ by) × (where_to ≡ channel)
+IsSaidBy by channel effect = ⊥
