@@ -1,6 +1,5 @@
 -- Each step of the board, as what becomes of every connection.
 use Rattle.std.proofs.Common.{◌≡◌, ℕ, ◌+◌, ◌<◌, ◌≤◌, Bool, true, false, ◌&&◌, ◌||◌, cond, nat_eq, is_some, Option, Some, None, Result, Ok, Err, List, [], ◌∷◌, ◌++◌, length, refl, sym, ◌∙◌, ap, subst, append_assoc, append-nil, arith, length-append}
-use Rattle.std.specs.BTreeMap.{btree_map_len}
 use Rattle.std.specs.BTreeSet.{BTreeSet, btree_set_len}
 use Rattle.irc_outbox.specs.declared.wire.IoFault.{IoFault}
 use Rattle.irc_outbox.specs.Calls.{Call, writes, closes, bytes_taken}
@@ -9,7 +8,7 @@ use Rattle.irc_engine.specs.declared.board.Board.{Board}
 use Rattle.irc_engine.specs.declared.seat.Seat.{Seat}
 use Rattle.irc_engine.specs.Carrying.{owed, is_open_at, AddsAll, cut_off, overflowed, Passage}
 use Rattle.irc_engine.specs.Loops.Counts.{count_of}
-use Rattle.irc_engine.specs.Loops.Seats.{seat_of, IsSet}
+use Rattle.irc_engine.specs.Loops.Seats.{seat_count, seat_of, IsSet}
 use Rattle.irc_engine.specs.Loops.Boards.{has, IsNoted, Ends, Loses, Carries}
 use Rattle.irc_engine.proofs.SeatLaws.{one_number, nat_eq-refl}
 use Rattle.irc_engine.proofs.HearingLaws.{hears_gone}
@@ -112,8 +111,8 @@ module _ {W : Type 0} (is_after : W → List Call → Type 0) (conn : ℕ) (old 
   pub lost_open : (numbers : BTreeSet ℕ) → Ends is_after conn old done → is_open_at (seat_of old.seats conn) ≡ true → IsNoted done.lost conn true numbers
       → btree_set_len numbers ≤ btree_set_len done.lost + 1 → Loses is_after conn old (record done { lost = numbers })
   lost_open numbers ends unshut noted len =
-      let fewer : btree_map_len done.seats + 1 ≡ btree_map_len old.seats =
-      ap (λ t. btree_map_len done.seats + cond t 1 0) (sym (open_some (seat_of old.seats conn) unshut)) ∙ ends.len in
+      let fewer : seat_count done.seats + 1 ≡ seat_count old.seats =
+      ap (λ t. seat_count done.seats + cond t 1 0) (sym (open_some (seat_of old.seats conn) unshut)) ∙ ends.len in
       record {
         account = ends.account;
         seats = ends.seats;
@@ -129,7 +128,7 @@ module _ {W : Type 0} (is_after : W → List Call → Type 0) (conn : ℕ) (old 
 
   pub ends_fewer : Ends is_after conn old done → count_of done ≤ count_of old
   ends_fewer ends =
-      let fewer = fewer_or (is_some (seat_of old.seats conn)) (btree_map_len done.seats) (btree_map_len old.seats) ends.len in
+      let fewer = fewer_or (is_some (seat_of old.seats conn)) (seat_count done.seats) (seat_count old.seats) ends.len in
       omega (arith, ap btree_set_len ends.lost)
 
   pub lost_shut : Ends is_after conn old done → is_open_at (seat_of old.seats conn) ≡ false → Loses is_after conn old done

@@ -2,21 +2,22 @@
 use Rattle.std.proofs.Common.{◌≡◌, ℕ, ◌≤◌, Bool, true, false, not, ◌&&◌, ◌||◌, cond, nat_eq, is_some, Option, Some, None, Result, Ok, Err, List, [], ◌∷◌, ◌++◌, length, refl, sym, ◌∙◌, ap, subst, append-nil, arith}
 use Rattle.std.specs.List.{filter}
 use Rattle.std.proofs.lemmas.List.Elements.{filter-append}
-use Rattle.std.specs.BTreeMap.{btree_map_len}
 use Rattle.std.specs.BTreeSet.{BTreeSet}
 use Rattle.irc_outbox.specs.declared.outbox.Overflow.{Overflow}
 use Rattle.irc_outbox.specs.Calls.{Call, closes, is_some_bytes}
 use Rattle.irc_batch.specs.Batches.{Sent, end_of, line_to}
 use Rattle.irc_engine.specs.declared.board.Board.{Board}
+use Rattle.irc_engine.specs.declared.seat.Offered.{Offered}
+use Rattle.irc_engine.specs.declared.seat.Offered.TheVariants.{Nothing}
 use Rattle.irc_engine.specs.declared.seat.Seat.{Seat}
 use Rattle.irc_line.specs.Lines.{Begun}
 use Rattle.irc_engine.specs.Hearing.{Hears}
 use Rattle.irc_engine.proofs.HearingLaws.{hears_gone, hears_same}
 use Rattle.irc_engine.specs.Carrying.{owed, is_open_at, is_exchange, AddsAll, Passage, finished}
 use Rattle.irc_engine.specs.Loops.Counts.{count_of}
-use Rattle.irc_engine.specs.Loops.Seats.{seat_of, is_done_at, AreSame, at_seat, no_seat, IsOfferedAt, IsShutAt}
+use Rattle.irc_engine.specs.Loops.Seats.{seat_count, seat_of, is_done_at, AreSame, at_seat, no_seat, IsOfferedAt, IsShutAt}
 use Rattle.irc_engine.specs.Loops.Boards.{has, IsNoted, Ends, Loses, Settles, ended, stayed, Carries}
-use Rattle.irc_engine.proofs.SeatLaws.{nat_eq-refl}
+use Rattle.irc_engine.proofs.SeatLaws.{nat_eq-refl, IsQueuedAt}
 use Rattle.irc_engine.proofs.CarryingLaws.{IsElsewhere, nothing_owed, passage_on, untouched, still, kept_none, kept_some}
 use Rattle.irc_engine.proofs.BoardLaws.{adds_none, adds_both, at_once, by_number, set_here, set_other, nothing_else, close_elsewhere, line_elsewhere, shut_elsewhere, ends_fewer, last_close, line_drops}
 
@@ -65,46 +66,42 @@ module _ {W : Type 0} (is_after : W → List Call → Type 0) where
       same_lost q = ap (λ l. has l q) lost
 
       -- a line that its outbox takes
-      pub line_taken : (result : Result Bool Overflow) → result ≡ Ok true → IsOfferedAt conn text old.seats result new.seats
-          → Carries is_after [] old (line_to conn text ∷ []) new
-      line_taken result is offered = by (subst (λ r. IsOfferedAt conn text old.seats r new.seats) is offered)
-        where
-          by : IsOfferedAt conn text old.seats (Ok true) new.seats → Carries is_after [] old (line_to conn text ∷ []) new
-          by (no_seat none same never) = cc never
-          by (at_seat seat now was set (unshut, some, fits, now_is)) =
-              let outs : List Sent = line_to conn text ∷ [] in
-              let owes : owed (is_some seat.framer) conn outs ≡ text =
-              ap (λ t. owed t conn outs) unshut ∙ ap (λ xs. xs ++ []) (at_once conn text []) ∙ append-nil text in
-              record {
-                calls = [];
-                account = adds_none is_after old.wire new.wire wire;
-                passage = one_seat [] outs (Some seat) (Some now) was (set_here (seat_of old.seats) (seat_of new.seats) conn (Some now) set)
-                    (set_other (seat_of old.seats) (seat_of new.seats) conn (Some now) set) (λ q two. same_lost q) (λ q two. line_elsewhere conn q text two)
-                    (record {
-                      fate = record {
-                        carried = ap (λ xs. seat.outbox.bytes ++ xs) owes ∙ sym (ap (λ (s : Seat). s.outbox.bytes) now_is);
-                        same_room = ap (λ (s : Seat). s.outbox.room) now_is;
-                        still_open = ap (λ (s : Seat). is_some s.framer) now_is ∙ still (is_some seat.framer) false refl;
-                        never = refl;
-                        never_cut = refl;
-                      };
-                      lost_is = same_lost conn ∙ kept_some (has old.lost conn) (is_some seat.framer);
-                      hears_none = hears_same seat.framer now.framer (ap (λ (s : Seat). s.framer) now_is);
-                    });
-                exchanged = refl;
-                count = count;
-              }
+      pub line_taken : IsQueuedAt conn text old.seats new.seats → Carries is_after [] old (line_to conn text ∷ []) new
+      line_taken (no_seat none same never) = absurd never
+      line_taken (at_seat seat now was set queued) =
+          let outs : List Sent = line_to conn text ∷ [] in
+          let owes : owed (is_some seat.framer) conn outs ≡ text =
+          ap (λ t. owed t conn outs) queued.unshut ∙ ap (λ xs. xs ++ []) (at_once conn text []) ∙ append-nil text in
+          record {
+            calls = [];
+            account = adds_none is_after old.wire new.wire wire;
+            passage = one_seat [] outs (Some seat) (Some now) was (set_here (seat_of old.seats) (seat_of new.seats) conn (Some now) set)
+                (set_other (seat_of old.seats) (seat_of new.seats) conn (Some now) set) (λ q two. same_lost q) (λ q two. line_elsewhere conn q text two)
+                (record {
+                  fate = record {
+                    carried = ap (λ xs. seat.outbox.bytes ++ xs) owes ∙ sym (ap (λ (s : Seat). s.outbox.bytes) queued.is);
+                    same_room = ap (λ (s : Seat). s.outbox.room) queued.is;
+                    still_open = ap (λ (s : Seat). is_some s.framer) queued.is ∙ still (is_some seat.framer) false refl;
+                    never = refl;
+                    never_cut = refl;
+                  };
+                  lost_is = same_lost conn ∙ kept_some (has old.lost conn) (is_some seat.framer);
+                  hears_none = hears_same seat.framer now.framer (ap (λ (s : Seat). s.framer) queued.is);
+                });
+            exchanged = refl;
+            count = count;
+          }
 
       none_owed : (unshut : Bool) → (unshut ≡ true → text ≡ []) → owed unshut conn (line_to conn text ∷ []) ≡ []
       none_owed true never = ap (λ xs. xs ++ []) (at_once conn text []) ∙ append-nil text ∙ never refl
       none_owed false never = refl
 
       -- a line of nothing, or to a connection that the server has closed, or that has no seat
-      pub line_passed : (result : Result Bool Overflow) → result ≡ Ok false → IsOfferedAt conn text old.seats result new.seats
+      pub line_passed : (result : Result Offered Overflow) → result ≡ Ok Nothing → IsOfferedAt conn text old.seats result new.seats
           → Carries is_after [] old (line_to conn text ∷ []) new
       line_passed result is offered = by (subst (λ r. IsOfferedAt conn text old.seats r new.seats) is offered)
         where
-          by : IsOfferedAt conn text old.seats (Ok false) new.seats → Carries is_after [] old (line_to conn text ∷ []) new
+          by : IsOfferedAt conn text old.seats (Ok Nothing) new.seats → Carries is_after [] old (line_to conn text ∷ []) new
           by (no_seat none same never) = record {
             calls = [];
             account = adds_none is_after old.wire new.wire wire;
@@ -220,11 +217,11 @@ module _ {W : Type 0} (is_after : W → List Call → Type 0) where
   pub settled : (conn : ℕ) (old new : Board W) → Settles is_after conn old new → Carries is_after [] old [] new
   settled conn old new (ended done ends) = ends_done conn old new done ends
   settled conn old new (stayed undone wire seats lost noted) =
-      carries_none old new wire (λ q. ap (λ s. seat_of s q) seats) lost (omega (arith, ap btree_map_len seats, ap (λ (s : BTreeSet ℕ). length s.keys) lost))
+      carries_none old new wire (λ q. ap (λ s. seat_of s q) seats) lost (omega (arith, ap seat_count seats, ap (λ (s : BTreeSet ℕ). length s.keys) lost))
 
   module _ (conn : ℕ) (old mid new : Board W) (loses : Loses is_after conn mid new) (lost : mid.lost ≡ old.lost) (count : count_of mid ≤ count_of old) where
     -- a line does not fit, and the connection is lost
-    pub line_lost : (text : List ℕ) (overflow : Overflow) (result : Result Bool Overflow) → result ≡ Err overflow
+    pub line_lost : (text : List ℕ) (overflow : Overflow) (result : Result Offered Overflow) → result ≡ Err overflow
         → IsOfferedAt conn text old.seats result mid.seats → mid.wire ≡ old.wire → Carries is_after [] old (line_to conn text ∷ []) new
     line_lost text overflow result is offered wire = by (subst (λ r. IsOfferedAt conn text old.seats r mid.seats) is offered)
       where

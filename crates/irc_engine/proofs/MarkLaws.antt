@@ -5,9 +5,11 @@ use Rattle.arrayvec.specs.ArrayVec.{ArrayVec}
 use Rattle.irc_outbox.specs.declared.outbox.Overflow.{Overflow}
 use Rattle.irc_outbox.specs.Calls.{Call, is_some_bytes}
 use Rattle.irc_engine.specs.declared.board.Board.{Board}
+use Rattle.irc_engine.specs.declared.seat.Offered.{Offered}
+use Rattle.irc_engine.specs.declared.seat.Offered.TheVariants.{Nothing, First, More}
 use Rattle.irc_engine.specs.declared.seat.Seat.{Seat}
 use Rattle.irc_engine.specs.Carrying.{fresh_seat, has_some_at, is_done_at}
-use Rattle.irc_engine.specs.Loops.Seats.{seat_of, at_seat, no_seat, IsOfferedAt, IsSet, IsShutAt, FramesAt}
+use Rattle.irc_engine.specs.Loops.Seats.{seat_of, at_seat, no_seat, IsOfferedAt, IsQueued, IsSet, IsShutAt, FramesAt}
 use Rattle.irc_engine.specs.Loops.Boards.{has, ended, stayed, IsNoted, IsMarked, IsMarkedAt, KeepsMarks, KeepsNotes, Settles}
 use Rattle.irc_engine.proofs.SeatLaws.{one_number}
 use Rattle.irc_engine.proofs.BoardLaws.{at_once, set_here, set_other}
@@ -35,6 +37,14 @@ some_behind (x ∷ a) b some = refl
 done_open : (framed some : Bool) → framed ≡ true → (not framed && not some) ≡ false
 done_open true some is = refl
 done_open false some is = cc is
+
+-- bytes are to be written, and it is noted or about to be written to
+queued_marked : (pending noted : Bool) (seat now : Seat) (bytes : List ℕ) → IsQueued seat bytes now → ((pending && true) || noted) ≡ true
+    → IsMarked pending (Some now) noted
+queued_marked pending noted seat now bytes queued is = record {
+  noted_is = is ∙ sym (ap (λ (s : Seat). is_some_bytes s.outbox.bytes) queued.is ∙ some_behind seat.outbox.bytes bytes queued.some);
+  not_done = done_open (is_some now.framer) (is_some_bytes now.outbox.bytes) (ap (λ (s : Seat). is_some s.framer) queued.is ∙ queued.unshut);
+}
 
 module _ {W : Type 0} (conn : ℕ) (old new : Board W) (others : (q : ℕ) → nat_eq conn q ≡ false → seat_of new.seats q ≡ seat_of old.seats q) (now : Bool)
     (noted : IsNoted old.waiting conn now new.waiting) where
@@ -70,20 +80,17 @@ module _ {W : Type 0} (conn : ℕ) (old new : Board W) (others : (q : ℕ) → n
       by q pending false two is = subst (λ (t : Bool). IsMarkedAt q (cond t false pending) new) (sym two) (elsewhere q pending two is)
 
 module _ {W : Type 0} (conn : ℕ) (old new : Board W) where
-  -- its outbox has taken bytes
-  pub marks_taken : (bytes : List ℕ) (result : Result Bool Overflow) → result ≡ Ok true → IsOfferedAt conn bytes old.seats result new.seats
+  -- bytes are the first that wait
+  pub marks_first : (bytes : List ℕ) (result : Result Offered Overflow) → result ≡ Ok First → IsOfferedAt conn bytes old.seats result new.seats
       → IsNoted old.waiting conn true new.waiting → KeepsMarks old new
-  marks_taken bytes result is offered noted = by (subst (λ r. IsOfferedAt conn bytes old.seats r new.seats) is offered)
+  marks_first bytes result is offered noted = by (subst (λ r. IsOfferedAt conn bytes old.seats r new.seats) is offered)
     where
-      by : IsOfferedAt conn bytes old.seats (Ok true) new.seats → KeepsMarks old new
+      by : IsOfferedAt conn bytes old.seats (Ok First) new.seats → KeepsMarks old new
       by (no_seat none same never) = cc never
-      by (at_seat seat now was set (unshut, some, fits, now_is)) =
+      by (at_seat seat now was set so) =
           marks_by conn old new (set_other (seat_of old.seats) (seat_of new.seats) conn (Some now) set) true noted
           (λ pending is. subst (λ (s : Option Seat). IsMarked pending s true) (sym (set_here (seat_of old.seats) (seat_of new.seats) conn (Some now) set))
-          (record {
-            noted_is = or_true (pending && true) ∙ sym (ap (λ (s : Seat). is_some_bytes s.outbox.bytes) now_is ∙ some_behind seat.outbox.bytes bytes some);
-            not_done = done_open (is_some now.framer) (is_some_bytes now.outbox.bytes) (ap (λ (s : Seat). is_some s.framer) now_is ∙ unshut);
-          }))
+          (queued_marked pending true seat now bytes so.0 (or_true (pending && true))))
 
   -- no seat has changed
   pub marks_same : ((q : ℕ) → seat_of new.seats q ≡ seat_of old.seats q) → ((q : ℕ) → has new.waiting q ≡ has old.waiting q) → KeepsMarks old new
@@ -105,17 +112,32 @@ module _ {W : Type 0} (conn : ℕ) (old new : Board W) where
       by true one = ap (λ t. cond t (has old.waiting conn) (has old.waiting q)) one ∙ ap (has old.waiting) (one_number conn q one)
       by false two = ap (λ t. cond t (has old.waiting conn) (has old.waiting q)) two
 
+  -- bytes wait behind others: it is noted, or the turn is about to write to it
+  pub marks_more : (bytes : List ℕ) (result : Result Offered Overflow) → result ≡ Ok More → IsOfferedAt conn bytes old.seats result new.seats
+      → ((q : ℕ) → has new.waiting q ≡ has old.waiting q) → KeepsMarks old new
+  marks_more bytes result is offered noted = by (subst (λ r. IsOfferedAt conn bytes old.seats r new.seats) is offered)
+    where
+      by : IsOfferedAt conn bytes old.seats (Ok More) new.seats → KeepsMarks old new
+      by (no_seat none same never) = cc never
+      by (at_seat seat now was set so) =
+          marks_by conn old new (set_other (seat_of old.seats) (seat_of new.seats) conn (Some now) set) (has old.waiting conn)
+          (as_before noted)
+          (λ pending is. subst (λ (s : Option Seat). IsMarked pending s (has old.waiting conn)) (sym (set_here (seat_of old.seats) (seat_of new.seats) conn
+          (Some now) set))
+          (queued_marked pending (has old.waiting conn) seat now bytes so.0
+          ((subst (λ (s : Option Seat). IsMarked pending s (has old.waiting conn)) was is).noted_is ∙ so.1)))
+
   -- its outbox has taken none
-  pub marks_passed : (bytes : List ℕ) (result : Result Bool Overflow) → result ≡ Ok false → IsOfferedAt conn bytes old.seats result new.seats
+  pub marks_passed : (bytes : List ℕ) (result : Result Offered Overflow) → result ≡ Ok Nothing → IsOfferedAt conn bytes old.seats result new.seats
       → ((q : ℕ) → has new.waiting q ≡ has old.waiting q) → KeepsMarks old new
   marks_passed bytes result is offered noted = by (subst (λ r. IsOfferedAt conn bytes old.seats r new.seats) is offered)
     where
-      by : IsOfferedAt conn bytes old.seats (Ok false) new.seats → KeepsMarks old new
+      by : IsOfferedAt conn bytes old.seats (Ok Nothing) new.seats → KeepsMarks old new
       by (no_seat none same never) = marks_same same noted
       by (at_seat seat now was set (never, now_is)) = marks_same (same_seats seat now was set now_is) noted
 
   -- it did not fit
-  pub seats_refused : (bytes : List ℕ) (overflow : Overflow) (result : Result Bool Overflow) → result ≡ Err overflow
+  pub seats_refused : (bytes : List ℕ) (overflow : Overflow) (result : Result Offered Overflow) → result ≡ Err overflow
       → IsOfferedAt conn bytes old.seats result new.seats
       → (q : ℕ) → seat_of new.seats q ≡ seat_of old.seats q
   seats_refused bytes overflow result is offered = by (subst (λ r. IsOfferedAt conn bytes old.seats r new.seats) is offered)

@@ -1,7 +1,6 @@
 -- Stretches of a turn, one after another.
 use Rattle.std.proofs.Common.{◌≡◌, ℕ, ◌+◌, ◌-◌, ◌<◌, ◌≤◌, Bool, true, false, not, ◌&&◌, ◌||◌, cond, nat_eq, is_some, Option, Some, None, Result, Ok, Err, OnOk, List, [], ◌∷◌, ◌++◌, refl, sym, ◌∙◌, ap, subst, append_assoc, append-nil, arith, take, drop, length, length-append}
 use Rattle.std.specs.List.{filter, list_any, slice_range}
-use Rattle.std.specs.BTreeMap.{BTreeMap}
 use Rattle.std.specs.BTreeSet.{BTreeSet}
 use Rattle.std.proofs.Math.Seq.{take-add}
 use Rattle.std.proofs.lemmas.List.{take-append-le, take-append-drop, length-take}
@@ -19,6 +18,7 @@ use Rattle.irc_server.specs.View.{View}
 use Rattle.irc_server.specs.Happening.{IsHandled}
 use Rattle.irc_engine.specs.declared.board.Board.{Board}
 use Rattle.irc_engine.specs.declared.seat.Seat.{Seat}
+use Rattle.irc_engine.specs.declared.seat.Seats.{Seats}
 use Rattle.irc_engine.specs.Carrying.{is_exchange, owed, is_open_at, is_cut_off, is_closed_by, AddsAll, Fate, Passage, cut_off}
 use Rattle.irc_server.specs.declared.event.Event.TheVariants.{Gone}
 use Rattle.irc_line.specs.Lines.{Begun}
@@ -231,7 +231,7 @@ front_whole buffer used count within = ap (λ n. take n buffer) (omega (arith, w
 pub used_within : (bytes : List ℕ) (used count more : ℕ) → used < count → more ≤ length (take (count - used) bytes) → used + more ≤ count
 used_within bytes used count more within fits = omega (arith, within, fits, length-take (count - used) bytes)
 
-pub frames_within : (conn : ℕ) (piece : List ℕ) (old new : BTreeMap ℕ Seat) (used : ℕ) (line : Option (ArrayVec ℕ)) → FramesAt conn piece old (Some (used, line)) new
+pub frames_within : (conn : ℕ) (piece : List ℕ) (old new : Seats) (used : ℕ) (line : Option (ArrayVec ℕ)) → FramesAt conn piece old (Some (used, line)) new
     → used ≤ length piece
 frames_within conn piece old new used line (no_seat none same never) = cc never
 frames_within conn piece old new used line (at_seat seat now was set so) = so.within

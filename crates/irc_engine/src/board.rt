@@ -4,11 +4,11 @@ ghost use Rattle.std.specs.BTreeSet.{btree_set_len};
 ghost use Rattle.irc_engine.specs.Loops.Boards.{Carries, Ends, IsNoted, KeepsMarks, Loses, Settles, Writes};
 ghost use Rattle.irc_batch.specs.Batches.{end_of, line_to, told};
 
-use crate::seat::{Seat, has_some, is_done, is_open, offer, shut, vacate, write};
+use crate::seat::{Offered, Seats};
 use irc_batch::{Batch, Out};
 use irc_outbox::Wire;
 use std::alloc::{AllocError, Global};
-use std::collections::{BTreeMap, BTreeSet};
+use std::collections::BTreeSet;
 
 /// The connections of an engine, and its wire.
 #[derive(Drop)]
@@ -16,7 +16,7 @@ pub(crate) struct Board<W: Wire> {
     /// What carries the bytes.
     pub wire: W,
     /// The place of each connection, by its number.
-    pub seats: BTreeMap<u64, Seat, Global>,
+    pub seats: Seats,
     /// Connections with bytes to write, but for those that the turn is about to write to.
     pub waiting: BTreeSet<u64, Global>,
     /// Connections that were lost, of which the server has yet to be told.
@@ -47,7 +47,7 @@ impl<W: Wire> Board<W> {
     fn end(&mut self, conn: u64)
         ensures { Ends W.is_after conn self.old self.new }
     {
-        vacate(&mut self.seats, conn);
+        self.seats.vacate(conn);
         forget(&mut self.waiting, conn);
         self.wire.close(conn);
     }
@@ -56,7 +56,7 @@ impl<W: Wire> Board<W> {
     pub(crate) fn lose(&mut self, conn: u64) -> Result<(), AllocError>
         ensures { OnOk result (Loses W.is_after conn self.old self.new) }
     {
-        let was_open = is_open(&self.seats, conn);
+        let was_open = self.seats.is_open(conn);
         self.end(conn);
         if was_open {
             note(&mut self.lost, conn)?;
@@ -64,14 +64,16 @@ impl<W: Wire> Board<W> {
         Ok(())
     }
 
-    /// A line goes to a connection's outbox. Where it does not fit, the connection is lost.
+    /// A line goes to a connection's outbox. Where others wait there, the connection is noted by now, or the turn is about to write to it. Where
+    /// it does not fit, the connection is lost.
     fn send(&mut self, conn: u64, line: &[u8]) -> Result<(), AllocError>
         ensures carries { OnOk result (Carries W.is_after [] self.old (line_to conn line.now ∷ []) self.new) }
         ensures marks { OnOk result (KeepsMarks self.old self.new) }
     {
-        match offer(&mut self.seats, conn, line) {
-            Ok(true) => note(&mut self.waiting, conn),
-            Ok(false) => Ok(()),
+        match self.seats.offer(conn, line) {
+            Ok(Offered::First) => note(&mut self.waiting, conn),
+            Ok(Offered::More) => Ok(()),
+            Ok(Offered::Nothing) => Ok(()),
             Err(_) => self.lose(conn),
         }
     }
@@ -82,8 +84,8 @@ impl<W: Wire> Board<W> {
         ensures marks { KeepsMarks self.old self.new }
     {
         forget(&mut self.lost, conn);
-        shut(&mut self.seats, conn);
-        if is_done(&self.seats, conn) {
+        self.seats.shut(conn);
+        if self.seats.is_done(conn) {
             self.end(conn);
         }
     }
@@ -120,7 +122,7 @@ impl<W: Wire> Board<W> {
     pub(crate) fn write(&mut self, conn: u64) -> Result<(), AllocError>
         ensures { OnOk result (Writes W.is_after conn self.old self.new) }
     {
-        match write(&mut self.seats, &mut self.wire, conn) {
+        match self.seats.write(&mut self.wire, conn) {
             Ok(_) => self.settle(conn),
             Err(_) => self.lose(conn),
         }
@@ -130,11 +132,11 @@ impl<W: Wire> Board<W> {
     fn settle(&mut self, conn: u64) -> Result<(), AllocError>
         ensures { OnOk result (Settles W.is_after conn self.old self.new) }
     {
-        if is_done(&self.seats, conn) {
+        if self.seats.is_done(conn) {
             self.end(conn);
             return Ok(());
         }
-        if has_some(&self.seats, conn) {
+        if self.seats.has_some(conn) {
             return note(&mut self.waiting, conn);
         }
         forget(&mut self.waiting, conn);

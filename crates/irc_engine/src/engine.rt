@@ -8,7 +8,7 @@ ghost use Rattle.irc_engine.specs.Hearing.{nothing_of, only_of};
 ghost use Rattle.irc_engine.specs.Turning.{brings_nothing, IsNew, Runs, Taken, Turned};
 
 use crate::board::Board;
-use crate::seat::{give_seat, is_open, no_seats, take};
+use crate::seat::Seats;
 use irc_batch::Batch;
 use irc_line::Line;
 use irc_names::Host;
@@ -80,7 +80,7 @@ impl<W: Wire + Drop> Engine<W> {
                 server,
                 board: Board {
                     wire,
-                    seats: no_seats(alloc),
+                    seats: Seats::new(alloc),
                     waiting: BTreeSet::new(alloc),
                     lost: BTreeSet::new(alloc),
                 },
@@ -172,10 +172,10 @@ impl<W: Wire> Desk<W> {
         ensures told { OnOk result (KeepsTold self.old self.new) }
         ensures notes { OnOk result (KeepsNotes self.old.board self.new.board) }
     {
-        if self.board.seats.contains_key(&conn) {
+        if self.board.seats.contains(conn) {
             return Ok(());
         }
-        give_seat(self.alloc, &mut self.board.seats, conn, client_room)?;
+        self.board.seats.give_seat(self.alloc, conn, client_room)?;
         self.pass(&Event::Connect(conn, host))
     }
 
@@ -185,7 +185,7 @@ impl<W: Wire> Desk<W> {
         ensures told { KeepsTold self.old self.new }
         ensures marks { KeepsMarks self.old.board self.new.board }
     {
-        if !self.board.seats.contains_key(&conn) {
+        if !self.board.seats.contains(conn) {
             self.board.wire.close(conn);
         }
     }
@@ -196,7 +196,7 @@ impl<W: Wire> Desk<W> {
         ensures told { OnOk result (KeepsTold self.old self.new) }
         ensures marks { OnOk result (KeepsMarks self.old.board self.new.board) }
     {
-        if !is_open(&self.board.seats, conn) {
+        if !self.board.seats.is_open(conn) {
             return Ok(());
         }
         match came(self.board.wire.read(conn, &mut self.buffer)) {
@@ -217,8 +217,7 @@ impl<W: Wire> Desk<W> {
     {
         let mut used = 0;
         while used < count {
-            let Some((more, line)) = take(&mut self.board.seats, conn, &self.buffer[used..count])
-            else {
+            let Some((more, line)) = self.board.seats.take(conn, &self.buffer[used..count]) else {
                 return Ok(());
             };
             used += more;

@@ -147,3 +147,71 @@ pub(crate) const LONG: &str = "\
 fn lines_are_cut_at_510_bytes(rt: HostRuntime) {
     assert!(rt; prints(rt.alloc(), 3, LONG));
 }
+
+/// Each text goes to those who are members when it is said: who joins, takes another nickname, leaves, quits or is kicked in between counts.
+const TO_WHO_IS_THERE: &str = "\
+> say 1 JOIN #a,#b
+1 :al!u@h JOIN #a
+1 :a.net 353 al = #a :@al
+1 :a.net 366 al #a :End of NAMES list
+1 :al!u@h JOIN #b
+1 :a.net 353 al = #b :@al
+1 :a.net 366 al #b :End of NAMES list
+> say 2 JOIN #a
+1 :bo!u@h JOIN #a
+2 :bo!u@h JOIN #a
+2 :a.net 353 bo = #a :@al bo
+2 :a.net 366 bo #a :End of NAMES list
+> say 3 JOIN #b
+1 :cy!u@h JOIN #b
+3 :cy!u@h JOIN #b
+3 :a.net 353 cy = #b :@al cy
+3 :a.net 366 cy #b :End of NAMES list
+> say 1 PRIVMSG #a :one
+2 :al!u@h PRIVMSG #a :one
+> say 1 PRIVMSG #b :two
+3 :al!u@h PRIVMSG #b :two
+> say 3 JOIN #a
+1 :cy!u@h JOIN #a
+2 :cy!u@h JOIN #a
+3 :cy!u@h JOIN #a
+3 :a.net 353 cy = #a :@al bo cy
+3 :a.net 366 cy #a :End of NAMES list
+> say 1 PRIVMSG #a :three
+2 :al!u@h PRIVMSG #a :three
+3 :al!u@h PRIVMSG #a :three
+> say 2 PRIVMSG #A :four
+1 :bo!u@h PRIVMSG #a :four
+3 :bo!u@h PRIVMSG #a :four
+> say 2 NICK zo
+1 :bo!u@h NICK zo
+2 :bo!u@h NICK zo
+3 :bo!u@h NICK zo
+> say 1 PRIVMSG #a :five
+3 :al!u@h PRIVMSG #a :five
+2 :al!u@h PRIVMSG #a :five
+> say 3 PART #a
+1 :cy!u@h PART #a :cy
+3 :cy!u@h PART #a :cy
+2 :cy!u@h PART #a :cy
+> say 2 PRIVMSG #a :six
+1 :zo!u@h PRIVMSG #a :six
+> say 2 PRIVMSG #b :seven
+1 :zo!u@h PRIVMSG #b :seven
+3 :zo!u@h PRIVMSG #b :seven
+> say 3 NOTICE #b :eight
+1 :cy!u@h NOTICE #b :eight
+> say 3 QUIT
+1 :cy!u@h QUIT :cy
+3 ERROR :Closing link (cy)
+> say 1 PRIVMSG #b :nine
+> say 1 KICK #a zo
+1 :al!u@h KICK #a zo :al
+2 :al!u@h KICK #a zo :al
+> say 1 PRIVMSG #a :ten
+";
+
+#[test]
+fn texts_follow_who_is_there(rt: HostRuntime) {
+    assert!(rt; prints(rt.alloc(), 3, TO_WHO_IS_THERE));
+}

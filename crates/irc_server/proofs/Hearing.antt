@@ -1,5 +1,5 @@
 -- What is said in a channel goes to its other members, as far as they are clients.
-use Rattle.std.proofs.Common.{◌≡◌, ℕ, Bool, true, false, cond, not, ◌&&◌, nat_eq, Option, Some, None, List, [], ◌∷◌, ◌++◌, refl, sym, ◌∙◌, ap, subst, map, filter, filter_map, option_map, option_to_list, if◌then◌else◌}
+use Rattle.std.proofs.Common.{◌≡◌, ℕ, Bool, true, false, cond, not, ◌&&◌, Option, Some, None, List, [], ◌∷◌, ◌++◌, refl, sym, ◌∙◌, ap, map, filter, filter_map, option_map, option_to_list, if◌then◌else◌}
 use Rattle.std.proofs.lemmas.Bool.{eq-eqb, eqb-true}
 use Rattle.std.specs.List.{AllByRecursion, cons_option, flat_map}
 use Rattle.std.specs.Option.{option_map_or}
@@ -14,9 +14,7 @@ use Rattle.irc_room.specs.declared.effect.Target.TheVariants.{User, Channel}
 use Rattle.irc_room.specs.After.{after}
 use Rattle.irc_room.specs.Room.{Room, IsWellFormed}
 use Rattle.irc_room.specs.Effects.{is_member}
-use Rattle.irc_room.specs.Readers.{nicks_in}
 use Rattle.irc_room.specs.Seen.{Showing, seen, shown_line, shown_to}
-use Rattle.irc_room.specs.Lemmas.Rows.{same_some}
 use Rattle.irc_channels.specs.Channels.{has_member}
 use Rattle.irc_batch.specs.Batches.{Batch, Sent, is_number, line_to, to_others}
 use Rattle.irc_server.specs.declared.clients.Client.TheVariants.{Registered}

@@ -2,7 +2,6 @@
 use Rattle.std.specs.Prelude.{◌≡◌, ℕ, ◌+◌, ◌≤◌, Bool, true, false, ◌&&◌, ◌||◌, nat_eq, is_some, Option, Some, None, Result, List, [], ◌∷◌, if◌then◌else◌}
 use Rattle.std.specs.List.{filter}
 use Rattle.std.specs.Ordering.{nat_cmp}
-use Rattle.std.specs.BTreeMap.{btree_map_len}
 use Rattle.std.specs.BTreeSet.{BTreeSet, contains}
 use Rattle.irc_outbox.specs.Calls.{Call, writes, closes, is_some_bytes, Adds}
 use Rattle.irc_outbox.specs.declared.wire.IoFault.{IoFault}
@@ -10,7 +9,7 @@ use Rattle.irc_batch.specs.Batches.{Sent}
 use Rattle.irc_engine.specs.declared.seat.Seat.{Seat}
 use Rattle.irc_engine.specs.declared.board.Board.{Board}
 use Rattle.irc_engine.specs.Carrying.{AddsAll, Passage, has_some_at, is_done_at, is_exchange, is_open_at}
-use Rattle.irc_engine.specs.Loops.Seats.{seat_of, IsSet}
+use Rattle.irc_engine.specs.Loops.Seats.{seat_count, seat_of, IsSet}
 use Rattle.irc_engine.specs.Loops.Counts.{count_of}
 
 abbrev pub has : BTreeSet ℕ → ℕ → Bool
@@ -26,7 +25,7 @@ pub record Ends {W : Type 0} (is_after : W → List Call → Type 0) (conn : ℕ
   pub seats : IsSet (seat_of old.seats) conn None (seat_of new.seats)
   pub lost : new.lost ≡ old.lost
   pub waiting : IsNoted old.waiting conn false new.waiting
-  pub len : btree_map_len new.seats + (if is_some (seat_of old.seats conn) then 1 else 0) ≡ btree_map_len old.seats
+  pub len : seat_count new.seats + (if is_some (seat_of old.seats conn) then 1 else 0) ≡ seat_count old.seats
 
 -- a connection is lost
 pub record Loses {W : Type 0} (is_after : W → List Call → Type 0) (conn : ℕ) (old new : Board W) : Type 0 where

@@ -1,6 +1,6 @@
 -- Clients by number: what they answer after a change, and what the code's map has.
 use Rattle.std.proofs.Common.{◌≡◌, ℕ, Bool, true, false, cond, T, Some, None, List, [], ◌∷◌, refl, sym, ◌∙◌, ap, map, option_map}
-use Rattle.std.specs.Ordering.{nat_cmp, eq_by_cmp, is_eq}
+use Rattle.std.specs.Ordering.{nat_cmp, eq_by_cmp}
 use Rattle.std.specs.Cmp.{nat_cmp_total, eq_by_cmp_equiv, Equal-is}
 use Rattle.std.specs.BTreeMap.{BTreeMap, UpdatesBy, get as number_in}
 use Rattle.std.specs.FinMap.Entries.{below_all}

@@ -1,6 +1,5 @@
 use Rattle.std.specs.Prelude.{IfOk}
 use Rattle.std.proofs.Common.{◌≡◌, ◌∙◌, ap, map, subst}
-use Rattle.irc_room.specs.Loops.RoomParts.{room_of}
 use Rattle.irc_room.proofs.AudienceLaw.{nicknames_found}
 use Rattle.irc_room.proofs.audience.member_nicks.Goals as goal
 

@@ -1,4 +1,4 @@
-use Rattle.std.proofs.Common.{Some, [], ◌∷◌, ◌++◌, take, refl, sym, ◌∙◌, ap, option_map, subst, arith}
+use Rattle.std.proofs.Common.{[], ◌∷◌, ◌++◌, take, refl, sym, ◌∙◌, ap, option_map, subst, arith}
 use Rattle.std.proofs.lemmas.List.{take_more}
 use Rattle.std.proofs.lemmas.Option.{get_or_from_slice_get, slice_get_within}
 use Rattle.irc_batch.specs.Batches.{told}

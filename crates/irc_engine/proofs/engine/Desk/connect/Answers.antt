@@ -4,13 +4,13 @@ use Rattle.irc_engine.proofs.MarkLaws.{notes_seated}
 use Rattle.irc_engine.proofs.RunLaws.{on_ok, ran_none, none_there}
 use Rattle.irc_engine.proofs.engine.Desk.connect.Goals as goal
 
-pub returns-then-contains_key-clause-done : goal.returns-then-contains_key-clause-done
-returns-then-contains_key-clause-done g c = in_use (sym c.contains_key.ensures ∙ c.if-contains_key.true) (ran_none _ _)
+pub returns-then-contains-clause-done : goal.returns-then-contains-clause-done
+returns-then-contains-clause-done g c = in_use (sym c.contains.ensures ∙ c.if-contains.true) (ran_none _ _)
 
 pub returns-clause-done : goal.returns-clause-done
 returns-clause-done g c =
     on_ok c.pass.result _ _
-    (λ ran. takes_seat _ (none_there _ (sym c.contains_key.ensures ∙ c.if-contains_key.false)) refl refl refl refl refl c.in_ok-give_seat.ensures ran)
+    (λ ran. takes_seat _ (none_there _ (sym c.contains.ensures ∙ c.if-contains.false)) refl refl refl refl refl c.in_ok-give_seat.ensures ran)
     c.pass.ensures.ran
 
 pub returns-clause-told : goal.returns-clause-told
@@ -19,6 +19,6 @@ returns-clause-told g c = on_ok c.pass.result _ _ (λ told before. told) c.pass.
 pub returns-clause-notes : goal.returns-clause-notes
 returns-clause-notes g c =
     on_ok c.pass.result _ _
-    (λ marks. notes_seated _ c.args.self.now.board c.pass.new.self.board (record c.args.self.now.board { seats = c.give_seat.new.seats }) _
-    (none_there _ (sym c.contains_key.ensures ∙ c.if-contains_key.false)) c.in_ok-give_seat.ensures (λ q. refl) marks)
+    (λ marks. notes_seated _ c.args.self.now.board c.pass.new.self.board (record c.args.self.now.board { seats = c.give_seat.new.self }) _
+    (none_there _ (sym c.contains.ensures ∙ c.if-contains.false)) c.in_ok-give_seat.ensures (λ q. refl) marks)
     c.pass.ensures.marks

@@ -1,4 +1,4 @@
-use Rattle.std.proofs.Common.{[], ap, subst}
+use Rattle.std.proofs.Common.{ap}
 use Rattle.irc_batch.specs.Batches.{Batch}
 use Rattle.irc_engine.proofs.RunLaws.{on_ok, ran_event}
 use Rattle.irc_engine.proofs.engine.Desk.handle.Goals as goal

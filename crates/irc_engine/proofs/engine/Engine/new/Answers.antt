@@ -11,11 +11,11 @@ returns g c = record {
   server_is = refl;
   wire_is = refl;
   room_is = refl;
-  no_seats = c.no_seats.ensures;
+  no_seats = c.new.ensures;
   in_order = record {
-    all_told = λ conn. ap (list_any (is_at (nat_cmp conn))) c.new-2.ensures.empty;
-    noted = λ conn. ap (list_any (is_at (nat_cmp conn))) c.new.ensures.empty ∙ sym (ap has_some_at (c.no_seats.ensures conn));
-    none_done = λ conn. ap is_done_at (c.no_seats.ensures conn);
+    all_told = λ conn. ap (list_any (is_at (nat_cmp conn))) c.new-3.ensures.empty;
+    noted = λ conn. ap (list_any (is_at (nat_cmp conn))) c.new-2.ensures.empty ∙ sym (ap has_some_at (c.new.ensures conn));
+    none_done = λ conn. ap is_done_at (c.new.ensures conn);
   };
   reads_at_most = c.in_ok-buffer.ensures.len;
 }

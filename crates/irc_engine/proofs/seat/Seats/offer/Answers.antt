@@ -1,5 +1,5 @@
 use Rattle.irc_engine.proofs.SeatLaws.{through}
-use Rattle.irc_engine.proofs.seat.offer.Goals as goal
+use Rattle.irc_engine.proofs.seat.Seats.offer.Goals as goal
 
 pub returns-in-Some-clause-at : goal.returns-in-Some-clause-at
 returns-in-Some-clause-at c = through _ _ _ _ _ _ _ c.in-Some.ensures.value (c.get_mut.follows.holds _).3 c.offer.ensures

@@ -1,8 +1,0 @@
-use Rattle.std.proofs.Common.{ap}
-use Rattle.std.specs.Ordering.{nat_cmp}
-use Rattle.std.specs.Map.{lookup}
-use Rattle.std.specs.BTreeMap.{is_at}
-use Rattle.irc_engine.proofs.seat.no_seats.Goals as goal
-
-pub returns : goal.returns
-returns c = λ conn. ap (lookup (is_at (nat_cmp conn))) c.new.ensures.empty
