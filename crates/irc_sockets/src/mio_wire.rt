@@ -43,8 +43,8 @@ pub struct MioWire {
     /// How many sockets and how many arrivals are left of this round.
     reports: usize,
     arrivals: usize,
-    /// Whether sockets have taken bytes since the system was last asked. There may be more of them in an outbox, so no wait is due.
-    has_written: bool,
+    /// Whether a write has failed since the system was last asked. What others are told of that waits to be written, so no wait is due.
+    has_failed: bool,
 }
 
 impl MioWire {
@@ -73,7 +73,7 @@ impl MioWire {
             sockets: Sockets::new(alloc),
             reports: 0,
             arrivals: 0,
-            has_written: false,
+            has_failed: false,
         })
     }
 
@@ -90,9 +90,9 @@ impl MioWire {
     /// # Errors
     /// Where the system fails.
     fn begin_round(&mut self) -> io::Result<()> {
-        let is_busy = self.sockets.waiting() > 0 || self.has_arrivals() || self.has_written;
+        let is_busy = self.sockets.waiting() > 0 || self.has_arrivals() || self.has_failed;
         let wait = Duration::from_millis(if is_busy { 0 } else { WAIT });
-        self.has_written = false;
+        self.has_failed = false;
         self.poll.poll(&mut self.events, Some(wait))?;
         if self.events.is_empty() && !is_busy {
             self.wake_doors();
@@ -206,9 +206,9 @@ impl Wire for MioWire {
     }
 
     fn write(&mut self, conn: u64, bytes: &[u8]) -> Result<usize, IoFault> {
-        let taken = self.sockets.write(conn as usize, bytes)?;
-        self.has_written |= taken > 0;
-        Ok(taken)
+        let taken = self.sockets.write(conn as usize, bytes);
+        self.has_failed |= taken.is_err();
+        taken
     }
 
     fn close(&mut self, conn: u64) {
