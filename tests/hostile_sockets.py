@@ -190,7 +190,8 @@ def backlog():
         return told("backlog", True, f"200 connections at once, all registered in {time.monotonic() - start:.2f} s")
 
 
-RING = 65536
+# what is taken for an outbox: its room, and an eighth of it
+OUTBOX = 65536 * 9 // 8
 
 
 def idle():
@@ -213,14 +214,14 @@ def idle():
             wait_for(waiting, b" 422 ")
         took = time.monotonic() - start
         full = daemon.kilobytes()
-        beside = (daemon.kilobytes("VmData:") - room_before) * 1024 / count - RING
+        beside = (daemon.kilobytes("VmData:") - room_before) * 1024 / count - OUTBOX
         before = daemon.seconds()
         time.sleep(5)
         busy = (daemon.seconds() - before) / 5
         answer = asks(clients[count // 2], b"still")
         return told("idle", busy < 0.05 and answer < 0.5 and beside < 4096,
                     f"{count} clients in {took:.1f} s; {empty} kB before, {full} kB with them: {(full - empty) / count:.2f} kB each, "
-                    f"and {beside:.0f} bytes each of memory asked for beside their rings; "
+                    f"and {beside:.0f} bytes each of memory asked for beside their outboxes; "
                     f"{busy * 100:.2f} of 100 of a processor while they are idle; a PING takes {answer * 1000:.1f} ms")
 
 

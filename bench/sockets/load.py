@@ -98,7 +98,7 @@ class Measured:
         if COUNTS_CALLS:
             print(f"{PART} calls_per_line={self.calls / lines:.3f} lines={lines}")
         else:
-            print(f"{PART} us_per_line={self.seconds / lines * 1e6:.2f} lines={lines}")
+            print(f"{PART} us_per_line={self.seconds / lines * 1e6:.3f} lines={lines}")
 
 
 def register():
