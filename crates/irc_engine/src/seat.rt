@@ -5,8 +5,12 @@ ghost use Rattle.irc_engine.specs.Loops.Seats.{fresh_seat, has_some_at, is_done_
 use irc_line::{Framer, Line};
 use irc_outbox::{IoFault, Outbox, Overflow, Wire};
 use std::alloc::{AllocError, Global};
+use std::cmp::max;
 use std::collections::HashMap;
 use std::hash::{BuildHasherDefault, FoldHasher};
+
+/// Memory for outboxes is asked of the system in pieces of so many bytes (our own choice).
+const PIECE: usize = 2_097_152;
 
 /// The place of a connection.
 #[derive(Drop)]
@@ -139,6 +143,7 @@ impl Seats {
     ) -> Result<(), AllocError>
         ensures { OnOk result (IsSet (seat_of self.old) conn (Some (fresh_seat room)) (seat_of self.new)) }
     {
+        ask_ahead(alloc, self.by_number.len(), room);
         let fresh = Seat::fresh(alloc, room)?;
         match self.by_number.insert(conn, fresh) {
             Ok(_) => Ok(()),
@@ -201,5 +206,15 @@ impl Seats {
             Some(seat) => seat.outbox.write_some(wire, conn),
             None => Ok(0),
         }
+    }
+}
+
+/// Asks for the memory of many outboxes at once, wherever as many connections more have come as such a piece serves, and gives it back. It stays with
+/// the process, and each of the next connections takes its own from it: else the system is asked for nearly every one. Where it is refused,
+/// nothing is lost.
+fn ask_ahead(alloc: Global, connections: usize, room: usize) {
+    let outboxes = PIECE / max(room, 1);
+    if outboxes > 0 && connections % outboxes == 0 {
+        let _given_back = Vec::<u8, Global>::with_capacity(alloc, PIECE);
     }
 }

@@ -1,15 +1,12 @@
 //! Bytes that wait for a connection to take them.
-ghost use Rattle.std.specs.Prelude.{◌≡◌, ◌+◌, ◌≤◌, ◌++◌, [], length, drop, vec_capacity, IfOk};
-ghost use Rattle.irc_outbox.specs.Outboxes.{holding, IsPushed, WritesSome};
+ghost use Rattle.std.specs.Prelude.{◌≡◌, [], length, drop, IfOk};
+ghost use Rattle.irc_outbox.specs.Outboxes.{holding, IsFront, IsPushed, WritesSome};
 
 use crate::wire::{IoFault, Wire};
+use circular_buffer::HeapCircularBuffer;
 use std::alloc::{AllocError, Global};
 use std::marker::Model;
 use thiserror::Error;
-
-/// Memory is taken for the room and one byte more for each so many bytes of it. Bytes that wait are moved to the beginning once the end of the memory
-/// is reached: at most so many are moved for each byte that was written (our own choice).
-const SLACK: usize = 8;
 
 /// Why bytes are not taken into an outbox.
 #[derive(Clone, Copy, Debug, Drop, Error, PartialEq, Eq)]
@@ -20,29 +17,18 @@ pub enum Overflow {
 }
 
 /// Bytes that wait for a connection to take them, in order. There is room for a fixed number of them.
-///
-/// They lie in one piece, so that they are copied at once and one write takes them all. Once all are written the next ones go to the beginning
-/// again: a connection that keeps up uses the same little memory, and the rest of it stays untouched.
 #[derive(Drop)]
 pub struct Outbox {
-    /// Bytes that were written, and behind them those that wait.
-    bytes: Vec<u8, Global>,
-    /// How many were written.
-    written: usize,
-    /// How many may wait.
-    room: usize,
+    bytes: HeapCircularBuffer<u8, Global>,
 }
 
 /// In a clause it is the bytes that it holds, and its room.
 impl Model for Outbox {
-    ghost use Rattle.std.specs.Prelude.{◌+◌, ◌≤◌, length, drop, vec_capacity};
     ghost use Rattle.irc_outbox.specs.Outboxes.{Held, holding};
 
     ghost Value = { Held };
 
-    ghost view = { λ o. holding (drop o.written o.bytes.items) o.room };
-
-    ghost invariant = { λ o. (o.written ≤ length o.bytes.items) × (length o.bytes.items ≤ o.written + o.room) × (o.room ≤ vec_capacity o.bytes) };
+    ghost view = { λ o. holding o.bytes.items o.bytes.capacity };
 }
 
 impl Outbox {
@@ -53,19 +39,15 @@ impl Outbox {
     pub fn with_capacity(alloc: Global, room: usize) -> Result<Self, AllocError>
         ensures { IfOk result (λ outbox. outbox ≡ holding [] room) }
     {
-        let bytes = Vec::with_capacity(alloc, room.saturating_add(room / SLACK))?;
-        Ok(Outbox {
-            bytes,
-            written: 0,
-            room,
-        })
+        let bytes = HeapCircularBuffer::with_capacity(alloc, room)?;
+        Ok(Outbox { bytes })
     }
 
     /// How many bytes it holds.
     pub fn len(&self) -> usize
         ensures { result ≡ length self.now.bytes }
     {
-        self.bytes.len() - self.written
+        self.bytes.len()
     }
 
     /// Appends bytes, all of them or none.
@@ -75,14 +57,10 @@ impl Outbox {
     pub fn push(&mut self, bytes: &[u8]) -> Result<(), Overflow>
         ensures { IsPushed self.old bytes.now result self.new }
     {
-        if bytes.len() > self.room - self.len() {
+        if bytes.len() > self.bytes.capacity() - self.bytes.len() {
             return Err(Overflow::TooLong);
         }
-        if bytes.len() > self.bytes.capacity() - self.bytes.len() {
-            close_up(&mut self.bytes, self.written);
-            self.written = 0;
-        }
-        append(&mut self.bytes, bytes);
+        self.bytes.fill_from_slice(bytes);
         Ok(())
     }
 
@@ -93,49 +71,29 @@ impl Outbox {
     pub fn write_some<W: Wire>(&mut self, wire: &mut W, conn: u64) -> Result<usize, IoFault>
         ensures { WritesSome W.is_after conn self.old wire.old result self.new wire.new }
     {
-        let taken = wire.write(conn, self.waiting())?;
+        let taken = wire.write(conn, self.front())?;
         self.take_off(taken);
         Ok(taken)
     }
 
-    /// The bytes that it holds.
-    fn waiting(&self) -> &[u8]
-        ensures { result.now ≡ self.now.bytes }
+    /// Bytes at the front that lie in one piece.
+    fn front(&self) -> &[u8]
+        ensures { IsFront self.now.bytes result.now }
     {
-        &self.bytes[self.written..]
+        let (first, second) = self.bytes.as_slices();
+        if first.is_empty() { second } else { first }
     }
 
-    /// So many of its bytes are written. Where these are all, the next ones go to the beginning again.
+    /// So many of the first bytes are written. Where these are all, the next ones lie in the same memory again, since `clear` leaves the place at
+    /// which the buffer starts: a connection that keeps up uses the same little memory.
     fn take_off(&mut self, count: usize)
         ensures { self.new ≡ holding (drop count self.old.bytes) self.old.room }
     {
-        if count >= self.len() {
+        let len = self.bytes.len();
+        if count >= len {
             self.bytes.clear();
-            self.written = 0;
         } else {
-            self.written += count;
+            self.bytes.truncate_front(len - count);
         }
     }
-}
-
-/// Moves all but so many of the first bytes to the beginning.
-fn close_up(bytes: &mut Vec<u8, Global>, written: usize)
-    requires { written ≤ length bytes.old.items }
-    ensures items { bytes.new.items ≡ drop written bytes.old.items }
-    ensures capacity { vec_capacity bytes.new ≡ vec_capacity bytes.old }
-{
-    let left = bytes.len() - written;
-    bytes.copy_within(written.., 0);
-    bytes.truncate(left);
-}
-
-/// Appends bytes for which there is memory.
-fn append(to: &mut Vec<u8, Global>, bytes: &[u8])
-    requires { length to.old.items + length bytes.now ≤ vec_capacity to.old }
-    ensures items { to.new.items ≡ to.old.items ++ bytes.now }
-    ensures capacity { vec_capacity to.old ≤ vec_capacity to.new }
-{
-    let Ok(()) = to.extend_from_slice(bytes) else {
-        unreachable!()
-    };
 }
