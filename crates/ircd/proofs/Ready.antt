@@ -1,23 +1,20 @@
 -- How serving ends: before `ready` is printed, while it is, or behind it.
-use Rattle.std.proofs.Common.{◌≡◌, ◌∙◌, ℕ, Option, Result, Ok, Err, IsErrAnd, List, [], inl, inr, refl, sym, subst, append-nil}
-use Rattle.std.specs.Io.KnownBytes.{Appends, Keeps}
+use Rattle.std.proofs.Common.{◌≡◌, ◌∙◌, ℕ, Option, Result, Ok, Err, IsErrAnd, List, [], inl, inr, refl, sym, subst}
+use Rattle.std.specs.Io.KnownBytes.{Appends}
 use Rattle.irc_outbox.specs.Calls.{Call}
 use Rattle.irc_engine.specs.declared.engine.Engine.{Engine}
-use Rattle.ircd.specs.declared.fault.Stop.{Stop}
-use Rattle.ircd.specs.declared.fault.Stop.TheVariants.{Usage, BadScript, BadConfiguration, Failed}
+use Rattle.irc_endings.specs.declared.fault.Stop.{Stop}
+use Rattle.irc_endings.specs.declared.fault.Stop.TheVariants.{Usage, BadScript, BadConfiguration, Failed}
 use Rattle.ircd.specs.declared.setup.Setup.{Setup}
 use Rattle.ircd.specs.Loops.Turns.{HasGone, IsOfFile}
-use Rattle.ircd.specs.Serving.{IsReadSetup, IsTextOf, Serves, ServesFile, ServesText, ready_text}
+use Rattle.ircd.specs.Serving.{IsReadSetup, IsTextOf, Serves, ServesFile, ServesText}
+use Rattle.irc_endings.specs.Ready.{ready_text}
 use Rattle.irc_script.specs.Sinks.{Tells, sink}
-use Rattle.irc_script.specs.Lemmas.Printed.{keeps_appended}
-use Rattle.irc_script.specs.Lemmas.Sinking.{all_lost, no_loss}
+use Rattle.irc_script.specs.Lemmas.Sinking.{all_lost}
 
--- nothing written is a front, and so is all
+-- nothing written is a front
 pub tells_nothing : (held : Option (List ℕ)) (text : List ℕ) → Tells held held text
 tells_nothing held text = all_lost (sink held []) text
-
-pub tells_all : (old new : Option (List ℕ)) (text : List ℕ) → Appends old new text → Tells old new text
-tells_all old new text appended = no_loss record { written = text; appended = appended; whole = sym (append-nil text) }
 
 -- `ready` is cut short
 pub ready_cut : {W : Type 0} (is_after : W → List Call → Type 0) (turns : ℕ) (old new : Engine W) (held after : Option (List ℕ)) (r : Result (Unit {0}) Stop)
@@ -25,15 +22,11 @@ pub ready_cut : {W : Type 0} (is_after : W → List Call → Type 0) (turns : �
 ready_cut is_after turns old new held after (Ok _) tells failed = absurd failed
 ready_cut is_after turns old new held after (Err stop) tells failed = subst (λ s. Serves is_after turns old new held after (Err s)) (sym failed) tells
 
--- it was printed, and not seen to arrive
-pub ready_held : (held middle after : Option (List ℕ)) → Appends held middle ready_text → Keeps middle after → Tells held after ready_text
-ready_held held middle after appended keeps = tells_all held after ready_text (keeps_appended held middle after ready_text appended keeps)
-
-pub ready_said : {W : Type 0} (is_after : W → List Call → Type 0) (turns : ℕ) (old new : Engine W) (held middle after : Option (List ℕ))
-    (r : Result (Unit {0}) Stop) → Appends held middle ready_text → Keeps middle after → HasGone is_after old turns new r → Serves is_after turns old new held after r
-ready_said is_after turns old new held middle after (Ok _) appended keeps gone = (keeps_appended held middle after ready_text appended keeps, gone)
-ready_said is_after turns old new held middle after (Err stop) appended keeps gone =
-    ready_cut is_after turns old new held after (Err stop) (ready_held held middle after appended keeps) gone
+-- it was printed, and turns were taken
+pub ready_said : {W : Type 0} (is_after : W → List Call → Type 0) (turns : ℕ) (old new : Engine W) (held after : Option (List ℕ)) (r : Result (Unit {0}) Stop)
+    → Appends held after ready_text → Tells held after ready_text → HasGone is_after old turns new r → Serves is_after turns old new held after r
+ready_said is_after turns old new held after (Ok _) appended tells gone = (appended, gone)
+ready_said is_after turns old new held after (Err stop) appended tells gone = ready_cut is_after turns old new held after (Err stop) tells gone
 
 -- a text sets nothing up
 stopped_by : (text : List ℕ) (stop : Stop) (held : Option (List ℕ)) → IsReadSetup text (Err stop) → ServesText text (Err stop) held held

@@ -10,13 +10,13 @@ use Rattle.irc_server.specs.Configuring.{IsMade}
 use Rattle.irc_settings.specs.declared.settings.Settings.{Settings}
 use Rattle.irc_settings.specs.declared.settings.PeerSettings.{PeerSettings}
 use Rattle.irc_settings.specs.Configuration.{IsReadAs}
-use Rattle.ircd.specs.declared.fault.Stop.{Stop}
-use Rattle.ircd.specs.declared.fault.Stop.TheVariants.{Usage, BadScript, BadConfiguration, Failed}
+use Rattle.irc_endings.specs.declared.fault.Stop.{Stop}
+use Rattle.irc_endings.specs.declared.fault.Stop.TheVariants.{Usage, BadScript, BadConfiguration, Failed}
 use Rattle.ircd.specs.declared.setup.Setup.{Setup}
 use Rattle.ircd.specs.Loops.SettingUp.{ChecksCalls, FindsOptional}
 use Rattle.ircd.specs.Serving.{AreCalled, Configures, IsAddress, IsNoAddress, IsReadSetup, IsRefused, IsSomeUncalled, SetsUp}
 use Rattle.ircd.specs.Serving.{nobody, somebody, this, later, links, server, refused}
-use Rattle.ircd.specs.Statuses.{stop_of_config}
+use Rattle.irc_endings.specs.Statuses.{stop_of_config}
 
 -- all can be called where those that are left can, and one cannot where one of these cannot
 pub record Left (rest all : List PeerSettings) : Type 0 where

@@ -3,7 +3,7 @@ use Rattle.std.specs.Prelude.{◌≡◌, ℕ, Option, Result, List}
 use Rattle.irc_script.specs.declared.fault.SimFault.{SimFault}
 use Rattle.irc_script.specs.Runs.{Ran}
 use Rattle.irc_script.specs.Sinks.{Tells}
-use Rattle.ircd.specs.Statuses.{ending_of, exit_status, told_of}
+use Rattle.irc_endings.specs.Statuses.{ending_of, exit_status, told_of}
 
 -- the status is that of how the script's run ended, and so is what is said on standard error
 pub record EndsRun (status : ℕ) (remaining old new errors errors_after : Option (List ℕ)) : Type 0 where

@@ -1,5 +1,5 @@
 -- What a configuration sets up, and how serving ends.
-use Rattle.std.specs.Prelude.{◌≡◌, ℕ, ◌+◌, Bool, true, false, Option, Some, None, Result, Ok, Err, List, [], ◌∷◌, map, option_map, is_some, codes, string_bytes, ⊤}
+use Rattle.std.specs.Prelude.{◌≡◌, ℕ, ◌+◌, Bool, true, false, Option, Some, None, Result, Ok, Err, List, [], ◌∷◌, map, option_map, is_some, string_bytes, ⊤}
 use Rattle.std.specs.Io.KnownBytes.{Appends}
 use Rattle.std.specs.Net.Grammar.{IsSocketText}
 use Rattle.std.specs.declared.net.socket_addr.SocketAddr.{SocketAddr}
@@ -14,11 +14,12 @@ use Rattle.irc_engine.specs.declared.engine.Engine.{Engine}
 use Rattle.irc_engine.specs.declared.engine.EngineFault.{EngineFault}
 use Rattle.irc_engine.specs.declared.engine.EngineFault.TheVariants as turn
 use Rattle.irc_engine.specs.Turning.{Turned}
-use Rattle.ircd.specs.declared.fault.Stop.{Stop}
-use Rattle.ircd.specs.declared.fault.Stop.TheVariants.{Usage, BadScript, BadConfiguration, Failed}
+use Rattle.irc_endings.specs.declared.fault.Stop.{Stop}
+use Rattle.irc_endings.specs.declared.fault.Stop.TheVariants.{Usage, BadScript, BadConfiguration, Failed}
 use Rattle.ircd.specs.declared.setup.Setup.{Setup}
 use Rattle.irc_script.specs.Sinks.{Tells}
-use Rattle.ircd.specs.Statuses.{exit_status, told_of}
+use Rattle.irc_endings.specs.Ready.{ready_text}
+use Rattle.irc_endings.specs.Statuses.{exit_status, told_of}
 
 -- no address is written so
 abbrev pub IsNoAddress : List ℕ → Type 0
@@ -110,10 +111,6 @@ pub data GoesOn {W : Type 0} (is_after : W → List Call → Type 0) (old : Engi
   no_turn : GoesOn is_after old 0 old
   one_more : (n : ℕ) (between new : Engine W) (ended : Result (Unit {0}) EngineFault) → GoesOn is_after old n between
       → Turned is_after between new ended → goes_on ended ≡ true → GoesOn is_after old (n + 1) new
-
--- what is printed once clients can connect
-abbrev pub ready_text : List ℕ
-ready_text = codes "ready\n"
 
 -- `ready` was printed, and all turns were taken; else a front of it was, and the program failed
 abbrev pub Serves : {W : Type 0} → (W → List Call → Type 0) → ℕ → Engine W → Engine W → Option (List ℕ) → Option (List ℕ) → Result (Unit {0}) Stop → Type 0

@@ -1,8 +1,6 @@
 //! `ircd sim` runs a script of clients on one IRC server; `ircd serve` serves clients on TCP sockets.
 #![tactic(auto)]
 
-mod fault;
-mod laws;
 mod program;
 #[cfg(test)]
 mod program_tests;
@@ -10,11 +8,10 @@ mod serve;
 #[cfg(test)]
 mod serve_tests;
 mod setup;
-mod words;
 
-use program::{run, stop_with};
+use irc_endings::{stop_with, words_given};
+use program::run;
 use std::process::ExitCode;
-use words::words_given;
 
 fn main(rt: HostRuntime) -> ExitCode {
     let mut errors = rt.stderr();

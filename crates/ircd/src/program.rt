@@ -1,15 +1,14 @@
 //! The program, on whatever streams it is given.
 ghost use Rattle.std.specs.Prelude.{◌≡◌, ℕ, List, Some, None};
-ghost use Rattle.ircd.specs.declared.fault.Stop.TheVariants.{Usage};
+ghost use Rattle.irc_endings.specs.declared.fault.Stop.TheVariants.{Usage};
 ghost use Rattle.ircd.specs.Endings.{EndsRun};
 ghost use Rattle.ircd.specs.Serving.{EndsServing};
 ghost use Rattle.irc_script.specs.Sinks.{Tells};
-ghost use Rattle.ircd.specs.Statuses.{ending_of, exit_status, status_of, told, told_of};
-ghost use Rattle.ircd.specs.Words.{runs_script, serves, task_of, texts_of};
+ghost use Rattle.irc_endings.specs.Statuses.{ending_of, status_of, told};
+ghost use Rattle.irc_endings.specs.Words.{runs_script, serves, task_of, texts_of};
 
-use crate::fault::Stop;
 use crate::serve::serve;
-use crate::words::Task;
+use irc_endings::{Stop, Task, end_with, stop_with};
 use irc_script::{SimFault, run_sim};
 use std::alloc::Global;
 use std::fs::Files;
@@ -73,25 +72,4 @@ fn run_server<T: AllocGlobal + Files + Net, W: Write, E: Write>(
 {
     let ended = serve(rt, file, turns, output);
     end_with(ended, errors)
-}
-
-/// The exit status of an ending. Where the work was not done, the reason is written.
-fn end_with<E: Write>(ended: Result<(), Stop>, errors: &mut E) -> u8
-    ensures status { result ≡ exit_status ended }
-    ensures tells { Tells (E.contents errors.old) (E.contents errors.new) (told_of ended) }
-{
-    match ended {
-        Ok(()) => 0,
-        Err(stop) => stop_with(stop, errors),
-    }
-}
-
-/// Says why the program ends, and gives the exit status.
-pub fn stop_with<E: Write>(stop: Stop, errors: &mut E) -> u8
-    ensures status { result ≡ status_of stop }
-    ensures tells { Tells (E.contents errors.old) (E.contents errors.new) (told stop) }
-{
-    // Where even this cannot be written, the status alone tells.
-    let _ = stop.tell(errors);
-    stop.status()
 }

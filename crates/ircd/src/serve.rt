@@ -1,22 +1,18 @@
 //! `ircd serve`: a server on TCP sockets.
 ghost use Rattle.std.specs.Prelude.{◌≡◌, IfErr};
-ghost use Rattle.ircd.specs.declared.fault.Stop.TheVariants.{Failed};
+ghost use Rattle.irc_endings.specs.declared.fault.Stop.TheVariants.{Failed};
 ghost use Rattle.ircd.specs.Loops.Turns.{HasGone, IsOfFile, stop_after};
 ghost use Rattle.ircd.specs.Serving.{Serves, ServesFile, ServesText};
 
-use crate::fault::Stop;
 use crate::setup::{Setup, read_setup};
+use irc_endings::{Stop, say_ready};
 use irc_engine::{Engine, EngineFault};
 use irc_outbox::Wire;
-use irc_script::{flush, write_whole};
 use irc_sockets::MioWire;
 use std::alloc::Global;
 use std::fs::{Files, read_to_string};
 use std::io::{ErrorKind, Write};
 use std::net::Net;
-
-/// What is printed once clients can connect.
-const READY: &[u8] = b"ready\n";
 
 /// Serves as a file says, for so many turns. Says `ready` as soon as clients can connect.
 ///
@@ -86,8 +82,7 @@ fn run_engine<W: Wire, O: Write>(
 ) -> Result<(), Stop>
     ensures { Serves W.is_after turns engine.old engine.new (O.contents output.old) (O.contents output.new) result }
 {
-    write_whole(READY, output)?;
-    flush(output)?;
+    say_ready(output)?;
     take_turns(engine, turns)
 }
 

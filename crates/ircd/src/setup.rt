@@ -4,7 +4,7 @@ ghost use Rattle.irc_server.specs.View.{known_peer};
 ghost use Rattle.ircd.specs.Serving.{Configures, IsReadSetup, SetsUp, peer_set};
 ghost use Rattle.ircd.specs.Loops.SettingUp.{ChecksCalls, FindsAddress, FindsOptional};
 
-use crate::fault::Stop;
+use irc_endings::Stop;
 use irc_routes::Own;
 use irc_server::{Config, Peer, Server};
 use irc_settings::{PeerSettings, Settings, read_settings};

@@ -3,8 +3,8 @@ use Rattle.std.specs.Prelude.{◌≡◌, ℕ, Option, Result, Ok, Err, List, Som
 use Rattle.std.specs.Net.Grammar.{IsSocketText}
 use Rattle.std.specs.declared.net.socket_addr.SocketAddr.{SocketAddr}
 use Rattle.irc_settings.specs.declared.settings.PeerSettings.{PeerSettings}
-use Rattle.ircd.specs.declared.fault.Stop.{Stop}
-use Rattle.ircd.specs.declared.fault.Stop.TheVariants.{BadConfiguration}
+use Rattle.irc_endings.specs.declared.fault.Stop.{Stop}
+use Rattle.irc_endings.specs.declared.fault.Stop.TheVariants.{BadConfiguration}
 use Rattle.ircd.specs.Serving.{AreCalled, IsAddress, IsNoAddress, IsSomeUncalled}
 
 -- the address that a text is, or that it is none

@@ -4,8 +4,8 @@ use Rattle.irc_outbox.specs.Calls.{Call}
 use Rattle.irc_engine.specs.declared.engine.Engine.{Engine}
 use Rattle.irc_engine.specs.declared.engine.EngineFault.{EngineFault}
 use Rattle.irc_engine.specs.declared.engine.EngineFault.TheVariants as turn
-use Rattle.ircd.specs.declared.fault.Stop.{Stop}
-use Rattle.ircd.specs.declared.fault.Stop.TheVariants.{BadConfiguration, Failed}
+use Rattle.irc_endings.specs.declared.fault.Stop.{Stop}
+use Rattle.irc_endings.specs.declared.fault.Stop.TheVariants.{BadConfiguration, Failed}
 use Rattle.ircd.specs.Serving.{GoesOn}
 
 -- what a turn that ended so means to the program

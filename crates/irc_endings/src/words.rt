@@ -1,7 +1,7 @@
 //! What the words of the command line ask for.
 ghost use Rattle.std.specs.Prelude.{◌≡◌, option_map};
 ghost use Rattle.irc_script.specs.Numbers.{number_of};
-ghost use Rattle.ircd.specs.Words.{errand, serves, task_of, texts_of};
+ghost use Rattle.irc_endings.specs.Words.{errand, serves, task_of, texts_of};
 
 use crate::fault::Stop;
 use irc_script::read_number;

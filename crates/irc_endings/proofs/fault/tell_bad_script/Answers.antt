@@ -1,7 +1,7 @@
 use Rattle.std.proofs.Common.{◌∙◌, subst, OnOk}
 use Rattle.std.specs.Io.KnownBytes.{Appends}
 use Rattle.irc_script.specs.Sinks.{Tells}
-use Rattle.ircd.proofs.fault.tell_bad_script.Goals as goal
+use Rattle.irc_endings.proofs.fault.tell_bad_script.Goals as goal
 
 pub returns-clause-whole : goal.returns-clause-whole
 returns-clause-whole g c =

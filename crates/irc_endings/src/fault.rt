@@ -1,9 +1,9 @@
 //! Why the program ends before its work is done, what it says then, and its exit status.
 ghost use Rattle.std.specs.Prelude.{◌≡◌, OnOk};
 ghost use Rattle.std.specs.Io.KnownBytes.{Appends};
-ghost use Rattle.ircd.specs.declared.fault.Stop.TheVariants.{BadScript};
+ghost use Rattle.irc_endings.specs.declared.fault.Stop.TheVariants.{BadScript};
 ghost use Rattle.irc_script.specs.Sinks.{Tells};
-ghost use Rattle.ircd.specs.Statuses.{status_of, told, stop_of, stopped, stop_of_settings, stop_of_config};
+ghost use Rattle.irc_endings.specs.Statuses.{status_of, told, stop_of, stopped, stop_of_settings, stop_of_config};
 
 use arrayvec::ArrayVec;
 use irc_script::{SimFault, Trouble, write_whole};

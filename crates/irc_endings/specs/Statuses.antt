@@ -6,8 +6,8 @@ use Rattle.irc_server.specs.declared.config.ConfigFault.{ConfigFault}
 use Rattle.irc_server.specs.declared.config.ConfigFault.TheVariants as config
 use Rattle.irc_script.specs.declared.fault.SimFault.{SimFault}
 use Rattle.irc_script.specs.declared.fault.SimFault.TheVariants as fault
-use Rattle.ircd.specs.declared.fault.Stop.{Stop}
-use Rattle.ircd.specs.declared.fault.Stop.TheVariants as stop
+use Rattle.irc_endings.specs.declared.fault.Stop.{Stop}
+use Rattle.irc_endings.specs.declared.fault.Stop.TheVariants as stop
 
 abbrev pub stop_of : SimFault → Stop
 stop_of (fault.BadScript line) = stop.BadScript line

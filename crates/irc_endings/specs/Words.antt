@@ -1,8 +1,8 @@
 -- What the words of the command line ask for.
 use Rattle.std.specs.Prelude.{ℕ, Option, Some, None, List, [], ◌∷◌, map, option_map, codes, string_bytes, String, if◌then◌else◌}
 use Rattle.std.specs.Str.{bytes_eq}
-use Rattle.ircd.specs.declared.words.Task.{Task}
-use Rattle.ircd.specs.declared.words.Task.TheVariants as task
+use Rattle.irc_endings.specs.declared.words.Task.{Task}
+use Rattle.irc_endings.specs.declared.words.Task.TheVariants as task
 use Rattle.irc_script.specs.Limits.{max_number}
 use Rattle.irc_script.specs.Numbers.{number_of}
 

@@ -1,5 +1,5 @@
 use Rattle.std.proofs.Common.{rules}
-use Rattle.ircd.proofs.fault.StopFromSettingsFault.from.Goals as goal
+use Rattle.irc_endings.proofs.fault.StopFromSettingsFault.from.Goals as goal
 
 pub returns-in-BadConfiguration : goal.returns-in-BadConfiguration
 returns-in-BadConfiguration c = search rules

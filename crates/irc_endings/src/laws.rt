@@ -1,6 +1,6 @@
 //! What holds of the program's constant. The law is a function that does nothing, and its contract is the law.
 ghost use Rattle.std.specs.Prelude.{◌≡◌};
-ghost use Rattle.ircd.specs.Limits.{max_bad_script};
+ghost use Rattle.irc_endings.specs.Limits.{max_bad_script};
 
 use crate::fault::MAX_BAD_SCRIPT;
 

@@ -1,0 +1,4 @@
+pub mod Limits
+pub mod Statuses
+pub mod Words
+pub mod Ready

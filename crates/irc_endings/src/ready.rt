@@ -1,0 +1,23 @@
+//! What the program says before it serves.
+ghost use Rattle.std.specs.Prelude.{OnOk};
+ghost use Rattle.std.specs.Io.KnownBytes.{Appends};
+ghost use Rattle.irc_script.specs.Sinks.{Tells};
+ghost use Rattle.irc_endings.specs.Ready.{ready_text};
+
+use irc_script::{Trouble, flush, write_whole};
+use std::io::Write;
+
+/// What is printed once clients can connect.
+const READY: &[u8] = b"ready\n";
+
+/// Says `ready`, and sees to it that it arrives.
+///
+/// # Errors
+/// Where that fails. What was written then is a front of the line.
+pub fn say_ready<O: Write>(output: &mut O) -> Result<(), Trouble>
+    ensures whole { OnOk result (Appends (O.contents output.old) (O.contents output.new) ready_text) }
+    ensures front { Tells (O.contents output.old) (O.contents output.new) ready_text }
+{
+    write_whole(READY, output)?;
+    flush(output)
+}
