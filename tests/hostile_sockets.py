@@ -190,8 +190,8 @@ def backlog():
         return told("backlog", True, f"200 connections at once, all registered in {time.monotonic() - start:.2f} s")
 
 
-# what is taken for an outbox: its room, and an eighth of it
-OUTBOX = 65536 * 9 // 8
+# what is taken for an outbox: its room
+OUTBOX = 65536
 
 
 def idle():
