@@ -2,6 +2,7 @@
 #![tactic(auto)]
 
 mod board;
+mod boxed_framer;
 mod engine;
 mod seat;
 

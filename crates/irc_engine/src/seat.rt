@@ -1,8 +1,11 @@
 //! The place of each connection that is open: its outbox, and what has come of its next line.
-ghost use Rattle.std.specs.Prelude.{◌≡◌, ℕ, ◌+◌, Some, None, is_some, IfOk, OnOk, if◌then◌else◌};
-ghost use Rattle.irc_engine.specs.Loops.Seats.{fresh_seat, has_some_at, is_done_at, is_open_at, seat_count, seat_of, IsSet, IsOffered, IsOfferedAt, IsShutAt, IsWrittenAt, Frames, FramesAt};
+ghost use Rattle.std.specs.Prelude.{◌≡◌, ℕ, ◌+◌, Ok, Some, None, is_some, length, option_copied, IfOk, OnOk, if◌then◌else◌};
+ghost use Rattle.std.specs.List.{slice_get};
+ghost use Rattle.irc_engine.specs.Loops.Seats.{fresh_seat, has_some_at, is_done_at, is_open_at, seat_count, seat_of, IsSet, IsOffered, IsOfferedAt, IsShutAt, IsWritten, IsWrittenAt, Frames, FramesAt, Within};
+ghost use Rattle.irc_engine.specs.declared.seat.Offered.TheVariants.{Nothing};
 
-use irc_line::{Framer, Line};
+use crate::boxed_framer::BoxedFramer;
+use irc_line::Line;
 use irc_outbox::{IoFault, Outbox, Overflow, Wire};
 use std::alloc::{AllocError, Global};
 use std::cmp::max;
@@ -18,7 +21,7 @@ pub struct Seat {
     /// What is still to be written to it.
     pub outbox: Outbox,
     /// What has come of its next line; none once the server has closed the connection.
-    pub framer: Option<Framer>,
+    pub framer: Option<BoxedFramer>,
 }
 
 /// What has come of bytes that were offered to a connection.
@@ -38,9 +41,10 @@ impl Seat {
         ensures { IfOk result (λ seat. seat ≡ fresh_seat room) }
     {
         let outbox = Outbox::with_capacity(alloc, room)?;
+        let framer = BoxedFramer::new(alloc)?;
         Ok(Seat {
             outbox,
-            framer: Some(Framer::new()),
+            framer: Some(framer),
         })
     }
 
@@ -81,10 +85,14 @@ impl Seat {
     }
 }
 
-/// The places of the connections, by their numbers. A place is large, and an ordered map would walk over many to find one.
+/// The places of the connections, by their numbers. What goes to many is offered at each of their numbers in turn: those that a wire gives first are
+/// found without a search.
 #[derive(Drop)]
 pub(crate) struct Seats {
-    by_number: HashMap<u64, Seat, BuildHasherDefault<FoldHasher>, Global>,
+    /// Those of the numbers below its length, each at its number.
+    near: Vec<Option<Seat>, Global>,
+    /// Those of other numbers.
+    far: HashMap<u64, Seat, BuildHasherDefault<FoldHasher>, Global>,
 }
 
 impl Seats {
@@ -93,7 +101,18 @@ impl Seats {
         ensures { (conn : ℕ) → seat_of result conn ≡ None }
     {
         Seats {
-            by_number: HashMap::new(alloc),
+            near: Vec::new(alloc),
+            far: HashMap::new(alloc),
+        }
+    }
+
+    /// The seat of a connection, if it has one.
+    fn find(&self, conn: u64) -> Option<&Seat>
+        ensures { option_copied result ≡ seat_of self.now conn }
+    {
+        match self.near.get(conn as usize) {
+            Some(slot) => slot.as_ref(),
+            None => self.far.get(&conn),
         }
     }
 
@@ -101,14 +120,14 @@ impl Seats {
     pub(crate) fn contains(&self, conn: u64) -> bool
         ensures { result ≡ is_some (seat_of self.now conn) }
     {
-        self.by_number.contains_key(&conn)
+        self.find(conn).is_some()
     }
 
     /// Whether a connection has a seat that the server has not closed.
     pub(crate) fn is_open(&self, conn: u64) -> bool
         ensures { result ≡ is_open_at (seat_of self.now conn) }
     {
-        match self.by_number.get(&conn) {
+        match self.find(conn) {
             Some(seat) => seat.framer.is_some(),
             None => false,
         }
@@ -118,7 +137,7 @@ impl Seats {
     pub(crate) fn is_done(&self, conn: u64) -> bool
         ensures { result ≡ is_done_at (seat_of self.now conn) }
     {
-        match self.by_number.get(&conn) {
+        match self.find(conn) {
             Some(seat) => seat.is_done(),
             None => false,
         }
@@ -128,7 +147,7 @@ impl Seats {
     pub(crate) fn has_some(&self, conn: u64) -> bool
         ensures { result ≡ has_some_at (seat_of self.now conn) }
     {
-        match self.by_number.get(&conn) {
+        match self.find(conn) {
             Some(seat) => seat.outbox.len() > 0,
             None => false,
         }
@@ -143,9 +162,35 @@ impl Seats {
     ) -> Result<(), AllocError>
         ensures { OnOk result (IsSet (seat_of self.old) conn (Some (fresh_seat room)) (seat_of self.new)) }
     {
-        ask_ahead(alloc, self.by_number.len(), room);
+        ask_ahead(alloc, conn as usize, room);
         let fresh = Seat::fresh(alloc, room)?;
-        match self.by_number.insert(conn, fresh) {
+        let next = self.near.len();
+        match self.near.get_mut(conn as usize) {
+            Some(slot) => {
+                *slot = Some(fresh);
+                Ok(())
+            }
+            None if conn as usize == next => self.put_next(fresh),
+            None => self.put_far(conn, fresh),
+        }
+    }
+
+    /// The first number behind those of the near seats has this seat from now on.
+    fn put_next(&mut self, seat: Seat) -> Result<(), AllocError>
+        ensures { OnOk result (IsSet (seat_of self.old) (length self.old.near.items) (Some seat) (seat_of self.new)) }
+    {
+        match self.near.push(Some(seat)) {
+            Ok(()) => Ok(()),
+            Err(_) => Err(AllocError),
+        }
+    }
+
+    /// A number behind those of the near seats has this seat from now on.
+    fn put_far(&mut self, conn: u64, seat: Seat) -> Result<(), AllocError>
+        requires { slice_get self.old.near.items conn ≡ None }
+        ensures { OnOk result (IsSet (seat_of self.old) conn (Some seat) (seat_of self.new)) }
+    {
+        match self.far.insert(conn, seat) {
             Ok(_) => Ok(()),
             Err(_) => Err(AllocError),
         }
@@ -156,7 +201,12 @@ impl Seats {
         ensures at { IsSet (seat_of self.old) conn None (seat_of self.new) }
         ensures len { seat_count self.new + (if is_some (seat_of self.old conn) then 1 else 0) ≡ seat_count self.old }
     {
-        self.by_number.remove(&conn);
+        match self.near.get_mut(conn as usize) {
+            Some(slot) => *slot = None,
+            None => {
+                self.far.remove(&conn);
+            }
+        }
     }
 
     /// Offers bytes to a connection.
@@ -167,9 +217,12 @@ impl Seats {
         ensures at { IsOfferedAt conn bytes.now self.old result self.new }
         ensures len { seat_count self.new ≡ seat_count self.old }
     {
-        match self.by_number.get_mut(&conn) {
-            Some(seat) => seat.offer(bytes),
-            None => Ok(Offered::Nothing),
+        match self.near.get_mut(conn as usize) {
+            Some(slot) => offer(slot, bytes),
+            None => match self.far.get_mut(&conn) {
+                Some(seat) => seat.offer(bytes),
+                None => Ok(Offered::Nothing),
+            },
         }
     }
 
@@ -178,8 +231,13 @@ impl Seats {
         ensures at { IsShutAt conn self.old self.new }
         ensures len { seat_count self.new ≡ seat_count self.old }
     {
-        if let Some(seat) = self.by_number.get_mut(&conn) {
-            seat.framer = None;
+        match self.near.get_mut(conn as usize) {
+            Some(slot) => shut(slot),
+            None => {
+                if let Some(seat) = self.far.get_mut(&conn) {
+                    seat.framer = None;
+                }
+            }
         }
     }
 
@@ -188,9 +246,12 @@ impl Seats {
         ensures at { FramesAt conn piece.now self.old result self.new }
         ensures len { seat_count self.new ≡ seat_count self.old }
     {
-        match self.by_number.get_mut(&conn) {
-            Some(seat) => seat.take(piece),
-            None => None,
+        match self.near.get_mut(conn as usize) {
+            Some(slot) => take(slot, piece),
+            None => match self.far.get_mut(&conn) {
+                Some(seat) => seat.take(piece),
+                None => None,
+            },
         }
     }
 
@@ -202,19 +263,60 @@ impl Seats {
         ensures at { IsWrittenAt W.is_after conn self.old wire.old result self.new wire.new }
         ensures len { seat_count self.new ≡ seat_count self.old }
     {
-        match self.by_number.get_mut(&conn) {
-            Some(seat) => seat.outbox.write_some(wire, conn),
-            None => Ok(0),
+        match self.near.get_mut(conn as usize) {
+            Some(slot) => write(slot, wire, conn),
+            None => match self.far.get_mut(&conn) {
+                Some(seat) => seat.outbox.write_some(wire, conn),
+                None => Ok(0),
+            },
         }
     }
 }
 
-/// Asks for the memory of many outboxes at once, wherever as many connections more have come as such a piece serves, and gives it back. It stays with
-/// the process, and each of the next connections takes its own from it: else the system is asked for nearly every one. Where it is refused,
-/// nothing is lost.
-fn ask_ahead(alloc: Global, connections: usize, room: usize) {
+/// Offers bytes to the connection whose seat this is, if it is one.
+fn offer(slot: &mut Option<Seat>, bytes: &[u8]) -> Result<Offered, Overflow>
+    ensures { Within (λ s t. IsOffered s bytes.now result t) (result ≡ Ok Nothing) slot.old slot.new }
+{
+    match slot {
+        Some(seat) => seat.offer(bytes),
+        None => Ok(Offered::Nothing),
+    }
+}
+
+/// The server has closed the connection whose seat this is, if it is one.
+fn shut(slot: &mut Option<Seat>)
+    ensures { Within (λ s t. t ≡ record s { framer = None }) (Unit {0}) slot.old slot.new }
+{
+    if let Some(seat) = slot {
+        seat.framer = None;
+    }
+}
+
+/// Takes bytes that have come from the connection whose seat this is, if it is one.
+fn take(slot: &mut Option<Seat>, piece: &[u8]) -> Option<(usize, Option<Line>)>
+    ensures { Within (λ s t. Frames s piece.now result t) (result ≡ None) slot.old slot.new }
+{
+    match slot {
+        Some(seat) => seat.take(piece),
+        None => None,
+    }
+}
+
+/// Writes once to the connection whose seat this is, if it is one.
+fn write<W: Wire>(slot: &mut Option<Seat>, wire: &mut W, conn: u64) -> Result<usize, IoFault>
+    ensures { Within (λ s t. IsWritten W.is_after conn s wire.old result t wire.new) ((result ≡ Ok 0) × (wire.new ≡ wire.old)) slot.old slot.new }
+{
+    match slot {
+        Some(seat) => seat.outbox.write_some(wire, conn),
+        None => Ok(0),
+    }
+}
+
+/// Asks for the memory of many outboxes at once, and gives it back, where the number is a multiple of how many these are. It stays with the process,
+/// and each of the next connections takes its own from it: else the system is asked for nearly every one. Where it is refused, nothing is lost.
+fn ask_ahead(alloc: Global, number: usize, room: usize) {
     let outboxes = PIECE / max(room, 1);
-    if outboxes > 0 && connections % outboxes == 0 {
+    if outboxes > 0 && number % outboxes == 0 {
         let _given_back = Vec::<u8, Global>::with_capacity(alloc, PIECE);
     }
 }

@@ -1,5 +1,6 @@
 -- What the small functions over the seats of connections do.
 use Rattle.std.specs.Prelude.{◌≡◌, ℕ, ◌+◌, ◌<◌, ◌≤◌, true, false, nat_eq, is_some, IsNone, Option, Some, None, Result, Ok, Err, List, [], ◌++◌, length, take, if◌then◌else◌}
+use Rattle.std.specs.List.{count_by, slice_get}
 use Rattle.std.specs.HashMap.{get, hash_map_len}
 use Rattle.arrayvec.specs.ArrayVec.{ArrayVec}
 use Rattle.irc_line.specs.Framed.{found_in}
@@ -14,13 +15,18 @@ use Rattle.irc_engine.specs.declared.seat.Offered.{Offered}
 use Rattle.irc_engine.specs.declared.seat.Offered.TheVariants.{Nothing, First, More}
 pub use Rattle.irc_engine.specs.Carrying.{fresh_seat, has_some_at, is_done_at, is_open_at}
 
+-- a number among the near ones has the seat that is there, and another that of the other map
+abbrev pub seat_at : Option (Option Seat) → Option Seat → Option Seat
+seat_at (Some near) far = near
+seat_at None far = far
+
 -- the seat of a connection, if it has one
 abbrev pub seat_of : Seats → ℕ → Option Seat
-seat_of seats conn = get nat_eq seats.by_number conn
+seat_of seats conn = seat_at (slice_get seats.near.items conn) (get nat_eq seats.far conn)
 
 -- how many there are
 abbrev pub seat_count : Seats → ℕ
-seat_count seats = hash_map_len seats.by_number
+seat_count seats = count_by is_some seats.near.items + hash_map_len seats.far
 
 -- all seats are as they were, but that of one connection
 abbrev pub IsSet : (ℕ → Option Seat) → ℕ → Option Seat → (ℕ → Option Seat) → Type 0
@@ -33,6 +39,11 @@ AreSame old new = (q : ℕ) → new q ≡ old q
 pub data Through (conn : ℕ) (P : Seat → Seat → Type 0) (Q : Type 0) (old new : Seats) : Type 0 where
   at_seat : (seat now : Seat) → seat_of old conn ≡ Some seat → IsSet (seat_of old) conn (Some now) (seat_of new) → P seat now → Through conn P Q old new
   no_seat : seat_of old conn ≡ None → AreSame (seat_of old) (seat_of new) → Q → Through conn P Q old new
+
+-- a change of the seat that is in a place; what holds where there is none
+pub data Within (P : Seat → Seat → Type 0) (Q : Type 0) (old new : Option Seat) : Type 0 where
+  in_seat : (seat now : Seat) → old ≡ Some seat → new ≡ Some now → P seat now → Within P Q old new
+  in_none : old ≡ None → new ≡ None → Q → Within P Q old new
 
 -- bytes are to be written, behind those that wait already
 pub record IsQueued (old : Seat) (bytes : List ℕ) (new : Seat) : Type 0 where
