@@ -3,6 +3,7 @@ pub mod Growing
 pub mod Showings
 pub mod HomeRoom
 pub mod Hearing
+pub mod Telling
 pub mod Steps
 pub mod OneMachine
 pub mod ToldInPart

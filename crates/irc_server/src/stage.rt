@@ -6,7 +6,7 @@ ghost use Rattle.irc_room.specs.Applying.{pairs_of, shown_here};
 ghost use Rattle.irc_room.specs.Effects.{IsPossible};
 ghost use Rattle.irc_server.specs.Handle.{all_stepped, clients_after, closing, stepped, with_effect};
 ghost use Rattle.irc_batch.specs.Growing.{Grew};
-ghost use Rattle.irc_server.specs.Loops.Hearing.{IsSaidBy};
+ghost use Rattle.irc_server.specs.Loops.Hearing.{IsSaidBy, IsSaidTo};
 ghost use Rattle.irc_server.specs.Loops.Stage.{clients_of, machine_at, so_far, AreFit, IsFit, IsIndexed, IsReady, IsSound, Keeps, LeavesApart};
 
 use crate::clients::{ClientTable, number_of, rename, show_all, take_out};
@@ -68,8 +68,7 @@ fn follow(clients: &mut ClientTable, effect: &Effect) -> Result<(), AllocError>
     }
 }
 
-/// An effect changes the room, and is shown to its viewers. What is said in a channel changes nothing, and there is the most of it, to the most
-/// viewers: so it has a way of its own.
+/// An effect changes the room, and is shown to its viewers. What is said changes nothing, and there is the most of it: so it has ways of its own.
 pub(crate) fn apply(stage: &mut Stage, effect: &Effect, out: &mut Batch) -> Result<(), AllocError>
     requires ready { IsReady stage.old }
     requires fit { IsFit (machine_at stage.old) effect.now }
@@ -84,6 +83,10 @@ pub(crate) fn apply(stage: &mut Stage, effect: &Effect, out: &mut Batch) -> Resu
             target: Target::Channel(channel),
             ..
         } => pass_on(stage, effect, by, channel, out),
+        Effect::Say {
+            target: Target::User(nick),
+            ..
+        } => tell(stage, effect, nick, out),
         _ => change(stage, effect, out),
     }
 }
@@ -109,6 +112,25 @@ fn pass_on(
         out.hold(&stage.shown.line)?;
         let own = number_of(&stage.clients, by);
         return out.send_to_others(stage.hearers.conns.as_slice(), own);
+    }
+    Ok(())
+}
+
+/// What is said to a user is told to it, where it is a client.
+fn tell(stage: &mut Stage, effect: &Effect, nick: &Nick, out: &mut Batch) -> Result<(), AllocError>
+    requires ready { IsReady stage.old }
+    requires fit { IsFit (machine_at stage.old) effect.now }
+    requires said { IsSaidTo nick.now effect.now }
+    ensures ok { OnOk result (so_far stage.new out.new.outs ≡ with_effect effect.now (so_far stage.old out.old.outs)) }
+    ensures ready { OnOk result (IsReady stage.new) }
+    ensures keeps { Keeps stage.old stage.new }
+    ensures grew { Grew out.old.outs out.new.outs }
+{
+    let Some(conn) = number_of(&stage.clients, nick) else {
+        return Ok(());
+    };
+    if stage.room.write_line(effect, &mut stage.shown.line)? {
+        return out.put(conn, &stage.shown.line);
     }
     Ok(())
 }

@@ -1,11 +1,11 @@
--- Who hears what is said in a channel, as the code keeps it.
+-- Who hears what is said, as the code keeps it.
 use Rattle.std.specs.Prelude.{◌≡◌, ℕ, Bool, false, Option, Some, None, List, option_to_list}
 use Rattle.std.specs.List.{flat_map}
 use Rattle.irc_names.specs.Fold.{key, same}
 use Rattle.irc_names.specs.Tables.{Table, row}
 use Rattle.irc_room.specs.declared.effect.Effect.{Effect}
 use Rattle.irc_room.specs.declared.effect.Effect.TheVariants.{Say}
-use Rattle.irc_room.specs.declared.effect.Target.TheVariants.{Channel}
+use Rattle.irc_room.specs.declared.effect.Target.TheVariants.{Channel, User}
 use Rattle.irc_room.specs.Room.{Room}
 use Rattle.irc_room.specs.Readers.{nicks_in}
 use Rattle.irc_server.specs.declared.hearers.Hearers.{Hearers}
@@ -34,3 +34,8 @@ AreSo hearers room by_nick = (channel : List ℕ) → hearers.channel ≡ Some c
 abbrev pub IsSaidBy : List ℕ → List ℕ → Effect → Type 0
 IsSaidBy by channel (Say who notice (Channel where_to) words) = (who ≡ by) × (where_to ≡ channel)
 IsSaidBy by channel effect = ⊥
+
+-- somebody says something to this user
+abbrev pub IsSaidTo : List ℕ → Effect → Type 0
+IsSaidTo nick (Say who notice (User to_whom) words) = to_whom ≡ nick
+IsSaidTo nick effect = ⊥
