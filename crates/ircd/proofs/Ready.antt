@@ -7,7 +7,8 @@ use Rattle.irc_endings.specs.declared.fault.Stop.{Stop}
 use Rattle.irc_endings.specs.declared.fault.Stop.TheVariants.{Usage, BadScript, BadConfiguration, Failed}
 use Rattle.ircd.specs.declared.setup.Setup.{Setup}
 use Rattle.ircd.specs.Loops.Turns.{HasGone, IsOfFile}
-use Rattle.ircd.specs.Serving.{IsReadSetup, IsTextOf, Serves, ServesFile, ServesText}
+use Rattle.ircd.specs.Serving.{IsCutShort, IsReadSetup, IsTextOf, Serves, ServesFile, ServesText}
+use Rattle.ircd.specs.Serving.IsCutShort.{printing, unprinted}
 use Rattle.irc_endings.specs.Ready.{ready_text}
 use Rattle.irc_script.specs.Sinks.{Tells, sink}
 use Rattle.irc_script.specs.Lemmas.Sinking.{all_lost}
@@ -31,7 +32,7 @@ ready_said is_after turns old new held after (Err stop) appended tells gone = re
 -- a text sets nothing up
 stopped_by : (text : List ℕ) (stop : Stop) (held : Option (List ℕ)) → IsReadSetup text (Err stop) → ServesText text (Err stop) held held
 stopped_by text BadConfiguration held bad = (bad, refl)
-stopped_by text Failed held bad = tells_nothing held ready_text
+stopped_by text Failed held bad = unprinted refl
 stopped_by text Usage held bad = absurd bad
 stopped_by text (BadScript line) held bad = absurd bad
 
@@ -45,13 +46,13 @@ pub not_opened : (text : List ℕ) (r : Result (Unit {0}) Stop) (stop : Stop) (h
     → stop ≡ Failed → IsErrAnd r (λ e. e ≡ stop) → ServesText text r held held
 not_opened text (Ok _) stop held is failed = absurd failed
 not_opened text (Err e) stop held is failed =
-    subst (λ s. ServesText text (Err s) held held) (sym (failed ∙ is)) (tells_nothing held ready_text)
+    subst (λ s. ServesText text (Err s) held held) (sym (failed ∙ is)) (unprinted refl)
 
 -- what it sets up is served
 pub text_served : {W : Type 0} (is_after : W → List Call → Type 0) (turns : ℕ) (old new : Engine W) (text : List ℕ) (setup : Setup)
     (held after : Option (List ℕ)) (r : Result (Unit {0}) Stop) → IsTextOf text setup → Serves is_after turns old new held after r → ServesText text r held after
 text_served is_after turns old new text setup held after (Ok _) is serves = (setup, is, serves.0)
-text_served is_after turns old new text setup held after (Err Failed) is serves = serves
+text_served is_after turns old new text setup held after (Err Failed) is serves = printing setup is serves
 text_served is_after turns old new text setup held after (Err BadConfiguration) is serves = absurd serves
 text_served is_after turns old new text setup held after (Err Usage) is serves = absurd serves
 text_served is_after turns old new text setup held after (Err (BadScript line)) is serves = absurd serves
@@ -62,3 +63,16 @@ file_refused (Ok _) stop held (inl is) failed = absurd failed
 file_refused (Ok _) stop held (inr is) failed = absurd failed
 file_refused (Err e) stop held (inl is) failed = subst (λ s. ServesFile (Err s) held held) (sym (failed ∙ is)) refl
 file_refused (Err e) stop held (inr is) failed = subst (λ s. ServesFile (Err s) held held) (sym (failed ∙ is)) (tells_nothing held ready_text)
+
+-- what was printed where it is cut short is a front of `ready`
+cut_short : (text : List ℕ) (held after : Option (List ℕ)) → IsCutShort text held after → Tells held after ready_text
+cut_short text held after (unprinted is) = subst (λ a. Tells held a ready_text) (sym is) (tells_nothing held ready_text)
+cut_short text held after (printing setup is tells) = tells
+
+-- a file is served by the text that it holds
+pub file_served : (text : List ℕ) (r : Result (Unit {0}) Stop) (held after : Option (List ℕ)) → ServesText text r held after → ServesFile r held after
+file_served text (Ok _) held after served = served.2
+file_served text (Err Failed) held after served = cut_short text held after served
+file_served text (Err BadConfiguration) held after served = served.1
+file_served text (Err Usage) held after served = absurd served
+file_served text (Err (BadScript line)) held after served = absurd served

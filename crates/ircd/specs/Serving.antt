@@ -120,11 +120,16 @@ Serves is_after turns old new printed printed_after (Err BadConfiguration) = ⊥
 Serves is_after turns old new printed printed_after (Err Usage) = ⊥
 Serves is_after turns old new printed printed_after (Err (BadScript line)) = ⊥
 
--- How serving by a text ends: `ready` was printed only where the text sets up a server; a bad text is refused, and nothing printed.
+-- where the program failed: nothing was printed; or the text sets up a server, and a front of `ready` was
+pub data IsCutShort (text : List ℕ) (printed printed_after : Option (List ℕ)) : Type 0 where
+  unprinted : printed_after ≡ printed → IsCutShort text printed printed_after
+  printing : (setup : Setup) → IsTextOf text setup → Tells printed printed_after ready_text → IsCutShort text printed printed_after
+
+-- How serving by a text ends: anything was printed only where the text sets up a server; a bad text is refused, and nothing printed.
 abbrev pub ServesText : List ℕ → Result (Unit {0}) Stop → Option (List ℕ) → Option (List ℕ) → Type 0
 ServesText text (Ok _) printed printed_after = (setup : Setup) × IsTextOf text setup × Appends printed printed_after ready_text
 ServesText text (Err BadConfiguration) printed printed_after = IsBadText text × (printed_after ≡ printed)
-ServesText text (Err Failed) printed printed_after = Tells printed printed_after ready_text
+ServesText text (Err Failed) printed printed_after = IsCutShort text printed printed_after
 ServesText text (Err Usage) printed printed_after = ⊥
 ServesText text (Err (BadScript line)) printed printed_after = ⊥
 
