@@ -1,6 +1,6 @@
 -- A room as four tables: users, channels, members and invitations, each by the folds of the names in it.
 use Rattle.std.specs.Prelude.{ℕ, Bool, false, Option, List, map, filter}
-use Rattle.std.specs.Option.{option_and_then, option_map_or}
+use Rattle.std.specs.Option.{option_and_then, option_map, option_map_or}
 use Rattle.std.specs.FinMap.{values}
 use Rattle.irc_names.specs.Tables.{row}
 use Rattle.irc_users.specs.declared.user.User.{User}
@@ -13,6 +13,10 @@ use Rattle.irc_room.specs.Effects.{is_member}
 -- the user with this fold
 abbrev pub user_at : Room → List ℕ → Option User
 user_at room nick = row room.users nick
+
+-- the server that the user with this fold is connected to
+abbrev pub home_under : Room → List ℕ → Option (List ℕ)
+home_under room nick = option_map (λ (user : User). user.home) (row room.users nick)
 
 -- the channel with this fold
 abbrev pub channel_at : Room → List ℕ → Option Channel

@@ -12,7 +12,8 @@ use Rattle.irc_channels.specs.declared.flags.Flags.{Flags}
 use Rattle.irc_room.specs.Room.{Room}
 use Rattle.irc_routes.specs.Known.{Known}
 use Rattle.irc_wire.specs.Loops.Readings.{is_member_far}
-use Rattle.irc_wire.specs.Reader.{reader_of, home_under, is_behind_link, all_behind_link}
+use Rattle.irc_room.specs.Readers.{home_under}
+use Rattle.irc_wire.specs.Reader.{reader_of, is_behind_link, all_behind_link}
 
 pub far-rows : (room : Room) (known : Known) (link : ℕ) (o : Option Channel) (rows : List (Row Flags)) → map row_entry rows ≡ members_in o
     → (is_some o && list_all (is_member_far (reader_of room known link)) rows) ≡ option_map_or (all_behind_link room known link) o false

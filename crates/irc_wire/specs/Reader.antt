@@ -1,14 +1,14 @@
 -- All that a server looks at when it reads a line of a link.
 use Rattle.std.specs.Prelude.{ℕ, Bool, true, false, Option, List, nat_eq, if◌then◌else◌}
 use Rattle.std.specs.List.{list_all}
-use Rattle.std.specs.Option.{option_map_or, option_map}
+use Rattle.std.specs.Option.{option_map_or}
 use Rattle.std.specs.FinMap.{keys}
 use Rattle.irc_names.specs.Fold.{key}
 use Rattle.irc_names.specs.Names.{is_nick, is_server}
 use Rattle.irc_names.specs.Tables.{row}
-use Rattle.irc_users.specs.declared.user.User.{User}
 use Rattle.irc_channels.specs.declared.channel.Channel.{Channel}
 use Rattle.irc_room.specs.Room.{Room}
+use Rattle.irc_room.specs.Readers.{home_under}
 use Rattle.irc_routes.specs.Known.{Known, next_hop, distance_of, token_in}
 
 pub record Reader : Type 0 where
@@ -22,10 +22,6 @@ pub record Reader : Type 0 where
   pub distance : List ℕ → Option ℕ
   -- whether a channel is there, and all its members are behind the link
   pub is_far_channel : List ℕ → Bool
-
--- the server that the user under a fold is connected to
-abbrev pub home_under : Room → List ℕ → Option (List ℕ)
-home_under room fold = option_map (λ (user : User). user.home) (row room.users fold)
 
 abbrev pub is_behind_link : Known → ℕ → List ℕ → Bool
 is_behind_link known link name = option_map_or (nat_eq link) (next_hop known name) false

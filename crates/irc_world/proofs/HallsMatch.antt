@@ -25,7 +25,8 @@ use Rattle.irc_world.specs.Owed.{after_items}
 use Rattle.irc_world.specs.Sound.{IsSound, AreTaken}
 use Rattle.irc_world.specs.Laws.{StepStaysSound}
 use Rattle.irc_world.specs.UsersHomes.{HomesAreServers, StepKeepsHomes, HomesAreJoined, StepKeepsHomesJoined}
-use Rattle.irc_world.specs.ClientsUsers.{fold_of, registered_as, home_under, AreMatched, ClientsAreUsers, StepKeepsMatched, RegisteredAreUsers}
+use Rattle.irc_room.specs.Readers.{home_under}
+use Rattle.irc_world.specs.ClientsUsers.{fold_of, registered_as, AreMatched, ClientsAreUsers, StepKeepsMatched, RegisteredAreUsers}
 use Rattle.irc_world.proofs.Halls.{hall_with}
 use Rattle.irc_world.proofs.HomesKept.{named, no_users}
 use Rattle.irc_world.proofs.HomesJoined.{passing, near_sides, far_sides, at_lost_side, at_other_side, nobody_joined}

@@ -1,11 +1,9 @@
 -- How the clients of the network and the users of its rooms belong together.
 use Rattle.std.specs.Prelude.{◌≡◌, ℕ, Option, Some, None, List}
-use Rattle.std.specs.Option.{option_map, option_and_then}
+use Rattle.std.specs.Option.{option_and_then}
 use Rattle.std.specs.FinMap.{get}
 use Rattle.irc_names.specs.Fold.{key}
-use Rattle.irc_names.specs.Tables.{row}
-use Rattle.irc_users.specs.declared.user.User.{User}
-use Rattle.irc_room.specs.Room.{Room}
+use Rattle.irc_room.specs.Readers.{home_under}
 use Rattle.irc_relay.specs.Links.{Name}
 use Rattle.irc_server.specs.declared.clients.Client.{Client}
 use Rattle.irc_server.specs.declared.clients.Client.TheVariants.{Registering, Registered}
@@ -24,10 +22,6 @@ fold_of (Registered nick) = Some (key nick)
 
 abbrev pub registered_as : Clients → ℕ → Option (List ℕ)
 registered_as clients client = option_and_then fold_of (get clients client)
-
--- the home of the user under a fold
-abbrev pub home_under : Room → List ℕ → Option Name
-home_under room fold = option_map (λ (user : User). user.home) (row room.users fold)
 
 -- a client and the user under a fold have one home
 pub record HaveOneHome (homes : ℕ → Option Name) (user_home : List ℕ → Option Name) (client : ℕ) (fold : List ℕ) : Type 0 where
