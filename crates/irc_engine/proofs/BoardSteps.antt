@@ -5,7 +5,8 @@ use Rattle.std.proofs.lemmas.List.Elements.{filter-append}
 use Rattle.std.specs.BTreeSet.{BTreeSet}
 use Rattle.irc_outbox.specs.declared.outbox.Overflow.{Overflow}
 use Rattle.irc_outbox.specs.Calls.{Call, closes, is_some_bytes}
-use Rattle.irc_batch.specs.Batches.{Sent, end_of, line_to}
+use Rattle.irc_batch.specs.Batches.{Sent, end_of, end_of_link, line_on, line_to}
+use Rattle.irc_batch.specs.declared.close_reason.CloseReason.{CloseReason}
 use Rattle.irc_engine.specs.declared.board.Board.{Board}
 use Rattle.irc_engine.specs.declared.seat.Offered.{Offered}
 use Rattle.irc_engine.specs.declared.seat.Offered.TheVariants.{Nothing}
@@ -13,12 +14,12 @@ use Rattle.irc_engine.specs.declared.seat.Seat.{Seat}
 use Rattle.irc_line.specs.Lines.{Begun}
 use Rattle.irc_engine.specs.Hearing.{Hears}
 use Rattle.irc_engine.proofs.HearingLaws.{hears_gone, hears_same}
-use Rattle.irc_engine.specs.Carrying.{owed, is_open_at, is_exchange, AddsAll, Passage, finished}
+use Rattle.irc_engine.specs.Carrying.{owed, is_closed_by, is_open_at, is_exchange, AddsAll, Passage, finished}
 use Rattle.irc_engine.specs.Loops.Counts.{count_of}
 use Rattle.irc_engine.specs.Loops.Seats.{seat_count, seat_of, is_done_at, AreSame, at_seat, no_seat, IsOfferedAt, IsShutAt}
 use Rattle.irc_engine.specs.Loops.Boards.{has, IsNoted, Ends, Loses, Settles, ended, stayed, Carries}
 use Rattle.irc_engine.proofs.SeatLaws.{nat_eq-refl, IsQueuedAt}
-use Rattle.irc_engine.proofs.CarryingLaws.{IsElsewhere, nothing_owed, passage_on, untouched, still, kept_none, kept_some}
+use Rattle.irc_engine.proofs.CarryingLaws.{IsElsewhere, nothing_owed, passage_as, passage_on, untouched, still, kept_none, kept_some}
 use Rattle.irc_engine.proofs.BoardLaws.{adds_none, adds_both, at_once, by_number, set_here, set_other, nothing_else, close_elsewhere, line_elsewhere, shut_elsewhere, ends_fewer, last_close, line_drops}
 
 and_false : (o : Bool) → (o && false) ≡ false
@@ -242,3 +243,33 @@ module _ {W : Type 0} (is_after : W → List Call → Type 0) where
                 → cond (nat_eq conn q) None (seat_of mid.seats q) ≡ cond (nat_eq conn q) None (seat_of old.seats q)
             over q true e is = ap (λ t. cond t None (seat_of mid.seats q)) e ∙ sym (ap (λ t. cond t None (seat_of old.seats q)) e)
             over q false e is = ap (λ s. cond (nat_eq conn q) None s) (is ∙ ap (λ t. cond t (Some now) (seat_of old.seats q)) e)
+
+-- a link is a connection of the wire: what is put out on it goes there as to a client
+pub carries_as : {W : Type 0} (is_after : W → List Call → Type 0) (exchanges : List Call) (old : Board W) (outs outs' : List Sent) (new : Board W)
+    → ((conn : ℕ) (unshut : Bool) → owed unshut conn outs ≡ owed unshut conn outs') → ((conn : ℕ) → is_closed_by conn outs ≡ is_closed_by conn outs')
+    → Carries is_after exchanges old outs new → Carries is_after exchanges old outs' new
+carries_as is_after exchanges old outs outs' new owes closes carries = record {
+  calls = carries.calls;
+  account = carries.account;
+  passage = λ conn. passage_as conn carries.calls outs outs' (owes conn) (closes conn) _ _ _ _ (carries.passage conn);
+  exchanged = carries.exchanged;
+  count = carries.count;
+}
+
+pub on_link : {W : Type 0} (is_after : W → List Call → Type 0) (old : Board W) (link : ℕ) (text : List ℕ) (new : Board W)
+    → Carries is_after [] old (line_to link text ∷ []) new → Carries is_after [] old (line_on link text ∷ []) new
+on_link is_after old link text new carries =
+    carries_as is_after [] old (line_to link text ∷ []) (line_on link text ∷ []) new by (λ conn. refl) carries
+  where
+    by : (conn : ℕ) (unshut : Bool) → owed unshut conn (line_to link text ∷ []) ≡ owed unshut conn (line_on link text ∷ [])
+    by conn true = refl
+    by conn false = refl
+
+pub of_link : {W : Type 0} (is_after : W → List Call → Type 0) (old : Board W) (link : ℕ) (reason : CloseReason) (new : Board W)
+    → Carries is_after [] old (end_of link ∷ []) new → Carries is_after [] old (end_of_link link reason ∷ []) new
+of_link is_after old link reason new carries =
+    carries_as is_after [] old (end_of link ∷ []) (end_of_link link reason ∷ []) new by (λ conn. refl) carries
+  where
+    by : (conn : ℕ) (unshut : Bool) → owed unshut conn (end_of link ∷ []) ≡ owed unshut conn (end_of_link link reason ∷ [])
+    by conn true = refl
+    by conn false = refl

@@ -4,7 +4,7 @@ use Rattle.std.proofs.lemmas.Grind.{flat_map-append}
 use Rattle.std.proofs.lemmas.List.Folds.{list_any-append}
 use Rattle.std.proofs.lemmas.List.Sums.{sum_by-append}
 use Rattle.irc_outbox.specs.Calls.{Call, written, written_by, times_closed, is_close_of}
-use Rattle.irc_batch.specs.Batches.{Sent, end_of, line_to}
+use Rattle.irc_batch.specs.Batches.{Sent, end_of, end_of_link, line_on, line_to}
 use Rattle.irc_engine.specs.declared.seat.Seat.{Seat}
 use Rattle.irc_engine.specs.Hearing.{begun_at}
 use Rattle.irc_engine.proofs.HearingLaws.{hears_on, hears_kept}
@@ -28,6 +28,15 @@ answers-append conn (line_to to text ∷ a) b =
     let first : List ℕ = cond (nat_eq to conn) text [] in
     ap (λ xs. first ++ xs) (answers-append conn a b) ∙ sym (append_assoc first (answers conn a) (owed (not (is_closed_by conn a)) conn b))
 answers-append conn (end_of which ∷ a) b = by (nat_eq which conn) (answers-append conn a b)
+  where
+    by : (t : Bool) → answers conn (a ++ b) ≡ answers conn a ++ owed (not (is_closed_by conn a)) conn b
+        → cond t [] (answers conn (a ++ b)) ≡ cond t [] (answers conn a) ++ owed (not (t || is_closed_by conn a)) conn b
+    by true rest = refl
+    by false rest = rest
+answers-append conn (line_on link text ∷ a) b =
+    let first : List ℕ = cond (nat_eq link conn) text [] in
+    ap (λ xs. first ++ xs) (answers-append conn a b) ∙ sym (append_assoc first (answers conn a) (owed (not (is_closed_by conn a)) conn b))
+answers-append conn (end_of_link which reason ∷ a) b = by (nat_eq which conn) (answers-append conn a b)
   where
     by : (t : Bool) → answers conn (a ++ b) ≡ answers conn a ++ owed (not (is_closed_by conn a)) conn b
         → cond t [] (answers conn (a ++ b)) ≡ cond t [] (answers conn a) ++ owed (not (t || is_closed_by conn a)) conn b
@@ -249,3 +258,36 @@ untouched conn calls outs apart old new was now same as_lost =
 
 pub same_fate : (conn : ℕ) (seat : Option Seat) → Fate conn seat [] [] seat
 same_fate conn seat = untouched_fate conn [] [] (record { silent = record { nothing = refl; never = refl }; never_cut = refl; nothing = refl; never_closed = refl }) seat
+
+-- What is put out matters to a connection by what is owed to it and by whether it is closed.
+module _ (conn : ℕ) (calls : List Call) (outs outs' : List Sent) (owes : (unshut : Bool) → owed unshut conn outs ≡ owed unshut conn outs')
+    (closes : is_closed_by conn outs ≡ is_closed_by conn outs') where
+  why_as : (old : Seat) (left : List ℕ) → Why conn old calls outs left → Why conn old calls outs' left
+  why_as old left (finished is none) = finished (ap (λ b. is_some old.framer && not b) (sym closes) ∙ is) none
+  why_as old left (cut_off is) = cut_off is
+  why_as old left (overflowed more) = overflowed more
+
+  fate_as : (old new : Option Seat) → Fate conn old calls outs new → Fate conn old calls outs' new
+  fate_as None None fate = fate
+  fate_as None (Some new) fate = fate
+  fate_as (Some old) (Some new) fate = record {
+    carried = ap (λ xs. old.outbox.bytes ++ xs) (sym (owes (is_some old.framer))) ∙ fate.carried;
+    same_room = fate.same_room;
+    still_open = fate.still_open ∙ ap (λ b. is_some old.framer && not b) closes;
+    never = fate.never;
+    never_cut = fate.never_cut;
+  }
+  fate_as (Some old) None fate = record {
+    left = fate.left;
+    carried = ap (λ xs. old.outbox.bytes ++ xs) (sym (owes (is_some old.framer))) ∙ fate.carried;
+    once = fate.once;
+    why = why_as old fate.left fate.why;
+  }
+
+  pub passage_as : (old : Option Seat) (was_lost : Bool) (new : Option Seat) (is_lost : Bool) → Passage conn old was_lost calls outs new is_lost
+      → Passage conn old was_lost calls outs' new is_lost
+  passage_as old was_lost new is_lost passage = record {
+    fate = fate_as old new passage.fate;
+    lost_is = passage.lost_is ∙ ap (λ b. is_lost_after old was_lost b new) closes;
+    hears_none = passage.hears_none;
+  }

@@ -6,7 +6,7 @@ use Rattle.irc_outbox.specs.declared.wire.Got.TheVariants.{End}
 use Rattle.irc_line.specs.Lines.{nothing_begun}
 use Rattle.irc_outbox.specs.Outboxes.{holding}
 use Rattle.irc_outbox.specs.Calls.{Call, reads, writes, closes, is_some_bytes, written, times_closed}
-use Rattle.irc_batch.specs.Batches.{Sent, end_of, line_to}
+use Rattle.irc_batch.specs.Batches.{Sent, end_of, end_of_link, line_on, line_to}
 use Rattle.irc_engine.specs.declared.seat.Seat.{Seat}
 use Rattle.irc_engine.specs.Hearing.{begun_at, Hears}
 
@@ -14,16 +14,20 @@ use Rattle.irc_engine.specs.Hearing.{begun_at, Hears}
 abbrev pub fresh_seat : ℕ → Seat
 fresh_seat room = record { outbox = holding [] room; framer = Some nothing_begun }
 
--- the bytes to a connection among what the server puts out, up to where it closes it
+-- The bytes to a connection among what the server puts out, up to where it closes it. A link is a connection of the wire too: no number is that of a
+-- client and of a link.
 abbrev pub answers : ℕ → List Sent → List ℕ
 answers conn [] = []
 answers conn (line_to to text ∷ outs) = (if nat_eq to conn then text else []) ++ answers conn outs
 answers conn (end_of which ∷ outs) = if nat_eq which conn then [] else answers conn outs
+answers conn (line_on link text ∷ outs) = (if nat_eq link conn then text else []) ++ answers conn outs
+answers conn (end_of_link which reason ∷ outs) = if nat_eq which conn then [] else answers conn outs
 
 -- whether the server closes it there
 abbrev pub is_closing : ℕ → Sent → Bool
 is_closing conn (end_of which) = nat_eq which conn
-is_closing conn (line_to to text) = false
+is_closing conn (end_of_link which reason) = nat_eq which conn
+is_closing conn line = false
 
 abbrev pub is_closed_by : ℕ → List Sent → Bool
 is_closed_by conn outs = list_any (is_closing conn) outs

@@ -3,22 +3,22 @@ use Rattle.std.specs.Prelude.{◌≡◌, ℕ, Bool, true, false, nat_eq, Option,
 use Rattle.std.specs.List.{flat_map}
 use Rattle.irc_line.specs.Lines.{Begun, Takes}
 use Rattle.irc_server.specs.declared.event.Event.{Event}
-use Rattle.irc_server.specs.declared.event.Event.TheVariants.{Connect, Line, Gone}
+use Rattle.irc_server.specs.declared.event.Event.TheVariants.{Connect, Line, Gone, LinkLine, LinkDown}
 use Rattle.irc_engine.specs.declared.seat.Seat.{Seat}
 
 -- the lines of a connection among some events, in order
 abbrev pub line_by : ℕ → Event → List (List ℕ)
 line_by conn (Line from line) = if nat_eq from conn then line.items ∷ [] else []
-line_by conn (Connect which host) = []
-line_by conn (Gone which) = []
+line_by conn (LinkLine link line) = if nat_eq link conn then line.items ∷ [] else []
+line_by conn other = []
 
 abbrev pub lines_by : ℕ → List Event → List (List ℕ)
 lines_by conn events = flat_map (line_by conn) events
 
 abbrev pub is_gone_of : ℕ → Event → Bool
 is_gone_of conn (Gone which) = nat_eq which conn
-is_gone_of conn (Connect which host) = false
-is_gone_of conn (Line from line) = false
+is_gone_of conn (LinkDown link) = nat_eq link conn
+is_gone_of conn other = false
 
 -- how often the server is told that a connection is gone
 abbrev pub times_gone : ℕ → List Event → ℕ
@@ -26,8 +26,7 @@ times_gone conn events = count_by (is_gone_of conn) events
 
 abbrev pub is_connect : Event → Bool
 is_connect (Connect conn host) = true
-is_connect (Line conn line) = false
-is_connect (Gone conn) = false
+is_connect other = false
 
 -- what has come of the next line of a connection; nothing where it has no seat, or where the server has closed it
 abbrev pub begun_at : Option Seat → Option Begun

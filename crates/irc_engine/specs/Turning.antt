@@ -4,7 +4,7 @@ use Rattle.irc_outbox.specs.declared.wire.IoFault.{IoFault}
 use Rattle.irc_outbox.specs.declared.wire.Ready.{Ready}
 use Rattle.irc_outbox.specs.declared.wire.Ready.TheVariants.{Idle, Writable}
 use Rattle.irc_outbox.specs.Calls.{Call, asks, Adds}
-use Rattle.irc_server.specs.View.{View}
+use Rattle.irc_stage.specs.View.{View}
 use Rattle.irc_engine.specs.declared.engine.Engine.{Engine}
 use Rattle.irc_engine.specs.declared.engine.EngineFault.{EngineFault}
 use Rattle.irc_engine.specs.declared.engine.EngineFault.TheVariants.{Memory, Failed, Device}

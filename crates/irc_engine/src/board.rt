@@ -2,7 +2,7 @@
 ghost use Rattle.std.specs.Prelude.{◌≡◌, ◌+◌, ◌≤◌, true, false, [], ◌∷◌, OnOk};
 ghost use Rattle.std.specs.BTreeSet.{btree_set_len};
 ghost use Rattle.irc_engine.specs.Loops.Boards.{Carries, Ends, IsNoted, KeepsMarks, Loses, Settles, Writes};
-ghost use Rattle.irc_batch.specs.Batches.{end_of, line_to, told};
+ghost use Rattle.irc_batch.specs.Batches.{end_of, line_to, sent_of};
 
 use crate::seat::{Offered, Seats};
 use irc_batch::{Batch, Out};
@@ -92,13 +92,14 @@ impl<W: Wire> Board<W> {
 
     /// Does one thing that the server has put out.
     fn deal_one(&mut self, out: Out<'_>) -> Result<(), AllocError>
-        ensures carries { OnOk result (Carries W.is_after [] self.old (told out.entry ∷ []) self.new) }
+        ensures carries { OnOk result (Carries W.is_after [] self.old (sent_of out.entry ∷ []) self.new) }
         ensures marks { OnOk result (KeepsMarks self.old self.new) }
     {
         match out {
             Out::Line(conn, line) => self.send(conn, line),
-            Out::Close(conn) => {
-                self.shut(conn);
+            Out::LinkLine(link, line) => self.send(link, line),
+            Out::Close(number) | Out::LinkClose(number, _) => {
+                self.shut(number);
                 Ok(())
             }
         }

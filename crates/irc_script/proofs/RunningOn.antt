@@ -6,9 +6,9 @@ use Rattle.irc_server.specs.declared.event.Event.TheVariants.{Connect, Line, Gon
 use Rattle.irc_batch.specs.Batches.{Sent}
 use Rattle.irc_server.specs.declared.event.ServerFault.{ServerFault}
 use Rattle.irc_server.specs.declared.event.ServerFault.TheVariants.{NoSuchConnection, ConnectionThere}
-use Rattle.irc_server.specs.declared.clients.Client.{Client}
-use Rattle.irc_server.specs.RoomMachine.{client_of}
-use Rattle.irc_server.specs.View.{View, machine_of}
+use Rattle.irc_stage.specs.declared.clients.Client.{Client}
+use Rattle.irc_stage.specs.RoomMachine.{client_of}
+use Rattle.irc_stage.specs.View.{View, machine_of}
 use Rattle.irc_server.specs.Served.{served, fault_of, there, not_there}
 use Rattle.irc_server.specs.Happening.{happening_of, IsHandled, takes_it, refuses_it, wants_memory, has_failed}
 use Rattle.irc_script.specs.Events.{events_of}

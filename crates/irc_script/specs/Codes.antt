@@ -1,7 +1,7 @@
 -- How the stage of a script is stored.
 use Rattle.std.specs.Prelude.{ℕ, Option, refl}
 use Rattle.std.specs.Coded.{Coded, code_by, coded×, coded_ℕ, coded_option}
-use Rattle.irc_server.specs.View.{View}
+use Rattle.irc_stage.specs.View.{View}
 use Rattle.irc_script.specs.Runs.{Standing}
 
 -- as its fields

@@ -2,7 +2,7 @@
 use Rattle.std.specs.Prelude.{ℕ, ◌-◌, Option, Some, None, List, [], ◌∷◌, ◌++◌, length, take, drop, codes, decimal, if◌then◌else◌}
 use Rattle.std.specs.Str.{bytes_eq}
 use Rattle.irc_line.specs.Bytes.{crlf, space, line_feed}
-use Rattle.irc_batch.specs.Batches.{Sent, end_of, line_to}
+use Rattle.irc_batch.specs.Batches.{Sent, line_to}
 use Rattle.irc_server.specs.declared.event.ServerFault.{ServerFault}
 use Rattle.irc_server.specs.declared.event.ServerFault.TheVariants.{Memory, Failed, NoSuchConnection, ConnectionThere, NoSuchLink, LinkThere}
 
@@ -14,10 +14,10 @@ body_of text = let front = length text - 2 in if bytes_eq crlf (drop front text)
 abbrev pub printed_line : ℕ → List ℕ → List ℕ
 printed_line client text = decimal client ++ space ∷ body_of text ++ line_feed ∷ []
 
--- the end of a connection is not printed
+-- the end of a connection is not printed, nor what goes on links
 abbrev pub printed : Sent → List ℕ
 printed (line_to client text) = printed_line client text
-printed (end_of client) = []
+printed other = []
 
 -- the place of a refusal among the faults of a server, counted from 1; want of memory is no refusal
 abbrev pub refusal_number : ServerFault → Option ℕ

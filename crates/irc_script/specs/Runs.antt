@@ -8,7 +8,7 @@ use Rattle.irc_server.specs.declared.event.Event.TheVariants.{Connect, Line, Gon
 use Rattle.irc_batch.specs.Batches.{Sent}
 use Rattle.irc_server.specs.declared.event.ServerFault.{ServerFault}
 use Rattle.irc_server.specs.declared.event.ServerFault.TheVariants.{NoSuchConnection}
-use Rattle.irc_server.specs.View.{View}
+use Rattle.irc_stage.specs.View.{View}
 use Rattle.irc_server.specs.Happening.{IsHandled}
 use Rattle.irc_routes.specs.Known.{alone_known}
 use Rattle.irc_room.specs.Laws.{no_room}
@@ -84,7 +84,7 @@ first_client = 1
 
 -- the server of a script: nobody is connected to it, and its room is empty
 abbrev pub first_view : List ℕ → View
-first_view name = record { routes = alone_known name (codes "Test server") (codes "2024-01-01"); peers = []; ends = []; clients = empty; room = no_room }
+first_view name = record { routes = alone_known name (codes "Test server") (codes "2024-01-01"); peers = []; ends = empty; clients = empty; room = no_room }
 
 -- where a script begins, with a server of this name or with none
 abbrev pub first_standing : Option (List ℕ) → Standing

@@ -1,6 +1,6 @@
 //! What is printed.
 ghost use Rattle.std.specs.Prelude.{◌≡◌};
-ghost use Rattle.irc_batch.specs.Batches.{told};
+ghost use Rattle.irc_batch.specs.Batches.{sent_of};
 ghost use Rattle.irc_script.specs.Sinks.{IsPrinted, sink};
 ghost use Rattle.std.specs.List.{flat_map};
 ghost use Rattle.irc_script.specs.Printing.{printed, printed_line, refusal_line, refusal_number, body_of};
@@ -49,13 +49,13 @@ pub fn print_lines<W: Write>(
     Ok(())
 }
 
-/// Prints a line to a client. The end of a connection is not printed.
+/// Prints a line to a client. The end of a connection is not printed, nor anything of links.
 fn print_out<W: Write>(out: Out<'_>, waiting: &mut Waiting, output: &mut W) -> Result<(), Trouble>
-    ensures { IsPrinted result (sink (W.contents output.old) waiting.old.items) (sink (W.contents output.new) waiting.new.items) (printed (told out.entry)) }
+    ensures { IsPrinted result (sink (W.contents output.old) waiting.old.items) (sink (W.contents output.new) waiting.new.items) (printed (sent_of out.entry)) }
 {
     match out {
         Out::Line(client, text) => print_line(client, text, waiting, output),
-        Out::Close(_) => Ok(()),
+        Out::Close(_) | Out::LinkLine(_, _) | Out::LinkClose(_, _) => Ok(()),
     }
 }
 

@@ -1,10 +1,3 @@
-pub mod Index
-pub mod Growing
-pub mod Showings
-pub mod HomeRoom
-pub mod Hearing
-pub mod Telling
-pub mod Steps
 pub mod OneMachine
 pub mod ToldInPart
 pub mod WhatEventsDo

@@ -4,23 +4,25 @@ use Rattle.std.proofs.lemmas.List.Elements.{filter_map-append}
 use Rattle.irc_server.specs.declared.event.Event.{Event}
 use Rattle.irc_batch.specs.Batches.{Sent}
 use Rattle.irc_server.specs.declared.event.ServerFault.{ServerFault}
-use Rattle.irc_server.specs.RoomMachine.{RoomMachine}
-use Rattle.irc_server.specs.View.{View, machine_of}
-use Rattle.irc_server.specs.Handle.{handled}
-use Rattle.irc_server.specs.Happening.{happening_of, Does, IsHandled, takes_it, AreHandled}
+use Rattle.irc_stage.specs.RoomMachine.{RoomMachine}
+use Rattle.irc_stage.specs.View.{View, machine_of}
+use Rattle.irc_stage.specs.Handle.{Happening, handled}
+use Rattle.irc_server.specs.Served.{Occurrence, by_client, served}
+use Rattle.irc_server.specs.Happening.{occurrence_of, Does, IsHandled, takes_it, AreHandled}
 use Rattle.irc_server.proofs.OneMachine.{one_machine, same_out}
-use Rattle.irc_server.specs.Owed.{line_for, lines_to, after_all, owed, happenings_of, Receives}
+use Rattle.irc_server.specs.Owed.{line_for, lines_to, after_all, owed, AreOfClients, Receives}
 
-receives_more : (view after : View) (event : Event) (events : List Event) (out out_between : List Sent) (new : Option View) (out_after : List Sent)
-    → Does view event out after out_between → Receives after events out_between new out_after → Receives view (event ∷ events) out new out_after
-receives_more view after event events out out_between new out_after does later =
-    let happening = happening_of event in
+receives_more : (view after : View) (event : Event) (happening : Happening) (left : List Happening) (out out_between : List Sent) (new : Option View)
+    (out_after : List Sent) → occurrence_of event ≡ by_client happening → Does view event out after out_between → Receives after left out_between new out_after
+    → Receives view (happening ∷ left) out new out_after
+receives_more view after event happening left out out_between new out_after event_is does later =
     let put = (handled (machine_of view) happening).out in
-    let left = happenings_of events in
-    let after_is : machine_of after ≡ (handled (machine_of view) happening).machine = ap machine_of does.view_is ∙ one_machine view happening in
-    let out_is : out_between ≡ out ++ put = does.out_is ∙ ap (λ l. out ++ l) (same_out view happening) in
+    let view_is : after ≡ (served view (by_client happening)).view = does.view_is ∙ ap (λ (o : Occurrence). (served view o).view) event_is in
+    let after_is : machine_of after ≡ (handled (machine_of view) happening).machine = ap machine_of view_is ∙ one_machine view happening in
+    let out_is : out_between ≡ out ++ put =
+    does.out_is ∙ ap (λ (o : Occurrence). out ++ (served view o).out) event_is ∙ ap (λ l. out ++ l) (same_out view happening) in
     record {
-      view_is = later.view_is ∙ ap (λ (v : View). Some (after_all v left)) does.view_is;
+      view_is = later.view_is ∙ ap (λ (v : View). Some (after_all v left)) view_is;
       received = λ conn.
           later.received conn
           ∙ ap (λ l. lines_to conn l ++ owed conn (machine_of after) left) out_is
@@ -30,33 +32,45 @@ receives_more view after event events out out_between new out_after does later =
     }
 
 -- the first event is handled, and those behind it
-by_between : {view : View} {event : Event} {out out_between : List Sent} {between : Option View} (events : List Event) (new : Option View) (out_after : List Sent)
-    → ((after : View) → AreHandled (Some after) events out_between (Ok tt) new out_after → Receives after events out_between new out_after)
+by_between : {view : View} {event : Event} {out out_between : List Sent} {between : Option View} (happening : Happening) (events : List Event) (left : List Happening)
+    (new : Option View) (out_after : List Sent) → occurrence_of event ≡ by_client happening
+    → ((after : View) → AreHandled (Some after) events out_between (Ok tt) new out_after → Receives after left out_between new out_after)
     → IsHandled (Some view) event out (Ok tt) between out_between → AreHandled between events out_between (Ok tt) new out_after
-    → Receives view (event ∷ events) out new out_after
-by_between {view = view} {event = event} {out = out} {out_between = out_between} events new out_after later (takes_it {new = after} none does) left =
-    receives_more view after event events out out_between new out_after does (later after left)
+    → Receives view (happening ∷ left) out new out_after
+by_between {view = view} {event = event} {out = out} {out_between = out_between} happening events left new out_after event_is later (takes_it {new = after} none does) more =
+    receives_more view after event happening left out out_between new out_after event_is does (later after more)
 
-by_first : (view : View) (event : Event) (events : List Event) (out : List Sent) (new : Option View) (out_after : List Sent)
-    → ((after : View) (out_between : List Sent) → AreHandled (Some after) events out_between (Ok tt) new out_after → Receives after events out_between new out_after)
-    → AreHandled (Some view) (event ∷ events) out (Ok tt) new out_after → Receives view (event ∷ events) out new out_after
-by_first view event events out new out_after later (inl stops) = absurd (let is = stops.result_is in cc)
-by_first view event events out new out_after later (inr goes) =
-    by_between events new out_after (λ after left. later after goes.out_between left) goes.is_handled goes.left_is
+by_first : (view : View) (event : Event) (happening : Happening) (events : List Event) (left : List Happening) (out : List Sent) (new : Option View) (out_after : List Sent)
+    → occurrence_of event ≡ by_client happening
+    → ((after : View) (out_between : List Sent) → AreHandled (Some after) events out_between (Ok tt) new out_after → Receives after left out_between new out_after)
+    → AreHandled (Some view) (event ∷ events) out (Ok tt) new out_after → Receives view (happening ∷ left) out new out_after
+by_first view event happening events left out new out_after event_is later (inl stops) = absurd (let is = stops.result_is in cc)
+by_first view event happening events left out new out_after event_is later (inr goes) =
+    by_between happening events left new out_after event_is (λ after more. later after goes.out_between more) goes.is_handled goes.left_is
 
-pub receives : (view : View) (events : List Event) (out : List Sent) (new : Option View) (out_after : List Sent)
-    → AreHandled (Some view) events out (Ok tt) new out_after → Receives view events out new out_after
-receives view [] out new out_after all = record {
+head_is : {X : Type 0} (x y : X) (xs ys : List X) → x ∷ xs ≡ y ∷ ys → x ≡ y
+head_is x y xs ys is = cc is
+
+rest_is : {X : Type 0} (x y : X) (xs ys : List X) → x ∷ xs ≡ y ∷ ys → xs ≡ ys
+rest_is x y xs ys is = cc is
+
+pub receives : (view : View) (events : List Event) (happenings : List Happening) (out : List Sent) (new : Option View) (out_after : List Sent)
+    → AreOfClients events happenings → AreHandled (Some view) events out (Ok tt) new out_after → Receives view happenings out new out_after
+receives view [] [] out new out_after are all = record {
   view_is = all.1;
   received = λ conn. ap (lines_to conn) all.2 ∙ sym (append-nil (lines_to conn out));
 }
-receives view (event ∷ events) out new out_after all =
-    by_first view event events out new out_after (λ after out_between left. receives after events out_between new out_after left) all
+receives view [] (happening ∷ left) out new out_after are all = absurd (cc are)
+receives view (event ∷ events) [] out new out_after are all = absurd (cc are)
+receives view (event ∷ events) (happening ∷ left) out new out_after are all =
+    by_first view event happening events left out new out_after (head_is _ _ _ _ are)
+    (λ after out_between more. receives after events left out_between new out_after (rest_is _ _ _ _ are) more) all
 
 pub received_by : (result : Result (Unit {0}) ServerFault) (old : Option View) (events : List Event) (out : List Sent) (new : Option View) (out_after : List Sent)
-    → AreHandled old events out result new out_after → OnOk result ((view : View) → old ≡ Some view → Receives view events out new out_after)
+    → AreHandled old events out result new out_after
+    → OnOk result ((view : View) (happenings : List Happening) → old ≡ Some view → AreOfClients events happenings → Receives view happenings out new out_after)
 received_by (Ok done) old events out new out_after all =
-    λ view is. receives view events out new out_after (subst (λ (o : Option View). AreHandled o events out (Ok tt) new out_after) is all)
+    λ view happenings is are. receives view events happenings out new out_after are (subst (λ (o : Option View). AreHandled o events out (Ok tt) new out_after) is all)
 received_by (Err fault) old events out new out_after all = tt
 
 -- in a loop over events: the first of those that are left

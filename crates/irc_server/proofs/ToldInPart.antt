@@ -1,21 +1,23 @@
 -- A decision of which part is put out at once comes to the same.
-use Rattle.std.proofs.Common.{◌≡◌, ℕ, Option, Some, None, List, [], ◌∷◌, ◌++◌, sym, ◌∙◌, ap, append-nil, append_assoc, option_map}
+use Rattle.std.proofs.Common.{◌≡◌, ℕ, Option, List, [], ◌∷◌, ◌++◌, sym, ◌∙◌, ap, append-nil, append_assoc, option_map, subst}
 use Rattle.irc_names.specs.Fold.{key}
 use Rattle.irc_names.specs.Tables.{row}
 use Rattle.irc_numerics.specs.Replies.{reply_text}
 use Rattle.irc_users.specs.declared.user.User.{User}
-use Rattle.irc_room.specs.Room.{Room, IsWellFormed}
-use Rattle.irc_room.specs.Lemmas.Rows.{same_some}
+use Rattle.irc_line.specs.Messages.{Parsed}
+use Rattle.irc_room.specs.Room.{Room}
+use Rattle.irc_routes.specs.Known.{Known, place_of}
+use Rattle.irc_commands.specs.Decide.{decide}
 use Rattle.irc_acts.specs.declared.act.Act.{Act}
 use Rattle.irc_acts.specs.declared.act.Act.TheVariants.{Answer, Raw, Do}
 use Rattle.irc_acts.specs.Acts.{effects_among}
 use Rattle.irc_commands.specs.AtOnce.{all_said, IsToldInPart}
 use Rattle.irc_commands.specs.Decisions.{Decided}
 use Rattle.irc_batch.specs.Batches.{Sent, line_to}
-use Rattle.irc_server.specs.RoomMachine.{RoomMachine}
-use Rattle.irc_server.specs.Handle.{Handled, stepped, all_stepped, closing, decided}
-use Rattle.irc_server.specs.Loops.Stage.{behind, AreFit}
-use Rattle.irc_server.proofs.Steps.{carried_behind}
+use Rattle.irc_stage.specs.RoomMachine.{RoomMachine}
+use Rattle.irc_stage.specs.Handle.{Handled, stepped, all_stepped, closing, decided}
+use Rattle.irc_stage.specs.Loops.Stage.{behind, AreFit}
+use Rattle.irc_stage.specs.Lemmas.Steps.{carried_behind}
 
 -- steps that only say something put out what they say
 said_first : (conn : ℕ) (name : Option (List ℕ)) (told rest : List Act) (h : Handled) → effects_among told ≡ []
@@ -49,11 +51,13 @@ carried_in_part after conn name known acts machine want left out between acts_ar
     ∙ ap (λ (d : Decided). closing d.close conn (all_stepped conn name d.steps (record { machine = machine; out = out }))) (sym part.want_is)
     ∙ carried_behind out conn name want.steps want.close machine
 
--- the nickname that a user is known by is found as it is spelled
-pub spelled : (room : Room) → IsWellFormed room → (nick name : List ℕ) (found : Option User) → row room.users (key nick) ≡ found
-    → option_map (λ (user : User). user.nick) found ≡ Some name → option_map (λ (user : User). user.nick) (row room.users (key name)) ≡ Some name
-spelled room well nick name None there is = cc is
-spelled room well nick name (Some user) there is =
-    ap (λ fold. option_map (λ (user : User). user.nick) (row room.users fold)) (ap key (sym (same_some (user.nick) name is)) ∙ well.users_named (key nick) user there)
-    ∙ ap (option_map (λ (user : User). user.nick)) there
-    ∙ is
+-- the same of a room and of servers that are the same
+pub told_there : (room room' : Room) (known known' : Known) (who : List ℕ) (conn : ℕ) (message : Parsed) (out between : List Sent) (left : Decided)
+    → room ≡ room' → known ≡ known'
+    → IsToldInPart (place_of known) (option_map (λ (user : User). user.nick) (row room.users (key who))) conn (decide room (place_of known) who message) out between left
+    → IsToldInPart (place_of known') (option_map (λ (user : User). user.nick) (row room'.users (key who))) conn (decide room' (place_of known') who message) out between left
+told_there room room' known known' who conn message out between left room_is known_is told =
+    subst (λ (k : Known). IsToldInPart (place_of k) (option_map (λ (user : User). user.nick) (row room'.users (key who))) conn (decide room' (place_of k) who message) out between left)
+    known_is
+    (subst (λ (r : Room). IsToldInPart (place_of known) (option_map (λ (user : User). user.nick) (row r.users (key who))) conn (decide r (place_of known) who message) out between left)
+    room_is told)

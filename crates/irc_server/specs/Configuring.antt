@@ -1,21 +1,19 @@
 -- Which configurations a server is made of.
-use Rattle.std.specs.Prelude.{◌≡◌, ℕ, Bool, false, not, ◌&&◌, ◌||◌, Option, Some, None, Result, Ok, Err, List, [], ◌∷◌, nat_eq, map, if◌then◌else◌}
+use Rattle.std.specs.Prelude.{◌≡◌, ℕ, Bool, false, not, ◌&&◌, ◌||◌, Option, Some, None, Result, Ok, Err, List, [], ◌∷◌, nat_eq, if◌then◌else◌}
 use Rattle.std.specs.List.{list_any, list_all}
-use Rattle.std.specs.FinMap.{empty}
 use Rattle.std.specs.Char.{is_ascii_graphic}
 use Rattle.std.specs.Cmp.Lexicographic.{pointwise}
 use Rattle.irc_names.specs.Limits.{max_created}
 use Rattle.irc_names.specs.Names.{is_server, fits, starts_without_colon}
-use Rattle.irc_room.specs.Laws.{no_room}
 use Rattle.irc_routes.specs.declared.own.Own.{Own}
 use Rattle.irc_routes.specs.Info.{is_info, is_text_byte}
 use Rattle.irc_routes.specs.Known.{alone_known}
 use Rattle.irc_server.specs.Limits.{max_password}
-use Rattle.irc_server.specs.declared.config.Peer.{Peer}
+use Rattle.irc_stage.specs.declared.peer.Peer.{Peer}
 use Rattle.irc_server.specs.declared.config.Config.{Config}
 use Rattle.irc_server.specs.declared.config.ConfigFault.{ConfigFault}
 use Rattle.irc_server.specs.declared.config.ConfigFault.TheVariants.{BadName, DoubleName, Memory}
-use Rattle.irc_server.specs.View.{View, known_peer}
+use Rattle.irc_stage.specs.View.{View, new_view}
 
 abbrev pub is_text : List ℕ → Bool
 is_text bytes = list_all is_text_byte bytes
@@ -52,18 +50,12 @@ config_fault config =
     if not (is_own config.own && list_all is_peer config.peers.items) then Some BadName
     else (if is_among config.own.name.items config.peers.items || has_double config.peers.items then Some DoubleName else None)
 
--- a server without clients, linked to none, in an empty room
-abbrev pub new_view : Config → View
-new_view config = record {
-  routes = alone_known config.own.name.items config.own.info.items config.own.created.items;
-  peers = map known_peer config.peers.items;
-  ends = [];
-  clients = empty;
-  room = no_room;
-}
+-- the server that a configuration makes: it has no clients and no links
+abbrev pub made_view : Config → View
+made_view config = new_view (alone_known config.own.name.items config.own.info.items config.own.created.items) config.peers.items
 
 -- what comes of a configuration
 abbrev pub IsMade : Config → Result (Option View) ConfigFault → Type 0
-IsMade config (Ok server) = (config_fault config ≡ None) × (server ≡ Some (new_view config))
+IsMade config (Ok server) = (config_fault config ≡ None) × (server ≡ Some (made_view config))
 IsMade config (Err Memory) = config_fault config ≡ None
 IsMade config (Err fault) = config_fault config ≡ Some fault

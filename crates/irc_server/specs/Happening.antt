@@ -2,24 +2,27 @@
 use Rattle.std.specs.Prelude.{◌≡◌, Option, Some, None, Result, Ok, Err, List, [], ◌∷◌, ◌++◌, ◌⊎◌}
 use Rattle.irc_line.specs.Reading.{read_of}
 use Rattle.irc_server.specs.declared.event.Event.{Event}
-use Rattle.irc_server.specs.declared.event.Event.TheVariants.{Connect, Line, Gone}
+use Rattle.irc_server.specs.declared.event.Event.TheVariants.{Connect, Line, Gone, LinkUp, LinkLine, LinkDown}
 use Rattle.irc_batch.specs.Batches.{Sent}
 use Rattle.irc_server.specs.declared.event.ServerFault.{ServerFault}
 use Rattle.irc_server.specs.declared.event.ServerFault.TheVariants.{Memory, Failed}
-use Rattle.irc_server.specs.View.{View}
-use Rattle.irc_server.specs.Handle.{Happening, connects, says, goes}
-use Rattle.irc_server.specs.Served.{served, fault_of}
+use Rattle.irc_stage.specs.View.{View}
+use Rattle.irc_stage.specs.Handle.{connects, says, goes}
+use Rattle.irc_server.specs.Served.{Occurrence, by_client, link_up, link_says, link_down, served, fault_of}
 
 -- what happens by an event; of a line, what it is read as
-abbrev pub happening_of : Event → Happening
-happening_of (Connect conn host) = connects conn host
-happening_of (Line conn line) = says conn (read_of line.items)
-happening_of (Gone conn) = goes conn
+abbrev pub occurrence_of : Event → Occurrence
+occurrence_of (Connect conn host) = by_client (connects conn host)
+occurrence_of (Line conn line) = by_client (says conn (read_of line.items))
+occurrence_of (Gone conn) = by_client (goes conn)
+occurrence_of (LinkUp link starts) = link_up link starts
+occurrence_of (LinkLine link line) = link_says link (read_of line.items)
+occurrence_of (LinkDown link) = link_down link
 
 -- an event is handled: the server is the one after it, and what it puts out is appended
 pub record Does (old : View) (event : Event) (out : List Sent) (new : View) (out_after : List Sent) : Type 0 where
-  pub view_is : new ≡ (served old (happening_of event)).view
-  pub out_is : out_after ≡ out ++ (served old (happening_of event)).out
+  pub view_is : new ≡ (served old (occurrence_of event)).view
+  pub out_is : out_after ≡ out ++ (served old (occurrence_of event)).out
 
 -- What comes of asking a server for an event: it is handled, it is refused and nothing changes, memory runs out, or memory ran out before.
 -- A server for which memory ran out is no view: it has failed for good.

@@ -1,11 +1,6 @@
 pub mod Limits
 pub mod Configuring
-pub mod RoomMachine
-pub mod View
-pub mod Handle
-pub mod Matched
 pub mod Served
 pub mod Happening
 pub mod Owed
 pub mod Loops
-pub mod Lemmas

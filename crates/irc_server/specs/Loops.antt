@@ -1,3 +1,1 @@
-pub mod Codes
-pub mod Hearing
-pub mod Stage
+pub mod Acting

@@ -2,17 +2,17 @@
 use Rattle.std.specs.Prelude.{◌≡◌, ℕ, Option, Some, None, List, [], ◌∷◌, ◌++◌, map, nat_eq, if◌then◌else◌}
 use Rattle.std.specs.List.{filter_map}
 use Rattle.irc_server.specs.declared.event.Event.{Event}
-use Rattle.irc_batch.specs.Batches.{Sent, end_of, line_to}
-use Rattle.irc_server.specs.RoomMachine.{RoomMachine}
-use Rattle.irc_server.specs.View.{View, machine_of}
-use Rattle.irc_server.specs.Handle.{Happening, handled}
-use Rattle.irc_server.specs.Served.{served}
-use Rattle.irc_server.specs.Happening.{happening_of}
+use Rattle.irc_batch.specs.Batches.{Sent, line_to}
+use Rattle.irc_stage.specs.RoomMachine.{RoomMachine}
+use Rattle.irc_stage.specs.View.{View, machine_of}
+use Rattle.irc_stage.specs.Handle.{Happening, handled}
+use Rattle.irc_server.specs.Served.{by_client, served}
+use Rattle.irc_server.specs.Happening.{occurrence_of}
 
 -- a line, where it is one to this connection
 abbrev pub line_for : ℕ → Sent → Option (List ℕ)
 line_for conn (line_to to line) = if nat_eq to conn then Some line else None
-line_for conn (end_of to) = None
+line_for conn other = None
 
 -- what a connection receives of what is put out
 abbrev pub lines_to : ℕ → List Sent → List (List ℕ)
@@ -21,18 +21,18 @@ lines_to conn out = filter_map (line_for conn) out
 -- the server after these happenings
 abbrev pub after_all : View → List Happening → View
 after_all view [] = view
-after_all view (happening ∷ happenings) = after_all (served view happening).view happenings
+after_all view (happening ∷ happenings) = after_all (served view (by_client happening)).view happenings
 
 -- what a connection is owed by them
 abbrev pub owed : ℕ → RoomMachine → List Happening → List (List ℕ)
 owed conn machine [] = []
 owed conn machine (happening ∷ happenings) = lines_to conn (handled machine happening).out ++ owed conn (handled machine happening).machine happenings
 
--- what happens by these events
-abbrev pub happenings_of : List Event → List Happening
-happenings_of events = map happening_of events
+-- These events are of clients alone, and this is what happens by them.
+abbrev pub AreOfClients : List Event → List Happening → Type 0
+AreOfClients events happenings = map occurrence_of events ≡ map by_client happenings
 
--- From one view of a server to another by these events, each connection has received what the room machine that the server was to it owes it.
-pub record Receives (old : View) (events : List Event) (out : List Sent) (new : Option View) (out_after : List Sent) : Type 0 where
-  pub view_is : new ≡ Some (after_all old (happenings_of events))
-  pub received : (conn : ℕ) → lines_to conn out_after ≡ lines_to conn out ++ owed conn (machine_of old) (happenings_of events)
+-- From one view of a server to another by what clients do, each connection has received what the room machine that the server was to it owes it.
+pub record Receives (old : View) (happenings : List Happening) (out : List Sent) (new : Option View) (out_after : List Sent) : Type 0 where
+  pub view_is : new ≡ Some (after_all old happenings)
+  pub received : (conn : ℕ) → lines_to conn out_after ≡ lines_to conn out ++ owed conn (machine_of old) happenings

@@ -1,44 +1,47 @@
 //! What each event does to a server.
-ghost use Rattle.std.specs.Prelude.{◌≡◌, ℕ, Option, None, Result, OnOk, IfOk};
-ghost use Rattle.std.specs.Option.{option_map};
+ghost use Rattle.std.specs.Prelude.{◌≡◌, ⊤, Some, OnOk, IfOk};
+ghost use Rattle.std.specs.FinMap.{get};
 ghost use Rattle.irc_line.specs.Messages.{Parsed};
 ghost use Rattle.irc_line.specs.MessageViews.{parsed};
 ghost use Rattle.irc_names.specs.Fold.{key};
 ghost use Rattle.irc_names.specs.Tables.{row};
-ghost use Rattle.irc_commands.specs.CodeViews.{registered_of};
-ghost use Rattle.irc_server.specs.Handle.{client_after, fresh, gone, lost_text, pending_decided, said_by, user_decided, user_of};
-ghost use Rattle.irc_server.specs.Happening.{Does};
-ghost use Rattle.irc_server.specs.Matched.{IsMatched};
-ghost use Rattle.irc_server.specs.Served.{fault_of};
-ghost use Rattle.irc_server.specs.RoomMachine.{client_of, with_client, without_client};
 ghost use Rattle.irc_batch.specs.Growing.{Grew};
-ghost use Rattle.irc_server.specs.Loops.Stage.{behind, machine_at, so_far, view_of, AreFit, IsFreeOf, IsNoUser, IsReady, Keeps};
+ghost use Rattle.irc_commands.specs.CodeViews.{registered_of};
+ghost use Rattle.irc_stage.specs.Handle.{client_after, fresh, gone, lost_text, pending_decided, said_by, user_decided, user_of};
+ghost use Rattle.irc_stage.specs.Matched.{IsMatched};
+ghost use Rattle.irc_stage.specs.RoomMachine.{client_of, with_client};
+ghost use Rattle.irc_stage.specs.View.{with_end, without_end};
+ghost use Rattle.irc_stage.specs.Loops.Stage.{behind, machine_at, so_far, view_of, AreFit, IsFreeOf, IsNoUser, IsReady, Keeps};
+ghost use Rattle.irc_stage.specs.declared.clients.Client.TheVariants.{Registered};
+ghost use Rattle.irc_server.specs.Served.{link_there, no_link, not_there, there};
+ghost use Rattle.irc_server.specs.Loops.Acting.{nick_of, Comes, IsActed, Stands};
 
-use crate::clients::{Client, Waiting, client_of, seat, take_out};
-use crate::event::Event;
-use crate::stage::{Stage, apply, carry_out};
+use crate::event::{Event, ServerFault};
 use irc_batch::Batch;
 use irc_channels::Words;
 use irc_commands::{Pending, Registration, decide, laws, register};
 use irc_line::{Message, parse};
-use irc_names::{Host, Nick};
+use irc_names::{Host, Nick, ServerName};
 use irc_room::Effect;
+use irc_stage::{Client, Origin, Speaker, Stage, Waiting};
 use std::alloc::{AllocError, Global};
 
 /// The text of a registered user's Quit whose connection is lost (our own).
 const LOST: &[u8] = b"Connection closed";
 
 /// A client connects, and has given nothing.
-fn connect(stage: &mut Stage, conn: u64, host: Host) -> Result<(), AllocError>
+fn on_connect(stage: &mut Stage, conn: u64, host: Host) -> Result<(), ServerFault>
     requires ready { IsReady stage.old }
-    requires absent { client_of (machine_at stage.old) conn ≡ None }
-    ensures ok { OnOk result (machine_at stage.new ≡ with_client (machine_at stage.old) conn (fresh host)) }
-    ensures ready { OnOk result (IsReady stage.new) }
+    ensures acted { Comes (there (client_of (machine_at stage.old) conn)) (machine_at stage.new ≡ with_client (machine_at stage.old) conn (fresh host)) (stage.new ≡ stage.old) result }
+    ensures ready { Stands result (IsReady stage.new) }
     ensures keeps { Keeps stage.old stage.new }
 {
-    let waiting = Waiting::new(stage.alloc, Pending::new(host))?;
-    stage.hearers.forget();
-    seat(&mut stage.clients, conn, Client::Registering(waiting))
+    if stage.client_of(conn).is_some() {
+        return Err(ServerFault::ConnectionThere);
+    }
+    let waiting = Waiting::new(stage.alloc(), Pending::new(host))?;
+    stage.seat(conn, Client::Registering(waiting))?;
+    Ok(())
 }
 
 /// What a connection is after a line before registration.
@@ -58,7 +61,7 @@ fn client_after(alloc: Global, given: &Registration) -> Result<Client, AllocErro
 }
 
 /// What a line of a connection does that is not registered.
-fn settle(
+fn on_registration(
     stage: &mut Stage,
     conn: u64,
     given: &Registration,
@@ -73,15 +76,14 @@ fn settle(
     ensures keeps { Keeps stage.old stage.new }
     ensures grew { Grew out.old.outs out.new.outs }
 {
-    let client = client_after(stage.alloc, given)?;
-    stage.hearers.forget();
-    seat(&mut stage.clients, conn, client)?;
-    let name = given.pending.nick.as_ref();
-    carry_out(stage, conn, name, &given.steps, given.close, out)
+    let client = client_after(stage.alloc(), given)?;
+    stage.seat(conn, client)?;
+    let nick = given.pending.nick.as_ref();
+    stage.carry_out(Speaker { conn, nick }, &given.steps, given.close, out)
 }
 
 /// What a line of a user does, by the nickname that its client is known by.
-fn obey(
+fn on_user_message(
     stage: &mut Stage,
     conn: u64,
     nick: &Nick,
@@ -90,7 +92,8 @@ fn obey(
 ) -> Result<(), AllocError>
     requires ready { IsReady stage.old }
     requires matched { IsMatched (machine_at stage.old) }
-    ensures ok { OnOk result (so_far stage.new out.new.outs ≡ behind out.old.outs (user_decided (machine_at stage.old) conn (row stage.old.room.room.users (key nick.now)) (parsed message.now))) }
+    requires speaks { client_of (machine_at stage.old) conn ≡ Some (Registered nick.now) }
+    ensures ok { OnOk result (so_far stage.new out.new.outs ≡ behind out.old.outs (user_decided (machine_at stage.old) conn (row (machine_at stage.old).room.users (key nick.now)) (parsed message.now))) }
     ensures ready { OnOk result (IsReady stage.new) }
     ensures keeps { Keeps stage.old stage.new }
     ensures grew { Grew out.old.outs out.new.outs }
@@ -98,49 +101,33 @@ fn obey(
     laws::decided_is_possible();
     laws::who_stays_is_user();
     laws::who_is_closed_quits();
-    let Some(name) = stored_nick(stage, nick) else {
-        return Ok(());
-    };
     let decision = decide(
-        stage.alloc,
-        &stage.room,
-        &stage.routes,
-        &name,
+        stage.alloc(),
+        stage.room(),
+        stage.routes(),
+        nick,
         message,
         conn,
         out,
     )?;
-    carry_out(
-        stage,
+    let speaker = Speaker {
         conn,
-        Some(&name),
-        &decision.steps,
-        decision.close,
-        out,
-    )
+        nick: Some(nick),
+    };
+    stage.carry_out(speaker, &decision.steps, decision.close, out)
 }
 
-/// The nickname of a user as it is spelled, if there is such a user.
-fn stored_nick(stage: &Stage, nick: &Nick) -> Option<Nick>
-    ensures { result ≡ option_map (λ user. user.nick) (row stage.now.room.room.users (key nick.now)) }
-{
-    match stage.room.spelling(nick.as_bytes()) {
-        Some(spelled) => Some(spelled.copy()),
-        None => None,
-    }
-}
-
-/// What a message does.
-fn hear(
+/// What a message of a client does. Its connection is looked up here, and nowhere else.
+fn on_message(
     stage: &mut Stage,
     conn: u64,
     message: &Message<'_>,
     out: &mut Batch,
-) -> Result<(), AllocError>
+) -> Result<(), ServerFault>
     requires ready { IsReady stage.old }
     requires matched { IsMatched (machine_at stage.old) }
-    ensures ok { OnOk result (so_far stage.new out.new.outs ≡ behind out.old.outs (said_by (machine_at stage.old) conn (client_of (machine_at stage.old) conn) (parsed message.now))) }
-    ensures ready { OnOk result (IsReady stage.new) }
+    ensures acted { Comes (not_there (client_of (machine_at stage.old) conn)) (so_far stage.new out.new.outs ≡ behind out.old.outs (said_by (machine_at stage.old) conn (client_of (machine_at stage.old) conn) (parsed message.now))) (so_far stage.new out.new.outs ≡ so_far stage.old out.old.outs) result }
+    ensures ready { Stands result (IsReady stage.new) }
     ensures keeps { Keeps stage.old stage.new }
     ensures grew { Grew out.old.outs out.new.outs }
 {
@@ -148,65 +135,156 @@ fn hear(
     laws::registered_is_added();
     laws::unregistered_changes_nothing();
     laws::registered_stays();
-    match client_of(&stage.clients, conn) {
-        None => Ok(()),
+    match stage.client_of(conn) {
+        None => Err(ServerFault::NoSuchConnection),
         Some(Client::Registering(waiting)) => {
             let pending = waiting.pending();
-            let given = register(stage.alloc, &stage.room, &stage.routes, pending, message)?;
-            settle(stage, conn, &given, out)
+            let given = register(
+                stage.alloc(),
+                stage.room(),
+                stage.routes(),
+                pending,
+                message,
+            )?;
+            on_registration(stage, conn, &given, out)?;
+            Ok(())
         }
         Some(Client::Registered(nick)) => {
             let nick = nick.copy();
-            obey(stage, conn, &nick, message, out)
+            on_user_message(stage, conn, &nick, message, out)?;
+            Ok(())
         }
     }
 }
 
-/// The user that a client is, as its nickname is spelled.
-fn user_of(stage: &Stage, conn: u64) -> Option<Nick>
-    ensures { result ≡ user_of stage.now.room.room (client_of (machine_at stage.now) conn) }
+/// A line that says nothing: an empty one, or a prefix alone.
+fn on_no_message(stage: &Stage, conn: u64) -> Result<(), ServerFault>
+    ensures { Comes (not_there (client_of (machine_at stage.now) conn)) ⊤ ⊤ result }
 {
-    match client_of(&stage.clients, conn) {
-        Some(Client::Registered(nick)) => stored_nick(stage, nick),
-        _ => None,
+    match stage.client_of(conn) {
+        None => Err(ServerFault::NoSuchConnection),
+        Some(_) => Ok(()),
     }
 }
 
-/// A client is gone: its user quits, and it is told nothing.
-fn go(stage: &mut Stage, conn: u64, out: &mut Batch) -> Result<(), AllocError>
+/// The nickname of the user that a client is, if it is one.
+fn nick_of(client: &Client) -> Option<Nick>
+    ensures { result ≡ nick_of client.now }
+{
+    match client {
+        Client::Registered(nick) => Some(nick.copy()),
+        Client::Registering(_) => None,
+    }
+}
+
+/// A client leaves: the user that it is quits, and it is told nothing.
+fn leave(
+    stage: &mut Stage,
+    conn: u64,
+    user: Option<Nick>,
+    out: &mut Batch,
+) -> Result<(), AllocError>
     requires ready { IsReady stage.old }
     requires matched { IsMatched (machine_at stage.old) }
+    requires user { user ≡ user_of (machine_at stage.old).room (client_of (machine_at stage.old) conn) }
     ensures ok { OnOk result (so_far stage.new out.new.outs ≡ behind out.old.outs (gone (machine_at stage.old) conn (client_of (machine_at stage.old) conn))) }
     ensures ready { OnOk result (IsReady stage.new) }
     ensures keeps { Keeps stage.old stage.new }
     ensures grew { Grew out.old.outs out.new.outs }
 {
-    let user = user_of(stage, conn);
-    stage.hearers.forget();
-    take_out(&mut stage.clients, conn);
+    stage.take_out(conn);
     let Some(nick) = user else {
         return Ok(());
     };
     let text = Words::cut(LOST);
-    apply(stage, &Effect::Quit { nick, text }, out)
+    let leaver = Origin::Client(Speaker { conn, nick: None });
+    stage.apply(leaver, &Effect::Quit { nick, text }, out)
 }
 
-/// What an event does for which no fault is owed.
-pub(crate) fn act(stage: &mut Stage, event: &Event, out: &mut Batch) -> Result<(), AllocError>
+/// A client is gone.
+fn on_gone(stage: &mut Stage, conn: u64, out: &mut Batch) -> Result<(), ServerFault>
     requires ready { IsReady stage.old }
     requires matched { IsMatched (machine_at stage.old) }
-    requires owed { fault_of (view_of stage.old) event.now ≡ None }
-    ensures ok { OnOk result (Does (view_of stage.old) event.now out.old.outs (view_of stage.new) out.new.outs) }
-    ensures ready { OnOk result (IsReady stage.new) }
+    ensures acted { Comes (not_there (client_of (machine_at stage.old) conn)) (so_far stage.new out.new.outs ≡ behind out.old.outs (gone (machine_at stage.old) conn (client_of (machine_at stage.old) conn))) (so_far stage.new out.new.outs ≡ so_far stage.old out.old.outs) result }
+    ensures ready { Stands result (IsReady stage.new) }
     ensures keeps { Keeps stage.old stage.new }
     ensures grew { Grew out.old.outs out.new.outs }
 {
+    let Some(client) = stage.client_of(conn) else {
+        return Err(ServerFault::NoSuchConnection);
+    };
+    let user = nick_of(client);
+    leave(stage, conn, user, out)?;
+    Ok(())
+}
+
+/// A link is open. Which of the two ends calls is kept; nothing is said on it yet.
+fn on_link_up(stage: &mut Stage, link: u64, starts: Option<ServerName>) -> Result<(), ServerFault>
+    requires ready { IsReady stage.old }
+    ensures acted { Comes (link_there (get (view_of stage.old).ends link)) (view_of stage.new ≡ with_end link starts (view_of stage.old)) (view_of stage.new ≡ view_of stage.old) result }
+    ensures ready { Stands result (IsReady stage.new) }
+{
+    if stage.has_link(link) {
+        return Err(ServerFault::LinkThere);
+    }
+    stage.open_link(link, starts)?;
+    Ok(())
+}
+
+/// A line of a link. Lines of links are not taken yet.
+fn on_link_line(stage: &Stage, link: u64) -> Result<(), ServerFault>
+    ensures acted { Comes (no_link (get (view_of stage.now).ends link)) ⊤ ⊤ result }
+{
+    if stage.has_link(link) {
+        Ok(())
+    } else {
+        Err(ServerFault::NoSuchLink)
+    }
+}
+
+/// A link is lost.
+fn on_link_down(stage: &mut Stage, link: u64) -> Result<(), ServerFault>
+    requires ready { IsReady stage.old }
+    ensures acted { Comes (no_link (get (view_of stage.old).ends link)) (view_of stage.new ≡ without_end link (view_of stage.old)) (view_of stage.new ≡ view_of stage.old) result }
+    ensures ready { Stands result (IsReady stage.new) }
+{
+    if !stage.has_link(link) {
+        return Err(ServerFault::NoSuchLink);
+    }
+    stage.drop_link(link);
+    Ok(())
+}
+
+/// The same server's name once more, where there is one.
+fn copied(name: &Option<ServerName>) -> Option<ServerName>
+    ensures { result ≡ name.now }
+{
+    match name {
+        Some(name) => Some(name.copy()),
+        None => None,
+    }
+}
+
+/// What an event does, or why it is refused.
+///
+/// # Errors
+/// [`ServerFault::Memory`] where memory runs out; any other where nothing is done.
+pub(crate) fn act(stage: &mut Stage, event: &Event, out: &mut Batch) -> Result<(), ServerFault>
+    requires ready { IsReady stage.old }
+    requires matched { IsMatched (machine_at stage.old) }
+    ensures acted { IsActed (view_of stage.old) event.now out.old.outs result (view_of stage.new) out.new.outs }
+    ensures ready { Stands result (IsReady stage.new) }
+    ensures grew { Grew out.old.outs out.new.outs }
+{
     match event {
-        Event::Connect(conn, host) => connect(stage, *conn, host.copy()),
+        Event::Connect(conn, host) => on_connect(stage, *conn, host.copy()),
         Event::Line(conn, line) => match parse(line) {
-            Ok(message) => hear(stage, *conn, &message, out),
-            Err(_) => Ok(()),
+            Ok(message) => on_message(stage, *conn, &message, out),
+            Err(_) => on_no_message(stage, *conn),
         },
-        Event::Gone(conn) => go(stage, *conn, out),
+        Event::Gone(conn) => on_gone(stage, *conn, out),
+        Event::LinkUp(link, starts) => on_link_up(stage, *link, copied(starts)),
+        Event::LinkLine(link, _) => on_link_line(stage, *link),
+        Event::LinkDown(link) => on_link_down(stage, *link),
     }
 }

@@ -7,6 +7,7 @@ ghost use Rattle.irc_server.specs.Configuring.{config_fault, has_double, is_amon
 
 use irc_names::{MAX_CREATED, MAX_INFO, is_server};
 use irc_routes::Own;
+use irc_stage::Peer;
 use std::alloc::Global;
 use thiserror::Error;
 
@@ -20,15 +21,6 @@ const CR: u8 = b'\r';
 const LF: u8 = b'\n';
 
 const COLON: u8 = b':';
-
-/// A server that may be linked to.
-#[derive(Drop)]
-pub struct Peer {
-    /// Its name, which [`irc_names::is_server`] takes.
-    pub name: Vec<u8, Global>,
-    /// The password that both give each other: 1 to [`MAX_PASSWORD`] bytes from 0x21 to 0x7E, the first no `:`.
-    pub password: Vec<u8, Global>,
-}
 
 /// What a server is configured to be.
 #[derive(Drop)]

@@ -1,9 +1,10 @@
 //! What happens to a server, and what it refuses.
 use irc_line::Line;
-use irc_names::Host;
+use irc_names::{Host, ServerName};
+use std::alloc::AllocError;
 use thiserror::Error;
 
-/// What happens to a server. Connections are numbered by the caller.
+/// What happens to a server. Connections and links are numbered by the caller.
 #[derive(Drop)]
 pub enum Event {
     /// A client connects from a host.
@@ -12,6 +13,12 @@ pub enum Event {
     Line(u64, Line),
     /// A client is gone.
     Gone(u64),
+    /// A link is open: this end calls the peer of this name, or is called (RFC 2813 section 4.1).
+    LinkUp(u64, Option<ServerName>),
+    /// A line of the server at the other end of a link, without its line end.
+    LinkLine(u64, Line),
+    /// A link is lost.
+    LinkDown(u64),
 }
 
 /// Why an event is refused, in the order in which causes are looked for after [`ServerFault::Failed`], and [`ServerFault::Memory`] last.
@@ -35,4 +42,15 @@ pub enum ServerFault {
     /// A link has this number already.
     #[error("the link is there")]
     LinkThere,
+}
+
+impl From<AllocError> for ServerFault {
+    ghost use Rattle.std.specs.Prelude.{◌≡◌};
+    ghost use Rattle.irc_server.specs.declared.event.ServerFault.TheVariants.{Memory};
+
+    ghost from_gives = { λ _ fault. fault ≡ Memory };
+
+    fn from(_: AllocError) -> Self {
+        ServerFault::Memory
+    }
 }

@@ -1,6 +1,6 @@
 //! What holds of a server, whatever happens. Each law is a function that does nothing, and its contract is the law: the check proves it,
 //! and a crate above may cite it.
-ghost use Rattle.irc_server.specs.Matched.{StaysMatched};
+ghost use Rattle.irc_stage.specs.Matched.{StaysMatched};
 ghost use Rattle.irc_server.specs.Served.{LoneServerIsOneRoom, ServedStaysMatched};
 
 /// Whatever happens, each registered client is a user of the room whose home is this server, and no two clients are one user.

@@ -2,15 +2,13 @@
 #![tactic(auto)]
 
 mod acting;
-mod clients;
 mod config;
 mod event;
-mod hearers;
 pub mod laws;
 mod server;
-mod stage;
 
-pub use clients::{Client, Waiting};
-pub use config::{Config, ConfigFault, MAX_PASSWORD, Peer};
+pub use config::{Config, ConfigFault, MAX_PASSWORD};
 pub use event::{Event, ServerFault};
+pub use irc_batch::CloseReason;
+pub use irc_stage::{Client, Peer, Waiting};
 pub use server::Server;

@@ -1,22 +1,21 @@
 //! One server.
-ghost use Rattle.std.specs.Prelude.{◌≡◌, Some, OnOk};
+ghost use Rattle.std.specs.Prelude.{◌≡◌, Some, List, OnOk};
 ghost use Rattle.irc_server.specs.Configuring.{IsMade};
-ghost use Rattle.irc_server.specs.Served.{fault_of};
 ghost use Rattle.irc_server.specs.Happening.{AreHandled, IsHandled};
-ghost use Rattle.irc_server.specs.Owed.{Receives};
-ghost use Rattle.irc_server.specs.Loops.Stage.{view_of};
-ghost use Rattle.irc_server.specs.View.{View};
+ghost use Rattle.irc_server.specs.Owed.{AreOfClients, Receives};
+ghost use Rattle.irc_stage.specs.Handle.{Happening};
+ghost use Rattle.irc_server.specs.Loops.Acting.{is_want_of_memory};
+ghost use Rattle.irc_stage.specs.View.{View};
 
 use crate::acting::act;
-use crate::clients::{client_of, no_clients};
 use crate::config::{Config, ConfigFault, config_fault};
 use crate::event::{Event, ServerFault};
-use crate::hearers::Hearers;
 use crate::laws;
-use crate::stage::Stage;
 use irc_batch::Batch;
-use irc_room::{Room, ShownLine};
+use irc_names::ServerName;
+use irc_room::Room;
 use irc_routes::Routes;
+use irc_stage::Stage;
 use std::alloc::Global;
 use std::marker::Model;
 
@@ -30,8 +29,8 @@ pub struct Server {
 /// In a clause it is what a server is to those above, or nothing once memory ran out.
 impl Model for Server {
     ghost use Rattle.std.specs.Prelude.{◌≡◌, false, Option, Some, None, if◌then◌else◌};
-    ghost use Rattle.irc_server.specs.View.{View};
-    ghost use Rattle.irc_server.specs.Loops.Codes.{view_code};
+    ghost use Rattle.irc_stage.specs.View.{View};
+    ghost use Rattle.irc_stage.specs.Loops.Codes.{view_code};
 
     ghost Value = { Option View };
 
@@ -39,8 +38,8 @@ impl Model for Server {
     ghost use Rattle.irc_users.specs.contracts.users.Users.{the_row as users_row};
     ghost use Rattle.irc_channels.specs.contracts.channel.Channel.{the_row as channel_row};
     ghost use Rattle.irc_routes.specs.contracts.routes.Routes.{the_row as routes_row};
-    ghost use Rattle.irc_server.specs.contracts.clients.Client.{the_row as client_row};
-    ghost use Rattle.irc_server.specs.Loops.Stage.{view_of, IsReady};
+    ghost use Rattle.irc_stage.specs.contracts.clients.Client.{the_row as client_row};
+    ghost use Rattle.irc_stage.specs.Loops.Stage.{view_of, IsReady};
     ghost use Rattle.irc_server.specs.Served.{AreMatched};
 
     ghost coded = { coded_option (view_code routes_row.coded client_row.coded users_row.coded channel_row.coded) };
@@ -63,28 +62,19 @@ impl Server {
             return Err(fault);
         }
         let routes = Routes::new(config.own);
-        let room = Room::new(alloc, routes.name().copy());
-        let clients = no_clients(alloc);
         Ok(Server {
             failed: false,
-            stage: Stage {
-                routes,
-                peers: config.peers,
-                clients,
-                room,
-                hearers: Hearers::new(alloc),
-                shown: ShownLine::new(alloc),
-                alloc,
-            },
+            stage: Stage::new(alloc, routes, config.peers),
         })
     }
 
     /// Handles an event: what it puts out is appended to `out`, in order.
     ///
     /// # Errors
-    /// [`ServerFault::Failed`] where memory ran out before; then [`ServerFault::NoSuchConnection`] for a line of, or the loss of, a
-    /// connection that is not there, and [`ServerFault::ConnectionThere`] for one that connects and is there: nothing has changed
-    /// then. [`ServerFault::Memory`] where memory runs out: `out` is as it was, and the server answers Failed from then on.
+    /// [`ServerFault::Failed`] where memory ran out before; then, with nothing changed, [`ServerFault::NoSuchConnection`] for a line of, or the loss
+    /// of, a connection that is not there, [`ServerFault::ConnectionThere`] for one that connects and is there, [`ServerFault::NoSuchLink`] and
+    /// [`ServerFault::LinkThere`] alike for links. [`ServerFault::Memory`] where memory runs out: `out` is as it was, and the server answers Failed
+    /// from then on.
     pub fn handle(&mut self, event: &Event, out: &mut Batch) -> Result<(), ServerFault>
         ensures { IsHandled self.old event.now out.old.outs result self.new out.new.outs }
     {
@@ -92,25 +82,19 @@ impl Server {
         if self.failed {
             return Err(ServerFault::Failed);
         }
-        if let Some(fault) = fault_of(&self.stage, event) {
-            return Err(fault);
-        }
         let before = out.len();
         self.failed = true;
-        match act(&mut self.stage, event, out) {
-            Ok(()) => {
-                self.failed = false;
-                Ok(())
-            }
-            Err(_) => {
-                out.truncate(before);
-                Err(ServerFault::Memory)
-            }
+        let result = act(&mut self.stage, event, out);
+        if is_want_of_memory(result) {
+            out.truncate(before);
+        } else {
+            self.failed = false;
         }
+        result
     }
 
-    /// Handles events one after another, up to the first that is refused. What each client receives is what the room machine owes
-    /// it.
+    /// Handles events one after another, up to the first that is refused. Where they are clients' alone, what each client receives is what the room
+    /// machine owes it.
     ///
     /// # Errors
     /// As [`Server::handle`], for the first event that is refused: those before it are handled, and those behind it are not.
@@ -120,7 +104,7 @@ impl Server {
         out: &mut Batch,
     ) -> Result<(), ServerFault>
         ensures handled { AreHandled self.old events.items out.old.outs result self.new out.new.outs }
-        ensures owed { OnOk result ((view : View) → self.old ≡ Some view → Receives view events.items out.old.outs self.new out.new.outs) }
+        ensures owed { OnOk result ((view : View) (happenings : List Happening) → self.old ≡ Some view → AreOfClients events.items happenings → Receives view happenings out.old.outs self.new out.new.outs) }
     {
         let mut rest = events.into_iter();
         while let Some(event) = rest.next() {
@@ -130,18 +114,12 @@ impl Server {
     }
 }
 
-/// Why an event is refused, if it is.
-fn fault_of(stage: &Stage, event: &Event) -> Option<ServerFault>
-    ensures { result ≡ fault_of (view_of stage.now) event.now }
+/// Whether memory ran out.
+fn is_want_of_memory(answer: Result<(), ServerFault>) -> bool
+    ensures { result ≡ is_want_of_memory answer }
 {
-    match event {
-        Event::Connect(conn, _) => match client_of(&stage.clients, *conn) {
-            None => None,
-            Some(_) => Some(ServerFault::ConnectionThere),
-        },
-        Event::Line(conn, _) | Event::Gone(conn) => match client_of(&stage.clients, *conn) {
-            None => Some(ServerFault::NoSuchConnection),
-            Some(_) => None,
-        },
+    match answer {
+        Err(ServerFault::Memory) => true,
+        _ => false,
     }
 }

@@ -37,10 +37,10 @@ use Rattle.irc_commands.specs.Decisions.{Decided, does}
 use Rattle.irc_commands.specs.Say.{say_steps, is_raised, says, to_channel}
 use Rattle.irc_commands.specs.Table.{row_of}
 use Rattle.irc_routes.specs.Place.{Place}
-use Rattle.irc_server.specs.declared.clients.Client.{Client}
+use Rattle.irc_stage.specs.declared.clients.Client.{Client}
 use Rattle.irc_batch.specs.Batches.{Sent, line_to}
-use Rattle.irc_server.specs.RoomMachine.{RoomMachine}
-use Rattle.irc_server.specs.Handle.{says as speaks, handled, said_by, user_decided, decided, is_client}
+use Rattle.irc_stage.specs.RoomMachine.{RoomMachine}
+use Rattle.irc_stage.specs.Handle.{says as speaks, handled, said_by, user_decided, decided, is_client}
 use Rattle.irc_server.specs.Owed.{lines_to}
 use Rattle.irc_world.specs.World.{machine_at}
 use Rattle.irc_world.specs.Stepping.{step}

@@ -12,7 +12,7 @@ use Rattle.irc_relay.specs.Links.{linked as are_linked}
 use Rattle.irc_relay.specs.Lemmas.TellingNames.{same_when}
 use Rattle.irc_room.specs.Invitations.{HomeIsWellFormed}
 use Rattle.irc_room.specs.Lemmas.Rows.{same_some}
-use Rattle.irc_server.specs.Handle.{Happening, says, goes}
+use Rattle.irc_stage.specs.Handle.{Happening, says, goes}
 use Rattle.irc_world.specs.World.{Setting, World, is_server, home_in, home_of, machine_at}
 use Rattle.irc_world.specs.Stepping.{connect, line, gone, link, cut}
 use Rattle.irc_world.specs.Refused.{refused, no_such_server, not_linked}

@@ -10,8 +10,8 @@ use Rattle.irc_room.specs.Lemmas.Rows.{same_some}
 use Rattle.irc_merge.specs.Agreeing.{agree, AgreeTells}
 use Rattle.irc_merge.specs.Laws.{MergeIsEven}
 use Rattle.irc_merge.specs.Merge.{Agree, merge}
-use Rattle.irc_server.specs.declared.clients.Client.{Client}
-use Rattle.irc_server.specs.Lemmas.Numbers.{same_clients}
+use Rattle.irc_stage.specs.declared.clients.Client.{Client}
+use Rattle.irc_stage.specs.Lemmas.Numbers.{same_clients}
 use Rattle.irc_world.specs.World.{Setting, Hall, World, is_server}
 use Rattle.irc_world.specs.Stepping.{link, step, merged, linked, clashes_in, meeting_lines}
 use Rattle.irc_world.specs.Refused.{Refusal, refused, password_for, are_equal, are_peers, no_such_server, link_refused, disagree}

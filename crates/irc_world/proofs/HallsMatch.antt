@@ -15,10 +15,10 @@ use Rattle.irc_commands.specs.Possible.{DecidedIsPossible, RegisteringIsPossible
 use Rattle.irc_merge.specs.Merge.{either, merge}
 use Rattle.irc_merge.specs.Merge.{without as without_clash}
 use Rattle.irc_merge.specs.Split.{split}
-use Rattle.irc_server.specs.declared.clients.Client.{Client}
-use Rattle.irc_server.specs.declared.clients.Client.TheVariants.{Registering, Registered}
-use Rattle.irc_server.specs.RoomMachine.{Clients}
-use Rattle.irc_server.specs.Handle.{Happening, connects, says, goes, handled}
+use Rattle.irc_stage.specs.declared.clients.Client.{Client}
+use Rattle.irc_stage.specs.declared.clients.Client.TheVariants.{Registering, Registered}
+use Rattle.irc_stage.specs.RoomMachine.{Clients}
+use Rattle.irc_stage.specs.Handle.{Happening, connects, says, goes, handled}
 use Rattle.irc_world.specs.World.{Setting, Hall, World, new_world, home_in, home_of, machine_at, with_hall}
 use Rattle.irc_world.specs.Stepping.{Item, connect, line, gone, link, cut, step, still as unmoved, by_machine, by_client, surviving, clashes_in, merged, linked, remaining, parted as cut_apart, split_text, side_of}
 use Rattle.irc_world.specs.Owed.{after_items}

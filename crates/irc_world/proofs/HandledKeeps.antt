@@ -17,12 +17,12 @@ use Rattle.irc_acts.specs.Possible.{ArePossible}
 use Rattle.irc_commands.specs.Decide.{decide}
 use Rattle.irc_commands.specs.Register.{register}
 use Rattle.irc_commands.specs.Possible.{DecidedIsPossible, RegisteringIsPossible}
-use Rattle.irc_server.specs.declared.clients.Client.{Client}
-use Rattle.irc_server.specs.declared.clients.Client.TheVariants.{Registering, Registered}
-use Rattle.irc_server.specs.RoomMachine.{Clients, RoomMachine, client_of, with_client, without_client}
-use Rattle.irc_server.specs.Handle.{Happening, connects, says, goes, Handled, handled, renamed_in, clients_after, with_effect, stepped, all_stepped, unchanged, closing, client_after, fresh, user_decided, said_by, user_of, quits, lost_text}
-use Rattle.irc_server.specs.Lemmas.Numbers.{same_number, one_number, get-with, get-without, get-each}
-use Rattle.irc_server.specs.Lemmas.MatchedEvents.{quit_possible}
+use Rattle.irc_stage.specs.declared.clients.Client.{Client}
+use Rattle.irc_stage.specs.declared.clients.Client.TheVariants.{Registering, Registered}
+use Rattle.irc_stage.specs.RoomMachine.{Clients, RoomMachine, client_of, with_client, without_client}
+use Rattle.irc_stage.specs.Handle.{Happening, connects, says, goes, Handled, handled, renamed_in, clients_after, with_effect, stepped, all_stepped, unchanged, closing, client_after, fresh, user_decided, said_by, user_of, quits, lost_text}
+use Rattle.irc_stage.specs.Lemmas.Numbers.{same_number, one_number, get-with, get-without, get-each}
+use Rattle.irc_stage.specs.Lemmas.MatchedEvents.{quit_possible}
 
 -- a machine has the place that another had, a well-formed room, and clients that may be there
 pub record Keeps (start : RoomMachine) (May : ℕ → Type 0) (now : RoomMachine) : Type 0 where

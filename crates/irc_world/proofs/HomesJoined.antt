@@ -12,7 +12,7 @@ use Rattle.irc_relay.specs.Links.{Name, Link, part, same, joined, without, AreJo
 use Rattle.irc_relay.specs.Laws.{TestsTell, LinkBetweenParts, LinkTakenOut, JoinedOverLink}
 use Rattle.irc_merge.specs.Laws.{MergeHasNothingNew, SplitHasNothingNew}
 use Rattle.irc_merge.specs.Split.{split}
-use Rattle.irc_server.specs.Handle.{Happening, connects, says, goes, handled}
+use Rattle.irc_stage.specs.Handle.{Happening, connects, says, goes, handled}
 use Rattle.irc_world.specs.World.{Setting, Hall, World, new_world, setting_of, is_server, servers_where, home_of, machine_at, with_hall}
 use Rattle.irc_world.specs.Stepping.{Item, connect, line, gone, link, cut, step, still as unmoved, by_machine, by_client, merged, linked, remaining, parted as cut_apart, split_text, side_of}
 use Rattle.irc_world.specs.Owed.{after_items}

@@ -28,10 +28,10 @@ use Rattle.irc_commands.specs.Decisions.{Registered as Given}
 use Rattle.irc_commands.specs.Register.{register}
 use Rattle.irc_commands.specs.Sendable.{IsPendingWithin, DecidedIsSendable, RegisteringIsSendable}
 use Rattle.irc_merge.specs.LimitLaws.{MergeIsWithinLimits, SplitIsWithinLimits}
-use Rattle.irc_server.specs.declared.clients.Client.{Client}
-use Rattle.irc_server.specs.declared.clients.Client.TheVariants.{Registering, Registered}
-use Rattle.irc_server.specs.RoomMachine.{Clients, RoomMachine, client_of, with_client, without_client}
-use Rattle.irc_server.specs.Handle.{Happening, connects, says, goes, Handled, handled, is_client, renamed_in, clients_after, with_effect, stepped, all_stepped, unchanged, closing, client_after, fresh, user_decided, said_by, user_of, quits, lost_text}
+use Rattle.irc_stage.specs.declared.clients.Client.{Client}
+use Rattle.irc_stage.specs.declared.clients.Client.TheVariants.{Registering, Registered}
+use Rattle.irc_stage.specs.RoomMachine.{Clients, RoomMachine, client_of, with_client, without_client}
+use Rattle.irc_stage.specs.Handle.{Happening, connects, says, goes, Handled, handled, is_client, renamed_in, clients_after, with_effect, stepped, all_stepped, unchanged, closing, client_after, fresh, user_decided, said_by, user_of, quits, lost_text}
 use Rattle.irc_world.specs.World.{Setting, Hall, World, new_world, is_server, home_of, machine_at, with_hall}
 use Rattle.irc_world.specs.Stepping.{Item, connect, line, gone, link, cut, step, still as unmoved, by_machine, by_client, clashes_in, merged, linked, remaining, parted as cut_apart, split_text, side_of}
 use Rattle.irc_world.specs.Owed.{after_items}

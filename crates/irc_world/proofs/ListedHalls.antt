@@ -30,9 +30,9 @@ use Rattle.irc_merge.specs.Quits.{quits, collision_text}
 use Rattle.irc_merge.specs.ShownAlong.{shown_along}
 use Rattle.irc_merge.specs.Split.{lost_users, split}
 use Rattle.irc_merge.specs.Lemmas.ListedMerge.{AreInOrder, list_without, list_merge_shown, CanBeListed, merge_listed}
-use Rattle.irc_server.specs.declared.clients.Client.{Client}
-use Rattle.irc_server.specs.declared.clients.Client.TheVariants.{Registering, Registered}
-use Rattle.irc_server.specs.RoomMachine.{Clients}
+use Rattle.irc_stage.specs.declared.clients.Client.{Client}
+use Rattle.irc_stage.specs.declared.clients.Client.TheVariants.{Registering, Registered}
+use Rattle.irc_stage.specs.RoomMachine.{Clients}
 use Rattle.irc_world.specs.World.{Setting, Hall, servers_where}
 use Rattle.irc_world.specs.Stepping.{clashes_in, meeting_lines, split_text, side_of, leaving_lines}
 

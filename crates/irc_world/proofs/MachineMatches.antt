@@ -26,10 +26,10 @@ use Rattle.irc_commands.specs.Decide.{decide}
 use Rattle.irc_commands.specs.Decisions.{Registered as Given}
 use Rattle.irc_commands.specs.Possible.{DecidedIsPossible, RegisteringIsPossible}
 use Rattle.irc_commands.specs.Register.{register}
-use Rattle.irc_server.specs.declared.clients.Client.{Client}
-use Rattle.irc_server.specs.declared.clients.Client.TheVariants.{Registering, Registered}
-use Rattle.irc_server.specs.RoomMachine.{Clients, RoomMachine, client_of, with_client, without_client, each_client}
-use Rattle.irc_server.specs.Handle.{Happening, connects, says, goes, Handled, handled, renamed_in, machine_after, with_effect, stepped, all_stepped, unchanged, closing, client_after, fresh, pending_decided, user_decided, said_by, quits, gone, lost_text}
+use Rattle.irc_stage.specs.declared.clients.Client.{Client}
+use Rattle.irc_stage.specs.declared.clients.Client.TheVariants.{Registering, Registered}
+use Rattle.irc_stage.specs.RoomMachine.{Clients, RoomMachine, client_of, with_client, without_client, each_client}
+use Rattle.irc_stage.specs.Handle.{Happening, connects, says, goes, Handled, handled, renamed_in, machine_after, with_effect, stepped, all_stepped, unchanged, closing, client_after, fresh, pending_decided, user_decided, said_by, quits, gone, lost_text}
 use Rattle.irc_room.specs.Readers.{home_under}
 use Rattle.irc_world.specs.ClientsUsers.{fold_of, registered_as, AreMatched}
 use Rattle.irc_world.proofs.Matches.{same_number, same_number-refl, one_number, still_matched, left_matched, came_matched, moved_matched}

@@ -16,8 +16,8 @@ use Rattle.irc_room.specs.Lemmas.ExampleRooms.{list_room}
 use Rattle.irc_merge.specs.Agreeing.{agree}
 use Rattle.irc_merge.specs.Split.{split}
 use Rattle.irc_merge.specs.Lemmas.ListedMerge.{AreInOrder, CanBeListed, list_without}
-use Rattle.irc_server.specs.declared.clients.Client.{Client}
-use Rattle.irc_server.specs.RoomMachine.{Clients}
+use Rattle.irc_stage.specs.declared.clients.Client.{Client}
+use Rattle.irc_stage.specs.RoomMachine.{Clients}
 use Rattle.irc_world.specs.World.{home_of}
 use Rattle.irc_world.specs.Stepping.{link, step, clashes_in, merged, meeting_lines, split_text, side_of, leaving_lines}
 use Rattle.irc_world.specs.Refused.{refused, disagree, no_such_client}

@@ -3,15 +3,15 @@ use Rattle.std.proofs.Common.{◌≡◌, ℕ, Bool, true, false, Option, Some, N
 use Rattle.std.specs.Option.{option_and_then}
 use Rattle.std.specs.FinMap.{get}
 use Rattle.irc_line.specs.Reading.{read_of}
-use Rattle.irc_server.specs.declared.clients.Client.{Client}
+use Rattle.irc_stage.specs.declared.clients.Client.{Client}
 use Rattle.irc_server.specs.declared.event.Event.{Event}
 use Rattle.irc_server.specs.declared.event.Event.TheVariants.{Connect, Line, Gone}
 use Rattle.irc_server.specs.declared.event.ServerFault.TheVariants.{NoSuchConnection}
-use Rattle.irc_server.specs.RoomMachine.{client_of}
+use Rattle.irc_stage.specs.RoomMachine.{client_of}
 use Rattle.irc_server.specs.Happening.{happening_of}
 use Rattle.irc_server.specs.Served.{fault_of, not_there}
-use Rattle.irc_server.specs.View.{View, machine_of}
-use Rattle.irc_server.specs.Handle.{Happening, connects, says, goes}
+use Rattle.irc_stage.specs.View.{View, machine_of}
+use Rattle.irc_stage.specs.Handle.{Happening, connects, says, goes}
 use Rattle.irc_world.specs.World.{Setting, World, is_server}
 use Rattle.irc_world.specs.Stepping.{connect, line, gone, link, cut}
 use Rattle.irc_world.specs.Refused.{refused, open_client, no_such_server, no_such_client}

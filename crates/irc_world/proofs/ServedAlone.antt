@@ -19,10 +19,10 @@ use Rattle.irc_routes.specs.Known.{others, alone_known, by_name, place_of}
 use Rattle.irc_routes.specs.Laws.{AloneIsAlone}
 use Rattle.irc_routes.specs.Place.{KnownServer, Place, alone}
 use Rattle.irc_routes.specs.Lemmas.TableRows.{values-table_of}
-use Rattle.irc_server.specs.declared.clients.Client.{Client}
-use Rattle.irc_server.specs.RoomMachine.{Clients, RoomMachine, client_of}
-use Rattle.irc_server.specs.View.{View, machine_of}
-use Rattle.irc_server.specs.Handle.{Happening, connects, says, goes, handled}
+use Rattle.irc_stage.specs.declared.clients.Client.{Client}
+use Rattle.irc_stage.specs.RoomMachine.{Clients, RoomMachine, client_of}
+use Rattle.irc_stage.specs.View.{View, machine_of}
+use Rattle.irc_stage.specs.Handle.{Happening, connects, says, goes, handled}
 use Rattle.irc_server.specs.Served.{served, LoneServerIsOneRoom, SaysTheSame}
 use Rattle.irc_server.specs.Owed.{lines_to}
 use Rattle.irc_server.specs.Owed.{owed as owed_by_server}

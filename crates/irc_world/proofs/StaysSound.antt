@@ -17,10 +17,10 @@ use Rattle.irc_room.specs.Lemmas.WellFormedLaw.{no_room_is_well_formed}
 use Rattle.irc_commands.specs.Possible.{DecidedIsPossible, RegisteringIsPossible}
 use Rattle.irc_merge.specs.Laws.{MergeIsWellFormed, SplitIsWellFormed}
 use Rattle.irc_merge.specs.Agreeing.{agree}
-use Rattle.irc_server.specs.declared.clients.Client.{Client}
-use Rattle.irc_server.specs.RoomMachine.{Clients}
-use Rattle.irc_server.specs.Lemmas.Numbers.{same_number}
-use Rattle.irc_server.specs.Handle.{Happening, connects, says, goes, handled}
+use Rattle.irc_stage.specs.declared.clients.Client.{Client}
+use Rattle.irc_stage.specs.RoomMachine.{Clients}
+use Rattle.irc_stage.specs.Lemmas.Numbers.{same_number}
+use Rattle.irc_stage.specs.Handle.{Happening, connects, says, goes, handled}
 use Rattle.irc_world.specs.World.{Setting, Hall, World, new_world, is_server, home_in, home_of, machine_at, with_hall}
 use Rattle.irc_world.specs.Stepping.{Item, connect, line, gone, link, cut, step, still as unmoved, by_machine, by_client, merged, linked, remaining, parted as cut_apart, surviving, clashes_in, split_text, side_of}
 use Rattle.irc_world.specs.Refused.{Refusal, refused, are_peers, link_refusal, no_such_server, link_refused, not_linked, disagree}

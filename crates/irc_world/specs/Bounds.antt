@@ -13,10 +13,10 @@ use Rattle.irc_commands.specs.Decide.{decide}
 use Rattle.irc_commands.specs.Register.{register}
 use Rattle.irc_merge.specs.Bursts.{burst}
 use Rattle.irc_relay.specs.Links.{Name, Link, joined, without}
-use Rattle.irc_server.specs.declared.clients.Client.{Client}
-use Rattle.irc_server.specs.declared.clients.Client.TheVariants.{Registering, Registered}
-use Rattle.irc_server.specs.RoomMachine.{RoomMachine, client_of}
-use Rattle.irc_server.specs.Handle.{Happening, connects, says, goes, user_of, lost_text}
+use Rattle.irc_stage.specs.declared.clients.Client.{Client}
+use Rattle.irc_stage.specs.declared.clients.Client.TheVariants.{Registering, Registered}
+use Rattle.irc_stage.specs.RoomMachine.{RoomMachine, client_of}
+use Rattle.irc_stage.specs.Handle.{Happening, connects, says, goes, user_of, lost_text}
 use Rattle.irc_world.specs.World.{Setting, World, servers_where, home_of, machine_at}
 use Rattle.irc_world.specs.Stepping.{Item, connect, line, gone, link, cut}
 use Rattle.irc_world.specs.Refused.{refused}

@@ -5,9 +5,9 @@ use Rattle.std.specs.FinMap.{get}
 use Rattle.irc_names.specs.Fold.{key}
 use Rattle.irc_room.specs.Readers.{home_under}
 use Rattle.irc_relay.specs.Links.{Name}
-use Rattle.irc_server.specs.declared.clients.Client.{Client}
-use Rattle.irc_server.specs.declared.clients.Client.TheVariants.{Registering, Registered}
-use Rattle.irc_server.specs.RoomMachine.{Clients}
+use Rattle.irc_stage.specs.declared.clients.Client.{Client}
+use Rattle.irc_stage.specs.declared.clients.Client.TheVariants.{Registering, Registered}
+use Rattle.irc_stage.specs.RoomMachine.{Clients}
 use Rattle.irc_world.specs.World.{Setting, World, new_world, home_of}
 use Rattle.irc_world.specs.Stepping.{Item, step}
 use Rattle.irc_world.specs.Refused.{refused}

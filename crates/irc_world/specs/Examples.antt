@@ -1,7 +1,7 @@
 -- A small network, by example: who is refused what.
 use Rattle.std.specs.Prelude.{◌≡◌, ℕ, Some, List, [], ◌∷◌, codes}
 use Rattle.irc_relay.specs.Links.{Name}
-use Rattle.irc_server.specs.View.{KnownPeer}
+use Rattle.irc_stage.specs.View.{KnownPeer}
 use Rattle.irc_world.specs.World.{Setting, new_world}
 use Rattle.irc_world.specs.Stepping.{connect, line, gone, link, cut}
 use Rattle.irc_world.specs.Refused.{refused, no_such_server, no_such_client, not_linked, link_refused}

@@ -3,8 +3,8 @@ use Rattle.std.specs.Prelude.{◌≡◌, ℕ, Bool, true, Some, List}
 use Rattle.irc_names.specs.Tables.{row}
 use Rattle.irc_users.specs.declared.user.User.{User}
 use Rattle.irc_room.specs.Room.{Room}
-use Rattle.irc_server.specs.RoomMachine.{RoomMachine}
-use Rattle.irc_server.specs.Handle.{Happening, handled}
+use Rattle.irc_stage.specs.RoomMachine.{RoomMachine}
+use Rattle.irc_stage.specs.Handle.{Happening, handled}
 
 -- the homes of all users of a room pass a test
 abbrev pub HomesPass : (List ℕ → Bool) → Room → Type 0

@@ -7,8 +7,8 @@ use Rattle.irc_room.specs.declared.effect.Effect.{Effect}
 use Rattle.irc_room.specs.declared.effect.Effect.TheVariants.{AddUser, Join, SetTopic}
 use Rattle.irc_room.specs.Examples.{room_after, somebody}
 use Rattle.irc_relay.specs.Links.{Link}
-use Rattle.irc_server.specs.declared.clients.Client.{Client}
-use Rattle.irc_server.specs.declared.clients.Client.TheVariants.{Registered}
+use Rattle.irc_stage.specs.declared.clients.Client.{Client}
+use Rattle.irc_stage.specs.declared.clients.Client.TheVariants.{Registered}
 use Rattle.irc_world.specs.World.{Setting, Hall, World, new_world, with_hall}
 use Rattle.irc_world.specs.Stepping.{line, link, cut, Stepped, step}
 use Rattle.irc_world.specs.Refused.{refused, disagree, no_such_client}

@@ -4,14 +4,14 @@ use Rattle.std.specs.FinMap.{empty}
 use Rattle.irc_line.specs.Reading.{read_of}
 use Rattle.irc_room.specs.Laws.{no_room}
 use Rattle.irc_routes.specs.Known.{alone_known}
-use Rattle.irc_server.specs.RoomMachine.{RoomMachine, client_of}
+use Rattle.irc_stage.specs.RoomMachine.{RoomMachine, client_of}
 use Rattle.irc_server.specs.declared.config.Config.{Config}
 use Rattle.irc_server.specs.declared.event.Event.{Event}
 use Rattle.irc_server.specs.declared.event.ServerFault.TheVariants.{NoSuchConnection}
 use Rattle.irc_server.specs.Happening.{happening_of}
 use Rattle.irc_server.specs.Configuring.{IsMade}
-use Rattle.irc_server.specs.View.{View, known_peer, machine_of}
-use Rattle.irc_server.specs.Handle.{Happening, connects, says, goes}
+use Rattle.irc_stage.specs.View.{View, known_peer, machine_of}
+use Rattle.irc_stage.specs.Handle.{Happening, connects, says, goes}
 use Rattle.irc_server.specs.Served.{served, fault_of}
 use Rattle.irc_server.specs.Owed.{lines_to}
 use Rattle.irc_server.specs.Owed.{owed as owed_by_server}

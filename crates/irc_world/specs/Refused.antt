@@ -6,8 +6,8 @@ use Rattle.std.specs.FinMap.{get}
 use Rattle.irc_relay.specs.Links.{Name, same, joined}
 use Rattle.irc_relay.specs.Links.{linked as are_linked}
 use Rattle.irc_merge.specs.Agreeing.{agree}
-use Rattle.irc_server.specs.declared.clients.Client.{Client}
-use Rattle.irc_server.specs.View.{KnownPeer}
+use Rattle.irc_stage.specs.declared.clients.Client.{Client}
+use Rattle.irc_stage.specs.View.{KnownPeer}
 use Rattle.irc_world.specs.World.{Setting, World, setting_of, is_server, home_of}
 use Rattle.irc_world.specs.Stepping.{Item, connect, line, gone, link, cut}
 

@@ -8,7 +8,7 @@ use Rattle.irc_room.specs.Limits.{IsWithinLimits}
 use Rattle.irc_commands.specs.declared.pending.Pending.{Pending}
 use Rattle.irc_commands.specs.Sendable.{IsPendingWithin}
 use Rattle.irc_relay.specs.Links.{Name}
-use Rattle.irc_server.specs.declared.clients.Client.TheVariants.{Registering}
+use Rattle.irc_stage.specs.declared.clients.Client.TheVariants.{Registering}
 use Rattle.irc_world.specs.World.{Setting, Hall, World, new_world, is_server}
 use Rattle.irc_world.specs.Stepping.{Item, connect, line, step}
 use Rattle.irc_world.specs.Refused.{refused}

@@ -9,8 +9,8 @@ use Rattle.irc_relay.specs.Links.{Name, same, Link, joined, distance}
 use Rattle.irc_room.specs.Room.{Room}
 use Rattle.irc_room.specs.Laws.{no_room}
 use Rattle.irc_routes.specs.Place.{KnownServer, Place, alone}
-use Rattle.irc_server.specs.View.{KnownPeer}
-use Rattle.irc_server.specs.RoomMachine.{Clients, RoomMachine}
+use Rattle.irc_stage.specs.View.{KnownPeer}
+use Rattle.irc_stage.specs.RoomMachine.{Clients, RoomMachine}
 
 -- a server as it is configured
 pub record Setting : Type 0 where

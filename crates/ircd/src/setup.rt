@@ -1,6 +1,6 @@
 //! What a configuration sets up: the server, and where it listens.
 ghost use Rattle.std.specs.Prelude.{◌≡◌, ◌++◌, ◌∷◌, [], IfOk, OnOk, map, option_map, string_bytes};
-ghost use Rattle.irc_server.specs.View.{known_peer};
+ghost use Rattle.irc_stage.specs.View.{known_peer};
 ghost use Rattle.ircd.specs.Serving.{Configures, IsReadSetup, SetsUp, peer_set};
 ghost use Rattle.ircd.specs.Loops.SettingUp.{ChecksCalls, FindsAddress, FindsOptional};
 

@@ -1,4 +1,4 @@
-use Rattle.irc_server.specs.Lemmas.MatchedEvents.{stays_matched}
+use Rattle.irc_stage.specs.Lemmas.MatchedEvents.{stays_matched}
 use Rattle.irc_server.proofs.OneMachine.{served_stays_matched}
 use Rattle.irc_server.proofs.laws.stays_matched.Goals as goal
 

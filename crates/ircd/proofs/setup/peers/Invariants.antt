@@ -1,5 +1,5 @@
 use Rattle.std.proofs.Common.{◌≡◌, ◌++◌, map, drop}
-use Rattle.irc_server.specs.View.{known_peer}
+use Rattle.irc_stage.specs.View.{known_peer}
 use Rattle.ircd.specs.Serving.{peer_set}
 use Rattle.ircd.proofs.setup.peers.Given as goal
 

@@ -1,7 +1,7 @@
 use Rattle.std.proofs.Common.{[], ◌∷◌, ◌++◌, take, refl, sym, ◌∙◌, ap, option_map, subst, arith}
 use Rattle.std.proofs.lemmas.List.{take_more}
 use Rattle.std.proofs.lemmas.Option.{get_or_from_slice_get, slice_get_within}
-use Rattle.irc_batch.specs.Batches.{told}
+use Rattle.irc_batch.specs.Batches.{sent_of}
 use Rattle.irc_engine.specs.Loops.Boards.{Carries}
 use Rattle.irc_engine.proofs.BoardSteps.{carries_none, carries_on}
 use Rattle.irc_engine.proofs.board.Board.deal.Goals as goal
@@ -12,8 +12,8 @@ loop-place-init g c = record { carries = carries_none _ _ _ refl (λ q. refl) re
 pub loop-place-preserved : goal.loop-place-preserved
 loop-place-preserved g c =
     let outs = c.args.outs.now.outs in
-    let out = told c.in-Some.out in
-    let is = sym c.get.ensures ∙ ap (option_map told) c.in-Some.is in
+    let out = sent_of c.in-Some.out in
+    let is = sym c.get.ensures.there ∙ ap (option_map sent_of) c.in-Some.is in
     record {
       carries = subst (λ os. Carries g.W.Wire.is_after [] c.args.self.now os c.deal_one.new.self)
           (sym (take_more outs c.loop-place.place out (slice_get_within outs c.loop-place.place out is)

@@ -2,7 +2,7 @@ use Rattle.std.proofs.Common.{Option, Result, List}
 use Rattle.std.specs.Vec.Iter.{into_iter_items, into_iter_len}
 use Rattle.irc_batch.specs.Batches.{Sent}
 use Rattle.irc_server.specs.declared.event.ServerFault.{ServerFault}
-use Rattle.irc_server.specs.View.{View}
+use Rattle.irc_stage.specs.View.{View}
 use Rattle.irc_server.specs.Happening.{AreHandled}
 use Rattle.irc_server.proofs.server.Server.handle_all.Given as goal
 

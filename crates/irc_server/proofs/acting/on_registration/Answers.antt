@@ -1,0 +1,22 @@
+use Rattle.std.proofs.Common.{ap, ◌∙◌, refl, sym, subst}
+use Rattle.irc_stage.specs.RoomMachine.{with_client}
+use Rattle.irc_stage.specs.Loops.Stage.{machine_at, AreFit, IsFreeOf}
+use Rattle.irc_stage.specs.Lemmas.Outcomes.{on_ok}
+use Rattle.irc_server.proofs.WhatEventsDo.{carried, copied_now}
+use Rattle.irc_server.proofs.acting.on_registration.Goals as goal
+
+pub returns-clause-ok : goal.returns-clause-ok
+returns-clause-ok c =
+    on_ok c.carry_out.result _ _
+    (carried _ c.args.conn _ _ _ _ _ _ _ _ c.args.out.now.outs (copied_now _ ∙ c.as_ref-nick.ensures.value) c.deref.ensures.value refl
+    (c.in_ok-seat.ensures.ok ∙ ap (with_client (machine_at c.args.stage.now) c.args.conn) c.in_ok-client.ensures))
+    c.carry_out.ensures.ok
+
+pub seat-requires-clause-free : goal.seat-requires-clause-free
+seat-requires-clause-free c = subst (λ client. IsFreeOf client (machine_at c.args.stage.now).clients) (sym c.in_ok-client.ensures) c.requires.free
+
+pub carry_out-requires-clause-fit : goal.carry_out-requires-clause-fit
+carry_out-requires-clause-fit c =
+    subst (AreFit _) (sym c.deref.ensures.value)
+    (subst (λ m. AreFit m c.args.given.now.steps.items)
+    (sym (c.in_ok-seat.ensures.ok ∙ ap (with_client (machine_at c.args.stage.now) c.args.conn) c.in_ok-client.ensures)) c.requires.fit)

@@ -1,6 +1,0 @@
-use Rattle.std.proofs.Common.{sym, ◌∙◌}
-use Rattle.irc_server.specs.Lemmas.Numbers.{get-numbered}
-use Rattle.irc_server.proofs.clients.client_of.Goals as goal
-
-pub returns : goal.returns
-returns c = c.get.ensures.value ∙ sym (get-numbered c.args.clients.now.by_number c.args.conn)

@@ -1,5 +1,0 @@
-use Rattle.irc_server.specs.Lemmas.Numbers.{put-numbered}
-use Rattle.irc_server.proofs.clients.put.Goals as goal
-
-pub returns-in-Ok : goal.returns-in-Ok
-returns-in-Ok c = put-numbered c.args.clients.now c.insert.new.self c.args.conn c.args.client c.in-Ok.ensures.updates

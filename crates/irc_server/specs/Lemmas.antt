@@ -1,4 +1,0 @@
--- Lemmas, with their proofs, that the crates above cite too. No rule stands here.
-pub mod MatchedEvents
-pub mod Matching
-pub mod Numbers

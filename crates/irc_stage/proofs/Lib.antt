@@ -1,0 +1,5 @@
+pub mod Index
+pub mod Showings
+pub mod HomeRoom
+pub mod Listening
+pub mod Telling

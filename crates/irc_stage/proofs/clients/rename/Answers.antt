@@ -1,0 +1,30 @@
+use Rattle.std.proofs.Common.{sym, ◌∙◌, ap, Some}
+use Rattle.std.specs.FinMap.{insert}
+use Rattle.irc_names.specs.Fold.{key}
+use Rattle.irc_names.specs.Tables.{alter}
+use Rattle.irc_stage.specs.declared.clients.Client.TheVariants.{Registered}
+use Rattle.irc_stage.specs.Loops.Stage.{clients_of, numbered}
+use Rattle.irc_stage.proofs.Index.{nobody_renamed, one_renamed, rename_indexed}
+use Rattle.irc_stage.specs.Lemmas.Outcomes.{on_ok}
+use Rattle.irc_stage.proofs.clients.rename.Goals as goal
+
+pub returns-in_default-clause-ok : goal.returns-in_default-clause-ok
+returns-in_default-clause-ok c =
+    nobody_renamed (clients_of c.args.clients.now) c.args.clients.now.by_nick c.requires.indexed c.args.old.now c.args.new.now (sym c.number_of.ensures ∙ c.in_default.is)
+
+pub returns-clause-ok : goal.returns-clause-ok
+returns-clause-ok c =
+    on_ok c.put.result _ _
+    (λ is. is
+    ∙ ap (λ n. insert (clients_of c.args.clients.now) c.in-Some.conn (Registered n)) c.copy.ensures
+    ∙ one_renamed (clients_of c.args.clients.now) c.args.clients.now.by_nick c.requires.indexed c.args.old.now c.args.new.now c.in-Some.conn
+    (sym c.number_of.ensures ∙ c.in-Some.is))
+    c.put.ensures
+
+pub returns-clause-indexed : goal.returns-clause-indexed
+returns-clause-indexed c =
+    on_ok c.put.result _ _
+    (λ is. rename_indexed (clients_of c.args.clients.now) c.args.clients.now.by_nick c.requires.indexed c.args.old.now c.args.new.now c.in-Some.conn
+    (sym c.number_of.ensures ∙ c.in-Some.is) c.requires.free c.copy.result (numbered c.put.new.clients) c.insert.new.self
+    c.copy.ensures is (c.in_ok-insert.ensures.ok ∙ ap (alter (key c.args.new.now) (λ _. Some c.in-Some.conn)) c.remove.ensures.after))
+    c.put.ensures

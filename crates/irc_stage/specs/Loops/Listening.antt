@@ -1,0 +1,41 @@
+-- Who hears what is said, as the code keeps it.
+use Rattle.std.specs.Prelude.{◌≡◌, ℕ, Bool, false, Option, Some, None, List, option_to_list}
+use Rattle.std.specs.List.{flat_map}
+use Rattle.irc_names.specs.Fold.{key, same}
+use Rattle.irc_names.specs.Tables.{Table, row}
+use Rattle.irc_room.specs.declared.effect.Effect.{Effect}
+use Rattle.irc_room.specs.declared.effect.Effect.TheVariants.{Say}
+use Rattle.irc_room.specs.declared.effect.Target.TheVariants.{Channel, User}
+use Rattle.irc_room.specs.Room.{Room}
+use Rattle.irc_room.specs.Readers.{nicks_in}
+use Rattle.irc_stage.specs.declared.listeners.Listeners.{Listeners}
+
+-- the connections of these users, as far as they are clients
+abbrev pub conns_of : Table ℕ → List (List ℕ) → List ℕ
+conns_of by_nick nicks = flat_map (λ nick. option_to_list (row by_nick (key nick))) nicks
+
+-- those of the members of a channel
+abbrev pub heard_by : Room → Table ℕ → List ℕ → List ℕ
+heard_by room by_nick channel = conns_of by_nick (nicks_in room channel)
+
+-- whether what is kept is of a channel
+abbrev pub is_at : Option (List ℕ) → List ℕ → Bool
+is_at None channel = false
+is_at (Some name) channel = same name channel
+
+abbrev pub is_for : Listeners → List ℕ → Bool
+is_for listeners channel = is_at listeners.channel channel
+
+-- what is kept, if anything, is right
+abbrev pub AreSo : Listeners → Room → Table ℕ → Type 0
+AreSo listeners room by_nick = (channel : List ℕ) → listeners.channel ≡ Some channel → listeners.conns.items ≡ heard_by room by_nick channel
+
+-- this user says something in this channel
+abbrev pub IsSaidBy : List ℕ → List ℕ → Effect → Type 0
+IsSaidBy by channel (Say who notice (Channel where_to) words) = (who ≡ by) × (where_to ≡ channel)
+IsSaidBy by channel effect = ⊥
+
+-- somebody says something to this user
+abbrev pub IsSaidTo : List ℕ → Effect → Type 0
+IsSaidTo nick (Say who notice (User to_whom) words) = to_whom ≡ nick
+IsSaidTo nick effect = ⊥

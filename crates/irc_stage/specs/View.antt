@@ -1,0 +1,59 @@
+-- What a server is, to those above: what it knows of others, its configuration, its links, its clients, its room. No index or queue is in it.
+use Rattle.std.specs.Prelude.{◌≡◌, ℕ, Option, None, List, [], map}
+use Rattle.std.specs.Ordering.{nat_cmp}
+use Rattle.std.specs.FinMap.{FinMap, empty, insert, remove}
+use Rattle.irc_routes.specs.Known.{Known, others, place_of}
+use Rattle.irc_room.specs.Room.{Room}
+use Rattle.irc_room.specs.Laws.{no_room}
+use Rattle.irc_stage.specs.declared.peer.Peer.{Peer}
+use Rattle.irc_stage.specs.RoomMachine.{Clients, RoomMachine}
+
+-- a server that may be linked to, and the password that both give each other
+pub record KnownPeer : Type 0 where
+  pub name : List ℕ
+  pub password : List ℕ
+
+abbrev pub known_peer : Peer → KnownPeer
+known_peer peer = record { name = peer.name.items; password = peer.password.items }
+
+-- the end of an open link: the peer that is called, where it is the end that calls; the password that it was given; the name of the server at
+-- the other end, once that has told it (RFC 2813 section 4.1)
+pub record End : Type 0 where
+  pub starts : Option (List ℕ)
+  pub password : Option (List ℕ)
+  pub far : Option (List ℕ)
+
+-- an end at which nothing has come yet
+abbrev pub fresh_end : Option (List ℕ) → End
+fresh_end starts = record { starts = starts; password = None; far = None }
+
+-- the ends of the open links, each under the number of its link
+abbrev pub Ends : Type 0
+Ends = FinMap nat_cmp End
+
+pub record View : Type 0 where
+  pub routes : Known
+  pub peers : List KnownPeer
+  pub ends : Ends
+  pub clients : Clients
+  pub room : Room
+
+-- the room machine that a server is to its clients
+abbrev pub machine_of : View → RoomMachine
+machine_of view = record { place = place_of view.routes; clients = view.clients; room = view.room }
+
+-- a link is open from now on, or no more
+abbrev pub with_end : ℕ → Option (List ℕ) → View → View
+with_end link starts view = record view { ends = insert view.ends link (fresh_end starts) }
+
+abbrev pub without_end : ℕ → View → View
+without_end link view = record view { ends = remove view.ends link }
+
+-- a server without clients, linked to none, in an empty room
+abbrev pub new_view : Known → List Peer → View
+new_view routes peers = record { routes = routes; peers = map known_peer peers; ends = empty; clients = empty; room = no_room }
+
+-- no link of the server is open, and it knows no other server
+pub record IsAlone (view : View) : Type 0 where
+  pub no_ends : view.ends ≡ empty
+  pub no_others : others view.routes ≡ []

@@ -1,0 +1,358 @@
+//! One server while an event is handled: what each step of a decision does to it, and what it puts out.
+ghost use Rattle.std.specs.Prelude.{◌≡◌, None, [], ◌∷◌, is_some, OnOk, IfOk};
+ghost use Rattle.std.specs.FinMap.{get};
+ghost use Rattle.std.specs.Option.{option_copied};
+ghost use Rattle.irc_line.specs.MessageViews.{optional_now};
+ghost use Rattle.irc_room.specs.After.{after};
+ghost use Rattle.irc_room.specs.Applying.{pairs_of, shown_here};
+ghost use Rattle.irc_room.specs.Effects.{IsPossible};
+ghost use Rattle.irc_room.specs.Laws.{no_room};
+ghost use Rattle.irc_batch.specs.Growing.{Grew};
+ghost use Rattle.irc_stage.specs.RoomMachine.{client_of, with_client, without_client};
+ghost use Rattle.irc_stage.specs.Handle.{all_stepped, clients_after, closing, stepped, with_effect};
+ghost use Rattle.irc_stage.specs.View.{new_view, with_end, without_end};
+ghost use Rattle.irc_stage.specs.Loops.Listening.{IsSaidBy, IsSaidTo};
+ghost use Rattle.std.specs.FinMap.{insert};
+ghost use Rattle.irc_stage.specs.Loops.Stage.{clients_of, machine_at, numbered, so_far, view_of, AreFit, IsFit, IsFreeOf, IsIndexed, IsNoUser, IsReady, IsSound, Keeps, LeavesApart};
+
+use crate::clients::{self, Client, ClientTable, number_of, show_all};
+use crate::link_end::LinkEnd;
+use crate::listeners::Listeners;
+use crate::origin::{Origin, Speaker};
+use crate::peer::Peer;
+use irc_acts::Act;
+use irc_batch::Batch;
+use irc_names::{ChannelName, Nick, ServerName};
+use irc_numerics::reply_line;
+use irc_room::{Effect, Room, RoomFault, ShownLine, Target, laws};
+use irc_routes::Routes;
+use std::alloc::{AllocError, Global};
+use std::collections::BTreeMap;
+
+/// What a server is made of.
+#[derive(Drop)]
+pub struct Stage {
+    /// Its own row, and the servers that it knows.
+    routes: Routes,
+    /// The servers that it may be linked to.
+    peers: Vec<Peer, Global>,
+    /// The ends of its open links, each by the number of its link.
+    ends: BTreeMap<u64, LinkEnd, Global>,
+    /// Its clients.
+    clients: ClientTable,
+    /// Its room.
+    room: Room,
+    /// Who hears what is said in the channel that something was said in last.
+    listeners: Listeners,
+    /// What the effect at hand shows.
+    shown: ShownLine,
+    /// Where it takes memory from.
+    alloc: Global,
+}
+
+/// Applies an effect to a room in which it is possible; `shown` is what it shows.
+fn happen(room: &mut Room, effect: &Effect, shown: &mut ShownLine) -> Result<(), AllocError>
+    requires sound { IsSound room.old }
+    requires possible { IsPossible room.old.room effect.now }
+    ensures after { OnOk result (room.new ≡ record room.old { room = after room.old.room effect.now }) }
+    ensures shown { OnOk result (pairs_of shown.new ≡ shown_here room.old effect.now) }
+    ensures sound { OnOk result (IsSound room.new) }
+{
+    laws::after_is_well_formed();
+    match room.apply(effect, shown) {
+        Ok(()) => Ok(()),
+        Err(RoomFault::Memory) => Err(AllocError),
+        Err(_) => unreachable!(),
+    }
+}
+
+/// Clients whose user takes another nickname by an effect are that user still.
+fn follow(clients: &mut ClientTable, effect: &Effect) -> Result<(), AllocError>
+    requires indexed { IsIndexed clients.old }
+    requires apart { LeavesApart effect.now (clients_of clients.old) }
+    ensures ok { OnOk result (clients_of clients.new ≡ clients_after effect.now (clients_of clients.old)) }
+    ensures indexed { OnOk result (IsIndexed clients.new) }
+{
+    match effect {
+        Effect::Rename { nick, new } => clients::rename(clients, nick, new),
+        _ => Ok(()),
+    }
+}
+
+impl Stage {
+    /// A server without clients, linked to none, in an empty room.
+    pub fn new(alloc: Global, routes: Routes, peers: Vec<Peer, Global>) -> Self
+        ensures made { view_of result ≡ new_view routes peers.items }
+        ensures ready { IsReady result }
+    {
+        let room = Room::new(alloc, routes.name().copy());
+        Stage {
+            routes,
+            peers,
+            ends: BTreeMap::new(alloc),
+            clients: clients::no_clients(alloc),
+            room,
+            listeners: Listeners::new(alloc),
+            shown: ShownLine::new(alloc),
+            alloc,
+        }
+    }
+
+    /// Where it takes memory from.
+    pub fn alloc(&self) -> Global {
+        self.alloc
+    }
+
+    /// Its own row, and the servers that it knows.
+    pub fn routes(&self) -> &Routes
+        ensures { result.now ≡ (view_of self.now).routes }
+    {
+        &self.routes
+    }
+
+    /// The servers that it may be linked to.
+    pub fn peers(&self) -> &[Peer]
+        ensures { result.now ≡ self.now.peers.items }
+    {
+        self.peers.as_slice()
+    }
+
+    /// Its room.
+    pub fn room(&self) -> &Room
+        ensures { result.now.room ≡ (view_of self.now).room }
+    {
+        &self.room
+    }
+
+    /// The client of a connection, if there is one.
+    pub fn client_of(&self, conn: u64) -> Option<&Client>
+        ensures { option_copied result ≡ client_of (machine_at self.now) conn }
+    {
+        clients::client_of(&self.clients, conn)
+    }
+
+    /// Whether a link is open.
+    pub fn has_link(&self, link: u64) -> bool
+        ensures { result ≡ is_some (get (view_of self.now).ends link) }
+    {
+        self.ends.contains_key(&link)
+    }
+
+    /// A connection that is no user is this client from now on.
+    ///
+    /// # Errors
+    /// Where memory runs out.
+    pub fn seat(&mut self, conn: u64, client: Client) -> Result<(), AllocError>
+        requires ready { IsReady self.old }
+        requires no_user { IsNoUser (client_of (machine_at self.old) conn) }
+        requires free { IsFreeOf client (machine_at self.old).clients }
+        ensures ok { OnOk result (machine_at self.new ≡ with_client (machine_at self.old) conn client) }
+        ensures ready { OnOk result (IsReady self.new) }
+        ensures keeps { Keeps self.old self.new }
+    {
+        self.listeners.clear();
+        clients::seat(&mut self.clients, conn, client)
+    }
+
+    /// Takes out the client of a connection.
+    pub fn take_out(&mut self, conn: u64)
+        requires ready { IsReady self.old }
+        ensures out { machine_at self.new ≡ without_client (machine_at self.old) conn }
+        ensures ready { IsReady self.new }
+        ensures keeps { Keeps self.old self.new }
+    {
+        self.listeners.clear();
+        clients::take_out(&mut self.clients, conn);
+    }
+
+    /// A link is open from now on: this end calls the server of this name, or is called.
+    ///
+    /// # Errors
+    /// Where memory runs out.
+    pub fn open_link(&mut self, link: u64, starts: Option<ServerName>) -> Result<(), AllocError>
+        requires ready { IsReady self.old }
+        ensures ok { OnOk result (view_of self.new ≡ with_end link starts (view_of self.old)) }
+        ensures ready { OnOk result (IsReady self.new) }
+    {
+        put_end(&mut self.ends, link, LinkEnd::new(starts))
+    }
+
+    /// A link is open no more.
+    pub fn drop_link(&mut self, link: u64)
+        requires ready { IsReady self.old }
+        ensures out { view_of self.new ≡ without_end link (view_of self.old) }
+        ensures ready { IsReady self.new }
+    {
+        self.ends.remove(&link);
+    }
+
+    /// An effect changes the room, and is shown to its viewers: the one door by which a server's room changes and what is said in it goes out. What is
+    /// said changes nothing, and there is the most of it: so it has ways of its own.
+    ///
+    /// # Errors
+    /// Where memory runs out.
+    pub fn apply(
+        &mut self,
+        origin: Origin<'_>,
+        effect: &Effect,
+        out: &mut Batch,
+    ) -> Result<(), AllocError>
+        requires ready { IsReady self.old }
+        requires fit { IsFit (machine_at self.old) effect.now }
+        ensures ok { OnOk result (so_far self.new out.new.outs ≡ with_effect effect.now (so_far self.old out.old.outs)) }
+        ensures ready { OnOk result (IsReady self.new) }
+        ensures keeps { Keeps self.old self.new }
+        ensures grew { Grew out.old.outs out.new.outs }
+    {
+        match effect {
+            Effect::Say {
+                by,
+                target: Target::Channel(channel),
+                ..
+            } => self.pass_on(effect, by, channel, out),
+            Effect::Say {
+                target: Target::User(nick),
+                ..
+            } => self.tell(effect, nick, out),
+            _ => self.change(effect, out),
+        }
+    }
+
+    /// What a user says in a channel is passed on to those who hear it there.
+    fn pass_on(
+        &mut self,
+        effect: &Effect,
+        by: &Nick,
+        channel: &ChannelName,
+        out: &mut Batch,
+    ) -> Result<(), AllocError>
+        requires ready { IsReady self.old }
+        requires fit { IsFit (machine_at self.old) effect.now }
+        requires said { IsSaidBy by.now channel.now effect.now }
+        ensures ok { OnOk result (so_far self.new out.new.outs ≡ with_effect effect.now (so_far self.old out.old.outs)) }
+        ensures ready { OnOk result (IsReady self.new) }
+        ensures keeps { Keeps self.old self.new }
+        ensures grew { Grew out.old.outs out.new.outs }
+    {
+        self.listeners.refresh(&self.room, &self.clients, channel)?;
+        if self.room.write_line(effect, &mut self.shown.line)? {
+            out.hold(&self.shown.line)?;
+            let own = number_of(&self.clients, by);
+            return out.send_to_others(self.listeners.conns.as_slice(), own);
+        }
+        Ok(())
+    }
+
+    /// What is said to a user is told to it, where it is a client.
+    fn tell(&mut self, effect: &Effect, nick: &Nick, out: &mut Batch) -> Result<(), AllocError>
+        requires ready { IsReady self.old }
+        requires fit { IsFit (machine_at self.old) effect.now }
+        requires said { IsSaidTo nick.now effect.now }
+        ensures ok { OnOk result (so_far self.new out.new.outs ≡ with_effect effect.now (so_far self.old out.old.outs)) }
+        ensures ready { OnOk result (IsReady self.new) }
+        ensures keeps { Keeps self.old self.new }
+        ensures grew { Grew out.old.outs out.new.outs }
+    {
+        let Some(conn) = number_of(&self.clients, nick) else {
+            return Ok(());
+        };
+        if self.room.write_line(effect, &mut self.shown.line)? {
+            return out.put(conn, &self.shown.line);
+        }
+        Ok(())
+    }
+
+    /// An effect changes the room, and is shown to its viewers.
+    fn change(&mut self, effect: &Effect, out: &mut Batch) -> Result<(), AllocError>
+        requires ready { IsReady self.old }
+        requires fit { IsFit (machine_at self.old) effect.now }
+        ensures ok { OnOk result (so_far self.new out.new.outs ≡ with_effect effect.now (so_far self.old out.old.outs)) }
+        ensures ready { OnOk result (IsReady self.new) }
+        ensures keeps { Keeps self.old self.new }
+        ensures grew { Grew out.old.outs out.new.outs }
+    {
+        self.listeners.clear();
+        happen(&mut self.room, effect, &mut self.shown)?;
+        show_all(&self.clients, &self.shown, out)?;
+        follow(&mut self.clients, effect)
+    }
+
+    /// One step of a decision of a client.
+    fn step(&mut self, speaker: Speaker<'_>, act: &Act, out: &mut Batch) -> Result<(), AllocError>
+        requires ready { IsReady self.old }
+        requires fit { AreFit (machine_at self.old) (act.now ∷ []) }
+        ensures ok { OnOk result (so_far self.new out.new.outs ≡ stepped speaker.entry.conn (optional_now speaker.entry.nick) act.now (so_far self.old out.old.outs)) }
+        ensures ready { OnOk result (IsReady self.new) }
+        ensures keeps { Keeps self.old self.new }
+        ensures grew { Grew out.old.outs out.new.outs }
+    {
+        match act {
+            Act::Answer(reply) => {
+                let line = reply_line(self.routes.name(), speaker.nick, reply);
+                out.put(speaker.conn, &line)
+            }
+            Act::Raw(line) => out.put(speaker.conn, line),
+            Act::Do(effect) => self.apply(Origin::Client(speaker), effect, out),
+        }
+    }
+
+    /// The steps of a decision of a client, one after another.
+    fn take_steps(
+        &mut self,
+        speaker: Speaker<'_>,
+        steps: &[Act],
+        out: &mut Batch,
+    ) -> Result<(), AllocError>
+        requires ready { IsReady self.old }
+        requires fit { AreFit (machine_at self.old) steps.now }
+        ensures ok { OnOk result (so_far self.new out.new.outs ≡ all_stepped speaker.entry.conn (optional_now speaker.entry.nick) steps.now (so_far self.old out.old.outs)) }
+        ensures ready { OnOk result (IsReady self.new) }
+        ensures keeps { Keeps self.old self.new }
+        ensures grew { Grew out.old.outs out.new.outs }
+    {
+        for act in steps {
+            self.step(speaker, act, out)?;
+        }
+        Ok(())
+    }
+
+    /// A decision of a client is carried out: its steps, and then the client is closed where it says so.
+    ///
+    /// # Errors
+    /// Where memory runs out.
+    pub fn carry_out(
+        &mut self,
+        speaker: Speaker<'_>,
+        steps: &[Act],
+        close: bool,
+        out: &mut Batch,
+    ) -> Result<(), AllocError>
+        requires ready { IsReady self.old }
+        requires fit { AreFit (machine_at self.old) steps.now }
+        ensures ok { OnOk result (so_far self.new out.new.outs ≡ closing close speaker.entry.conn (all_stepped speaker.entry.conn (optional_now speaker.entry.nick) steps.now (so_far self.old out.old.outs))) }
+        ensures ready { OnOk result (IsReady self.new) }
+        ensures keeps { Keeps self.old self.new }
+        ensures grew { Grew out.old.outs out.new.outs }
+    {
+        self.take_steps(speaker, steps, out)?;
+        if close {
+            self.take_out(speaker.conn);
+            out.close(speaker.conn)?;
+        }
+        Ok(())
+    }
+}
+
+/// A link has this end from now on.
+fn put_end(
+    ends: &mut BTreeMap<u64, LinkEnd, Global>,
+    link: u64,
+    end: LinkEnd,
+) -> Result<(), AllocError>
+    ensures { OnOk result (numbered ends.new ≡ insert (numbered ends.old) link end) }
+{
+    match ends.insert(link, end) {
+        Ok(_) => Ok(()),
+        Err(_) => Err(AllocError),
+    }
+}
