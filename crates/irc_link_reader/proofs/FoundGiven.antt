@@ -1,5 +1,5 @@
 -- What is found of a line, as its contract says it.
-use Rattle.std.proofs.Common.{◌≡◌, ◌⊎◌, inl, inr, IsOk, ℕ, Bool, true, false, not, ◌&&◌, Option, Some, None, unwrap_or, Result, Ok, Err, List, [], ◌∷◌, codes, if◌then◌else◌, subst, refl, sym, ◌∙◌, ap}
+use Rattle.std.proofs.Common.{◌≡◌, inl, inr, IsOk, ℕ, Bool, true, false, not, ◌&&◌, Option, Some, None, unwrap_or, Result, Ok, Err, List, [], ◌∷◌, codes, if◌then◌else◌, subst, refl, sym, ◌∙◌, ap}
 use Rattle.std.specs.Global.{Vec}
 use Rattle.std.specs.List.{find}
 use Rattle.irc_line.specs.Messages.{Parsed}

@@ -7,7 +7,7 @@ use Rattle.irc_line.specs.Limits.{max_line}
 use Rattle.irc_line.specs.Messages.{middle_text, text, line_text}
 use Rattle.irc_modes.specs.declared.modes.ModeChange.{ModeChange}
 use Rattle.irc_modes.specs.Letters.{letter_byte, sign_byte}
-use Rattle.irc_modes.specs.ModeWritten.{letters_behind, letters_text}
+use Rattle.irc_modes.specs.ModeWritten.{letters_behind}
 use Rattle.irc_link_words.specs.Loops.Changes.{letters_from}
 use Rattle.irc_link_words.specs.Words.{sign_between}
 use Rattle.irc_link_writer.specs.Written.{from}
