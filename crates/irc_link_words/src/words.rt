@@ -25,6 +25,9 @@ use irc_users::{RealName, UserName};
 pub const OPERATOR_MARK: &[u8] = b"\x07o";
 
 /// A nickname.
+///
+/// # Errors
+/// [`WireFault::BadName`] where it is none.
 pub fn read_nick(bytes: &[u8]) -> Result<Nick, WireFault>
     ensures { result ≡ (if is_nick bytes.now then Ok bytes.now else Err BadName) }
 {
@@ -35,6 +38,9 @@ pub fn read_nick(bytes: &[u8]) -> Result<Nick, WireFault>
 }
 
 /// A channel's name.
+///
+/// # Errors
+/// [`WireFault::BadName`] where it is none.
 pub fn read_channel(bytes: &[u8]) -> Result<ChannelName, WireFault>
     ensures { result ≡ (if is_channel bytes.now then Ok bytes.now else Err BadName) }
 {
@@ -45,6 +51,9 @@ pub fn read_channel(bytes: &[u8]) -> Result<ChannelName, WireFault>
 }
 
 /// A host.
+///
+/// # Errors
+/// [`WireFault::BadName`] where it is none.
 pub fn read_host(bytes: &[u8]) -> Result<Host, WireFault>
     ensures { result ≡ (if is_host bytes.now then Ok bytes.now else Err BadName) }
 {
@@ -55,6 +64,9 @@ pub fn read_host(bytes: &[u8]) -> Result<Host, WireFault>
 }
 
 /// A server's name.
+///
+/// # Errors
+/// [`WireFault::BadName`] where it is none.
 pub fn read_server(bytes: &[u8]) -> Result<ServerName, WireFault>
     ensures { result ≡ (if is_server bytes.now then Ok bytes.now else Err BadName) }
 {
@@ -65,6 +77,9 @@ pub fn read_server(bytes: &[u8]) -> Result<ServerName, WireFault>
 }
 
 /// Whom a text is for.
+///
+/// # Errors
+/// [`WireFault::BadName`] where it is neither a nickname nor, if it begins with `#`, the name of a channel.
 pub fn read_target(bytes: &[u8]) -> Result<Target, WireFault>
     ensures { result ≡ target_or_fault bytes.now }
 {
@@ -76,6 +91,9 @@ pub fn read_target(bytes: &[u8]) -> Result<Target, WireFault>
 }
 
 /// A topic, or the text of a quit, a part or a kick.
+///
+/// # Errors
+/// [`WireFault::Parameters`] where it is longer than [`MAX_WORDS`] bytes.
 #[tactic(auto, using(crate::proofs::TextsRead::words_whole))]
 pub fn read_words(bytes: &[u8]) -> Result<Words, WireFault>
     ensures { result ≡ (if are_words bytes.now then Ok bytes.now else Err Parameters) }
@@ -88,6 +106,9 @@ pub fn read_words(bytes: &[u8]) -> Result<Words, WireFault>
 }
 
 /// The text of a PRIVMSG or a NOTICE.
+///
+/// # Errors
+/// [`WireFault::Parameters`] where it is longer than [`MAX_LINE`] bytes.
 pub fn read_line(bytes: &[u8]) -> Result<Line, WireFault>
     ensures { result ≡ (if fits max_line bytes.now then Ok (line_of bytes.now) else Err Parameters) }
 {
