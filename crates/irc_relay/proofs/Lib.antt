@@ -1,6 +1,7 @@
 pub mod JoiningParts
 pub mod GoingToward
 pub mod TakingOut
+pub mod ShortWays
 pub mod Walking
 pub mod Flowing
 pub mod Delivering

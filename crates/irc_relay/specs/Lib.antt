@@ -1,4 +1,5 @@
 pub mod Links
+pub mod Distances
 pub mod Relay
 pub mod Following
 pub mod Queue
