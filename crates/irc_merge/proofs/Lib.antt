@@ -15,4 +15,5 @@ pub mod JudgedAtOnce
 pub mod AgreeTells
 pub mod CanBeDone
 pub mod OwnInvitations
+pub mod LookingAside
 pub mod StaysWithin

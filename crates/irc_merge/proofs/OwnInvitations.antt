@@ -91,7 +91,7 @@ without_uninvited room other well = λ i. record { users = same_users i; channel
         ∙ sym (row-each channel_uninvited (without room other).channels q ∙ ap (option_and_then channel_uninvited) (channels_without room other well q)))
 
 -- who clashes is a matter of users
-same_without : (room other : Room) → without room (uninvited other) ≡ without room other
+pub same_without : (room other : Room) → without room (uninvited other) ≡ without room other
 unfolding without
 same_without room other = refl
 

@@ -12,4 +12,5 @@ pub mod Examples
 pub mod Agreeing
 pub mod CanBeDone
 pub mod OwnInvitations
+pub mod AsideInvitations
 pub mod Lemmas

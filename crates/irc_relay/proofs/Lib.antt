@@ -2,6 +2,7 @@ pub mod JoiningParts
 pub mod GoingToward
 pub mod TakingOut
 pub mod ShortWays
+pub mod TurningLinks
 pub mod Walking
 pub mod Flowing
 pub mod Delivering
