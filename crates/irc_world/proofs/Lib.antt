@@ -1,7 +1,11 @@
 pub mod HandledKeeps
 pub mod Halls
 pub mod StaysSound
+pub mod Unheard
+pub mod StandingBy
+pub mod WorldKept
 pub mod ServedAlone
+pub mod SameWorlds
 pub mod EitherConnects
 pub mod ClientsPlaces
 pub mod ExamplesProved

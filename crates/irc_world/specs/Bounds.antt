@@ -79,5 +79,4 @@ most settings world (cut near far) =
 
 -- a server that is alone has nobody to tell
 abbrev pub OneServerTellsNobody : Type 0
-OneServerTellsNobody = (setting : Setting) (world : World) (item : Item) → IsSound (setting ∷ []) world → world.links ≡ []
-    → refused (setting ∷ []) world item ≡ None → most (setting ∷ []) world item ≡ 0
+OneServerTellsNobody = (setting : Setting) (world : World) (item : Item) → IsSound (setting ∷ []) world → refused (setting ∷ []) world item ≡ None → most (setting ∷ []) world item ≡ 0

@@ -12,5 +12,7 @@ pub mod Examples
 pub mod Homes
 pub mod UsersHomes
 pub mod ClientsUsers
+pub mod WorldHolds
+pub mod Bystanders
 pub mod Networks
 pub mod WithinLimits

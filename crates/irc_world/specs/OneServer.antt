@@ -40,13 +40,16 @@ configured config = record {
   peers = map known_peer config.peers.items;
 }
 
+-- no two servers are there that a link could join
+abbrev pub OneServerHasNoLink : Type 0
+OneServerHasNoLink = (setting : Setting) (world : World) → IsSound (setting ∷ []) world → world.links ≡ []
+
 -- what is made of a configuration is that
 abbrev pub NewServerIsAlone : Type 0
 NewServerIsAlone = (config : Config) (server : Option View) → IsMade config (Ok server) → server ≡ Some (lone_view (configured config))
 
--- a server is all that a network without links is to its clients: it knows no other, and has the clients and the room of its hall
+-- a server is all that a network of one server is to its clients: it knows no other, and has the clients and the room of its hall
 pub record IsTheServer (setting : Setting) (world : World) (view : View) : Type 0 where
-  pub no_links : world.links ≡ []
   pub routes : view.routes ≡ alone_known setting.name setting.info setting.created
   pub no_ends : view.ends ≡ []
   pub clients : view.clients ≡ (world.hall setting.name).clients
