@@ -19,5 +19,6 @@ pub mod HallsMatch
 pub mod ListedHalls
 pub mod NetworksProved
 pub mod BoSpeaks
+pub mod SmallWorldsProved
 pub mod LimitsHold
 pub mod RefusedAlone

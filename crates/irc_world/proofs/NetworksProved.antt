@@ -49,11 +49,11 @@ als = list_room als_doings
 abbrev bos : ListedRoom
 bos = list_room bos_doings
 
-als_in_order : AreInOrder als
+pub als_in_order : AreInOrder als
 unfolding fold fold_table
 als_in_order = record { users = tt; channels = tt; members = (tt, tt) }
 
-bos_in_order : AreInOrder bos
+pub bos_in_order : AreInOrder bos
 unfolding fold fold_table
 bos_in_order = record { users = tt; channels = tt; members = (tt, tt) }
 
@@ -155,11 +155,11 @@ zeds = list_room zeds_doings
 abbrev other_zeds : ListedRoom
 other_zeds = list_room other_zeds_doings
 
-zeds_in_order : AreInOrder zeds
+pub zeds_in_order : AreInOrder zeds
 unfolding fold fold_table
 zeds_in_order = record { users = tt; channels = tt; members = (tt, (tt, tt)) }
 
-other_zeds_in_order : AreInOrder other_zeds
+pub other_zeds_in_order : AreInOrder other_zeds
 unfolding fold fold_table
 other_zeds_in_order = record { users = tt; channels = tt; members = (tt, tt) }
 
@@ -290,17 +290,17 @@ link_is_lost = record {
 
 -- ---- the link is back
 
-abbrev als_side : ListedRoom
+abbrev pub als_side : ListedRoom
 als_side = list_split (split_text a_net b_net) (b_net ∷ codes "c.net" ∷ []) three
 
-abbrev others_side : ListedRoom
+abbrev pub others_side : ListedRoom
 others_side = list_split (split_text b_net a_net) (a_net ∷ []) three
 
-als_side_in_order : AreInOrder als_side
+pub als_side_in_order : AreInOrder als_side
 unfolding fold fold_table
 als_side_in_order = record { users = tt; channels = tt; members = (tt, (tt, tt)) }
 
-others_side_in_order : AreInOrder others_side
+pub others_side_in_order : AreInOrder others_side
 unfolding fold fold_table
 others_side_in_order = record { users = tt; channels = tt; members = (tt, (tt, tt)) }
 
@@ -328,11 +328,11 @@ side_made : (one other : Name) (homes : List Name) → side_of three_peers rest 
 side_made one other homes are =
     (λ i. split (split_text one other) (are i) (three_made i)) ∙ split_listed (split_text one other) homes three three_in_order
 
-als_hall : cut_off.world.hall a_net ≡ hall_of (kept_on a_net) als_side
+pub als_hall : cut_off.world.hall a_net ≡ hall_of (kept_on a_net) als_side
 unfolding step part without
 als_hall = λ i. record { clients = kept_on a_net; room = side_made a_net b_net (b_net ∷ codes "c.net" ∷ []) behind_b i }
 
-others_hall : cut_off.world.hall b_net ≡ hall_of (kept_on b_net) others_side
+pub others_hall : cut_off.world.hall b_net ≡ hall_of (kept_on b_net) others_side
 unfolding step part without
 others_hall = λ i. record { clients = kept_on b_net; room = side_made b_net a_net (a_net ∷ []) behind_a i }
 

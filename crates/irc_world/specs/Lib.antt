@@ -15,4 +15,5 @@ pub mod ClientsUsers
 pub mod WorldHolds
 pub mod Bystanders
 pub mod Networks
+pub mod SmallWorlds
 pub mod WithinLimits
