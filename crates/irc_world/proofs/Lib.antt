@@ -5,6 +5,7 @@ pub mod Unheard
 pub mod StandingBy
 pub mod WorldKept
 pub mod ServedAlone
+pub mod NumbersKept
 pub mod SameWorlds
 pub mod EitherConnects
 pub mod ClientsPlaces

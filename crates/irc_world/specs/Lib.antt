@@ -10,6 +10,7 @@ pub mod Parts
 pub mod Bounds
 pub mod Examples
 pub mod Homes
+pub mod Numbers
 pub mod UsersHomes
 pub mod ClientsUsers
 pub mod WorldHolds

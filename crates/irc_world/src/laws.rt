@@ -8,6 +8,7 @@ ghost use Rattle.irc_world.specs.Bounds.{OneServerTellsNobody};
 ghost use Rattle.irc_world.specs.Even.{CutIsEven, LinkIsEven, SameWorldsGoOn};
 ghost use Rattle.irc_world.specs.OneServer.{NewServerIsAlone, OneServerHasNoLink, OneServerIsTheNetwork, OneServerOwes, OneServerRefuses};
 ghost use Rattle.irc_world.specs.WorldHolds.{StepKeepsWorld, TakenMakeWorld};
+ghost use Rattle.irc_world.specs.Numbers.{NextNumberIsNew, NumbersStay};
 ghost use Rattle.irc_world.specs.Parts.{ClientsAreNumberedOnce, ViewIsWellFormed};
 ghost use Rattle.irc_world.specs.WithinLimits.{RoomsKeepLimits, StepKeepsLimits};
 ghost use Rattle.irc_world.specs.UsersHomes.{StepKeepsHomes, StepKeepsHomesJoined, UsersHomesAreJoined, UsersHomesAreServers};
@@ -113,6 +114,16 @@ pub fn same_worlds_go_on()
 /// Each client in a hall has a number that was given, and is in no other part's hall.
 pub fn clients_are_numbered_once()
     ensures { ClientsAreNumberedOnce }
+{}
+
+/// A number of a client stays with its home, whatever comes after: it is never given again.
+pub fn numbers_stay()
+    ensures { NumbersStay }
+{}
+
+/// Who connects gets a number that nobody has had.
+pub fn next_number_is_new()
+    ensures { NextNumberIsNew }
 {}
 
 /// What a server keeps of the room of its part, all but the invitations of other servers' users, is well formed.
