@@ -7,6 +7,7 @@ pub mod WorldKept
 pub mod ServedAlone
 pub mod NumbersKept
 pub mod SameWorlds
+pub mod KnowingTheSame
 pub mod EitherConnects
 pub mod ClientsPlaces
 pub mod ExamplesProved

@@ -42,7 +42,7 @@ counted_same server (l ∷ ls) (m ∷ ms) turned =
     ∙ (λ i. cond {A = ℕ} (ends_same server l m turned.0 i) 1 0 + counted_same server ls ms turned.1 i)
     ∙ sym (sum_by-cons (λ x. cond (has_end server x) 1 0) m ms)
 
-abbrev known_at : List Setting → Name → Bool → ℕ → Option KnownServer
+abbrev pub known_at : List Setting → Name → Bool → ℕ → Option KnownServer
 known_at settings server there far =
     if there then option_map (λ (s : Setting). record { name = s.name; info = s.info; distance = far }) (setting_of settings server) else None
 

@@ -6,19 +6,20 @@ use Rattle.irc_line.specs.Reading.{read_of}
 use Rattle.irc_room.specs.Room.{Room}
 use Rattle.irc_room.specs.Lemmas.Rows.{same_some}
 use Rattle.irc_relay.specs.Links.{Name, Link, part, joined, without, AreJoined, IsLeft, within, over, back}
-use Rattle.irc_relay.specs.Laws.{TestsTell, LinksJoin, LinkBetweenParts, LinkTakenOut}
+use Rattle.irc_relay.specs.Laws.{TestsTell, LinksJoin, LinkBetweenParts, LinkTakenOut, JoinedOverLink}
 use Rattle.irc_relay.specs.Lemmas.TellingNames.{alike, unlike, tell, same_when}
 use Rattle.irc_commands.specs.declared.pending.Pending.{Pending}
 use Rattle.irc_server.specs.declared.clients.Client.{Client}
 use Rattle.irc_server.specs.declared.clients.Client.TheVariants.{Registering}
 use Rattle.irc_server.specs.Handle.{Happening, connects, says, goes, handled}
-use Rattle.irc_world.specs.World.{Setting, Hall, World, home_of, machine_at, with_hall}
+use Rattle.irc_world.specs.World.{Setting, Hall, World, home_of, place_at, machine_at, with_hall}
 use Rattle.irc_world.specs.Stepping.{connect, line, gone, link, cut, step, still, by_machine, by_client, merged, meeting_lines, linked, remaining, leaving_lines, parted, clashes_in}
 use Rattle.irc_world.specs.Refused.{open_client}
 use Rattle.irc_world.specs.Sound.{IsSound}
 use Rattle.irc_world.specs.Bystanders.{WaitingStay, OtherPartsStay, OnlyConnectedReceive}
 use Rattle.irc_world.proofs.Halls.{hall_with}
 use Rattle.irc_world.proofs.StaysSound.{LinkIsTaken, link_taken, two_parts, first_of, survivor, get-kept, get-merged, link_there}
+use Rattle.irc_world.proofs.KnowingTheSame.{place_known, link_between, cut_between}
 use Rattle.irc_world.proofs.Unheard.{unheard}
 
 other_hall : (world : World) (home server : Name) (hall : Hall) → (AreJoined world.links server home → ⊥) → (with_hall home hall world).hall server ≡ world.hall server
@@ -135,7 +136,15 @@ only_connected_receive settings world (cut near far) client sound taken closed =
 
 -- ---- other parts
 
-module _ (tests : TestsTell) (join : LinksJoin) (between : LinkBetweenParts) (taken_out : LinkTakenOut) where
+module _ (tests : TestsTell) (join : LinksJoin) (between : LinkBetweenParts) (taken_out : LinkTakenOut) (over_link : JoinedOverLink) where
+  -- a client makes and loses no link
+  same_links : (settings : List Setting) (world : World) (actor : ℕ) (happening : Happening) → (by_client settings world actor happening).world.links ≡ world.links
+  same_links settings world actor happening = by (home_of world actor)
+    where
+      by : (o : Option Name) → (option_map_or (λ home. by_machine settings world home happening) o (still world)).world.links ≡ world.links
+      by None = refl
+      by (Some home) = refl
+
   -- a part that a new link does not touch is joined to none of its ends
   link_elsewhere : (settings : List Setting) (world : World) (near far server : Name) → IsSound settings world → LinkIsTaken settings world near far
       → (AreJoined world.links server near → ⊥) → (AreJoined world.links server far → ⊥)
@@ -155,17 +164,20 @@ module _ (tests : TestsTell) (join : LinksJoin) (between : LinkBetweenParts) (ta
       clients = (handled (machine_at settings (record world { homes = world.homes ++ at ∷ [] }) at) (connects (suc (length world.homes)) host)).machine.clients;
       room = (handled (machine_at settings (record world { homes = world.homes ++ at ∷ [] }) at) (connects (suc (length world.homes)) host)).machine.room;
     }) apart;
+    place = refl;
     lines = λ client there.
         unheard client (machine_at settings (record world { homes = world.homes ++ at ∷ [] }) at) (connects (suc (length world.homes)) host)
         (not_there settings world sound server at client apart there);
   }
   other_parts_stay settings world (line actor bytes) server sound taken apart = record {
     hall = client_elsewhere settings world sound actor (says actor (read_of bytes)) server apart;
+    place = ap (λ links. place_at settings links server) (same_links settings world actor (says actor (read_of bytes)));
     lines = λ client there. silent_client settings world sound actor (says actor (read_of bytes)) client
         (λ home is. not_there settings world sound server home client (apart home is) there);
   }
   other_parts_stay settings world (gone actor) server sound taken apart = record {
     hall = client_elsewhere settings world sound actor (goes actor) server apart;
+    place = ap (λ links. place_at settings links server) (same_links settings world actor (goes actor));
     lines = λ client there. silent_client settings world sound actor (goes actor) client
         (λ home is. not_there settings world sound server home client (apart home is) there);
   }
@@ -173,6 +185,10 @@ module _ (tests : TestsTell) (join : LinksJoin) (between : LinkBetweenParts) (ta
     hall = hall_with (λ h. h ≡ world.hall server) near server (merged (world.hall near) (world.hall far))
         (record world { links = record { near = near; far = far } ∷ world.links })
         (λ here. absurd (link_elsewhere settings world near far server sound (link_taken settings world near far taken) apart.0 apart.1 here)) (λ _. refl);
+    place = place_known settings (record { near = near; far = far } ∷ world.links) world.links server
+        (link_between (record { near = near; far = far }) world.links server
+        (between (record { near = near; far = far }) world.links sound.forest
+        (two_parts world.links near far (link_taken settings world near far taken).apart)) apart.0 apart.1);
     lines = λ client there. meets_nobody settings world sound near far client (not_there settings world sound server near client apart.0 there)
         (not_there settings world sound server far client apart.1 there);
   }
@@ -187,6 +203,8 @@ module _ (tests : TestsTell) (join : LinksJoin) (between : LinkBetweenParts) (ta
             (λ _. hall_with (λ h. h ≡ world.hall server) near server (remaining settings world (without world.links near far) near far)
             (record world { links = without world.links near far })
             (λ here. absurd (apart ((left.kept server near here).joined))) (λ _. refl));
+        place = place_known settings (without world.links near far) world.links server
+            (cut_between over_link world.links near far server sound.forest are left apart (λ one. apart (one ∙ sym ends_joined)));
         lines = λ client there. leaves_nobody settings world sound (without world.links near far) near far client
             (not_there settings world sound server near client apart there)
             (not_there settings world sound server far client (λ one. apart (one ∙ sym ends_joined)) there);

@@ -4,7 +4,7 @@ use Rattle.std.specs.FinMap.{get}
 use Rattle.irc_relay.specs.Links.{Name, AreJoined}
 use Rattle.irc_commands.specs.declared.pending.Pending.{Pending}
 use Rattle.irc_server.specs.declared.clients.Client.TheVariants.{Registering}
-use Rattle.irc_world.specs.World.{Setting, World, home_of}
+use Rattle.irc_world.specs.World.{Setting, World, home_of, place_at}
 use Rattle.irc_world.specs.Stepping.{Item, connect, line, gone, link, cut, step}
 use Rattle.irc_world.specs.Refused.{refused, open_client}
 use Rattle.irc_world.specs.Sound.{IsSound}
@@ -36,9 +36,10 @@ IsElsewhere world (gone client) server = (home : Name) → home_of world client 
 IsElsewhere world (link near far) server = (AreJoined world.links server near → ⊥) × (AreJoined world.links server far → ⊥)
 IsElsewhere world (cut near far) server = AreJoined world.links server near → ⊥
 
--- There everything is as it was, and nobody receives anything.
+-- There everything is as it was, what the server knows of the network too, and nobody receives anything.
 pub record IsUntouched (settings : List Setting) (world : World) (item : Item) (server : Name) : Type 0 where
   pub hall : (step settings world item).world.hall server ≡ world.hall server
+  pub place : place_at settings (step settings world item).world.links server ≡ place_at settings world.links server
   pub lines : (client : ℕ) → is_some (get (world.hall server).clients client) ≡ true → (step settings world item).lines client ≡ []
 
 abbrev pub OtherPartsStay : Type 0

@@ -267,7 +267,7 @@ pub fn waiting_stay()
     irc_relay::laws_of_forests::link_taken_out();
 }
 
-/// A part of the network that an item is not about has the hall that it had, and nobody in it receives anything.
+/// A part of the network that an item is not about has the hall that it had, its servers know the same of the network, and nobody in it receives anything.
 pub fn other_parts_stay()
     ensures { OtherPartsStay }
 {
@@ -275,6 +275,7 @@ pub fn other_parts_stay()
     irc_relay::laws_of_forests::links_join();
     irc_relay::laws_of_forests::link_between_parts();
     irc_relay::laws_of_forests::link_taken_out();
+    irc_relay::laws_of_forests::joined_over_link();
 }
 
 /// Who is not connected receives nothing: neither a number that was never given nor one whose client is gone.
