@@ -28,8 +28,8 @@ use Rattle.irc_merge.specs.AsideInvitations.{AgreeLooksAtNoInvitation, BurstTell
 use Rattle.irc_merge.specs.Bursts.{home_passes}
 use Rattle.irc_merge.specs.BurstRead.{introduced, new_members, brought, all_far, read_deed, read_all}
 use Rattle.irc_merge.specs.Deeds.{Deed, does, gains, loses, kills, brings, sets, tops, flag_given, member_comes, effects_of, after_deed, after_deeds, shown_by}
-use Rattle.irc_merge.specs.Merge.{without, uninvited, channel_uninvited}
-use Rattle.irc_merge.specs.Quits.{quits, users_at, collision_text}
+use Rattle.irc_merge.specs.Merge.{room_without, uninvited, channel_uninvited}
+use Rattle.irc_merge.specs.Quits.{quits_of, users_at, collision_text}
 use Rattle.irc_merge.specs.ShownAlong.{shown_along}
 use Rattle.irc_merge.specs.Lemmas.Quitting.{quit_well}
 use Rattle.irc_merge.specs.Lemmas.TableWords.{entries_each}
@@ -57,13 +57,13 @@ all_aside other (e ∷ es) =
 agree_uninvited : (one other : Room) → IsWellFormed one → IsWellFormed other → agree (uninvited one) (uninvited other) ≡ agree one other
 agree_uninvited one other well_one well_other =
     (λ i. list_all (agrees_on (theirs i)) (entries (ours i).channels))
-    ∙ ap (list_all (agrees_on (uninvited (without other one)))) (entries_each channel_uninvited (without one other).channels)
-    ∙ all_aside (without other one) (entries (without one other).channels)
+    ∙ ap (list_all (agrees_on (uninvited (room_without other one)))) (entries_each channel_uninvited (room_without one other).channels)
+    ∙ all_aside (room_without other one) (entries (room_without one other).channels)
   where
-    ours : without (uninvited one) (uninvited other) ≡ uninvited (without one other)
+    ours : room_without (uninvited one) (uninvited other) ≡ uninvited (room_without one other)
     ours = same_without (uninvited one) other ∙ without_uninvited one other well_one
 
-    theirs : without (uninvited other) (uninvited one) ≡ uninvited (without other one)
+    theirs : room_without (uninvited other) (uninvited one) ≡ uninvited (room_without other one)
     theirs = same_without (uninvited other) one ∙ without_uninvited other one well_other
 
 pub agree_looks_at_no_invitation : HomeIsWellFormed → AgreeLooksAtNoInvitation
@@ -81,7 +81,7 @@ effects_alike : (room other : Room) (deed : Deed) → AreAlikeRooms room other �
 effects_alike room other (does effect) alike = refl
 effects_alike room other (gains uplink name info) alike = refl
 effects_alike room other (loses server name text) alike =
-    ap (λ (users : Table User). quits text (users_at name (record { users = users; channels = room.channels }))) alike.users
+    ap (λ (users : Table User). quits_of text (users_at name (record { users = users; channels = room.channels }))) alike.users
 effects_alike room other (kills server nick) alike = refl
 effects_alike room other (brings server channel members) alike = refl
 effects_alike room other (sets server channel changes) alike = refl
@@ -189,7 +189,7 @@ all_append : (one other : List Effect) → AllByRecursion InvitesNobody one → 
 all_append [] other all rest = rest
 all_append (effect ∷ one) other all rest = (all.0, all_append one other all.1 rest)
 
-quits_invite : (text : List ℕ) (users : List User) → AllByRecursion InvitesNobody (quits text users)
+quits_invite : (text : List ℕ) (users : List User) → AllByRecursion InvitesNobody (quits_of text users)
 quits_invite text [] = tt
 quits_invite text (user ∷ users) = (tt, quits_invite text users)
 
@@ -236,7 +236,7 @@ module _ (follows : HomeFollows) where
       all_follow home (after room effect) effects (stays.now.0 well) none.1 stays.later
       ∙ ap (λ r. after_all r effects) (follows home room effect well stays.now.1 ∙ at_all home (of_home home room) effect none.0)
 
-  quits_stay : (room : Room) (text : List ℕ) (users : List User) → EachInTurn StaysWell room (quits text users)
+  quits_stay : (room : Room) (text : List ℕ) (users : List User) → EachInTurn StaysWell room (quits_of text users)
   quits_stay room text [] = tt
   quits_stay room text (user ∷ users) =
       record { now = (quit_well room user.nick text, refl); later = quits_stay (after room (Quit user.nick text)) text users }
@@ -253,8 +253,8 @@ module _ (follows : HomeFollows) where
   home_follows_deed home room (does effect) well can = follows home room effect well can
   home_follows_deed home room (gains uplink name info) well can = refl
   home_follows_deed home room (loses server name text) well can =
-      all_follow home room (quits text (users_at name room)) well (quits_invite text (users_at name room)) (quits_stay room text (users_at name room))
-      ∙ ap (λ users. after_all (of_home home room) (quits text users)) (users_at_home home room name)
+      all_follow home room (quits_of text (users_at name room)) well (quits_invite text (users_at name room)) (quits_stay room text (users_at name room))
+      ∙ ap (λ users. after_all (of_home home room) (quits_of text users)) (users_at_home home room name)
   home_follows_deed home room (kills server nick) well can =
       all_follow home room (Quit nick collision_text ∷ []) well (tt, tt) (record { now = (quit_well room nick collision_text, refl); later = tt })
   home_follows_deed home room (brings server channel members) well can =

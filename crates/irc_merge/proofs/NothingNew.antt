@@ -12,8 +12,8 @@ use Rattle.irc_room.specs.Room.{Room, IsWellFormed}
 use Rattle.irc_room.specs.InTurn.{after_all}
 use Rattle.irc_room.specs.Readers.{flags_at, is_invited_at}
 use Rattle.irc_room.specs.Lemmas.Rows.{not_none, not_true, same_some}
-use Rattle.irc_merge.specs.Quits.{quits, collision_text}
-use Rattle.irc_merge.specs.Merge.{AreAlike, clash, without, either, one_channel, joined_channel, merge}
+use Rattle.irc_merge.specs.Quits.{quits_of, collision_text}
+use Rattle.irc_merge.specs.Merge.{AreAlike, clash, room_without, either, one_channel, joined_channel, merge}
 use Rattle.irc_merge.specs.Split.{split, lost_users}
 use Rattle.irc_merge.specs.Laws.{ComesOf, MergeHasNothingNew, SplitHasNothingNew}
 use Rattle.irc_merge.specs.Lemmas.Quitting.{among, thinned, users_left, channels_left}
@@ -74,7 +74,7 @@ kept_invited gone nick (Some before) is = by_test (is_nil (keys (retain_keys bef
     by_test true is = not_true is
     by_test false is = kept_there (not (gone nick)) (row before.invited nick) (sym (ap is_some (row-kept before.invited (λ q. not (gone q)) nick)) ∙ is)
 
-pub quits_come : (room : Room) (text : List ℕ) (users : List User) → IsWellFormed room → ComesOf room (after_all room (quits text users))
+pub quits_come : (room : Room) (text : List ℕ) (users : List User) → IsWellFormed room → ComesOf room (after_all room (quits_of text users))
 quits_come room text users well = record {
   users = λ fold user is. kept_user (among users fold) (row room.users fold) user (sym (users_left room text users fold) ∙ is);
   channels = λ fold channel is.
@@ -91,38 +91,38 @@ pub split_has_nothing_new : SplitHasNothingNew
 unfolding split
 split_has_nothing_new text homes room well = quits_come room text (lost_users homes room) well
 
-without_comes : (room other : Room) → IsWellFormed room → ComesOf room (without room other)
-unfolding without
+without_comes : (room other : Room) → IsWellFormed room → ComesOf room (room_without room other)
+unfolding room_without
 without_comes room other well = quits_come room collision_text (clash room other) well
 
 pub merge_has_nothing_new : MergeHasNothingNew
 unfolding merge
 merge_has_nothing_new one other well_one well_other = record {
-  users = λ fold user is. user_of fold user (row (without one other).users fold) refl (sym (row-either (without one other).users (without other one).users fold) ∙ is);
+  users = λ fold user is. user_of fold user (row (room_without one other).users fold) refl (sym (row-either (room_without one other).users (room_without other one).users fold) ∙ is);
   channels = λ fold channel is.
-      channel_of fold channel (row (without one other).channels fold) refl (row (without other one).channels fold) refl
-      (sym (row-joined (without one other).channels (without other one).channels fold) ∙ is);
+      channel_of fold channel (row (room_without one other).channels fold) refl (row (room_without other one).channels fold) refl
+      (sym (row-joined (room_without one other).channels (room_without other one).channels fold) ∙ is);
   members = λ nick fold flags is.
-      member_of nick fold flags (row (without one other).channels fold) refl (row (without other one).channels fold) refl
-      (sym (ap (option_and_then (flags_in nick)) (row-joined (without one other).channels (without other one).channels fold)) ∙ is);
+      member_of nick fold flags (row (room_without one other).channels fold) refl (row (room_without other one).channels fold) refl
+      (sym (ap (option_and_then (flags_in nick)) (row-joined (room_without one other).channels (room_without other one).channels fold)) ∙ is);
   invited = λ nick fold is.
-      invited_of nick fold (row (without one other).channels fold) refl (row (without other one).channels fold) refl
-      (sym (ap (λ o. option_map_or (is_invited nick) o false) (row-joined (without one other).channels (without other one).channels fold)) ∙ is);
+      invited_of nick fold (row (room_without one other).channels fold) refl (row (room_without other one).channels fold) refl
+      (sym (ap (λ o. option_map_or (is_invited nick) o false) (row-joined (room_without one other).channels (room_without other one).channels fold)) ∙ is);
 }
   where
-    first : ComesOf one (without one other)
+    first : ComesOf one (room_without one other)
     first = without_comes one other well_one
 
-    second : ComesOf other (without other one)
+    second : ComesOf other (room_without other one)
     second = without_comes other one well_other
 
-    user_of : (fold : List ℕ) (user : User) (o : Option User) → row (without one other).users fold ≡ o → either o (row (without other one).users fold) ≡ Some user
+    user_of : (fold : List ℕ) (user : User) (o : Option User) → row (room_without one other).users fold ≡ o → either o (row (room_without other one).users fold) ≡ Some user
         → (row one.users fold ≡ Some user) ⊎ (row other.users fold ≡ Some user)
     user_of fold user None at is = inr (second.users fold user is)
     user_of fold user (Some u) at is = inl (first.users fold user (at ∙ is))
 
-    channel_of : (fold : List ℕ) (channel : Channel) (o : Option Channel) → row (without one other).channels fold ≡ o → (p : Option Channel)
-        → row (without other one).channels fold ≡ p → joined_channel o p ≡ Some channel
+    channel_of : (fold : List ℕ) (channel : Channel) (o : Option Channel) → row (room_without one other).channels fold ≡ o → (p : Option Channel)
+        → row (room_without other one).channels fold ≡ p → joined_channel o p ≡ Some channel
         → (before : Channel) × (((row one.channels fold ≡ Some before) ⊎ (row other.channels fold ≡ Some before)) × AreAlike channel before)
     channel_of fold channel None at p that is =
         let found = second.channels fold channel (that ∙ is) in
@@ -144,22 +144,22 @@ merge_has_nothing_new one other well_one well_other = record {
           ),
         )
 
-    of_first : (nick fold : List ℕ) (flags : Flags) (c : Channel) → row (without one other).channels fold ≡ Some c → row c.members nick ≡ Some flags
+    of_first : (nick fold : List ℕ) (flags : Flags) (c : Channel) → row (room_without one other).channels fold ≡ Some c → row c.members nick ≡ Some flags
         → (flags_at one nick fold ≡ Some flags) ⊎ (flags_at other nick fold ≡ Some flags)
     of_first nick fold flags c at is = inl (first.members nick fold flags (ap (option_and_then (flags_in nick)) at ∙ is))
 
-    of_second : (nick fold : List ℕ) (flags : Flags) (d : Channel) → row (without other one).channels fold ≡ Some d → row d.members nick ≡ Some flags
+    of_second : (nick fold : List ℕ) (flags : Flags) (d : Channel) → row (room_without other one).channels fold ≡ Some d → row d.members nick ≡ Some flags
         → (flags_at one nick fold ≡ Some flags) ⊎ (flags_at other nick fold ≡ Some flags)
     of_second nick fold flags d that is = inr (second.members nick fold flags (ap (option_and_then (flags_in nick)) that ∙ is))
 
-    one_of : (nick fold : List ℕ) (flags : Flags) (c d : Channel) → row (without one other).channels fold ≡ Some c
-        → row (without other one).channels fold ≡ Some d → (x : Option Flags) → row c.members nick ≡ x → either x (row d.members nick) ≡ Some flags
+    one_of : (nick fold : List ℕ) (flags : Flags) (c d : Channel) → row (room_without one other).channels fold ≡ Some c
+        → row (room_without other one).channels fold ≡ Some d → (x : Option Flags) → row c.members nick ≡ x → either x (row d.members nick) ≡ Some flags
         → (flags_at one nick fold ≡ Some flags) ⊎ (flags_at other nick fold ≡ Some flags)
     one_of nick fold flags c d at that None x_is is = of_second nick fold flags d that is
     one_of nick fold flags c d at that (Some x) x_is is = of_first nick fold flags c at (x_is ∙ is)
 
-    member_of : (nick fold : List ℕ) (flags : Flags) (o : Option Channel) → row (without one other).channels fold ≡ o → (p : Option Channel)
-        → row (without other one).channels fold ≡ p → option_and_then (flags_in nick) (joined_channel o p) ≡ Some flags
+    member_of : (nick fold : List ℕ) (flags : Flags) (o : Option Channel) → row (room_without one other).channels fold ≡ o → (p : Option Channel)
+        → row (room_without other one).channels fold ≡ p → option_and_then (flags_in nick) (joined_channel o p) ≡ Some flags
         → (flags_at one nick fold ≡ Some flags) ⊎ (flags_at other nick fold ≡ Some flags)
     member_of nick fold flags None at None that is = not_none flags is
     member_of nick fold flags None at (Some d) that is = of_second nick fold flags d that is
@@ -167,22 +167,22 @@ merge_has_nothing_new one other well_one well_other = record {
     member_of nick fold flags (Some c) at (Some d) that is =
         one_of nick fold flags c d at that (row c.members nick) refl (sym (row-either c.members d.members nick) ∙ is)
 
-    invited_first : (nick fold : List ℕ) (c : Channel) → row (without one other).channels fold ≡ Some c → is_some (row c.invited nick) ≡ true
+    invited_first : (nick fold : List ℕ) (c : Channel) → row (room_without one other).channels fold ≡ Some c → is_some (row c.invited nick) ≡ true
         → (is_invited_at one nick fold ≡ true) ⊎ (is_invited_at other nick fold ≡ true)
     invited_first nick fold c at is = inl (first.invited nick fold (ap (λ o. option_map_or (is_invited nick) o false) at ∙ is))
 
-    invited_second : (nick fold : List ℕ) (d : Channel) → row (without other one).channels fold ≡ Some d → is_some (row d.invited nick) ≡ true
+    invited_second : (nick fold : List ℕ) (d : Channel) → row (room_without other one).channels fold ≡ Some d → is_some (row d.invited nick) ≡ true
         → (is_invited_at one nick fold ≡ true) ⊎ (is_invited_at other nick fold ≡ true)
     invited_second nick fold d that is = inr (second.invited nick fold (ap (λ o. option_map_or (is_invited nick) o false) that ∙ is))
 
-    one_invited : (nick fold : List ℕ) (c d : Channel) → row (without one other).channels fold ≡ Some c
-        → row (without other one).channels fold ≡ Some d → (x : Option (Unit {0})) → row c.invited nick ≡ x → is_some (either x (row d.invited nick)) ≡ true
+    one_invited : (nick fold : List ℕ) (c d : Channel) → row (room_without one other).channels fold ≡ Some c
+        → row (room_without other one).channels fold ≡ Some d → (x : Option (Unit {0})) → row c.invited nick ≡ x → is_some (either x (row d.invited nick)) ≡ true
         → (is_invited_at one nick fold ≡ true) ⊎ (is_invited_at other nick fold ≡ true)
     one_invited nick fold c d at that None x_is is = invited_second nick fold d that is
     one_invited nick fold c d at that (Some x) x_is is = invited_first nick fold c at (ap is_some x_is)
 
-    invited_of : (nick fold : List ℕ) (o : Option Channel) → row (without one other).channels fold ≡ o → (p : Option Channel)
-        → row (without other one).channels fold ≡ p → option_map_or (is_invited nick) (joined_channel o p) false ≡ true
+    invited_of : (nick fold : List ℕ) (o : Option Channel) → row (room_without one other).channels fold ≡ o → (p : Option Channel)
+        → row (room_without other one).channels fold ≡ p → option_map_or (is_invited nick) (joined_channel o p) false ≡ true
         → (is_invited_at one nick fold ≡ true) ⊎ (is_invited_at other nick fold ≡ true)
     invited_of nick fold None at None that is = not_true is
     invited_of nick fold None at (Some d) that is = invited_second nick fold d that is

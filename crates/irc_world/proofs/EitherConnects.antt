@@ -4,7 +4,7 @@ use Rattle.std.proofs.Math.Bool.{and_comm}
 use Rattle.std.specs.Option.{option_map_or}
 use Rattle.std.proofs.lemmas.List.{append-nil}
 use Rattle.std.specs.FinMap.{get}
-use Rattle.irc_relay.specs.Links.{Name, Link, part, joined, without, AreJoined, AreLinked, IsLeft, IsMade, within, over, back}
+use Rattle.irc_relay.specs.Links.{Name, Link, part, joined, links_without, AreJoined, AreLinked, IsLeft, IsMade, within, over, back}
 use Rattle.irc_relay.specs.Links.{linked as are_linked}
 use Rattle.irc_relay.specs.Laws.{TestsTell, LinkBetweenParts, LinkTakenOut}
 use Rattle.irc_relay.specs.TurnedLinks.{AreTurned, TurnedAreTheSame, TakenOutEitherWay}
@@ -17,7 +17,7 @@ use Rattle.irc_merge.specs.Merge.{Agree, merge}
 use Rattle.irc_server.specs.declared.clients.Client.{Client}
 use Rattle.irc_server.specs.Lemmas.Numbers.{same_clients}
 use Rattle.irc_world.specs.World.{Setting, Hall, World, is_server, home_of}
-use Rattle.irc_world.specs.Stepping.{link, cut, step, merged, linked, clashes_in, meeting_lines, remaining, leaving_lines, parted}
+use Rattle.irc_world.specs.Stepping.{link, cut, step, merged, link_made, clashes_in, meeting_lines, remaining, leaving_lines, parted}
 use Rattle.irc_world.specs.Refused.{Refusal, refused, password_for, are_equal, are_peers, needs_servers, no_such_server, not_linked, link_refused, disagree}
 use Rattle.irc_world.specs.Sound.{IsSound}
 use Rattle.irc_world.specs.Even.{AreTheSame, LinkIsEven, CutIsEven}
@@ -133,20 +133,20 @@ module _ (between : LinkBetweenParts) (even : MergeIsEven) (tells : AgreeTells) 
   abbrev back_world : World
   back_world = record world { links = back_link ∷ world.links }
 
-  same_hall : (s : Name) → (linked world near far).world.hall s ≡ (linked world far near).world.hall s
+  same_hall : (s : Name) → (link_made world near far).world.hall s ≡ (link_made world far near).world.hall s
   same_hall s =
-      hall_with (λ h. h ≡ (linked world far near).world.hall s) near s (merged (world.hall near) (world.hall far)) there_world
+      hall_with (λ h. h ≡ (link_made world far near).world.hall s) near s (merged (world.hall near) (world.hall far)) there_world
       (λ here. hall_with (λ h. merged (world.hall near) (world.hall far) ≡ h) far s (merged (world.hall far) (world.hall near)) back_world
       (λ _. one_hall_of_both) (λ off. absurd (off (forth s far (here ∙ there.joined)))))
       (λ off. hall_with (λ h. world.hall s ≡ h) far s (merged (world.hall far) (world.hall near)) back_world
       (λ here. absurd (off (home_again s near (here ∙ turned.joined)))) (λ _. refl))
 
-  linked_same : TurnedAreTheSame → AreTheSame settings (linked world near far) (linked world far near)
+  linked_same : TurnedAreTheSame → AreTheSame settings (link_made world near far) (link_made world far near)
   linked_same turned_same =
       let both : AreTurned (there_link ∷ world.links) (back_link ∷ world.links) = (inr (refl, refl), itself_turned world.links) in
       record {
         worlds = record { links = both; homes = refl; hall = same_hall };
-        looks = looks_same turned_same settings (linked world near far).world (linked world far near).world there.forest both;
+        looks = looks_same turned_same settings (link_made world near far).world (link_made world far near).world there.forest both;
         lines =
             λ client. swap_lines (world.hall near) (world.hall far) (get (world.hall near).clients client) (get (world.hall far).clients client) (one_place client);
       }
@@ -252,7 +252,7 @@ cut_is_even turned_same either_way tests taken_out settings world near far sound
     let are = link_there tests settings world near far is in
     record {
       taken = cut_too tests settings world near far (both_there settings world near far is) are;
-      same = subst (λ left. AreTheSame settings (parted settings world (without world.links near far) near far) (parted settings world left far near))
+      same = subst (λ left. AreTheSame settings (parted settings world (links_without world.links near far) near far) (parted settings world left far near))
           (either_way world.links near far)
-          (parted_turned settings world near far (without world.links near far) (taken_out world.links near far sound.forest are) turned_same);
+          (parted_turned settings world near far (links_without world.links near far) (taken_out world.links near far sound.forest are) turned_same);
     }

@@ -6,7 +6,7 @@ use Rattle.std.specs.Option.{option_map_or}
 use Rattle.std.specs.FinMap.{values}
 use Rattle.irc_names.specs.Tables.{tabulate}
 use Rattle.irc_room.specs.Lemmas.Rows.{same_some}
-use Rattle.irc_relay.specs.Links.{Name, same, Link, part, joined, distance, without, has_ends, AreJoined, AreLinked, IsForest, IsLeft, IsMade, within, over, back, still, parted, turned}
+use Rattle.irc_relay.specs.Links.{Name, same, Link, part, joined, distance, links_without, has_ends, AreJoined, AreLinked, IsForest, IsLeft, IsMade, within, over, back, still, parted, turned}
 use Rattle.irc_relay.specs.Laws.{JoinedOverLink}
 use Rattle.irc_relay.specs.Lemmas.TellingNames.{Telling, alike, unlike, tell, same_unless}
 use Rattle.irc_routes.specs.Place.{alone}
@@ -109,37 +109,37 @@ not_end l near far server off_near off_far is = by (tell l.near server) (tell l.
     by (unlike f _) (unlike g _) = λ i. f i || g i
 
 left_count : (links : List Link) (near far server : Name) → server ≢ near → server ≢ far
-    → count_by (has_end server) (without links near far) ≡ count_by (has_end server) links
-unfolding without
+    → count_by (has_end server) (links_without links near far) ≡ count_by (has_end server) links
+unfolding links_without
 left_count [] near far server off_near off_far = refl
 left_count (l ∷ ls) near far server off_near off_far = by (has_ends l near far) refl (left_count ls near far server off_near off_far)
   where
-    by : (b : Bool) → has_ends l near far ≡ b → count_by (has_end server) (without ls near far) ≡ count_by (has_end server) ls
-        → count_by (has_end server) (if b then ls else l ∷ without ls near far) ≡ count_by (has_end server) (l ∷ ls)
+    by : (b : Bool) → has_ends l near far ≡ b → count_by (has_end server) (links_without ls near far) ≡ count_by (has_end server) ls
+        → count_by (has_end server) (if b then ls else l ∷ links_without ls near far) ≡ count_by (has_end server) (l ∷ ls)
     by true is later = sym (counted server l ls (not_end l near far server off_near off_far is))
     by false is later =
-        sum_by-cons (λ x. cond (has_end server x) 1 0) l (without ls near far)
+        sum_by-cons (λ x. cond (has_end server x) 1 0) l (links_without ls near far)
         ∙ ap (λ n. cond {A = ℕ} (has_end server l) 1 0 + n) later
         ∙ sym (sum_by-cons (λ x. cond (has_end server x) 1 0) l ls)
 
 pub cut_between : JoinedOverLink → (links : List Link) (near far server : Name) → IsForest links → AreLinked links near far
-    → IsLeft (without links near far) links near far → (AreJoined links server near → ⊥) → (AreJoined links server far → ⊥)
-    → KnowsTheSame (without links near far) links server
+    → IsLeft (links_without links near far) links near far → (AreJoined links server near → ⊥) → (AreJoined links server far → ⊥)
+    → KnowsTheSame (links_without links near far) links server
 cut_between over_link links near far server forest are left not_near not_far = record {
-  part_same = λ t. by t (tell (part (without links near far) server) (part (without links near far) t)) (tell (part links server) (part links t));
+  part_same = λ t. by t (tell (part (links_without links near far) server) (part (links_without links near far) t)) (tell (part links server) (part links t));
   far_same = λ t one. (left.kept server t one).distance_same;
   count_same = left_count links near far server (λ e. not_near (ap (part links) e)) (λ e. not_far (ap (part links) e));
 }
   where
-    after : (t : Name) → AreJoined links server t → AreJoined (without links near far) server t
+    after : (t : Name) → AreJoined links server t → AreJoined (links_without links near far) server t
     after t one = elim (over_link links near far server t forest are one) [
       | still e ↦ e
       | parted e _ ↦ absurd (not_near (left.kept server near e).joined)
       | turned e _ ↦ absurd (not_far (left.kept server far e).joined)
     ]
 
-    by : (t : Name) → Telling (part (without links near far) server) (part (without links near far) t) → Telling (part links server) (part links t)
-        → joined (without links near far) server t ≡ joined links server t
+    by : (t : Name) → Telling (part (links_without links near far) server) (part (links_without links near far) t) → Telling (part links server) (part links t)
+        → joined (links_without links near far) server t ≡ joined links server t
     by t (alike is _) (alike also _) = is ∙ sym also
     by t (alike _ e) (unlike _ n) = absurd (n (left.kept server t e).joined)
     by t (unlike _ n) (alike _ e) = absurd (n (after t e))

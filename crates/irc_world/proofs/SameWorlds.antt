@@ -8,7 +8,7 @@ use Rattle.std.specs.FinMap.{get, retain_keys, values}
 use Rattle.irc_names.specs.Tables.{tabulate}
 use Rattle.irc_line.specs.Reading.{read_of}
 use Rattle.irc_room.specs.Room.{Room}
-use Rattle.irc_relay.specs.Links.{Name, same, Link, HasEnds, joined, without, distance, IsForest}
+use Rattle.irc_relay.specs.Links.{Name, same, Link, HasEnds, joined, links_without, distance, IsForest}
 use Rattle.irc_relay.specs.Laws.{TestsTell, LinkBetweenParts, LinkTakenOut}
 use Rattle.irc_relay.specs.TurnedLinks.{AreTurned, AreTheSameLinks, TurnedAreTheSame}
 use Rattle.irc_merge.specs.Agreeing.{agree}
@@ -20,7 +20,7 @@ use Rattle.irc_server.specs.declared.clients.Client.TheVariants.{Registering, Re
 use Rattle.irc_server.specs.Handle.{Happening, connects, says, goes, handled}
 use Rattle.irc_server.specs.Owed.{lines_to}
 use Rattle.irc_world.specs.World.{Setting, World, setting_of, servers_where, home_in, home_of, known_from, has_end, place_in, place_at, machine_at}
-use Rattle.irc_world.specs.Stepping.{Item, connect, line, gone, link, cut, Stepped, step, still, by_machine, by_client, merged, meeting_lines, linked, split_text, remaining, leaving_lines, parted}
+use Rattle.irc_world.specs.Stepping.{Item, connect, line, gone, link, cut, Stepped, step, still, by_machine, by_client, merged, meeting_lines, link_made, split_text, remaining, leaving_lines, parted}
 use Rattle.irc_world.specs.Refused.{refused, open_client, are_peers, needs_servers, no_such_client, link_refused, not_linked, disagree}
 use Rattle.irc_world.specs.Laws.{StepStaysSound}
 use Rattle.irc_world.specs.Sound.{IsSound, AreTaken}
@@ -136,7 +136,7 @@ module _ (turned_same : TurnedAreTheSame) (settings : List Setting) (one other :
       by None = record { worlds = as_one; lines = λ client. refl }
       by (Some home) = by_machine_same home happening
 
-  linked_same : (near far : Name) → IsForest (record { near = near; far = far } ∷ one.links) → AreSteps (linked one near far) (linked other near far)
+  linked_same : (near far : Name) → IsForest (record { near = near; far = far } ∷ one.links) → AreSteps (link_made one near far) (link_made other near far)
   linked_same near far more =
       let l : Link = record { near = near; far = far } in
       let turned : AreTurned (l ∷ one.links) (l ∷ other.links) = (inl (refl, refl), as_one.links) in
@@ -214,7 +214,7 @@ module _ (turned_same : TurnedAreTheSame) (tests : TestsTell) (between : LinkBet
       linked_same turned_same settings one other sound.forest as_one near far
       (between (record { near = near; far = far }) one.links sound.forest (two_parts one.links near far (link_taken settings one near far taken).apart)).forest
   step_same one other sound as_one (cut near far) taken =
-      parted_same turned_same settings one other sound.forest as_one (without one.links near far) (without other.links near far)
+      parted_same turned_same settings one other sound.forest as_one (links_without one.links near far) (links_without other.links near far)
       ((turned_same one.links other.links as_one.links sound.forest).left_turned near far)
       (taken_out one.links near far sound.forest (link_there tests settings one near far taken)).forest near far
 

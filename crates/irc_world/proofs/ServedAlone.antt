@@ -29,7 +29,7 @@ use Rattle.irc_server.specs.Owed.{owed as owed_by_server}
 use Rattle.irc_world.specs.World.{Setting, Hall, World, new_world, setting_of, is_server, home_of, known_from, place_in, place_at, machine_at}
 use Rattle.irc_world.specs.Stepping.{Item, connect, line, gone, link, cut, Stepped, step, still as unmoved, by_machine, by_client}
 use Rattle.irc_world.specs.Refused.{refused, open_client, no_such_client, no_such_server, not_linked}
-use Rattle.irc_world.specs.Owed.{owed, owed_from}
+use Rattle.irc_world.specs.Owed.{owed_by_network, owed_from}
 use Rattle.irc_world.specs.Sound.{IsSound, AreTaken}
 use Rattle.irc_world.specs.Laws.{StepStaysSound}
 use Rattle.irc_world.specs.OneServer.{lone_view, IsTheServer, OneServerHasNoLink, IsServed, OneServerIsTheNetwork, happenings_from, OneServerOwes}
@@ -274,7 +274,7 @@ module _ (alone_is : AloneIsAlone) (one_room : LoneServerIsOneRoom) (stays_sound
       })
 
 pub one_server_owes : AloneIsAlone → LoneServerIsOneRoom → StepStaysSound → OneServerOwes
-unfolding owed
+unfolding owed_by_network
 one_server_owes alone_is one_room stays_sound setting items taken client =
     owes alone_is one_room stays_sound setting client items new_world (lone_view setting) (new_world_is_sound (setting ∷ []))
     (record { routes = refl; no_ends = refl; clients = refl; room = refl }) taken

@@ -15,7 +15,7 @@ use Rattle.irc_users.specs.declared.user.User.{User}
 use Rattle.irc_users.specs.UserTable.{is_home}
 use Rattle.irc_channels.specs.declared.channel.Channel.{Channel}
 use Rattle.irc_channels.specs.Channels.{is_invited}
-use Rattle.irc_relay.specs.Links.{Name, Link, part, joined, without, distance}
+use Rattle.irc_relay.specs.Links.{Name, Link, part, joined, links_without, distance}
 use Rattle.irc_room.specs.Laws.{no_room}
 use Rattle.irc_room.specs.Room.{Room}
 use Rattle.irc_room.specs.declared.effect.Effect.{Effect}
@@ -40,7 +40,7 @@ use Rattle.irc_acts.specs.Acts.{effects_among}
 use Rattle.irc_commands.specs.Decisions.{Decided}
 use Rattle.irc_routes.specs.Place.{Place}
 use Rattle.irc_world.specs.World.{servers_where, known_from, home_of, machine_at}
-use Rattle.irc_world.specs.Stepping.{link, step, split_text, side_of, leaving_lines}
+use Rattle.irc_world.specs.Stepping.{link, step, split_text, servers_on_side, leaving_lines}
 use Rattle.irc_world.specs.Refused.{refused, disagree}
 use Rattle.irc_world.specs.Bounds.{effects_at, effects_said, effects_of_user, most}
 use Rattle.irc_world.specs.Networks.{three_peers, hall_after, als_doings, bos_doings, zeds_doings, other_zeds_doings, three_people, three_clients, in_a_line, cut_off, a_to_b, b_to_c, two_apart}
@@ -131,7 +131,7 @@ effects_are place =
     ∙ ap (λ (d : Decided). effects_among d.steps) (decides place)
 
 pub lines_at_most : LinesAtMost
-unfolding most part step without
+unfolding most part step links_without
 lines_at_most = record {
   first_link = λ i. for_link (a_alone i) (b_alone i) (nothing_told a_net i) (nothing_told b_net i);
   people = λ i. for_link (a_alone i) (b_alone i) (als_told i) (bos_told i);
@@ -281,7 +281,7 @@ abbrev place_with : Name → List ℕ → List ℕ → ℕ → List KnownServer 
 place_with name info created links servers = record { name = name; info = info; created = created; links = links; servers = servers }
 
 pub whereabouts : Whereabouts
-unfolding part distance without
+unfolding part distance links_without
 whereabouts = record {
   at_a = ap (place_with a_net (codes "First") (codes "Monday") 1) (known_listed (known_from told_apart line_of_links a_net) names tt);
   at_b = ap (place_with b_net (codes "Second") (codes "Tuesday") 2) (known_listed (known_from told_apart line_of_links b_net) names tt);
@@ -361,11 +361,11 @@ four_in_order : AreInOrder four
 unfolding fold fold_table
 four_in_order = record { users = tt; channels = tt; members = (tt, tt) }
 
-behind_b : side_of three_peers rest b_net ≡ b_net ∷ c_net ∷ []
+behind_b : servers_on_side three_peers rest b_net ≡ b_net ∷ c_net ∷ []
 unfolding part
 behind_b = servers_listed three_peers (joined rest b_net) tt
 
-behind_a : side_of three_peers rest a_net ≡ a_net ∷ []
+behind_a : servers_on_side three_peers rest a_net ≡ a_net ∷ []
 unfolding part
 behind_a = servers_listed three_peers (joined rest a_net) tt
 
@@ -406,13 +406,13 @@ b_sees client =
 lost_lines : (client : ℕ) → four_lose.lines client
     ≡ list_seen_leaving (split_text a_net b_net) (b_net ∷ c_net ∷ []) four (left_on a_net client)
     ++ list_seen_leaving (split_text b_net a_net) (a_net ∷ []) four (left_on b_net client)
-unfolding step part without
+unfolding step part links_without
 lost_lines client = λ i. a_sees client i ++ b_sees client i
 
 lost_lines_back : (client : ℕ) → four_lose_back.lines client
     ≡ list_seen_leaving (split_text b_net a_net) (a_net ∷ []) four (left_on b_net client)
     ++ list_seen_leaving (split_text a_net b_net) (b_net ∷ c_net ∷ []) four (left_on a_net client)
-unfolding step part without
+unfolding step part links_without
 lost_lines_back client = λ i. b_sees client i ++ a_sees client i
 
 pub lost_in_order : LostInOrder

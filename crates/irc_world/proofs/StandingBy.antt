@@ -5,7 +5,7 @@ use Rattle.std.specs.FinMap.{get}
 use Rattle.irc_line.specs.Reading.{read_of}
 use Rattle.irc_room.specs.Room.{Room}
 use Rattle.irc_room.specs.Lemmas.Rows.{same_some}
-use Rattle.irc_relay.specs.Links.{Name, Link, part, joined, without, AreJoined, IsLeft, within, over, back}
+use Rattle.irc_relay.specs.Links.{Name, Link, part, joined, links_without, AreJoined, IsLeft, within, over, back}
 use Rattle.irc_relay.specs.Laws.{TestsTell, LinksJoin, LinkBetweenParts, LinkTakenOut, JoinedOverLink}
 use Rattle.irc_relay.specs.Lemmas.TellingNames.{alike, unlike, tell, same_when}
 use Rattle.irc_commands.specs.declared.pending.Pending.{Pending}
@@ -13,7 +13,7 @@ use Rattle.irc_server.specs.declared.clients.Client.{Client}
 use Rattle.irc_server.specs.declared.clients.Client.TheVariants.{Registering}
 use Rattle.irc_server.specs.Handle.{Happening, connects, says, goes, handled}
 use Rattle.irc_world.specs.World.{Setting, Hall, World, home_of, place_at, machine_at, with_hall}
-use Rattle.irc_world.specs.Stepping.{connect, line, gone, link, cut, step, still, by_machine, by_client, merged, meeting_lines, linked, remaining, leaving_lines, parted, clashes_in}
+use Rattle.irc_world.specs.Stepping.{connect, line, gone, link, cut, step, still, by_machine, by_client, merged, meeting_lines, link_made, remaining, leaving_lines, parted, clashes_in}
 use Rattle.irc_world.specs.Refused.{open_client}
 use Rattle.irc_world.specs.Sound.{IsSound}
 use Rattle.irc_world.specs.Bystanders.{WaitingStay, OtherPartsStay, OnlyConnectedReceive}
@@ -68,7 +68,7 @@ module _ (settings : List Setting) (world : World) (sound : IsSound settings wor
   no_meeting one other o none = ap (meeting_lines one other) none
 
   meets_nobody : (near far : Name) (client : ℕ) → get (world.hall near).clients client ≡ None → get (world.hall far).clients client ≡ None
-      → (linked world near far).lines client ≡ []
+      → (link_made world near far).lines client ≡ []
   meets_nobody near far client one other =
       λ i. meeting_lines (world.hall near) (world.hall far) (one i) ++ meeting_lines (world.hall far) (world.hall near) (other i)
 
@@ -131,7 +131,7 @@ only_connected_receive settings world (gone actor) client sound taken closed =
 only_connected_receive settings world (link near far) client sound taken closed =
     meets_nobody settings world sound near far client (in_no_hall settings world sound near client closed) (in_no_hall settings world sound far client closed)
 only_connected_receive settings world (cut near far) client sound taken closed =
-    leaves_nobody settings world sound (without world.links near far) near far client (in_no_hall settings world sound near client closed)
+    leaves_nobody settings world sound (links_without world.links near far) near far client (in_no_hall settings world sound near client closed)
     (in_no_hall settings world sound far client closed)
 
 -- ---- other parts
@@ -197,15 +197,15 @@ module _ (tests : TestsTell) (join : LinksJoin) (between : LinkBetweenParts) (ta
       let left = taken_out world.links near far sound.forest are in
       let ends_joined = (join world.links near far sound.forest are).0 in
       record {
-        hall = hall_with (λ h. h ≡ world.hall server) far server (remaining settings world (without world.links near far) far near)
-            (with_hall near (remaining settings world (without world.links near far) near far) (record world { links = without world.links near far }))
+        hall = hall_with (λ h. h ≡ world.hall server) far server (remaining settings world (links_without world.links near far) far near)
+            (with_hall near (remaining settings world (links_without world.links near far) near far) (record world { links = links_without world.links near far }))
             (λ here. absurd (apart ((left.kept server far here).joined ∙ sym ends_joined)))
-            (λ _. hall_with (λ h. h ≡ world.hall server) near server (remaining settings world (without world.links near far) near far)
-            (record world { links = without world.links near far })
+            (λ _. hall_with (λ h. h ≡ world.hall server) near server (remaining settings world (links_without world.links near far) near far)
+            (record world { links = links_without world.links near far })
             (λ here. absurd (apart ((left.kept server near here).joined))) (λ _. refl));
-        place = place_known settings (without world.links near far) world.links server
+        place = place_known settings (links_without world.links near far) world.links server
             (cut_between over_link world.links near far server sound.forest are left apart (λ one. apart (one ∙ sym ends_joined)));
-        lines = λ client there. leaves_nobody settings world sound (without world.links near far) near far client
+        lines = λ client there. leaves_nobody settings world sound (links_without world.links near far) near far client
             (not_there settings world sound server near client apart there)
             (not_there settings world sound server far client (λ one. apart (one ∙ sym ends_joined)) there);
       }
@@ -272,7 +272,7 @@ module _ (settings : List Setting) (world : World) (sound : IsSound settings wor
       (quiet_kept pending (option_map_or (joined left one) (home_of world client) false) (get (world.hall one).clients client) (quiet_at one))
 
   link_waits : LinkBetweenParts → (near far : Name) → LinkIsTaken settings world near far
-      → get ((linked world near far).world.hall home).clients client ≡ Some (Registering pending)
+      → get ((link_made world near far).world.hall home).clients client ≡ Some (Registering pending)
   link_waits between near far taken =
       let made = between (record { near = near; far = far }) world.links sound.forest (two_parts world.links near far taken.apart) in
       hall_with (λ h. get h.clients client ≡ Some (Registering pending)) near home (merged (world.hall near) (world.hall far))
@@ -286,7 +286,7 @@ module _ (settings : List Setting) (world : World) (sound : IsSound settings wor
         ]
       ]) (λ _. there)
 
-  link_silent : (near far : Name) → (linked world near far).lines client ≡ []
+  link_silent : (near far : Name) → (link_made world near far).lines client ≡ []
   link_silent near far =
       λ i. quiet_meeting pending (world.hall near) (world.hall far) (get (world.hall near).clients client) (quiet_at near) i
       ++ quiet_meeting pending (world.hall far) (world.hall near) (get (world.hall far).clients client) (quiet_at far) i
@@ -318,7 +318,7 @@ waiting_stay tests between taken_out settings world (link near far) client home 
   sees_nothing = link_silent settings world sound client home pending is there near far;
 }
 waiting_stay tests between taken_out settings world (cut near far) client home pending sound of_links taken is there = record {
-  waits = cut_waits settings world sound client home pending is there (without world.links near far) near far
+  waits = cut_waits settings world sound client home pending is there (links_without world.links near far) near far
       (taken_out world.links near far sound.forest (link_there tests settings world near far taken));
-  sees_nothing = cut_silent settings world sound client home pending is there (without world.links near far) near far;
+  sees_nothing = cut_silent settings world sound client home pending is there (links_without world.links near far) near far;
 }

@@ -8,7 +8,7 @@ use Rattle.irc_room.specs.declared.effect.Effect.{Effect}
 use Rattle.irc_room.specs.declared.effect.Effect.TheVariants.{Join, ChangeModes, SetTopic, Invite}
 use Rattle.irc_room.specs.Examples.{set}
 use Rattle.irc_room.specs.Readers.{is_invited_at}
-use Rattle.irc_relay.specs.Links.{Link, without}
+use Rattle.irc_relay.specs.Links.{Link, links_without}
 use Rattle.irc_routes.specs.Place.{KnownServer, Place}
 use Rattle.irc_server.specs.declared.clients.Client.{Client}
 use Rattle.irc_server.specs.declared.clients.Client.TheVariants.{Registered}
@@ -111,8 +111,8 @@ pub record Whereabouts : Type 0 where
         links = 1;
         servers = first_at 2 ∷ second_at 1 ∷ third_at 0 ∷ [];
       }
-  pub a_is_cut : place_at told_apart (without line_of_links (codes "a.net") (codes "b.net")) (codes "a.net") ≡ firsts_place 0 (first_at 0 ∷ [])
-  pub b_is_cut : place_at told_apart (without line_of_links (codes "a.net") (codes "b.net")) (codes "b.net")
+  pub a_is_cut : place_at told_apart (links_without line_of_links (codes "a.net") (codes "b.net")) (codes "a.net") ≡ firsts_place 0 (first_at 0 ∷ [])
+  pub b_is_cut : place_at told_apart (links_without line_of_links (codes "a.net") (codes "b.net")) (codes "b.net")
       ≡ record { name = codes "b.net"; info = codes "Second"; created = codes "Tuesday"; links = 1; servers = second_at 0 ∷ third_at 1 ∷ [] }
 
 -- ---- in which order somebody sees it
