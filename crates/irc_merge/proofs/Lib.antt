@@ -1,5 +1,6 @@
 pub mod Tests
 pub mod Splitting
+pub mod MembersStaying
 pub mod Lines
 pub mod Bringing
 pub mod PlainChanges

@@ -46,7 +46,7 @@ chosen_table p table = sym (values_each (if_passes p) table ∙ filter_is p (val
 
 -- ---- who is at another server stays
 
-two_homes : (home other : List ℕ) → exactly_same home other ≡ false → (user : User) → is_home home user ≡ true → is_home other user ≡ false
+pub two_homes : (home other : List ℕ) → exactly_same home other ≡ false → (user : User) → is_home home user ≡ true → is_home other user ≡ false
 two_homes home other two user here = by_test (is_home other user) refl
   where
     by_test : (b : Bool) → is_home other user ≡ b → b ≡ false

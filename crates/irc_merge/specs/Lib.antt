@@ -6,6 +6,7 @@ pub mod BurstRead
 pub mod Merge
 pub mod MergeShown
 pub mod Split
+pub mod StayingMembers
 pub mod Laws
 pub mod LimitLaws
 pub mod Examples

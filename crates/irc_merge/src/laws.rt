@@ -21,6 +21,7 @@ ghost use Rattle.irc_merge.specs.Laws.{
 };
 ghost use Rattle.irc_merge.specs.LimitLaws.{MergeIsWithinLimits, SplitIsWithinLimits, WithinLimitsIsTold};
 ghost use Rattle.irc_merge.specs.OwnInvitations.{ServerReadsMerge, ServerShowsMerge};
+ghost use Rattle.irc_merge.specs.StayingMembers.{MembersStay};
 
 /// Where two halves of a network agree, the room that they become is the same whichever is named first.
 pub fn merge_is_even()
@@ -40,6 +41,11 @@ pub fn split_is_well_formed()
 /// The users of one server are the same after another server was lost.
 pub fn others_stay()
     ensures { OthersStay }
+{}
+
+/// And they are members of the same channels, with the same flags.
+pub fn members_stay()
+    ensures { MembersStay }
 {}
 
 /// Servers that are lost one by one leave just what the split leaves that loses all of them.
