@@ -10,6 +10,7 @@ pub mod SameWorlds
 pub mod KnowingTheSame
 pub mod EitherConnects
 pub mod ClientsPlaces
+pub mod HoldingWays
 pub mod ExamplesProved
 pub mod OwnUsers
 pub mod HomesKept

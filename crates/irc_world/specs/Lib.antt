@@ -8,6 +8,7 @@ pub mod OneServer
 pub mod Even
 pub mod Parts
 pub mod Bounds
+pub mod Distances
 pub mod Examples
 pub mod Homes
 pub mod Numbers

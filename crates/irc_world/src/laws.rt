@@ -5,6 +5,7 @@ ghost use Rattle.irc_world.specs.ClientsUsers.{RegisteredAreUsers, StepKeepsMatc
 ghost use Rattle.irc_world.specs.Homes.{ClientsBringOwnUsers};
 ghost use Rattle.irc_world.specs.Laws.{NewWorldIsSound, StepStaysSound, WorldIsSound};
 ghost use Rattle.irc_world.specs.Bounds.{OneServerTellsNobody};
+ghost use Rattle.irc_world.specs.Distances.{PartsHoldWays};
 ghost use Rattle.irc_world.specs.Even.{CutIsEven, LinkIsEven, SameWorldsGoOn};
 ghost use Rattle.irc_world.specs.OneServer.{NewServerIsAlone, OneServerHasNoLink, OneServerIsTheNetwork, OneServerOwes, OneServerRefuses};
 ghost use Rattle.irc_world.specs.WorldHolds.{StepKeepsWorld, TakenMakeWorld};
@@ -282,3 +283,10 @@ pub fn other_parts_stay()
 pub fn only_connected_receive()
     ensures { OnlyConnectedReceive }
 {}
+
+/// Between two servers there are fewer links than there are servers in their part.
+pub fn parts_hold_ways()
+    ensures { PartsHoldWays }
+{
+    irc_relay::laws_of_forests::ways_are_short();
+}
