@@ -15,4 +15,6 @@ pub mod PendingWithin
 pub mod QueriesAlike
 pub mod CommandsAlike
 pub mod ComingLaws
+pub mod OwnDoing
+pub mod HomeDecides
 pub mod ToldInPart

@@ -13,5 +13,7 @@ pub mod AtOnce
 pub mod Possible
 pub mod Doing
 pub mod OwnInvitations
+pub mod AtHome
+pub mod Doers
 pub mod Sendable
 pub mod Comings

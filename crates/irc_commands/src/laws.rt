@@ -4,6 +4,8 @@ ghost use Rattle.irc_commands.specs.Possible.{DecidedIsPossible, RegisteringIsPo
 ghost use Rattle.irc_commands.specs.Doing.{DecidedDoes, RegisteringDoes};
 ghost use Rattle.irc_commands.specs.OwnInvitations.{DecidedByOwnInvitations};
 ghost use Rattle.irc_commands.specs.Sendable.{DecidedIsSendable, RegisteringIsSendable};
+ghost use Rattle.irc_commands.specs.AtHome.{DecidedAtHome, HomeIsAlikeForItsOwn, RegisteringAtHome, RegisteringByUsers};
+ghost use Rattle.irc_commands.specs.Doers.{DecidedByItself};
 ghost use Rattle.irc_commands.specs.Comings.{
   DecidedAddsNobody,
   OnlyItselfIsRenamed,
@@ -88,3 +90,36 @@ pub fn unregistered_changes_nothing()
 pub fn registered_stays()
     ensures { RegisteredStays }
 {}
+
+/// Each effect that a user's line is decided to have is done by that user: nobody acts in the name of somebody else.
+pub fn decided_by_itself()
+    ensures { DecidedByItself }
+{}
+
+/// A room, and what a server has of it, differ for none of that server's users: who is invited of the others is not asked.
+pub fn home_is_alike_for_its_own()
+    ensures { HomeIsAlikeForItsOwn }
+{
+    irc_room::invitation_laws::home_is_alike();
+    irc_room::invitation_laws::home_knows_its_invited();
+}
+
+/// A user's line does at its own server, which knows of no other server's invitations, what it does in the whole room.
+pub fn decided_at_home()
+    ensures { DecidedAtHome }
+{
+    decided_by_own_invitations();
+    home_is_alike_for_its_own();
+}
+
+/// What a line of a connection that is not registered does depends on nothing of the room but its users.
+pub fn registering_by_users()
+    ensures { RegisteringByUsers }
+{}
+
+/// So it is at each server what it is in the whole room.
+pub fn registering_at_home()
+    ensures { RegisteringAtHome }
+{
+    irc_room::invitation_laws::home_is_alike();
+}

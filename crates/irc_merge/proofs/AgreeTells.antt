@@ -15,7 +15,7 @@ use Rattle.irc_modes.specs.declared.modes.Privacy.{Privacy}
 use Rattle.irc_modes.specs.declared.modes.Privacy.TheVariants.{Public, Private, Secret}
 use Rattle.irc_channels.specs.declared.channel.Channel.{Channel}
 use Rattle.irc_room.specs.Lemmas.Rows.{same_some, not_none}
-use Rattle.irc_merge.specs.Merge.{AreAlike, Agree, without}
+use Rattle.irc_merge.specs.Merge.{AreAlike, Agree, room_without}
 use Rattle.irc_merge.specs.Agreeing.{same_flag, same_privacy, same_key, same_limit, same_modes, are_alike, AgreeTells}
 use Rattle.irc_merge.specs.Lemmas.TableWords.{true_is, entries_all}
 
@@ -136,19 +136,19 @@ agree_tells one other = (
     alike = λ fold c d here there.
         (alike_tells c d).0
         (ap (λ o. option_map_or (are_alike c) o true) (sym there)
-        ∙ found_tested (without other one).channels (entries (without one other).channels) e fold c (sym (get-entries (without one other).channels fold) ∙ here));
+        ∙ found_tested (room_without other one).channels (entries (room_without one other).channels) e fold c (sym (get-entries (room_without one other).channels fold) ∙ here));
   },
   λ agreed.
-      all_tested (without other one).channels (entries (without one other).channels)
-      (entries_all (λ fold channel. tested (without other one).channels fold channel ≡ true) (entries (without one other).channels)
-      (λ fold channel is. by_row fold channel agreed (sym_is fold channel is) (row (without other one).channels fold) refl)
-      (true_is _ (entries_sorted (without one other).channels))),
+      all_tested (room_without other one).channels (entries (room_without one other).channels)
+      (entries_all (λ fold channel. tested (room_without other one).channels fold channel ≡ true) (entries (room_without one other).channels)
+      (λ fold channel is. by_row fold channel agreed (sym_is fold channel is) (row (room_without other one).channels fold) refl)
+      (true_is _ (entries_sorted (room_without one other).channels))),
 )
   where
-    sym_is : (fold : List ℕ) (channel : Channel) → find fold_cmp fold (entries (without one other).channels) ≡ Some channel → row (without one other).channels fold ≡ Some channel
-    sym_is fold channel is = get-entries (without one other).channels fold ∙ is
+    sym_is : (fold : List ℕ) (channel : Channel) → find fold_cmp fold (entries (room_without one other).channels) ≡ Some channel → row (room_without one other).channels fold ≡ Some channel
+    sym_is fold channel is = get-entries (room_without one other).channels fold ∙ is
 
-    by_row : (fold : List ℕ) (channel : Channel) → Agree one other → row (without one other).channels fold ≡ Some channel → (o : Option Channel)
-        → row (without other one).channels fold ≡ o → option_map_or (are_alike channel) o true ≡ true
+    by_row : (fold : List ℕ) (channel : Channel) → Agree one other → row (room_without one other).channels fold ≡ Some channel → (o : Option Channel)
+        → row (room_without other one).channels fold ≡ o → option_map_or (are_alike channel) o true ≡ true
     by_row fold channel agreed here None there = refl
     by_row fold channel agreed here (Some d) there = (alike_tells channel d).1 (agreed.alike fold channel d here there)

@@ -1,5 +1,6 @@
 pub mod Tests
 pub mod Splitting
+pub mod MembersStaying
 pub mod Lines
 pub mod Bringing
 pub mod PlainChanges
@@ -15,4 +16,5 @@ pub mod JudgedAtOnce
 pub mod AgreeTells
 pub mod CanBeDone
 pub mod OwnInvitations
+pub mod LookingAside
 pub mod StaysWithin

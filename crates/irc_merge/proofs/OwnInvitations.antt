@@ -21,9 +21,9 @@ use Rattle.irc_room.specs.Viewers.{shows_to}
 use Rattle.irc_merge.specs.ShownAlong.{shown_along}
 use Rattle.irc_merge.specs.Deeds.{after_deeds, shown_by_all}
 use Rattle.irc_merge.specs.BurstRead.{read_all}
-use Rattle.irc_merge.specs.Quits.{quits, collision_text}
+use Rattle.irc_merge.specs.Quits.{quits_of, collision_text}
 use Rattle.irc_merge.specs.Bursts.{burst}
-use Rattle.irc_merge.specs.Merge.{clash, without, either, joined_channel, one_channel, merge, uninvited, channel_uninvited}
+use Rattle.irc_merge.specs.Merge.{clash, room_without, either, joined_channel, one_channel, merge, uninvited, channel_uninvited}
 use Rattle.irc_merge.specs.MergeShown.{channel_arrivals, arrivals, merge_shown}
 use Rattle.irc_merge.specs.Laws.{AreApart}
 use Rattle.irc_room.specs.Invitations.{is_at, inviting_only, of_home}
@@ -76,23 +76,23 @@ left_twice gone (Some channel) = by_test (is_nil (keys (retain_keys channel.memb
         ap (λ (t : Table (Unit {0})). Some (record channel { members = retain_keys channel.members (λ q. not (gone q)); invited = t })) (sym (nothing_kept (λ q. not (gone q))))
 
 -- who quits before takes no part in who is invited after
-pub without_uninvited : (room other : Room) → IsWellFormed room → without (uninvited room) other ≡ uninvited (without room other)
+pub without_uninvited : (room other : Room) → IsWellFormed room → room_without (uninvited room) other ≡ uninvited (room_without room other)
 without_uninvited room other well = λ i. record { users = same_users i; channels = same_channels i }
   where
-    same_users : (without (uninvited room) other).users ≡ (without room other).users
-    same_users = same_table (without (uninvited room) other).users (without room other).users (λ q.
+    same_users : (room_without (uninvited room) other).users ≡ (room_without room other).users
+    same_users = same_table (room_without (uninvited room) other).users (room_without room other).users (λ q.
         users_without (uninvited room) other (uninvited_well room well) q ∙ sym (users_without room other well q))
 
-    same_channels : (without (uninvited room) other).channels ≡ each channel_uninvited (without room other).channels
-    same_channels = same_table (without (uninvited room) other).channels (each channel_uninvited (without room other).channels) (λ q.
+    same_channels : (room_without (uninvited room) other).channels ≡ each channel_uninvited (room_without room other).channels
+    same_channels = same_table (room_without (uninvited room) other).channels (each channel_uninvited (room_without room other).channels) (λ q.
         channels_without (uninvited room) other (uninvited_well room well) q
         ∙ ap (option_and_then (thinned (among (clash room other)))) (row-each channel_uninvited room.channels q)
         ∙ left_twice (among (clash room other)) (row room.channels q)
-        ∙ sym (row-each channel_uninvited (without room other).channels q ∙ ap (option_and_then channel_uninvited) (channels_without room other well q)))
+        ∙ sym (row-each channel_uninvited (room_without room other).channels q ∙ ap (option_and_then channel_uninvited) (channels_without room other well q)))
 
 -- who clashes is a matter of users
-same_without : (room other : Room) → without room (uninvited other) ≡ without room other
-unfolding without
+pub same_without : (room other : Room) → room_without room (uninvited other) ≡ room_without room other
+unfolding room_without
 same_without room other = refl
 
 any_uninvited : (p : Channel → Bool) → ((channel : Channel) → p (record channel { invited = empty }) ≡ p channel) → (channels : List Channel)
@@ -138,11 +138,11 @@ gone_uninvited room nick text = ap (λ (t : Table Channel). record { users = alt
     by_row (Some channel) = by_test channel (is_nil (keys (alter (key nick) (λ _. None) channel.members)))
 
 quits_uninvited : (viewer text : List ℕ) (users : List User) (room : Room)
-    → shown_along viewer (uninvited room) (quits text users) ≡ shown_along viewer room (quits text users)
+    → shown_along viewer (uninvited room) (quits_of text users) ≡ shown_along viewer room (quits_of text users)
 quits_uninvited viewer text [] room = refl
 quits_uninvited viewer text (user ∷ users) room =
     λ i. option_to_list (quit_uninvited room user.nick text viewer i)
-    ++ (ap (λ r. shown_along viewer r (quits text users)) (gone_uninvited room user.nick text) ∙ quits_uninvited viewer text users (after room (Quit user.nick text))) i
+    ++ (ap (λ r. shown_along viewer r (quits_of text users)) (gone_uninvited room user.nick text) ∙ quits_uninvited viewer text users (after room (Quit user.nick text))) i
 
 -- ---- arrivals
 
@@ -170,22 +170,22 @@ unfolding merge_shown
 shown_uninvited room other well well_other viewer =
     (λ i. quits_uninvited viewer collision_text (clash room other) room i
     ++ left_arrivals i)
-    ∙ ap (λ lines. shown_along viewer room (quits collision_text (clash room other)) ++ lines) (by_row (row (without room other).users (key viewer)))
+    ∙ ap (λ lines. shown_along viewer room (quits_of collision_text (clash room other)) ++ lines) (by_row (row (room_without room other).users (key viewer)))
   where
-    ours : without (uninvited room) (uninvited other) ≡ uninvited (without room other)
+    ours : room_without (uninvited room) (uninvited other) ≡ uninvited (room_without room other)
     ours = same_without (uninvited room) other ∙ without_uninvited room other well
 
-    theirs : without (uninvited other) (uninvited room) ≡ uninvited (without other room)
+    theirs : room_without (uninvited other) (uninvited room) ≡ uninvited (room_without other room)
     theirs = same_without (uninvited other) room ∙ without_uninvited other room well_other
 
-    left_arrivals : option_map_or (arrivals (without (uninvited room) (uninvited other)) (without (uninvited other) (uninvited room)))
-        (row (without (uninvited room) (uninvited other)).users (key viewer)) []
-        ≡ option_map_or (arrivals (uninvited (without room other)) (uninvited (without other room))) (row (without room other).users (key viewer)) []
+    left_arrivals : option_map_or (arrivals (room_without (uninvited room) (uninvited other)) (room_without (uninvited other) (uninvited room)))
+        (row (room_without (uninvited room) (uninvited other)).users (key viewer)) []
+        ≡ option_map_or (arrivals (uninvited (room_without room other)) (uninvited (room_without other room))) (row (room_without room other).users (key viewer)) []
     left_arrivals = λ j. option_map_or (arrivals (ours j) (theirs j)) (row (ours j).users (key viewer)) []
 
-    by_row : (o : Option User) → option_map_or (arrivals (uninvited (without room other)) (uninvited (without other room))) o [] ≡ option_map_or (arrivals (without room other) (without other room)) o []
+    by_row : (o : Option User) → option_map_or (arrivals (uninvited (room_without room other)) (uninvited (room_without other room))) o [] ≡ option_map_or (arrivals (room_without room other) (room_without other room)) o []
     by_row None = refl
-    by_row (Some user) = arrivals_uninvited (without room other) (without other room) user
+    by_row (Some user) = arrivals_uninvited (room_without room other) (room_without other room) user
 
 -- ---- each server keeps those of its own users
 
@@ -241,7 +241,7 @@ home_well home room well = record {
 module _ (home : List ℕ) (room other : Room) (well : IsWellFormed room) (well_other : IsWellFormed other)
     (elsewhere : (q : List ℕ) (user : User) → row other.users q ≡ Some user → is_home home user ≡ false) where
   abbrev all : Table User
-  all = both either (without room other).users (without other room).users
+  all = both either (room_without room other).users (room_without other room).users
 
   abbrev stays : List ℕ → Bool
   stays = is_at home all
@@ -304,7 +304,7 @@ module _ (home : List ℕ) (room other : Room) (well : IsWellFormed room) (well_
           by_users q (row room.users q) (row other.users q) refl (known q (ap is_some at)) (Some u)
           ∙ sym (λ i. cond (stays_is q i) (cond (not (clashing other room well_other q i)) (Some u) None) None)
 
-  ours_left : (fold : List ℕ) → row (without (of_home home room) (uninvited other)).channels fold ≡ option_map (inviting_only stays) (row (without room other).channels fold)
+  ours_left : (fold : List ℕ) → row (room_without (of_home home room) (uninvited other)).channels fold ≡ option_map (inviting_only stays) (row (room_without room other).channels fold)
   ours_left fold =
       ap (λ (r : Room). row r.channels fold) (same_without (of_home home room) other)
       ∙ channels_without (of_home home room) other (home_well home room well) fold
@@ -329,7 +329,7 @@ module _ (home : List ℕ) (room other : Room) (well : IsWellFormed room) (well_
       by_row None at = refl
       by_row (Some channel) at = by_test channel (well.channels_sound fold channel at) (is_nil (keys (retain_keys channel.members (λ q. not (gone q)))))
 
-  theirs_left : (fold : List ℕ) → row (without (uninvited other) (of_home home room)).channels fold ≡ option_map (inviting_only stays) (row (without other room).channels fold)
+  theirs_left : (fold : List ℕ) → row (room_without (uninvited other) (of_home home room)).channels fold ≡ option_map (inviting_only stays) (row (room_without other room).channels fold)
   theirs_left fold =
       channels_without (uninvited other) (of_home home room) (uninvited_well other well_other) fold
       ∙ ap (λ us. option_and_then (thinned (among us)) (row (uninvited other).channels fold)) (clash_home home room (uninvited other))
@@ -369,14 +369,14 @@ module _ (home : List ℕ) (room other : Room) (well : IsWellFormed room) (well_
   joined_staying (Some c) None = refl
   joined_staying (Some c) (Some d) = ap Some (one_staying c d)
 
-  left_users : (fold : List ℕ) → row (without (of_home home room) (uninvited other)).users fold ≡ row (without room other).users fold
+  left_users : (fold : List ℕ) → row (room_without (of_home home room) (uninvited other)).users fold ≡ row (room_without room other).users fold
   left_users fold =
       ap (λ (r : Room). row r.users fold) (same_without (of_home home room) other)
       ∙ users_without (of_home home room) other (home_well home room well) fold
       ∙ ap (λ us. cond (is_some (row us fold) && is_some (row other.users fold)) None (row us fold)) (home_users home room)
       ∙ sym (users_without room other well fold)
 
-  their_users : (fold : List ℕ) → row (without (uninvited other) (of_home home room)).users fold ≡ row (without other room).users fold
+  their_users : (fold : List ℕ) → row (room_without (uninvited other) (of_home home room)).users fold ≡ row (room_without other room).users fold
   their_users fold =
       users_without (uninvited other) (of_home home room) (uninvited_well other well_other) fold
       ∙ ap (λ us. cond (is_some (row other.users fold) && is_some (row us fold)) None (row other.users fold)) (home_users home room)
@@ -386,25 +386,25 @@ module _ (home : List ℕ) (room other : Room) (well : IsWellFormed room) (well_
   unfolding merge of_home
   home_of_merge = λ i. record { users = same_users i; channels = same_channels i }
     where
-      same_users : both either (without (of_home home room) (uninvited other)).users (without (uninvited other) (of_home home room)).users ≡ all
+      same_users : both either (room_without (of_home home room) (uninvited other)).users (room_without (uninvited other) (of_home home room)).users ≡ all
       same_users = same_table _ _ (λ q.
-          row-either (without (of_home home room) (uninvited other)).users (without (uninvited other) (of_home home room)).users q
+          row-either (room_without (of_home home room) (uninvited other)).users (room_without (uninvited other) (of_home home room)).users q
           ∙ (λ i. either (left_users q i) (their_users q i))
-          ∙ sym (row-either (without room other).users (without other room).users q))
+          ∙ sym (row-either (room_without room other).users (room_without other room).users q))
 
       mapped : (o : Option Channel) → option_map (inviting_only stays) o ≡ option_and_then (λ channel. Some (inviting_only stays channel)) o
       mapped None = refl
       mapped (Some channel) = refl
 
-      same_channels : both joined_channel (without (of_home home room) (uninvited other)).channels (without (uninvited other) (of_home home room)).channels
-          ≡ each (λ channel. Some (inviting_only stays channel)) (both joined_channel (without room other).channels (without other room).channels)
+      same_channels : both joined_channel (room_without (of_home home room) (uninvited other)).channels (room_without (uninvited other) (of_home home room)).channels
+          ≡ each (λ channel. Some (inviting_only stays channel)) (both joined_channel (room_without room other).channels (room_without other room).channels)
       same_channels = same_table _ _ (λ q.
-          row-joined (without (of_home home room) (uninvited other)).channels (without (uninvited other) (of_home home room)).channels q
+          row-joined (room_without (of_home home room) (uninvited other)).channels (room_without (uninvited other) (of_home home room)).channels q
           ∙ (λ i. joined_channel (ours_left q i) (theirs_left q i))
-          ∙ joined_staying (row (without room other).channels q) (row (without other room).channels q)
-          ∙ ap (option_map (inviting_only stays)) (sym (row-joined (without room other).channels (without other room).channels q))
-          ∙ mapped (row (both joined_channel (without room other).channels (without other room).channels) q)
-          ∙ sym (row-each (λ channel. Some (inviting_only stays channel)) (both joined_channel (without room other).channels (without other room).channels) q))
+          ∙ joined_staying (row (room_without room other).channels q) (row (room_without other room).channels q)
+          ∙ ap (option_map (inviting_only stays)) (sym (row-joined (room_without room other).channels (room_without other room).channels q))
+          ∙ mapped (row (both joined_channel (room_without room other).channels (room_without other room).channels) q)
+          ∙ sym (row-each (λ channel. Some (inviting_only stays channel)) (both joined_channel (room_without room other).channels (room_without other room).channels) q))
 
 -- ---- a server of one side reads what a server of the other tells
 

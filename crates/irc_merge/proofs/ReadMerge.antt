@@ -18,7 +18,7 @@ use Rattle.irc_room.specs.Lemmas.Rows.{not_none, not_true, same_some}
 use Rattle.irc_merge.specs.Deeds.{Deed}
 use Rattle.irc_modes.specs.ModesSet.{set_changes, ban_changes}
 use Rattle.irc_merge.specs.Bursts.{burst, user_deeds, channel_deeds, home_passes}
-use Rattle.irc_merge.specs.Merge.{clash, without, either, joined_channel, merge, uninvited, channel_uninvited}
+use Rattle.irc_merge.specs.Merge.{clash, room_without, either, joined_channel, merge, uninvited, channel_uninvited}
 use Rattle.irc_merge.specs.Laws.{AreApart, CanBeTold, BurstReadIsMerge}
 use Rattle.irc_merge.specs.Lemmas.TableWords.{true_is, row-kept, absent, first_there, above_first, entries_all, values_each}
 use Rattle.irc_merge.specs.Lemmas.Quitting.{among, peopled, thinned}
@@ -43,7 +43,7 @@ nothing_kept {X} p = same_table empty (retain_keys empty p) (λ q.
 module _ (far : List ℕ → Bool) (room other : Room) (well : IsWellFormed room) (well_other : IsWellFormed other) (apart : AreApart far room other) where
   -- the users of both
   abbrev pub all_users : Table User
-  all_users = both either (without room other).users (without other room).users
+  all_users = both either (room_without room other).users (room_without other room).users
 
   abbrev pub passes : List ℕ → Bool
   passes = home_passes far all_users
@@ -55,7 +55,7 @@ module _ (far : List ℕ → Bool) (room other : Room) (well : IsWellFormed room
   passes_is q = ap (λ o. option_map_or (λ (user : User). far user.home) o false) (both_users room other well well_other q)
 
   -- who passes is nobody of this side
-  pub none_near : (q : List ℕ) → passes q ≡ true → row (without room other).users q ≡ None
+  pub none_near : (q : List ℕ) → passes q ≡ true → row (room_without room other).users q ≡ None
   none_near q pass =
       users_without room other well q ∙ by_rows (row room.users q) refl (row other.users q) (sym (passes_is q) ∙ pass)
     where
@@ -84,18 +84,18 @@ module _ (far : List ℕ → Bool) (room other : Room) (well : IsWellFormed room
       by_row q None at = either_way (passes q) None ∙ sym (either_way (not (gone q)) None)
       by_row q (Some flags) at = ap (λ b. cond b (Some flags) None) (left_passes q (known q (ap is_some at)))
 
-  unknown : {X : Type 0} (small : Table X) (q : List ℕ) → (is_some (row small q) ≡ true → is_some (row (without room other).users q) ≡ true)
-      → row (without room other).users q ≡ None → row small q ≡ None
+  unknown : {X : Type 0} (small : Table X) (q : List ℕ) → (is_some (row small q) ≡ true → is_some (row (room_without room other).users q) ≡ true)
+      → row (room_without room other).users q ≡ None → row small q ≡ None
   unknown {X} small q known none = by_row (row small q) refl
     where
       by_row : (o : Option X) → row small q ≡ o → o ≡ None
       by_row None at = refl
       by_row (Some x) at = not_true (sym (ap is_some none) ∙ known (ap is_some at))
 
-  near_row : (fold : List ℕ) → IsNearRow passes (row (without room other).channels fold)
-  near_row fold = by_row (row (without room other).channels fold) refl
+  near_row : (fold : List ℕ) → IsNearRow passes (row (room_without room other).channels fold)
+  near_row fold = by_row (row (room_without room other).channels fold) refl
     where
-      by_row : (o : Option Channel) → row (without room other).channels fold ≡ o → IsNearRow passes o
+      by_row : (o : Option Channel) → row (room_without room other).channels fold ≡ o → IsNearRow passes o
       by_row None at = tt
       by_row (Some channel) at =
           let sound = (without_well room other well).channels_sound fold channel at in
@@ -108,24 +108,24 @@ module _ (far : List ℕ → Bool) (room other : Room) (well : IsWellFormed room
   -- what the lines about a channel of the other side make of its row here
   pub record IsRead (fold : List ℕ) (channel : Channel) : Type 0 where
     pub named : key channel.name ≡ fold
-    pub row_is : channel_row passes other.users channel (row (without room other).channels fold)
-        ≡ joined_channel (row (without room other).channels fold) (thinned gone channel)
+    pub row_is : channel_row passes other.users channel (row (room_without room other).channels fold)
+        ≡ joined_channel (row (room_without room other).channels fold) (thinned gone channel)
 
   pub channel_read : (fold : List ℕ) (channel : Channel) → IsSoundRow other.users fold channel → channel.invited ≡ empty
       → modes_after (set_changes channel.modes ++ ban_changes channel.modes.bans) no_modes ≡ channel.modes → IsRead fold channel
   channel_read fold channel sound uninvited told = record {
     named = sound.named;
     row_is =
-        channel_told passes other.users channel (row (without room other).channels fold)
+        channel_told passes other.users channel (row (room_without room other).channels fold)
         (record { modes = told; members = sound.members_known; named = well_other.users_named }) (near_row fold)
-        ∙ (λ i. joined_channel (row (without room other).channels fold) (peopled channel (left_kept channel sound.members_known i)
+        ∙ (λ i. joined_channel (row (room_without room other).channels fold) (peopled channel (left_kept channel sound.members_known i)
         ((nothing_kept (λ q. not (gone q)) ∙ ap (λ (t : Table (Unit {0})). retain_keys t (λ q. not (gone q))) (sym uninvited)) i)));
   }
 
   -- the row of a channel that was told, or was not
   abbrev row_after : List ℕ → Option Channel → Option Channel → Option Channel
   row_after q None before = before
-  row_after q (Some channel) before = joined_channel (row (without room other).channels q) (thinned gone channel)
+  row_after q (Some channel) before = joined_channel (row (room_without room other).channels q) (thinned gone channel)
 
   record AreRead (before : Room) (es : List (List ℕ × Channel)) (new : Room) : Type 0 where
     users : new.users ≡ all_users
@@ -143,15 +143,15 @@ module _ (far : List ℕ → Bool) (room other : Room) (well : IsWellFormed room
   stepped before channel = alter_channel channel.name (step_row before channel) before
 
   pub step_here : (before : Room) (e : List ℕ × Channel) (es : List (List ℕ × Channel)) → below_all fold_cmp e.0 es ≡ true → key e.1.name ≡ e.0
-      → ((q : List ℕ) → is_some (find fold_cmp q (e ∷ es)) ≡ true → row before.channels q ≡ row (without room other).channels q)
-      → (q : List ℕ) → is_some (find fold_cmp q es) ≡ true → row (stepped before e.1).channels q ≡ row (without room other).channels q
+      → ((q : List ℕ) → is_some (find fold_cmp q (e ∷ es)) ≡ true → row before.channels q ≡ row (room_without room other).channels q)
+      → (q : List ℕ) → is_some (find fold_cmp q es) ≡ true → row (stepped before e.1).channels q ≡ row (room_without room other).channels q
   step_here before e es below named here q there =
       row-alter (key e.1.name) (step_row before e.1) before.channels q
       ∙ ap (λ b. cond b (step_row before e.1 (row before.channels (key e.1.name))) (row before.channels q)) (ap (same_fold q) named ∙ above_first q e es below there)
       ∙ here q (ap (λ b. is_some (cond b (Some e.1) (find fold_cmp q es))) (above_first q e es below there) ∙ there)
 
   step_rows : (before : Room) (e : List ℕ × Channel) (es : List (List ℕ × Channel)) → below_all fold_cmp e.0 es ≡ true → IsRead e.0 e.1
-      → before.users ≡ all_users → row before.channels e.0 ≡ row (without room other).channels e.0 → (q : List ℕ)
+      → before.users ≡ all_users → row before.channels e.0 ≡ row (room_without room other).channels e.0 → (q : List ℕ)
       → row_after q (find fold_cmp q es) (row (stepped before e.1).channels q) ≡ row_after q (find fold_cmp q (e ∷ es)) (row before.channels q)
   step_rows before e es below read users here q =
       ap (row_after q (find fold_cmp q es))
@@ -167,12 +167,12 @@ module _ (far : List ℕ → Bool) (room other : Room) (well : IsWellFormed room
           ∙ ap (λ us. channel_row (home_passes far us) other.users e.1 (row before.channels e.0)) users
           ∙ ap (channel_row passes other.users e.1) here
           ∙ read.row_is
-          ∙ ap (λ f. joined_channel (row (without room other).channels f) (thinned gone e.1)) (sym (one_fold q e.0 one))
+          ∙ ap (λ f. joined_channel (row (room_without room other).channels f) (thinned gone e.1)) (sym (one_fold q e.0 one))
       by_fold false two = refl
 
   channels_read : (own server : List ℕ) (es : List (List ℕ × Channel)) → is_sorted fold_cmp es ≡ true → AllByRecursion (λ e. IsRead e.0 e.1) es
       → (before : Room) → before.users ≡ all_users
-      → ((q : List ℕ) → is_some (find fold_cmp q es) ≡ true → row before.channels q ≡ row (without room other).channels q)
+      → ((q : List ℕ) → is_some (find fold_cmp q es) ≡ true → row before.channels q ≡ row (room_without room other).channels q)
       → AreRead before es (reads own far before (told_deeds server es))
   channels_read own server [] rise read before users here = record { users = users; rows = λ q. refl }
   channels_read own server (e ∷ es) rise read before users here =
@@ -196,7 +196,7 @@ module _ (far : List ℕ → Bool) (room other : Room) (well : IsWellFormed room
   unfolding burst merge
   read_gives own server uninvited told =
       let met = reads own far room (user_deeds other) in
-      let here : met.channels ≡ (without room other).channels = channels_introduced own far room other well well_other in
+      let here : met.channels ≡ (room_without room other).channels = channels_introduced own far room other well well_other in
       let rise = true_is _ (entries_sorted other.channels) in
       let read = channels_read own server (entries other.channels) rise
       (entries_all IsRead (entries other.channels)
@@ -209,18 +209,18 @@ module _ (far : List ℕ → Bool) (room other : Room) (well : IsWellFormed room
       ∙ (λ i. record {
         users = read.users i;
         channels = same_table (reads own far met (told_deeds server (entries other.channels))).channels
-            (both joined_channel (without room other).channels (without other room).channels) (λ q.
+            (both joined_channel (room_without room other).channels (room_without other room).channels) (λ q.
             read.rows q
             ∙ ap (row_after q (find fold_cmp q (entries other.channels))) (ap (λ t. row t q) here)
-            ∙ ap (λ o. row_after q o (row (without room other).channels q)) (sym (get-entries other.channels q))
+            ∙ ap (λ o. row_after q o (row (room_without room other).channels q)) (sym (get-entries other.channels q))
             ∙ by_row q (row other.channels q)
-            ∙ ap (joined_channel (row (without room other).channels q)) (sym (channels_without other room well_other q))
-            ∙ sym (row-joined (without room other).channels (without other room).channels q)) i;
+            ∙ ap (joined_channel (row (room_without room other).channels q)) (sym (channels_without other room well_other q))
+            ∙ sym (row-joined (room_without room other).channels (room_without other room).channels q)) i;
       })
     where
-      by_row : (q : List ℕ) (o : Option Channel) → row_after q o (row (without room other).channels q)
-          ≡ joined_channel (row (without room other).channels q) (option_and_then (thinned gone) o)
-      by_row q None = sym (joined_none (row (without room other).channels q))
+      by_row : (q : List ℕ) (o : Option Channel) → row_after q o (row (room_without room other).channels q)
+          ≡ joined_channel (row (room_without room other).channels q) (option_and_then (thinned gone) o)
+      by_row q None = sym (joined_none (row (room_without room other).channels q))
       by_row q (Some channel) = refl
 
 -- ---- invitations are not told

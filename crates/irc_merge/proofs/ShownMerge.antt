@@ -14,10 +14,10 @@ use Rattle.irc_channels.specs.Channels.{has_member}
 use Rattle.irc_modes.specs.Modes.{is_nil}
 use Rattle.irc_room.specs.Room.{Room, IsWellFormed, IsSoundRow}
 use Rattle.irc_room.specs.Lemmas.Rows.{not_true}
-use Rattle.irc_merge.specs.Quits.{quits, collision_text}
+use Rattle.irc_merge.specs.Quits.{quits_of, collision_text}
 use Rattle.irc_merge.specs.ShownAlong.{shown_along}
 use Rattle.irc_merge.specs.Bursts.{burst, user_deeds, channel_deeds, home_passes, stored_members}
-use Rattle.irc_merge.specs.Merge.{clash, without, either}
+use Rattle.irc_merge.specs.Merge.{clash, room_without, either}
 use Rattle.irc_merge.specs.MergeShown.{arrival, member_arrival, channel_arrivals, arrivals, merge_shown}
 use Rattle.irc_merge.specs.Laws.{AreApart, ShownIsMergeShown}
 use Rattle.irc_merge.specs.Lemmas.TableWords.{true_is, first_there, entries_kept, entries_all, values_each}
@@ -53,10 +53,10 @@ no_entries (e ∷ es) none = cc
 module _ (far : List ℕ → Bool) (room other : Room) (well : IsWellFormed room) (well_other : IsWellFormed other) (apart : AreApart far room other)
     (viewer : List ℕ) (mine : User) (at : row room.users (key viewer) ≡ Some mine) where
   abbrev here : Room
-  here = without room other
+  here = room_without room other
 
   abbrev there : Room
-  there = without other room
+  there = room_without other room
 
   abbrev all : Table User
   all = both either here.users there.users
@@ -287,7 +287,7 @@ module _ (far : List ℕ → Bool) (room other : Room) (well : IsWellFormed room
         users = users_introduced own far room other well well_other i;
         channels = channels_introduced own far room other well well_other i;
       }) told)
-      ∙ ap (λ lines. shown_along viewer room (quits collision_text (clash room other)) ++ lines)
+      ∙ ap (λ lines. shown_along viewer room (quits_of collision_text (clash room other)) ++ lines)
       (all_lines own server (entries other.channels) rise
       (entries_all (IsSoundRow other.users) (entries other.channels)
       (λ q channel is. well_other.channels_sound q channel (get-entries other.channels q ∙ is)) rise)

@@ -19,7 +19,7 @@ use Rattle.irc_room.specs.InTurnLaws.{after_all-append}
 use Rattle.irc_room.specs.Lemmas.Rows.{not_true}
 use Rattle.irc_room.specs.Viewers.{shows_to}
 use Rattle.irc_merge.specs.ShownAlong.{shown_along}
-use Rattle.irc_merge.specs.Quits.{quits, users_at}
+use Rattle.irc_merge.specs.Quits.{quits_of, users_at}
 use Rattle.irc_merge.specs.Deeds.{after_deed, after_deeds, shown_by, shown_by_all}
 use Rattle.irc_merge.specs.Split.{lost_home, lost_homes, lost_users, split, split_effects, squits, are_distinct}
 use Rattle.irc_merge.specs.Laws.{OthersStay, HomesOneByOne, SplitIsWellFormed, SquitsSplit}
@@ -46,7 +46,7 @@ chosen_table p table = sym (values_each (if_passes p) table ∙ filter_is p (val
 
 -- ---- who is at another server stays
 
-two_homes : (home other : List ℕ) → exactly_same home other ≡ false → (user : User) → is_home home user ≡ true → is_home other user ≡ false
+pub two_homes : (home other : List ℕ) → exactly_same home other ≡ false → (user : User) → is_home home user ≡ true → is_home other user ≡ false
 two_homes home other two user here = by_test (is_home other user) refl
   where
     by_test : (b : Bool) → is_home other user ≡ b → b ≡ false
@@ -57,9 +57,9 @@ two_homes home other two user here = by_test (is_home other user) refl
 pub others_stay : OthersStay
 unfolding lost_home
 others_stay text home other room two well =
-    chosen_table (is_home other) (after_all room (quits text (users_at home room))).users
-    ∙ ap values (same_table (each (if_passes (is_home other)) (after_all room (quits text (users_at home room))).users) (each (if_passes (is_home other)) room.users) (λ q.
-    row-each (if_passes (is_home other)) (after_all room (quits text (users_at home room))).users q
+    chosen_table (is_home other) (after_all room (quits_of text (users_at home room))).users
+    ∙ ap values (same_table (each (if_passes (is_home other)) (after_all room (quits_of text (users_at home room))).users) (each (if_passes (is_home other)) room.users) (λ q.
+    row-each (if_passes (is_home other)) (after_all room (quits_of text (users_at home room))).users q
     ∙ ap (option_and_then (if_passes (is_home other)))
     (users_left room text (users_at home room) q
     ∙ ap (λ b. cond b None (row room.users q)) (among_values room.users well.users_named (is_home home) q))
@@ -91,11 +91,11 @@ same_users text room home (other ∷ homes) two well =
 
 -- the quits of one server, and then those of others, are the split's
 one_more : (text : List ℕ) (home : List ℕ) (homes : List (List ℕ)) (room : Room)
-    → after_all (lost_home text room home) (quits text (lost_users homes room)) ≡ split text (home ∷ homes) room
+    → after_all (lost_home text room home) (quits_of text (lost_users homes room)) ≡ split text (home ∷ homes) room
 unfolding lost_home split
 one_more text home homes room =
     sym (ap (after_all room) (map-append (λ (user : User). Quit user.nick text) (users_at home room) (lost_users homes room))
-    ∙ after_all-append room (quits text (users_at home room)) (quits text (lost_users homes room)))
+    ∙ after_all-append room (quits_of text (users_at home room)) (quits_of text (lost_users homes room)))
 
 pub homes_one_by_one : HomesOneByOne
 unfolding split
@@ -103,7 +103,7 @@ homes_one_by_one text [] room distinct well = refl
 homes_one_by_one text (home ∷ homes) room distinct well =
     let parts = not_and _ _ distinct in
     homes_one_by_one text homes (lost_home text room home) parts.1 (lost_well text room home well)
-    ∙ ap (λ users. after_all (lost_home text room home) (quits text users)) (same_users text room home homes parts.0 well)
+    ∙ ap (λ users. after_all (lost_home text room home) (quits_of text users)) (same_users text room home homes parts.0 well)
     ∙ one_more text home homes room
 
 pub split_is_well_formed : SplitIsWellFormed
@@ -130,12 +130,12 @@ unfolding after_deed lost_home shown_by
 squits_show server text [] room distinct well viewer = refl
 squits_show server text (home ∷ homes) room distinct well viewer =
     let parts = not_and _ _ distinct in
-    let here = quits text (users_at home room) in
+    let here = quits_of text (users_at home room) in
     ap (λ rest. shown_along viewer room here ++ rest)
     (squits_show server text homes (lost_home text room home) parts.1 (lost_well text room home well) viewer
-    ∙ ap (λ users. shown_along viewer (lost_home text room home) (quits text users)) (same_users text room home homes parts.0 well))
+    ∙ ap (λ users. shown_along viewer (lost_home text room home) (quits_of text users)) (same_users text room home homes parts.0 well))
     ∙ sym (ap (shown_along viewer room) (map-append (λ (user : User). Quit user.nick text) (users_at home room) (lost_users homes room))
-    ∙ shown-append viewer room here (quits text (lost_users homes room)))
+    ∙ shown-append viewer room here (quits_of text (lost_users homes room)))
 
 pub squits_split : SquitsSplit
 squits_split server text homes room distinct well = record {

@@ -1,8 +1,7 @@
 -- What brings nothing new to a room within limits leaves it within them.
-use Rattle.std.proofs.Common.{◌≡◌, true, Some, List, ℕ, inl, inr, sym, subst, ap}
+use Rattle.std.proofs.Common.{◌≡◌, true, inl, inr, sym, subst}
 use Rattle.std.specs.List.{list_all}
 use Rattle.irc_names.specs.Names.{IsChannel}
-use Rattle.irc_names.specs.Tables.{row}
 use Rattle.irc_line.specs.Carried.{is_carried}
 use Rattle.irc_modes.specs.declared.modes.Modes.{Modes}
 use Rattle.irc_modes.specs.ModesSet.{AreWithinLimits}

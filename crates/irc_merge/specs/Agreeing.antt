@@ -12,7 +12,7 @@ use Rattle.irc_modes.specs.declared.modes.Privacy.{Privacy}
 use Rattle.irc_modes.specs.declared.modes.Privacy.TheVariants.{Public, Private, Secret}
 use Rattle.irc_channels.specs.declared.channel.Channel.{Channel}
 use Rattle.irc_room.specs.Room.{Room}
-use Rattle.irc_merge.specs.Merge.{without, Agree}
+use Rattle.irc_merge.specs.Merge.{room_without, Agree}
 
 abbrev pub same_flag : Bool → Bool → Bool
 same_flag true other = other
@@ -52,7 +52,7 @@ are_alike one other = exactly_same one.name other.name && (same_modes one.modes 
 -- of each channel of the one half that the other has too
 abbrev pub agree : Room → Room → Bool
 agree one other =
-    list_all (λ (e : List ℕ × Channel). option_map_or (are_alike e.1) (row (without other one).channels e.0) true) (entries (without one other).channels)
+    list_all (λ (e : List ℕ × Channel). option_map_or (are_alike e.1) (row (room_without other one).channels e.0) true) (entries (room_without one other).channels)
 
 -- the test tells whether they agree
 abbrev pub AgreeTells : Type 0

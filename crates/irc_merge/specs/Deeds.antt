@@ -12,7 +12,7 @@ use Rattle.irc_room.specs.declared.effect.Effect.TheVariants.{Quit, Join, Change
 use Rattle.irc_room.specs.Room.{Room}
 use Rattle.irc_room.specs.InTurn.{after_all}
 use Rattle.irc_merge.specs.ShownAlong.{shown_along}
-use Rattle.irc_merge.specs.Quits.{quits, users_at, collision_text}
+use Rattle.irc_merge.specs.Quits.{quits_of, users_at, collision_text}
 
 pub data Deed : Type 0 where
   -- a line of a user, or NICK with which a user is introduced
@@ -45,7 +45,7 @@ member_comes channel member =
 abbrev pub effects_of : Room → Deed → List Effect
 effects_of room (does effect) = effect ∷ []
 effects_of room (gains uplink name info) = []
-effects_of room (loses server name text) = quits text (users_at name room)
+effects_of room (loses server name text) = quits_of text (users_at name room)
 effects_of room (kills server nick) = Quit nick collision_text ∷ []
 effects_of room (brings server channel members) = flat_map (member_comes channel) members
 effects_of room (sets server channel changes) = ChangeModes by.Home channel changes ∷ []

@@ -6,6 +6,7 @@ use Rattle.irc_users.specs.declared.user.User.{User}
 use Rattle.irc_channels.specs.declared.channel.Channel.{Channel}
 use Rattle.irc_modes.specs.Modes.{no_modes, modes_after}
 use Rattle.irc_names.specs.Spellings.{exactly_same}
+use Rattle.irc_room.specs.Readers.{flags_at, is_invited_at}
 use Rattle.irc_room.specs.Room.{Room, IsWellFormed}
 use Rattle.irc_merge.specs.ShownAlong.{shown_along}
 use Rattle.irc_merge.specs.Quits.{users_at}
@@ -83,19 +84,24 @@ ShownIsMergeShown = (own server : List ℕ) (far : List ℕ → Bool) (room othe
     → (viewer : List ℕ) (user : User) → row room.users (key viewer) ≡ Some user
     → shown_by_all viewer room (read_all own far room (burst server other)) ≡ merge_shown room other viewer
 
--- a room has no user that another has not, and its channels have their names, modes and topics of that one
+-- a room has no user, member, flag or invitation that another has not, and its channels have their names, modes and topics of that one
 pub record ComesOf (room new : Room) : Type 0 where
   pub users : (fold : List ℕ) (user : User) → row new.users fold ≡ Some user → row room.users fold ≡ Some user
   pub channels : (fold : List ℕ) (channel : Channel) → row new.channels fold ≡ Some channel
       → (before : Channel) × ((row room.channels fold ≡ Some before) × AreAlike channel before)
+  pub members : (nick fold : List ℕ) (flags : Flags) → flags_at new nick fold ≡ Some flags → flags_at room nick fold ≡ Some flags
+  pub invited : (nick fold : List ℕ) → is_invited_at new nick fold ≡ true → is_invited_at room nick fold ≡ true
 
 -- the same of two rooms, of one or of the other
 pub record ComesOfBoth (one other new : Room) : Type 0 where
   pub users : (fold : List ℕ) (user : User) → row new.users fold ≡ Some user → (row one.users fold ≡ Some user) ⊎ (row other.users fold ≡ Some user)
   pub channels : (fold : List ℕ) (channel : Channel) → row new.channels fold ≡ Some channel
       → (before : Channel) × (((row one.channels fold ≡ Some before) ⊎ (row other.channels fold ≡ Some before)) × AreAlike channel before)
+  pub members : (nick fold : List ℕ) (flags : Flags) → flags_at new nick fold ≡ Some flags
+      → (flags_at one nick fold ≡ Some flags) ⊎ (flags_at other nick fold ≡ Some flags)
+  pub invited : (nick fold : List ℕ) → is_invited_at new nick fold ≡ true → (is_invited_at one nick fold ≡ true) ⊎ (is_invited_at other nick fold ≡ true)
 
--- so what holds of each user, and of each channel's name, modes and topic, holds after a merge and after a split
+-- so what holds of each user, of each channel's name, modes and topic, and of each member, holds after a merge and after a split
 abbrev pub MergeHasNothingNew : Type 0
 MergeHasNothingNew = (one other : Room) → IsWellFormed one → IsWellFormed other → ComesOfBoth one other (merge one other)
 

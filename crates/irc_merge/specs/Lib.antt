@@ -6,10 +6,12 @@ pub mod BurstRead
 pub mod Merge
 pub mod MergeShown
 pub mod Split
+pub mod StayingMembers
 pub mod Laws
 pub mod LimitLaws
 pub mod Examples
 pub mod Agreeing
 pub mod CanBeDone
 pub mod OwnInvitations
+pub mod AsideInvitations
 pub mod Lemmas

@@ -8,15 +8,15 @@ use Rattle.irc_users.specs.declared.user.User.{User}
 use Rattle.irc_channels.specs.declared.channel.Channel.{Channel}
 use Rattle.irc_room.specs.Room.{Room}
 use Rattle.irc_room.specs.InTurn.{after_all}
-use Rattle.irc_merge.specs.Quits.{quits, collision_text}
+use Rattle.irc_merge.specs.Quits.{quits_of, collision_text}
 
 -- the users of one room whose nicknames are held in another too, in folded order
 abbrev pub clash : Room → Room → List User
 clash room other = filter (λ (user : User). is_some (row other.users (key user.nick))) (values room.users)
 
 -- a room after these have quit
-unfoldable pub without : Room → Room → Room
-without room other = after_all room (quits collision_text (clash room other))
+unfoldable pub room_without : Room → Room → Room
+room_without room other = after_all room (quits_of collision_text (clash room other))
 
 -- two channels of one name are alike but for who is in them
 pub record AreAlike (one other : Channel) : Type 0 where
@@ -27,7 +27,7 @@ pub record AreAlike (one other : Channel) : Type 0 where
 -- Two rooms agree where each channel that is in both, once whoever clashes has quit, has one name by bytes, the same modes with key,
 -- limit and bans, and one topic.
 pub record Agree (one other : Room) : Type 0 where
-  pub alike : (fold : List ℕ) (c d : Channel) → row (without one other).channels fold ≡ Some c → row (without other one).channels fold ≡ Some d
+  pub alike : (fold : List ℕ) (c d : Channel) → row (room_without one other).channels fold ≡ Some c → row (room_without other one).channels fold ≡ Some d
       → AreAlike c d
 
 -- a row of one table or of another; where both have one, that of the first
@@ -50,7 +50,7 @@ union one other = record { users = both either one.users other.users; channels =
 
 -- the room of the network that two halves become
 unfoldable pub merge : Room → Room → Room
-merge one other = union (without one other) (without other one)
+merge one other = union (room_without one other) (room_without other one)
 
 -- Invitations are kept by the invited user's own server, and told to no other.
 abbrev pub channel_uninvited : Channel → Option Channel

@@ -12,8 +12,8 @@ use Rattle.irc_channels.specs.declared.channel.Channel.{Channel}
 use Rattle.irc_channels.specs.Channels.{has_member}
 use Rattle.irc_room.specs.Room.{Room}
 use Rattle.irc_merge.specs.ShownAlong.{shown_along}
-use Rattle.irc_merge.specs.Quits.{quits, collision_text}
-use Rattle.irc_merge.specs.Merge.{clash, without}
+use Rattle.irc_merge.specs.Quits.{quits_of, collision_text}
+use Rattle.irc_merge.specs.Merge.{clash, room_without}
 
 -- the JOIN of a user
 abbrev pub join_line : List ℕ → User → List ℕ
@@ -46,5 +46,5 @@ arrivals room other viewer =
 -- The user of a nickname sees those quit who clash, in order, until it is one of them; and if it is none, who comes to its channels.
 unfoldable pub merge_shown : Room → Room → List ℕ → List (List ℕ)
 merge_shown room other viewer =
-    shown_along viewer room (quits collision_text (clash room other))
-    ++ option_map_or (arrivals (without room other) (without other room)) (row (without room other).users (key viewer)) []
+    shown_along viewer room (quits_of collision_text (clash room other))
+    ++ option_map_or (arrivals (room_without room other) (room_without other room)) (row (room_without room other).users (key viewer)) []

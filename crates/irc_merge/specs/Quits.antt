@@ -8,8 +8,8 @@ use Rattle.irc_room.specs.declared.effect.Effect.TheVariants.{Quit}
 use Rattle.irc_room.specs.Room.{Room}
 
 -- these users quit with one text
-abbrev pub quits : List ℕ → List User → List Effect
-quits text users = map (λ (user : User). Quit user.nick text) users
+abbrev pub quits_of : List ℕ → List User → List Effect
+quits_of text users = map (λ (user : User). Quit user.nick text) users
 
 -- the users whose home is this server, in folded order
 abbrev pub users_at : List ℕ → Room → List User

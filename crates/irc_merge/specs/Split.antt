@@ -6,12 +6,12 @@ use Rattle.irc_users.specs.declared.user.User.{User}
 use Rattle.irc_room.specs.declared.effect.Effect.{Effect}
 use Rattle.irc_room.specs.Room.{Room}
 use Rattle.irc_room.specs.InTurn.{after_all}
-use Rattle.irc_merge.specs.Quits.{quits, users_at}
+use Rattle.irc_merge.specs.Quits.{quits_of, users_at}
 use Rattle.irc_merge.specs.Deeds.{Deed, loses}
 
 -- a room after a server is lost: its users have quit, in folded order
 unfoldable pub lost_home : List ℕ → Room → List ℕ → Room
-lost_home text room home = after_all room (quits text (users_at home room))
+lost_home text room home = after_all room (quits_of text (users_at home room))
 
 -- several, one after another
 abbrev pub lost_homes : List ℕ → Room → List (List ℕ) → Room
@@ -23,7 +23,7 @@ abbrev pub lost_users : List (List ℕ) → Room → List User
 lost_users homes room = flat_map (λ home. users_at home room) homes
 
 abbrev pub split_effects : List ℕ → List (List ℕ) → Room → List Effect
-split_effects text homes room = quits text (lost_users homes room)
+split_effects text homes room = quits_of text (lost_users homes room)
 
 -- what is left of a room on this side, when these servers of the other are lost
 unfoldable pub split : List ℕ → List (List ℕ) → Room → Room

@@ -1,6 +1,7 @@
 //! What holds of rooms that become one, and of one that comes apart. Each law is a function that does nothing, and its contract is the law: the
 //! check proves it, and a crate above may cite it.
 ghost use Rattle.irc_merge.specs.Agreeing.{AgreeTells};
+ghost use Rattle.irc_merge.specs.AsideInvitations.{AgreeLooksAtNoInvitation, AlikeDoAlike, AlikeReadAlike, BurstTellsNoInvitation, HomeFollowsDeed};
 ghost use Rattle.irc_merge.specs.CanBeDone.{LinesCanBeDone};
 ghost use Rattle.irc_merge.specs.Laws.{
   BurstReadIsMerge,
@@ -20,6 +21,7 @@ ghost use Rattle.irc_merge.specs.Laws.{
 };
 ghost use Rattle.irc_merge.specs.LimitLaws.{MergeIsWithinLimits, SplitIsWithinLimits, WithinLimitsIsTold};
 ghost use Rattle.irc_merge.specs.OwnInvitations.{ServerReadsMerge, ServerShowsMerge};
+ghost use Rattle.irc_merge.specs.StayingMembers.{MembersStay};
 
 /// Where two halves of a network agree, the room that they become is the same whichever is named first.
 pub fn merge_is_even()
@@ -39,6 +41,11 @@ pub fn split_is_well_formed()
 /// The users of one server are the same after another server was lost.
 pub fn others_stay()
     ensures { OthersStay }
+{}
+
+/// And they are members of the same channels, with the same flags.
+pub fn members_stay()
+    ensures { MembersStay }
 {}
 
 /// Servers that are lost one by one leave just what the split leaves that loses all of them.
@@ -63,13 +70,14 @@ pub fn shown_is_merge_shown()
     ensures { ShownIsMergeShown }
 {}
 
-/// Each user of a merge is a user of one of the halves, and each channel has its name, modes and topic of one of them; so what holds of all of these
+/// Each user of a merge is a user of one of the halves, each member has its flags of one of them, who is invited was, and each channel has its name, modes
+/// and topic of one of them; so what holds of all of these
 /// in both halves, as the limits of a room do, holds of the merge.
 pub fn merge_has_nothing_new()
     ensures { MergeHasNothingNew }
 {}
 
-/// Each user that a split leaves was there, and each channel has its name, modes and topic as before.
+/// Each user and each member that a split leaves was there, with its flags, who is invited was, and each channel has its name, modes and topic as before.
 pub fn split_has_nothing_new()
     ensures { SplitHasNothingNew }
 {}
@@ -128,3 +136,40 @@ pub fn split_is_within_limits()
 pub fn within_limits_is_told()
     ensures { WithinLimitsIsTold }
 {}
+
+/// Two servers find out by what each has of its half whether the halves agree: no invitation is asked.
+pub fn agree_looks_at_no_invitation()
+    ensures { AgreeLooksAtNoInvitation }
+{
+    irc_room::invitation_laws::home_is_well_formed();
+}
+
+/// What a server has of a room it tells as all of the room.
+pub fn burst_tells_no_invitation()
+    ensures { BurstTellsNoInvitation }
+{}
+
+/// In two rooms that are alike but for who is invited, the lines of a burst are read alike.
+pub fn alike_read_alike()
+    ensures { AlikeReadAlike }
+{
+    irc_room::invitation_laws::alike_stay_alike();
+    irc_room::invitation_laws::alike_take_alike();
+    irc_room::invitation_laws::alike_have_alike();
+}
+
+/// What a line of a link says does and shows the same in two rooms that are alike but for who is invited.
+pub fn alike_do_alike()
+    ensures { AlikeDoAlike }
+{
+    irc_room::invitation_laws::alike_stay_alike();
+    irc_room::invitation_laws::alike_take_alike();
+    irc_room::invitation_laws::alike_have_alike();
+}
+
+/// What a server has of a room after a line of a link is what the line makes of what the server had.
+pub fn home_follows_deed()
+    ensures { HomeFollowsDeed }
+{
+    irc_room::invitation_laws::home_follows();
+}

@@ -1,6 +1,8 @@
 pub mod JoiningParts
 pub mod GoingToward
 pub mod TakingOut
+pub mod ShortWays
+pub mod TurningLinks
 pub mod Walking
 pub mod Flowing
 pub mod Delivering

@@ -1,4 +1,6 @@
 pub mod Links
+pub mod Distances
+pub mod TurnedLinks
 pub mod Relay
 pub mod Following
 pub mod Queue

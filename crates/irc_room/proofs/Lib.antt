@@ -24,4 +24,5 @@ pub mod ShownWhole
 pub mod HomeRooms
 pub mod BlindToInvitations
 pub mod AlikeLaw
+pub mod SendingAlike
 pub mod NameWords

@@ -16,4 +16,5 @@ pub mod Sendable
 pub mod Invitations
 pub mod Viewers
 pub mod OtherInvitations
+pub mod SentAlike
 pub mod Lemmas

@@ -2,6 +2,7 @@
 //! its contract is the law, as in `laws.rt`.
 ghost use Rattle.irc_room.specs.Invitations.{HomeFollows, HomeIsWellFormed, HomeOfHome};
 ghost use Rattle.irc_room.specs.OtherInvitations.{AlikeHaveAlike, AlikeStayAlike, AlikeTakeAlike, HomeIsAlike};
+ghost use Rattle.irc_room.specs.SentAlike.{AlikeKeepLimits, AlikeSendAlike, HomeKnowsItsInvited};
 
 /// A server that keeps the invitations of its own users alone, and so does nothing upon an Invite of another server's user, has
 /// after each effect just its part of the room after it.
@@ -37,4 +38,19 @@ pub fn alike_take_alike()
 /// Two rooms that are alike but for who is invited are so after each effect.
 pub fn alike_stay_alike()
     ensures { AlikeStayAlike }
+{}
+
+/// In two rooms that are alike but for who is invited, the same effects can be sent.
+pub fn alike_send_alike()
+    ensures { AlikeSendAlike }
+{}
+
+/// Of two rooms that are alike but for who is invited, both keep to their limits or neither does.
+pub fn alike_keep_limits()
+    ensures { AlikeKeepLimits }
+{}
+
+/// A server knows of each of its own users to which channels the user is invited.
+pub fn home_knows_its_invited()
+    ensures { HomeKnowsItsInvited }
 {}

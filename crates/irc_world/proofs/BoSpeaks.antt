@@ -66,7 +66,7 @@ the_channel = record {
   invited = [];
 }
 
-bo_there : row three_people.room.users (key (codes "bo")) ≡ Some bo
+pub bo_there : row three_people.room.users (key (codes "bo")) ≡ Some bo
 unfolding fold fold_table
 bo_there = ap (λ (r : Room). row r.users (key (codes "bo"))) three_made ∙ user_listed three (key (codes "bo"))
 
@@ -80,14 +80,14 @@ bo_member = row_listed (λ f. f) the_channel.members (key (codes "bo"))
 
 -- ---- what is decided
 
-abbrev message : Parsed
+abbrev pub message : Parsed
 message = record { prefix = None; command = codes "PRIVMSG"; params = codes "#c" ∷ codes "hi" ∷ [] }
 
-is_read : read_of (codes "PRIVMSG #c :hi") ≡ Ok message
+pub is_read : read_of (codes "PRIVMSG #c :hi") ≡ Ok message
 unfolding read_of
 is_read = refl
 
-abbrev spoken : Effect
+abbrev pub spoken : Effect
 spoken = Say (codes "bo") false (target.Channel (codes "#c")) (kept (codes "hi"))
 
 abbrev in_channel : Option Channel → Decided
@@ -99,7 +99,7 @@ with_flags flags =
     && (is_raised flags || not (is_banned bo (channel_of the_channel))))
     (says bo verb.Privmsg (target.Channel (codes "#c")) (codes "#c") (codes "hi")) (Answer (CannotSendToChan (codes "#c")) ∷ []) ++ []) ++ [])
 
-decides : (place : Place) → decide three_people.room place (codes "bo") message ≡ does (Do spoken ∷ [])
+pub decides : (place : Place) → decide three_people.room place (codes "bo") message ≡ does (Do spoken ∷ [])
 unfolding decide row_of say_steps pieces
 decides place =
     ap (decide_for three_people.room place message) bo_there

@@ -20,7 +20,7 @@ use Rattle.irc_world.specs.Sound.{IsSound}
 use Rattle.irc_world.specs.Parts.{ViewIsWellFormed, ClientsAreNumberedOnce}
 use Rattle.irc_world.specs.Bounds.{part_size, effects_at, most_of_client, most, OneServerTellsNobody}
 use Rattle.irc_world.proofs.StaysSound.{if_taken, link_taken}
-use Rattle.irc_world.proofs.ServedAlone.{one_name}
+use Rattle.irc_world.proofs.ServedAlone.{one_name, one_server_has_no_link}
 
 pub view_is_well_formed : HomeIsWellFormed → ViewIsWellFormed
 view_is_well_formed well settings world server sound = well server (world.hall server).room (sound.well_formed server)
@@ -61,7 +61,10 @@ one_in_part setting =
     (same_when (part [] setting.name) (part [] setting.name) refl)
     ∙ one_key setting.name
 
-module _ (setting : Setting) (world : World) (sound : IsSound (setting ∷ []) world) (no_links : world.links ≡ []) where
+module _ (setting : Setting) (world : World) (sound : IsSound (setting ∷ []) world) where
+  no_links : world.links ≡ []
+  no_links = one_server_has_no_link setting world sound
+
   nobody_told : (client : ℕ) (happening : Happening) → most_of_client (setting ∷ []) world (home_of world client) happening ≡ 0
   nobody_told client happening = by (home_of world client) refl
     where
@@ -92,8 +95,8 @@ module _ (setting : Setting) (world : World) (sound : IsSound (setting ∷ []) w
 
 pub one_server_tells_nobody : OneServerTellsNobody
 unfolding most
-one_server_tells_nobody setting world (connect server host) sound no_links taken = refl
-one_server_tells_nobody setting world (line client bytes) sound no_links taken = nobody_told setting world sound no_links client (says client (read_of bytes))
-one_server_tells_nobody setting world (gone client) sound no_links taken = nobody_told setting world sound no_links client (goes client)
-one_server_tells_nobody setting world (link near far) sound no_links taken = absurd (no_link setting world sound no_links near far taken)
-one_server_tells_nobody setting world (cut near far) sound no_links taken = absurd (no_cut setting world sound no_links near far taken)
+one_server_tells_nobody setting world (connect server host) sound taken = refl
+one_server_tells_nobody setting world (line client bytes) sound taken = nobody_told setting world sound client (says client (read_of bytes))
+one_server_tells_nobody setting world (gone client) sound taken = nobody_told setting world sound client (goes client)
+one_server_tells_nobody setting world (link near far) sound taken = absurd (no_link setting world sound near far taken)
+one_server_tells_nobody setting world (cut near far) sound taken = absurd (no_cut setting world sound near far taken)

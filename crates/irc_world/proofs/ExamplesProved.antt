@@ -1,12 +1,12 @@
 -- The examples, computed.
 use Rattle.std.proofs.Common.{refl}
-use Rattle.irc_world.specs.Examples.{FourRefusals}
+use Rattle.irc_world.specs.Examples.{WhoIsRefused}
 use Rattle.irc_world.specs.Refused.{refused}
 use Rattle.irc_relay.specs.Links.{part}
 
-pub four_refusals : FourRefusals
+pub who_is_refused : WhoIsRefused
 unfolding refused part
-four_refusals = record {
+who_is_refused = record {
   nowhere = refl;
   to_nowhere = refl;
   nobody = refl;
@@ -15,4 +15,5 @@ four_refusals = record {
   to_itself = refl;
   other_password = refl;
   no_peer = refl;
+  no_peer_back = refl;
 }

@@ -7,20 +7,20 @@ use Rattle.irc_names.specs.Fold.{key}
 use Rattle.irc_names.specs.Tables.{row, fold_cmp}
 use Rattle.irc_line.specs.Reading.{read_of}
 use Rattle.irc_users.specs.declared.user.User.{User}
-use Rattle.irc_relay.specs.Links.{Name, Link, part, joined, without, AreLinked, IsLeft}
+use Rattle.irc_relay.specs.Links.{Name, Link, part, joined, links_without, AreLinked, IsLeft}
 use Rattle.irc_relay.specs.Laws.{TestsTell, LinkTakenOut, JoinedOverLink}
 use Rattle.irc_room.specs.Room.{Room, IsWellFormed}
 use Rattle.irc_commands.specs.Comings.{RegisteredIsAdded, RegisteredStays, UnregisteredChangesNothing, WhoIsClosedQuits, WhoStaysIsUser}
 use Rattle.irc_commands.specs.Possible.{DecidedIsPossible, RegisteringIsPossible}
 use Rattle.irc_merge.specs.Merge.{either, merge}
-use Rattle.irc_merge.specs.Merge.{without as without_clash}
+use Rattle.irc_merge.specs.Merge.{room_without as without_clash}
 use Rattle.irc_merge.specs.Split.{split}
 use Rattle.irc_stage.specs.declared.clients.Client.{Client}
 use Rattle.irc_stage.specs.declared.clients.Client.TheVariants.{Registering, Registered}
 use Rattle.irc_stage.specs.RoomMachine.{Clients}
 use Rattle.irc_stage.specs.Handle.{Happening, connects, says, goes, handled}
 use Rattle.irc_world.specs.World.{Setting, Hall, World, new_world, home_in, home_of, machine_at, with_hall}
-use Rattle.irc_world.specs.Stepping.{Item, connect, line, gone, link, cut, step, still as unmoved, by_machine, by_client, surviving, clashes_in, merged, linked, remaining, parted as cut_apart, split_text, side_of}
+use Rattle.irc_world.specs.Stepping.{Item, connect, line, gone, link, cut, step, still as unmoved, by_machine, by_client, surviving, clashes_in, merged, link_made, remaining, parted as cut_apart, split_text, servers_on_side}
 use Rattle.irc_world.specs.Owed.{after_items}
 use Rattle.irc_world.specs.Sound.{IsSound, AreTaken}
 use Rattle.irc_world.specs.Laws.{StepStaysSound}
@@ -271,7 +271,7 @@ module _ (settings : List Setting) (world : World) (near far : Name) (sound : Is
       (survivors_matched world.homes other.room one.room other.clients (sound.well_formed far) (all far))
       users_of_both clients_of_both held_apart
 
-  link_keeps : ClientsAreUsers (linked world near far).world
+  link_keeps : ClientsAreUsers (link_made world near far).world
   link_keeps s = hall_with (MatchedHall world.homes) near s (merged one other) (record world { links = record { near = near; far = far } ∷ world.links })
       (λ _. merged_matched) (λ _. all s)
 
@@ -285,7 +285,7 @@ module _ (settings : List Setting) (world : World) (rest : List Link) (one other
     (somewhere : (fold : List ℕ) (user : User) → row (world.hall one).room.users fold ≡ Some user
     → (joined rest one user.home ≡ true) ⊎ (joined rest other user.home ≡ true)) where
   abbrev left_room : Room
-  left_room = split text (side_of settings rest other) (world.hall one).room
+  left_room = split text (servers_on_side settings rest other) (world.hall one).room
 
   abbrev is_kept : ℕ → Bool
   is_kept client = option_map_or (joined rest one) (home_of world client) false
@@ -295,7 +295,7 @@ module _ (settings : List Setting) (world : World) (rest : List Link) (one other
 
   -- whether a user is lost
   lost : (fold : List ℕ) (user : User) → row (world.hall one).room.users fold ≡ Some user
-      → is_at_one (side_of settings rest other) user ≡ not (joined rest one user.home)
+      → is_at_one (servers_on_side settings rest other) user ≡ not (joined rest one user.home)
   lost fold user is = ⊎_elim
       (λ (here : joined rest one user.home ≡ true). ⊎_elim
       (λ (none : joined rest one user.home ≡ false). absurd (let clash = sym none ∙ here in cc clash))
@@ -312,7 +312,7 @@ module _ (settings : List Setting) (world : World) (rest : List Link) (one other
   user_left : (fold : List ℕ) (home : Name) → home_under (world.hall one).room fold ≡ Some home
       → home_under left_room fold ≡ cond (joined rest one home) (Some home) None
   user_left fold home is = in_row home (row (world.hall one).room.users fold) is (λ user there home_is.
-      ap home_in_row (split_row text (side_of settings rest other) (world.hall one).room well fold user there
+      ap home_in_row (split_row text (servers_on_side settings rest other) (world.hall one).room well fold user there
       ∙ ap (λ b. cond b None (Some user)) (lost fold user there))
       ∙ by (joined rest one user.home) user ∙ ap (λ h. cond (joined rest one h) (Some h) None) home_is)
     where
@@ -336,7 +336,7 @@ module _ (settings : List Setting) (world : World) (rest : List Link) (one other
     where
       by : (o : Option User) → row (world.hall one).room.users fold ≡ o → home_in_row o ≡ Some home
       by None none = in_row home (row left_room.users fold) is (λ user there home_is.
-          absurd (let clash = sym none ∙ split_was text (side_of settings rest other) (world.hall one).room well fold user there in cc clash))
+          absurd (let clash = sym none ∙ split_was text (servers_on_side settings rest other) (world.hall one).room well fold user there in cc clash))
       by (Some user) there =
           which (joined rest one user.home) (sym (user_left fold user.home (ap home_in_row there)) ∙ is)
         where
@@ -370,7 +370,7 @@ module _ (tests : TestsTell) (taken_out : LinkTakenOut) (over_link : JoinedOverL
     (sound : IsSound settings world) (known : HomesAreServers settings world) (in_part : HomesAreJoined world) (all : ClientsAreUsers world)
     (are : AreLinked world.links near far) where
   abbrev rest : List Link
-  rest = without world.links near far
+  rest = links_without world.links near far
 
   is_left : IsLeft rest world.links near far
   is_left = taken_out world.links near far sound.forest are

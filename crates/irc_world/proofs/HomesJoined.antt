@@ -8,13 +8,13 @@ use Rattle.irc_names.specs.Tables.{row, tabulate, fold_cmp}
 use Rattle.irc_names.specs.TableLaws.{same_fold, same_fold-refl, row-keys, row-tabulate}
 use Rattle.irc_line.specs.Reading.{read_of}
 use Rattle.irc_users.specs.declared.user.User.{User}
-use Rattle.irc_relay.specs.Links.{Name, Link, part, same, joined, without, AreJoined, AreLinked, IsMade, still, parted, turned}
+use Rattle.irc_relay.specs.Links.{Name, Link, part, same, joined, links_without, AreJoined, AreLinked, IsMade, still, parted, turned}
 use Rattle.irc_relay.specs.Laws.{TestsTell, LinkBetweenParts, LinkTakenOut, JoinedOverLink}
 use Rattle.irc_merge.specs.Laws.{MergeHasNothingNew, SplitHasNothingNew}
 use Rattle.irc_merge.specs.Split.{split}
 use Rattle.irc_stage.specs.Handle.{Happening, connects, says, goes, handled}
 use Rattle.irc_world.specs.World.{Setting, Hall, World, new_world, setting_of, is_server, servers_where, home_of, machine_at, with_hall}
-use Rattle.irc_world.specs.Stepping.{Item, connect, line, gone, link, cut, step, still as unmoved, by_machine, by_client, merged, linked, remaining, parted as cut_apart, split_text, side_of}
+use Rattle.irc_world.specs.Stepping.{Item, connect, line, gone, link, cut, step, still as unmoved, by_machine, by_client, merged, link_made, remaining, parted as cut_apart, split_text, servers_on_side}
 use Rattle.irc_world.specs.Owed.{after_items}
 use Rattle.irc_world.specs.Sound.{IsSound, AreTaken}
 use Rattle.irc_world.specs.Laws.{StepStaysSound}
@@ -122,7 +122,7 @@ module _ (tests : TestsTell) where
         by (Some home) = machine_joined world home happening all
 
   link_joined : LinkBetweenParts → MergeHasNothingNew → (settings : List Setting) (world : World) (near far : Name) → IsSound settings world
-      → LinkIsTaken settings world near far → HomesAreJoined world → HomesAreJoined (linked world near far).world
+      → LinkIsTaken settings world near far → HomesAreJoined world → HomesAreJoined (link_made world near far).world
   link_joined between merge_new settings world near far sound taken all s =
       hall_with (λ h. HomesPass (λ home. joined (new_link ∷ world.links) home s) h.room) near s (merged (world.hall near) (world.hall far))
       (record world { links = new_link ∷ world.links })
@@ -144,21 +144,21 @@ module _ (tests : TestsTell) where
   module _ (taken_out : LinkTakenOut) (over_link : JoinedOverLink) (settings : List Setting) (world : World) (near far : Name)
       (sound : IsSound settings world) (known : HomesAreServers settings world) (all : HomesAreJoined world) (are : AreLinked world.links near far) where
     abbrev rest : List Link
-    rest = without world.links near far
+    rest = links_without world.links near far
 
     -- who is left on a side has its home there
     left_joined : SplitHasNothingNew → (text : List ℕ) (one other : Name) → ((home : Name) → joined world.links home one ≡ true
         → (joined rest home one ≡ true) ⊎ (joined rest other home ≡ true))
-        → HomesPass (λ home. joined rest home one) (split text (side_of settings rest other) (world.hall one).room)
+        → HomesPass (λ home. joined rest home one) (split text (servers_on_side settings rest other) (world.hall one).room)
     left_joined split_new text one other sides fold user is = ⊎_elim
         (λ (here : joined rest user.home one ≡ true). here)
         (λ (there : joined rest other user.home ≡ true). absurd
-        (let none = sym is ∙ split_row text (side_of settings rest other) (world.hall one).room (sound.well_formed one) fold user was
+        (let none = sym is ∙ split_row text (servers_on_side settings rest other) (world.hall one).room (sound.well_formed one) fold user was
         ∙ ap (λ b. cond b None (Some user)) (at_lost_side settings (joined rest other) user (known one fold user was) there) in cc none))
         (sides user.home (all one fold user was))
       where
         was : row (world.hall one).room.users fold ≡ Some user
-        was = (split_new text (side_of settings rest other) (world.hall one).room (sound.well_formed one)).users fold user is
+        was = (split_new text (servers_on_side settings rest other) (world.hall one).room (sound.well_formed one)).users fold user is
 
     pub near_sides : (home : Name) → joined world.links home near ≡ true → (joined rest home near ≡ true) ⊎ (joined rest far home ≡ true)
     near_sides home is = elim (over_link world.links near far home near sound.forest are (one_part world.links home near is)) [

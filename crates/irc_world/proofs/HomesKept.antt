@@ -6,13 +6,13 @@ use Rattle.std.specs.FinMap.{get-empty}
 use Rattle.irc_names.specs.Tables.{row, fold_cmp}
 use Rattle.irc_line.specs.Reading.{read_of}
 use Rattle.irc_users.specs.declared.user.User.{User}
-use Rattle.irc_relay.specs.Links.{Name, Link, same, without}
+use Rattle.irc_relay.specs.Links.{Name, Link, same, links_without}
 use Rattle.irc_relay.specs.Lemmas.TellingNames.{Telling, alike, unlike, tell}
 use Rattle.irc_merge.specs.Laws.{MergeHasNothingNew, SplitHasNothingNew}
 use Rattle.irc_routes.specs.Place.{alone}
 use Rattle.irc_stage.specs.Handle.{Happening, connects, says, goes, handled}
 use Rattle.irc_world.specs.World.{Setting, Hall, World, new_world, is_server, home_of, place_in, machine_at, with_hall}
-use Rattle.irc_world.specs.Stepping.{Item, connect, line, gone, link, cut, step, still as unmoved, by_machine, by_client, merged, linked, remaining, parted as cut_apart, split_text, side_of}
+use Rattle.irc_world.specs.Stepping.{Item, connect, line, gone, link, cut, step, still as unmoved, by_machine, by_client, merged, link_made, remaining, parted as cut_apart, split_text, servers_on_side}
 use Rattle.irc_world.specs.Owed.{after_items}
 use Rattle.irc_world.specs.Sound.{IsSound, AreTaken}
 use Rattle.irc_world.specs.Laws.{StepStaysSound}
@@ -61,7 +61,7 @@ module _ (brings : ClientsBringOwnUsers) (merge_new : MergeHasNothingNew) (split
       by (Some home) is = machine_keeps world home happening all (sound.homes_known client home is)
 
   link_keeps : (world : World) (near far : Name) → IsSound settings world → HomesAreServers settings world
-      → HomesAreServers settings (linked world near far).world
+      → HomesAreServers settings (link_made world near far).world
   link_keeps world near far sound all s =
       hall_with (λ h. HomesPass (is_server settings) h.room) near s (merged (world.hall near) (world.hall far))
       (record world { links = record { near = near; far = far } ∷ world.links })
@@ -77,10 +77,10 @@ module _ (brings : ClientsBringOwnUsers) (merge_new : MergeHasNothingNew) (split
       hall_with (λ h. HomesPass (is_server settings) h.room) far s (remaining settings world left far near)
       (with_hall near (remaining settings world left near far) (record world { links = left }))
       (λ _ fold user is. all far fold user
-      ((split_new (split_text far near) (side_of settings left near) (world.hall far).room (sound.well_formed far)).users fold user is))
+      ((split_new (split_text far near) (servers_on_side settings left near) (world.hall far).room (sound.well_formed far)).users fold user is))
       (λ _. hall_with (λ h. HomesPass (is_server settings) h.room) near s (remaining settings world left near far) (record world { links = left })
       (λ _ fold user is. all near fold user
-      ((split_new (split_text near far) (side_of settings left far) (world.hall near).room (sound.well_formed near)).users fold user is))
+      ((split_new (split_text near far) (servers_on_side settings left far) (world.hall near).room (sound.well_formed near)).users fold user is))
       (λ _. all s))
 
 pub step_keeps_homes : ClientsBringOwnUsers → MergeHasNothingNew → SplitHasNothingNew → StepKeepsHomes
@@ -96,7 +96,7 @@ step_keeps_homes brings merge_new split_new settings world (gone client) sound a
 step_keeps_homes brings merge_new split_new settings world (link near far) sound all taken =
     link_keeps brings merge_new split_new settings world near far sound all
 step_keeps_homes brings merge_new split_new settings world (cut near far) sound all taken =
-    cut_keeps brings merge_new split_new settings world (without world.links near far) near far sound all
+    cut_keeps brings merge_new split_new settings world (links_without world.links near far) near far sound all
 
 pub no_users : (settings : List Setting) → HomesAreServers settings new_world
 no_users settings server fold user is = absurd (let none = sym (get-empty {X = User} fold_cmp fold) ∙ is in cc none)

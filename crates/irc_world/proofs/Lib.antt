@@ -1,9 +1,16 @@
 pub mod HandledKeeps
 pub mod Halls
 pub mod StaysSound
+pub mod Unheard
+pub mod StandingBy
+pub mod WorldKept
 pub mod ServedAlone
+pub mod NumbersKept
+pub mod SameWorlds
+pub mod KnowingTheSame
 pub mod EitherConnects
 pub mod ClientsPlaces
+pub mod HoldingWays
 pub mod ExamplesProved
 pub mod OwnUsers
 pub mod HomesKept
@@ -15,5 +22,6 @@ pub mod HallsMatch
 pub mod ListedHalls
 pub mod NetworksProved
 pub mod BoSpeaks
+pub mod SmallWorldsProved
 pub mod LimitsHold
 pub mod RefusedAlone

@@ -18,7 +18,7 @@ use Rattle.irc_room.specs.declared.effect.Effect.TheVariants.{AddUser, Rename, Q
 use Rattle.irc_room.specs.Room.{IsWellFormed}
 use Rattle.irc_room.specs.Limits.{IsWithinLimits, KeepsLimits}
 use Rattle.irc_room.specs.Laws.{NoRoomIsWithinLimits, AfterIsWithinLimits, SentKeepsLimits}
-use Rattle.irc_relay.specs.Links.{Name, Link, joined, without}
+use Rattle.irc_relay.specs.Links.{Name, Link, joined, links_without}
 use Rattle.irc_acts.specs.declared.act.Act.{Act}
 use Rattle.irc_acts.specs.declared.act.Act.TheVariants.{Answer, Raw, Do}
 use Rattle.irc_acts.specs.Sendable.{AreSendable}
@@ -33,7 +33,7 @@ use Rattle.irc_stage.specs.declared.clients.Client.TheVariants.{Registering, Reg
 use Rattle.irc_stage.specs.RoomMachine.{Clients, RoomMachine, client_of, with_client, without_client}
 use Rattle.irc_stage.specs.Handle.{Happening, connects, says, goes, Handled, handled, is_client, renamed_in, clients_after, with_effect, stepped, all_stepped, unchanged, closing, client_after, fresh, user_decided, said_by, user_of, quits, lost_text}
 use Rattle.irc_world.specs.World.{Setting, Hall, World, new_world, is_server, home_of, machine_at, with_hall}
-use Rattle.irc_world.specs.Stepping.{Item, connect, line, gone, link, cut, step, still as unmoved, by_machine, by_client, clashes_in, merged, linked, remaining, parted as cut_apart, split_text, side_of}
+use Rattle.irc_world.specs.Stepping.{Item, connect, line, gone, link, cut, step, still as unmoved, by_machine, by_client, clashes_in, merged, link_made, remaining, parted as cut_apart, split_text, servers_on_side}
 use Rattle.irc_world.specs.Owed.{after_items}
 use Rattle.irc_world.specs.Sound.{IsSound, AreTaken}
 use Rattle.irc_world.specs.Laws.{StepStaysSound}
@@ -223,7 +223,7 @@ module _ (words : WordsAreOfTheLine) (after_within : AfterIsWithinLimits) (sent 
           (leaving_keeps after_within sent (machine_at settings world home) client (start world home all)))
 
 link_keeps : MergeIsWithinLimits → (settings : List Setting) (world : World) (near far : Name) → IsSound settings world → IsWorldWithin world
-    → IsWorldWithin (linked world near far).world
+    → IsWorldWithin (link_made world near far).world
 link_keeps merge_within settings world near far sound all s =
     hall_with IsHallWithin near s (merged (world.hall near) (world.hall far)) (record world { links = record { near = near; far = far } ∷ world.links })
     (λ _. record {
@@ -259,7 +259,7 @@ cut_keeps split_within settings world left near far sound all s =
 
     side : (one other : Name) → IsHallWithin (remaining settings world left one other)
     side one other = record {
-      room = split_within (split_text one other) (side_of settings left other) (world.hall one).room (sound.well_formed one) (all one).room;
+      room = split_within (split_text one other) (servers_on_side settings left other) (world.hall one).room (sound.well_formed one) (all one).room;
       given =
           λ client pending is. (all one).given client pending
           (was (option_map_or (joined left one) (home_of world client) false) (get (world.hall one).clients client) pending
@@ -280,7 +280,7 @@ module _ (words : WordsAreOfTheLine) (after_within : AfterIsWithinLimits) (sent 
       gone_keeps words after_within sent decided registering settings names world client all
   step_keeps_limits settings world (link near far) names sound all small taken = link_keeps merge_within settings world near far sound all
   step_keeps_limits settings world (cut near far) names sound all small taken =
-      cut_keeps split_within settings world (without world.links near far) near far sound all
+      cut_keeps split_within settings world (links_without world.links near far) near far sound all
 
 module _ (no_room_within : NoRoomIsWithinLimits) (keeps : StepKeepsLimits) (stays : StepStaysSound) (settings : List Setting) (names : AreNamed settings) where
   nobody_within : IsWorldWithin new_world

@@ -25,8 +25,8 @@ use Rattle.irc_room.specs.Lemmas.ListedSeen.{user_listed, channel_listed}
 use Rattle.irc_relay.specs.Links.{Name, Link}
 use Rattle.irc_commands.specs.Quit.{error_line}
 use Rattle.irc_merge.specs.Agreeing.{are_alike, agree}
-use Rattle.irc_merge.specs.Merge.{without}
-use Rattle.irc_merge.specs.Quits.{quits, collision_text}
+use Rattle.irc_merge.specs.Merge.{room_without}
+use Rattle.irc_merge.specs.Quits.{quits_of, collision_text}
 use Rattle.irc_merge.specs.ShownAlong.{shown_along}
 use Rattle.irc_merge.specs.Split.{lost_users, split}
 use Rattle.irc_merge.specs.Lemmas.ListedMerge.{AreInOrder, list_without, list_merge_shown, CanBeListed, merge_listed}
@@ -34,7 +34,7 @@ use Rattle.irc_stage.specs.declared.clients.Client.{Client}
 use Rattle.irc_stage.specs.declared.clients.Client.TheVariants.{Registering, Registered}
 use Rattle.irc_stage.specs.RoomMachine.{Clients}
 use Rattle.irc_world.specs.World.{Setting, Hall, servers_where}
-use Rattle.irc_world.specs.Stepping.{clashes_in, meeting_lines, split_text, side_of, leaving_lines}
+use Rattle.irc_world.specs.Stepping.{clashes_in, meeting_lines, split_text, servers_on_side, leaving_lines}
 
 abbrev pub hall_of : Clients → ListedRoom → Hall
 hall_of clients room = record { clients = clients; room = room_of room }
@@ -56,12 +56,12 @@ after_all_listed room effects = in_turn (room_of room) effects ∙ all_listed ro
 
 -- ---- two halls become one
 
-without_listed : (room other : ListedRoom) → AreInOrder room → without (room_of room) (room_of other) ≡ room_of (list_without room other)
-unfolding without
+without_listed : (room other : ListedRoom) → AreInOrder room → room_without (room_of room) (room_of other) ≡ room_of (list_without room other)
+unfolding room_without
 without_listed room other order =
-    (λ i. after_all (room_of room) (quits collision_text
+    (λ i. after_all (room_of room) (quits_of collision_text
     (filter (λ (user : User). is_some (user_listed other (key user.nick) i)) (users_listed room order i))))
-    ∙ after_all_listed room (quits collision_text (filter (λ (user : User). is_some (find fold_cmp (key user.nick) other.users)) (map (λ e. e.1) room.users)))
+    ∙ after_all_listed room (quits_of collision_text (filter (λ (user : User). is_some (find fold_cmp (key user.nick) other.users)) (map (λ e. e.1) room.users)))
 
 abbrev list_alike : List (List ℕ × ListedChannel) → List ℕ × ListedChannel → Bool
 list_alike others e = option_map_or (are_alike (channel_of e.1)) (option_map channel_of (find fold_cmp e.0 others)) true
@@ -118,13 +118,13 @@ lost_listed : (homes : List (List ℕ)) (room : ListedRoom) → AreInOrder room 
 lost_listed homes room order = λ i. flat_map (λ home. filter (is_home home) (users_listed room order i)) homes
 
 abbrev pub list_split : List ℕ → List (List ℕ) → ListedRoom → ListedRoom
-list_split text homes room = fold list_after room (quits text (list_lost homes room))
+list_split text homes room = fold list_after room (quits_of text (list_lost homes room))
 
 pub split_listed : (text : List ℕ) (homes : List (List ℕ)) (room : ListedRoom) → AreInOrder room
     → split text homes (room_of room) ≡ room_of (list_split text homes room)
 unfolding split
 split_listed text homes room order =
-    ap (λ users. after_all (room_of room) (quits text users)) (lost_listed homes room order) ∙ after_all_listed room (quits text (list_lost homes room))
+    ap (λ users. after_all (room_of room) (quits_of text users)) (lost_listed homes room order) ∙ after_all_listed room (quits_of text (list_lost homes room))
 
 -- what a user sees of somebody who quits
 abbrev list_quit : List ℕ → ListedRoom → List ℕ → List ℕ → Option (List ℕ)
@@ -166,11 +166,11 @@ InOrderLeaving text room [] = Unit {0}
 InOrderLeaving text room (user ∷ users) = AreInOrder room × InOrderLeaving text (list_after room (Quit user.nick text)) users
 
 leaving_along : (viewer text : List ℕ) (room : ListedRoom) (users : List User) → InOrderLeaving text room users
-    → shown_along viewer (room_of room) (quits text users) ≡ list_leaving viewer text room users
+    → shown_along viewer (room_of room) (quits_of text users) ≡ list_leaving viewer text room users
 leaving_along viewer text room [] order = refl
 leaving_along viewer text room (user ∷ users) order =
     λ i. option_to_list (quit_listed viewer room order.0 user.nick text i)
-    ++ (ap (λ r. shown_along viewer r (quits text users)) (after_listed room (Quit user.nick text))
+    ++ (ap (λ r. shown_along viewer r (quits_of text users)) (after_listed room (Quit user.nick text))
     ∙ leaving_along viewer text (list_after room (Quit user.nick text)) users order.1) i
 
 abbrev pub list_seen_leaving : List ℕ → List (List ℕ) → ListedRoom → Option Client → List (List ℕ)
@@ -179,13 +179,13 @@ list_seen_leaving text homes room (Some (Registering pending)) = []
 list_seen_leaving text homes room (Some (Registered nick)) = list_leaving nick text room (list_lost homes room)
 
 pub leaving_listed : (settings : List Setting) (left : List Link) (near far : Name) (room : ListedRoom) → AreInOrder room
-    → (homes : List (List ℕ)) → side_of settings left far ≡ homes → InOrderLeaving (split_text near far) room (list_lost homes room) → (o : Option Client)
+    → (homes : List (List ℕ)) → servers_on_side settings left far ≡ homes → InOrderLeaving (split_text near far) room (list_lost homes room) → (o : Option Client)
     → leaving_lines settings left near far (room_of room) o ≡ list_seen_leaving (split_text near far) homes room o
 leaving_listed settings left near far room order homes are leaving None = refl
 leaving_listed settings left near far room order homes are leaving (Some (Registering pending)) = refl
 leaving_listed settings left near far room order homes are leaving (Some (Registered nick)) =
-    (λ i. shown_along nick (room_of room) (quits (split_text near far) (lost_users (are i) (room_of room))))
-    ∙ ap (λ users. shown_along nick (room_of room) (quits (split_text near far) users)) (lost_listed homes room order)
+    (λ i. shown_along nick (room_of room) (quits_of (split_text near far) (lost_users (are i) (room_of room))))
+    ∙ ap (λ users. shown_along nick (room_of room) (quits_of (split_text near far) users)) (lost_listed homes room order)
     ∙ leaving_along nick (split_text near far) room (list_lost homes room) leaving
 
 -- ---- the servers of a side

@@ -8,7 +8,7 @@ use Rattle.std.specs.Ordering.{nat_cmp}
 use Rattle.irc_names.specs.Fold.{fold, fold_table}
 use Rattle.irc_line.specs.Bytes.{cut as cut_line}
 use Rattle.irc_line.specs.Messages.{line_text}
-use Rattle.irc_relay.specs.Links.{Name, Link, part, joined, without}
+use Rattle.irc_relay.specs.Links.{Name, Link, part, joined, links_without}
 use Rattle.irc_room.specs.declared.effect.Effect.{Effect}
 use Rattle.irc_room.specs.Examples.{room_after}
 use Rattle.irc_room.specs.Lemmas.ListedRooms.{ListedRoom, room_of, no_list, all_listed}
@@ -19,7 +19,7 @@ use Rattle.irc_merge.specs.Lemmas.ListedMerge.{AreInOrder, CanBeListed, list_wit
 use Rattle.irc_stage.specs.declared.clients.Client.{Client}
 use Rattle.irc_stage.specs.RoomMachine.{Clients}
 use Rattle.irc_world.specs.World.{home_of}
-use Rattle.irc_world.specs.Stepping.{link, step, clashes_in, merged, meeting_lines, split_text, side_of, leaving_lines}
+use Rattle.irc_world.specs.Stepping.{link, step, clashes_in, merged, meeting_lines, split_text, servers_on_side, leaving_lines}
 use Rattle.irc_world.specs.Refused.{refused, disagree, no_such_client}
 use Rattle.irc_world.specs.Networks.{TopicsDiffer, als_topic, bos_topic, als_room, bos_room, PeopleMeet, LinkIsLost, LinkIsBack, back_again, b_to_c, three_clients, three_doings, three_people, in_a_line, cut_off, als_clients, als_doings, bos_clients, bos_doings, NicknamesClash, zeds_clients, zeds_doings, other_zeds_clients, other_zeds_doings, with_zed, with_other_zed, hall_after, three_peers, two_apart, als_people, bos_people}
 use Rattle.irc_world.proofs.StaysSound.{first_of, survivor, get-kept, get-merged}
@@ -49,11 +49,11 @@ als = list_room als_doings
 abbrev bos : ListedRoom
 bos = list_room bos_doings
 
-als_in_order : AreInOrder als
+pub als_in_order : AreInOrder als
 unfolding fold fold_table
 als_in_order = record { users = tt; channels = tt; members = (tt, tt) }
 
-bos_in_order : AreInOrder bos
+pub bos_in_order : AreInOrder bos
 unfolding fold fold_table
 bos_in_order = record { users = tt; channels = tt; members = (tt, tt) }
 
@@ -155,11 +155,11 @@ zeds = list_room zeds_doings
 abbrev other_zeds : ListedRoom
 other_zeds = list_room other_zeds_doings
 
-zeds_in_order : AreInOrder zeds
+pub zeds_in_order : AreInOrder zeds
 unfolding fold fold_table
 zeds_in_order = record { users = tt; channels = tt; members = (tt, (tt, tt)) }
 
-other_zeds_in_order : AreInOrder other_zeds
+pub other_zeds_in_order : AreInOrder other_zeds
 unfolding fold fold_table
 other_zeds_in_order = record { users = tt; channels = tt; members = (tt, tt) }
 
@@ -238,11 +238,11 @@ pub three_in_order : AreInOrder three
 unfolding fold fold_table
 three_in_order = record { users = tt; channels = tt; members = (tt, (tt, tt)) }
 
-behind_b : side_of three_peers rest b_net ≡ b_net ∷ codes "c.net" ∷ []
+behind_b : servers_on_side three_peers rest b_net ≡ b_net ∷ codes "c.net" ∷ []
 unfolding part
 behind_b = servers_listed three_peers (joined rest b_net) tt
 
-behind_a : side_of three_peers rest a_net ≡ a_net ∷ []
+behind_a : servers_on_side three_peers rest a_net ≡ a_net ∷ []
 unfolding part
 behind_a = servers_listed three_peers (joined rest a_net) tt
 
@@ -272,7 +272,7 @@ client_left one other client =
 lost_lines : (client : ℕ) → cut_off.lines client
     ≡ list_seen_leaving (split_text a_net b_net) (b_net ∷ codes "c.net" ∷ []) three (left_on a_net client)
     ++ list_seen_leaving (split_text b_net a_net) (a_net ∷ []) three (left_on b_net client)
-unfolding step part without
+unfolding step part links_without
 lost_lines client =
     (λ i. leaving_lines three_peers rest a_net b_net (three_made i) (client_left a_net b_net client i)
     ++ leaving_lines three_peers rest b_net a_net (three_made i) (client_left b_net a_net client i))
@@ -290,17 +290,17 @@ link_is_lost = record {
 
 -- ---- the link is back
 
-abbrev als_side : ListedRoom
+abbrev pub als_side : ListedRoom
 als_side = list_split (split_text a_net b_net) (b_net ∷ codes "c.net" ∷ []) three
 
-abbrev others_side : ListedRoom
+abbrev pub others_side : ListedRoom
 others_side = list_split (split_text b_net a_net) (a_net ∷ []) three
 
-als_side_in_order : AreInOrder als_side
+pub als_side_in_order : AreInOrder als_side
 unfolding fold fold_table
 als_side_in_order = record { users = tt; channels = tt; members = (tt, (tt, tt)) }
 
-others_side_in_order : AreInOrder others_side
+pub others_side_in_order : AreInOrder others_side
 unfolding fold fold_table
 others_side_in_order = record { users = tt; channels = tt; members = (tt, (tt, tt)) }
 
@@ -323,17 +323,17 @@ others_side_listed = record { first = others_side_in_order; second = als_side_in
 abbrev kept_on : Name → Clients
 kept_on one = retain_keys (from_entries {R = nat_cmp} three_clients) (λ c. option_map_or (joined rest one) (home_of (in_a_line three_people) c) false)
 
-side_made : (one other : Name) (homes : List Name) → side_of three_peers rest other ≡ homes
-    → split (split_text one other) (side_of three_peers rest other) three_people.room ≡ room_of (list_split (split_text one other) homes three)
+side_made : (one other : Name) (homes : List Name) → servers_on_side three_peers rest other ≡ homes
+    → split (split_text one other) (servers_on_side three_peers rest other) three_people.room ≡ room_of (list_split (split_text one other) homes three)
 side_made one other homes are =
     (λ i. split (split_text one other) (are i) (three_made i)) ∙ split_listed (split_text one other) homes three three_in_order
 
-als_hall : cut_off.world.hall a_net ≡ hall_of (kept_on a_net) als_side
-unfolding step part without
+pub als_hall : cut_off.world.hall a_net ≡ hall_of (kept_on a_net) als_side
+unfolding step part links_without
 als_hall = λ i. record { clients = kept_on a_net; room = side_made a_net b_net (b_net ∷ codes "c.net" ∷ []) behind_b i }
 
-others_hall : cut_off.world.hall b_net ≡ hall_of (kept_on b_net) others_side
-unfolding step part without
+pub others_hall : cut_off.world.hall b_net ≡ hall_of (kept_on b_net) others_side
+unfolding step part links_without
 others_hall = λ i. record { clients = kept_on b_net; room = side_made b_net a_net (a_net ∷ []) behind_a i }
 
 back_lines : (client : ℕ) → back_again.lines client
@@ -354,7 +354,7 @@ sides_agree =
     ∙ agree_listed als_side others_side als_side_in_order others_side_in_order als_side_left
 
 pub link_is_back : LinkIsBack
-unfolding refused step part without fold fold_table cut_line line_text
+unfolding refused step part links_without fold fold_table cut_line line_text
 link_is_back = record {
   taken = ap (λ b. if b then None else Some disagree) sides_agree;
   to_al = back_lines 1;

@@ -1,5 +1,5 @@
 -- A network of one server is that server.
-use Rattle.std.proofs.Common.{◌≡◌, ℕ, suc, true, false, cond, ◌&&◌, Option, Some, None, List, [], ◌∷◌, ◌++◌, length, refl, sym, ◌∙◌, ap, subst, is_some, if◌then◌else◌, option_map}
+use Rattle.std.proofs.Common.{◌≡◌, ℕ, suc, true, false, cond, ◌&&◌, Option, Some, None, List, [], ◌∷◌, ◌++◌, length, refl, sym, ◌∙◌, ap, subst, is_some, if◌then◌else◌, option_map, inl, inr}
 use Rattle.std.specs.Prelude.{option_to_list}
 use Rattle.std.specs.List.{slice_get}
 use Rattle.std.specs.Option.{option_map_or, option_and_then}
@@ -10,7 +10,7 @@ use Rattle.irc_names.specs.TableLaws.{same_fold, same_table, row-put}
 use Rattle.irc_tables.specs.FoldedRows.{table_of, IsInFoldedOrder}
 use Rattle.irc_tables.specs.Lemmas.RowsAsTable.{nothing-table, nothing-sorted}
 use Rattle.irc_line.specs.Reading.{read_of}
-use Rattle.irc_relay.specs.Links.{Name, part, distance}
+use Rattle.irc_relay.specs.Links.{Name, Link, part, distance, AreLinked, IsForest}
 use Rattle.irc_relay.specs.Links.{linked as are_linked}
 use Rattle.irc_relay.specs.Lemmas.TellingNames.{alike, unlike, tell, same_when}
 use Rattle.irc_room.specs.Room.{Room}
@@ -29,10 +29,10 @@ use Rattle.irc_server.specs.Owed.{owed as owed_by_server}
 use Rattle.irc_world.specs.World.{Setting, Hall, World, new_world, setting_of, is_server, home_of, known_from, place_in, place_at, machine_at}
 use Rattle.irc_world.specs.Stepping.{Item, connect, line, gone, link, cut, Stepped, step, still as unmoved, by_machine, by_client}
 use Rattle.irc_world.specs.Refused.{refused, open_client, no_such_client, no_such_server, not_linked}
-use Rattle.irc_world.specs.Owed.{owed, owed_from}
+use Rattle.irc_world.specs.Owed.{owed_by_network, owed_from}
 use Rattle.irc_world.specs.Sound.{IsSound, AreTaken}
 use Rattle.irc_world.specs.Laws.{StepStaysSound}
-use Rattle.irc_world.specs.OneServer.{lone_view, IsTheServer, IsServed, OneServerIsTheNetwork, happenings_from, OneServerOwes}
+use Rattle.irc_world.specs.OneServer.{lone_view, IsTheServer, OneServerHasNoLink, IsServed, OneServerIsTheNetwork, happenings_from, OneServerOwes}
 use Rattle.irc_world.proofs.Halls.{hall_with}
 use Rattle.irc_world.proofs.StaysSound.{new_world_is_sound, if_taken, server_known, link_taken}
 
@@ -85,6 +85,17 @@ no_others name info created =
     ap values (sym (nothing-table (λ (r : ServerRow). (r.name, r))))
     ∙ values-table_of (λ (r : ServerRow). r.name) [] (nothing-sorted (λ (r : ServerRow). (r.name, r)))
 
+-- the ends of a link would be two servers
+pub one_server_has_no_link : OneServerHasNoLink
+one_server_has_no_link setting world sound = by world.links sound.forest sound.ends_known
+  where
+    by : (links : List Link) → IsForest links → ((s t : Name) → AreLinked links s t → is_server (setting ∷ []) s ≡ true) → links ≡ []
+    by [] forest known = refl
+    by (l ∷ ls) forest known =
+        let near = one_name setting l.near (known l.near l.far (inl (inl (refl, refl)))) in
+        let far = one_name setting l.far (known l.far l.near (inl (inr (refl, refl)))) in
+        absurd (forest.0 (ap (part ls) (sym near ∙ far)))
+
 -- ---- one happening
 
 abbrev machine_with : Place → Clients → Room → RoomMachine
@@ -100,20 +111,19 @@ past_end [] = refl
 past_end (home ∷ homes) = past_end homes
 
 module _ (alone_is : AloneIsAlone) (setting : Setting) where
-  machine_is : (world : World) (view : View) → IsTheServer setting world view → machine_at (setting ∷ []) world setting.name ≡ machine_of view
-  machine_is world view is =
-      ap (λ links. machine_with (place_at (setting ∷ []) links setting.name) (world.hall setting.name).clients (world.hall setting.name).room) is.no_links
+  machine_is : (world : World) (view : View) → world.links ≡ [] → IsTheServer setting world view → machine_at (setting ∷ []) world setting.name ≡ machine_of view
+  machine_is world view no_links is =
+      ap (λ links. machine_with (place_at (setting ∷ []) links setting.name) (world.hall setting.name).clients (world.hall setting.name).room) no_links
       ∙ ap (λ place. machine_with place (world.hall setting.name).clients (world.hall setting.name).room)
       (place_alone setting ∙ sym (alone_is setting.name setting.info setting.created) ∙ ap place_of (sym is.routes))
       ∙ ap (λ clients. machine_with (place_of view.routes) clients (world.hall setting.name).room) (sym is.clients)
       ∙ ap (machine_with (place_of view.routes) view.clients) (sym is.room)
 
-  machine_done : (world : World) (view : View) (happening : Happening) → IsTheServer setting world view
+  machine_done : (world : World) (view : View) (happening : Happening) → world.links ≡ [] → IsTheServer setting world view
       → IsDone setting (by_machine (setting ∷ []) world setting.name happening) view happening
   unfolding served
-  machine_done world view happening is = record {
+  machine_done world view happening no_links is = record {
     stays = record {
-      no_links = is.no_links;
       routes = is.routes;
       no_ends = is.no_ends;
       clients = hall_with (λ h. (handled (machine_of view) happening).machine.clients ≡ h.clients) setting.name setting.name hall world
@@ -125,7 +135,7 @@ module _ (alone_is : AloneIsAlone) (setting : Setting) where
   }
     where
       same_machine : machine_at (setting ∷ []) world setting.name ≡ machine_of view
-      same_machine = machine_is world view is
+      same_machine = machine_is world view no_links is
 
       hall : Hall
       hall = record {
@@ -134,6 +144,9 @@ module _ (alone_is : AloneIsAlone) (setting : Setting) where
       }
 
   module _ (world : World) (view : View) (sound : IsSound (setting ∷ []) world) (is : IsTheServer setting world view) where
+    no_links : world.links ≡ []
+    no_links = one_server_has_no_link setting world sound
+
     client_home : (client : ℕ) → is_some (open_client world client) ≡ true → home_of world client ≡ Some setting.name
     client_home client there = by (home_of world client) refl there
       where
@@ -152,7 +165,7 @@ module _ (alone_is : AloneIsAlone) (setting : Setting) where
         → IsDone setting (by_client (setting ∷ []) world client happening) view happening
     client_done client happening there =
         subst (λ o. IsDone setting (option_map_or (λ home. by_machine (setting ∷ []) world home happening) o (unmoved world)) view happening)
-        (sym (client_home client there)) (machine_done world view happening is)
+        (sym (client_home client there)) (machine_done world view happening no_links is)
 
     new_number : client_of (machine_of view) (suc (length world.homes)) ≡ None
     new_number = by (get view.clients (suc (length world.homes))) refl
@@ -172,8 +185,7 @@ module _ (alone_is : AloneIsAlone) (setting : Setting) where
         subst (λ s. IsDone setting (by_machine (setting ∷ []) (record world { homes = world.homes ++ s ∷ [] }) s
         (connects (suc (length world.homes)) host)) view
         (connects (suc (length world.homes)) host)) here
-        (machine_done (record world { homes = world.homes ++ setting.name ∷ [] }) view (connects (suc (length world.homes)) host) (record {
-          no_links = is.no_links;
+        (machine_done (record world { homes = world.homes ++ setting.name ∷ [] }) view (connects (suc (length world.homes)) host) no_links (record {
           routes = is.routes;
           no_ends = is.no_ends;
           clients = is.clients;
@@ -194,7 +206,7 @@ module _ (alone_is : AloneIsAlone) (setting : Setting) where
         let there = if_taken (is_server (setting ∷ []) near && is_server (setting ∷ []) far) no_such_server
         (if are_linked world.links near far then None else Some not_linked) taken in
         let linked_so = (if_taken (are_linked world.links near far) not_linked None there.1).0 in
-        let none : false ≡ true = ap (λ links. are_linked links near far) (sym is.no_links) ∙ linked_so in
+        let none : false ≡ true = ap (λ links. are_linked links near far) (sym no_links) ∙ linked_so in
         cc none
 
 pub one_server_is_the_network : AloneIsAlone → OneServerIsTheNetwork
@@ -262,7 +274,7 @@ module _ (alone_is : AloneIsAlone) (one_room : LoneServerIsOneRoom) (stays_sound
       })
 
 pub one_server_owes : AloneIsAlone → LoneServerIsOneRoom → StepStaysSound → OneServerOwes
-unfolding owed
+unfolding owed_by_network
 one_server_owes alone_is one_room stays_sound setting items taken client =
     owes alone_is one_room stays_sound setting client items new_world (lone_view setting) (new_world_is_sound (setting ∷ []))
-    (record { no_links = refl; routes = refl; no_ends = refl; clients = refl; room = refl }) taken
+    (record { routes = refl; no_ends = refl; clients = refl; room = refl }) taken

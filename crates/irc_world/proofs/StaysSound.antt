@@ -6,7 +6,7 @@ use Rattle.std.specs.Option.{option_map_or}
 use Rattle.std.specs.Ordering.{nat_cmp}
 use Rattle.std.specs.Cmp.{nat_cmp_total}
 use Rattle.std.specs.FinMap.{get, empty, get-empty, find, entries, retain_keys, get-from_entries, get-entries, get-retain_keys, nat_cmp-IsAntisymmetric}
-use Rattle.irc_relay.specs.Links.{Name, Link, part, joined, without, AreJoined, AreLinked, IsLeft, IsMade, within, over, back, still, parted, turned}
+use Rattle.irc_relay.specs.Links.{Name, Link, part, joined, links_without, has_ends, AreJoined, AreLinked, IsLeft, IsMade, within, over, back, still, parted, turned}
 use Rattle.irc_relay.specs.Links.{linked as are_linked}
 use Rattle.irc_relay.specs.Laws.{TestsTell, LinkBetweenParts, LinkTakenOut, JoinedOverLink}
 use Rattle.irc_relay.specs.Lemmas.TellingNames.{alike, unlike, tell, same_when}
@@ -22,7 +22,7 @@ use Rattle.irc_stage.specs.RoomMachine.{Clients}
 use Rattle.irc_stage.specs.Lemmas.Numbers.{same_number}
 use Rattle.irc_stage.specs.Handle.{Happening, connects, says, goes, handled}
 use Rattle.irc_world.specs.World.{Setting, Hall, World, new_world, is_server, home_in, home_of, machine_at, with_hall}
-use Rattle.irc_world.specs.Stepping.{Item, connect, line, gone, link, cut, step, still as unmoved, by_machine, by_client, merged, linked, remaining, parted as cut_apart, surviving, clashes_in, split_text, side_of}
+use Rattle.irc_world.specs.Stepping.{Item, connect, line, gone, link, cut, step, still as unmoved, by_machine, by_client, merged, link_made, remaining, parted as cut_apart, surviving, clashes_in, split_text, servers_on_side}
 use Rattle.irc_world.specs.Refused.{Refusal, refused, are_peers, link_refusal, no_such_server, link_refused, not_linked, disagree}
 use Rattle.irc_world.specs.Owed.{after_items}
 use Rattle.irc_world.specs.Sound.{HasHomeBy, IsSound, AreTaken}
@@ -46,6 +46,7 @@ new_world_is_sound settings = record {
   well_formed = λ server. no_room_is_well_formed;
   clients_home = λ server client there. absurd (nobody_there client there);
   homes_known = no_home settings;
+  ends_known = λ s t none. absurd none;
 }
 
 -- ---- a client does something
@@ -60,6 +61,7 @@ module _ (decided_possible : DecidedIsPossible) (registering_possible : Register
     clients_home = λ s client. hall_with (λ h. is_some (get h.clients client) ≡ true → HasHomeBy world.links world.homes client s) home s hall world
         (λ here there. nearer client s here (after.clients client there)) (λ _. sound.clients_home s client);
     homes_known = sound.homes_known;
+    ends_known = sound.ends_known;
   }
     where
       hall : Hall
@@ -127,6 +129,7 @@ more_sound settings world new sound known = record {
   well_formed = sound.well_formed;
   clients_home = λ server client there. at_home_still world.links world.homes new client server (sound.clients_home server client there);
   homes_known = by;
+  ends_known = sound.ends_known;
 }
   where
     by : (client : ℕ) (home : Name) → home_in (world.homes ++ new ∷ []) client ≡ Some home → is_server settings home ≡ true
@@ -243,7 +246,12 @@ module _ (settings : List Setting) (world : World) (near far : Name) (sound : Is
     joined = (made.kept at_home.home s at_home.joined).joined ∙ one;
   }
 
-  pub linked_sound : IsSound settings (linked world near far).world
+  ends_there : (s t : Name) → AreLinked (new_link ∷ world.links) s t → is_server settings s ≡ true
+  ends_there s t (inl (inl e)) = subst (λ n. is_server settings n ≡ true) e.0 taken.near_known
+  ends_there s t (inl (inr e)) = subst (λ n. is_server settings n ≡ true) e.1 taken.far_known
+  ends_there s t (inr older) = sound.ends_known s t older
+
+  pub linked_sound : IsSound settings (link_made world near far).world
   linked_sound = record {
     forest = made.forest;
     one_hall = one_hall_with near hall_of_both new_links (λ s t one apart. elim (made.meets s t one) [
@@ -266,18 +274,30 @@ module _ (settings : List Setting) (world : World) (near far : Name) (sound : Is
         (ap is_some (sym (get-merged (world.hall near) (world.hall far) client)) ∙ there)))
         (λ _ there. reaches client s s (sound.clients_home s client there) refl);
     homes_known = sound.homes_known;
+    ends_known = ends_there;
   }
 
 -- ---- a link is lost
 
-was_kept : (b : Bool) (o : Option Client) → is_some (cond b o None) ≡ true → b ≡ true
+-- whoever is linked still was linked before
+fewer_linked : (ls : List Link) (s t u v : Name) → AreLinked (links_without ls s t) u v → AreLinked ls u v
+unfolding links_without
+fewer_linked [] s t u v are = are
+fewer_linked (l ∷ ls) s t u v are = by (has_ends l s t) (fewer_linked ls s t u v) are
+  where
+    by : (b : Bool) → (AreLinked (links_without ls s t) u v → AreLinked ls u v) → AreLinked (if b then ls else l ∷ links_without ls s t) u v → AreLinked (l ∷ ls) u v
+    by true before are = inr are
+    by false before (inl this) = inl this
+    by false before (inr older) = inr (before older)
+
+pub was_kept : (b : Bool) (o : Option Client) → is_some (cond b o None) ≡ true → b ≡ true
 was_kept true o there = refl
 was_kept false o there = absurd (cc there)
 
 module _ (settings : List Setting) (world : World) (near far : Name) (sound : IsSound settings world) (taken_out : LinkTakenOut) (over_link : JoinedOverLink)
     (split_well : SplitIsWellFormed) (are : AreLinked world.links near far) where
   abbrev rest : List Link
-  rest = without world.links near far
+  rest = links_without world.links near far
 
   abbrev fewer_links : World
   fewer_links = record world { links = rest }
@@ -320,9 +340,9 @@ module _ (settings : List Setting) (world : World) (near far : Name) (sound : Is
     one_hall = one_hall_with far far_hall (with_hall near near_hall fewer_links) (λ s t one _.
         one_hall_with near near_hall fewer_links (λ s t one _. sound.one_hall s t (is_left.kept s t one).joined) s t one);
     well_formed = λ s. hall_with (λ h. IsWellFormed h.room) far s far_hall (with_hall near near_hall fewer_links)
-        (λ _. split_well (split_text far near) (side_of settings rest near) (world.hall far).room (sound.well_formed far))
+        (λ _. split_well (split_text far near) (servers_on_side settings rest near) (world.hall far).room (sound.well_formed far))
         (λ _. hall_with (λ h. IsWellFormed h.room) near s near_hall fewer_links
-        (λ _. split_well (split_text near far) (side_of settings rest far) (world.hall near).room (sound.well_formed near)) (λ _. sound.well_formed s));
+        (λ _. split_well (split_text near far) (servers_on_side settings rest far) (world.hall near).room (sound.well_formed near)) (λ _. sound.well_formed s));
     clients_home =
         λ s client. hall_with (λ h. is_some (get h.clients client) ≡ true → HasHomeBy rest world.homes client s) far s far_hall
         (with_hall near near_hall fewer_links)
@@ -331,6 +351,7 @@ module _ (settings : List Setting) (world : World) (near far : Name) (sound : Is
         (λ here there. stays client near far s here there)
         (λ not_near there. elsewhere client s not_far not_near (sound.clients_home s client there)));
     homes_known = sound.homes_known;
+    ends_known = λ s t still_linked. sound.ends_known s t (fewer_linked world.links near far s t still_linked);
   }
 
 -- ---- any item

@@ -17,8 +17,8 @@ use Rattle.irc_room.specs.declared.effect.Effect.TheVariants.{Quit}
 use Rattle.irc_room.specs.Room.{Room, IsWellFormed}
 use Rattle.irc_room.specs.After.{after}
 use Rattle.irc_room.specs.InTurn.{after_all}
-use Rattle.irc_merge.specs.Merge.{clash, without, either, merge}
-use Rattle.irc_merge.specs.Quits.{quits, users_at, collision_text}
+use Rattle.irc_merge.specs.Merge.{clash, room_without, either, merge}
+use Rattle.irc_merge.specs.Quits.{quits_of, users_at, collision_text}
 use Rattle.irc_merge.specs.Split.{lost_users, split}
 use Rattle.irc_world.proofs.Matches.{same_some}
 
@@ -33,7 +33,7 @@ both_gone false true o = refl
 both_gone false false o = refl
 
 pub users_left : (room : Room) (text : List ℕ) (users : List User) (q : List ℕ)
-    → row (after_all room (quits text users)).users q ≡ cond (among q users) None (row room.users q)
+    → row (after_all room (quits_of text users)).users q ≡ cond (among q users) None (row room.users q)
 unfolding after
 users_left room text [] q = refl
 users_left room text (user ∷ users) q =
@@ -194,8 +194,8 @@ split_was text homes room well q user is = by (among q (lost_users homes room)) 
 
 module _ (room other : Room) (well : IsWellFormed room) (q : List ℕ) where
   -- who clashes is gone, and all others are left
-  pub without_row : (user : User) → row room.users q ≡ Some user → row (without room other).users q ≡ cond (is_some (row other.users q)) None (Some user)
-  unfolding without
+  pub without_row : (user : User) → row room.users q ≡ Some user → row (room_without room other).users q ≡ cond (is_some (row other.users q)) None (Some user)
+  unfolding room_without
   without_row user is =
       users_left room collision_text (clash room other) q
       ∙ (λ i. cond (both_ways (among q (clash room other)) (is_some (row other.users (key user.nick)))
@@ -205,8 +205,8 @@ module _ (room other : Room) (well : IsWellFormed room) (q : List ℕ) where
       clashes : User → Bool
       clashes user = is_some (row other.users (key user.nick))
 
-  pub without_was : (user : User) → row (without room other).users q ≡ Some user → row room.users q ≡ Some user
-  unfolding without
+  pub without_was : (user : User) → row (room_without room other).users q ≡ Some user → row room.users q ≡ Some user
+  unfolding room_without
   without_was user is = by (among q (clash room other)) (sym (users_left room collision_text (clash room other) q) ∙ is)
     where
       by : (b : Bool) → cond b None (row room.users q) ≡ Some user → row room.users q ≡ Some user
@@ -214,6 +214,6 @@ module _ (room other : Room) (well : IsWellFormed room) (q : List ℕ) where
       by false is = is
 
 pub merge_row : (one other : Room) (q : List ℕ)
-    → row (merge one other).users q ≡ either (row (without one other).users q) (row (without other one).users q)
+    → row (merge one other).users q ≡ either (row (room_without one other).users q) (row (room_without other one).users q)
 unfolding merge
-merge_row one other q = row-both either (without one other).users (without other one).users refl q
+merge_row one other q = row-both either (room_without one other).users (room_without other one).users refl q

@@ -12,7 +12,7 @@ use Rattle.irc_acts.specs.Acts.{effects_among}
 use Rattle.irc_commands.specs.Decide.{decide}
 use Rattle.irc_commands.specs.Register.{register}
 use Rattle.irc_merge.specs.Bursts.{burst}
-use Rattle.irc_relay.specs.Links.{Name, Link, joined, without}
+use Rattle.irc_relay.specs.Links.{Name, Link, joined, links_without}
 use Rattle.irc_stage.specs.declared.clients.Client.{Client}
 use Rattle.irc_stage.specs.declared.clients.Client.TheVariants.{Registering, Registered}
 use Rattle.irc_stage.specs.RoomMachine.{RoomMachine, client_of}
@@ -75,9 +75,8 @@ most settings world (line client bytes) = most_of_client settings world (home_of
 most settings world (gone client) = most_of_client settings world (home_of world client) (goes client)
 most settings world (link near far) = 2 + (most_told settings world near far + most_told settings world far near)
 most settings world (cut near far) =
-    most_lost settings (without world.links near far) near far + most_lost settings (without world.links near far) far near
+    most_lost settings (links_without world.links near far) near far + most_lost settings (links_without world.links near far) far near
 
 -- a server that is alone has nobody to tell
 abbrev pub OneServerTellsNobody : Type 0
-OneServerTellsNobody = (setting : Setting) (world : World) (item : Item) → IsSound (setting ∷ []) world → world.links ≡ []
-    → refused (setting ∷ []) world item ≡ None → most (setting ∷ []) world item ≡ 0
+OneServerTellsNobody = (setting : Setting) (world : World) (item : Item) → IsSound (setting ∷ []) world → refused (setting ∷ []) world item ≡ None → most (setting ∷ []) world item ≡ 0

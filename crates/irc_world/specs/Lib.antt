@@ -8,9 +8,14 @@ pub mod OneServer
 pub mod Even
 pub mod Parts
 pub mod Bounds
+pub mod Distances
 pub mod Examples
 pub mod Homes
+pub mod Numbers
 pub mod UsersHomes
 pub mod ClientsUsers
+pub mod WorldHolds
+pub mod Bystanders
 pub mod Networks
+pub mod SmallWorlds
 pub mod WithinLimits

@@ -18,7 +18,7 @@ use Rattle.irc_server.specs.Owed.{owed as owed_by_server}
 use Rattle.irc_world.specs.World.{Setting, World, new_world}
 use Rattle.irc_world.specs.Stepping.{Item, connect, line, gone, link, cut, step}
 use Rattle.irc_world.specs.Refused.{refused, no_such_client}
-use Rattle.irc_world.specs.Owed.{owed}
+use Rattle.irc_world.specs.Owed.{owed_by_network}
 use Rattle.irc_world.specs.Sound.{IsSound, AreTaken}
 
 -- a server as it is configured: it knows no other, and nobody is there
@@ -40,13 +40,16 @@ configured config = record {
   peers = map known_peer config.peers.items;
 }
 
+-- no two servers are there that a link could join
+abbrev pub OneServerHasNoLink : Type 0
+OneServerHasNoLink = (setting : Setting) (world : World) → IsSound (setting ∷ []) world → world.links ≡ []
+
 -- what is made of a configuration is that
 abbrev pub NewServerIsAlone : Type 0
 NewServerIsAlone = (config : Config) (server : Option View) → IsMade config (Ok server) → server ≡ Some (lone_view (configured config))
 
--- a server is all that a network without links is to its clients: it knows no other, and has the clients and the room of its hall
+-- a server is all that a network of one server is to its clients: it knows no other, and has the clients and the room of its hall
 pub record IsTheServer (setting : Setting) (world : World) (view : View) : Type 0 where
-  pub no_links : world.links ≡ []
   pub routes : view.routes ≡ alone_known setting.name setting.info setting.created
   pub no_ends : view.ends ≡ []
   pub clients : view.clients ≡ (world.hall setting.name).clients
@@ -88,7 +91,7 @@ happenings_from settings world (item ∷ items) =
 -- so the clients of a network of one server are owed what that server owes them
 abbrev pub OneServerOwes : Type 0
 OneServerOwes = (setting : Setting) (items : List Item) → AreTaken (setting ∷ []) new_world items → (client : ℕ)
-    → owed (setting ∷ []) items client ≡ owed_by_server client (machine_of (lone_view setting)) (happenings_from (setting ∷ []) new_world items)
+    → owed_by_network (setting ∷ []) items client ≡ owed_by_server client (machine_of (lone_view setting)) (happenings_from (setting ∷ []) new_world items)
 
 -- What a client would do that is not there, the one server refuses as well.
 abbrev pub OneServerRefuses : Type 0

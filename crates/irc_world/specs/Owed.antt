@@ -17,5 +17,5 @@ owed_from settings world [] client = []
 owed_from settings world (item ∷ items) client =
     (step settings world item).lines client ++ owed_from settings (step settings world item).world items client
 
-unfoldable pub owed : List Setting → List Item → ℕ → List (List ℕ)
-owed settings items client = owed_from settings new_world items client
+unfoldable pub owed_by_network : List Setting → List Item → ℕ → List (List ℕ)
+owed_by_network settings items client = owed_from settings new_world items client

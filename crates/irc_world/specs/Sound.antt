@@ -1,7 +1,7 @@
 -- What holds of the network, whatever is given to it.
 use Rattle.std.specs.Prelude.{◌≡◌, ℕ, ⊤, true, Some, None, is_some, List, [], ◌∷◌}
 use Rattle.std.specs.FinMap.{get}
-use Rattle.irc_relay.specs.Links.{Name, Link, AreJoined, IsForest}
+use Rattle.irc_relay.specs.Links.{Name, Link, AreJoined, AreLinked, IsForest}
 use Rattle.irc_room.specs.Room.{IsWellFormed}
 use Rattle.irc_room.specs.InTurn.{IsSoFirst}
 use Rattle.irc_world.specs.World.{Setting, World, is_server, home_in, home_of}
@@ -15,7 +15,7 @@ pub record HasHomeBy (links : List Link) (homes : List Name) (client : ℕ) (ser
   pub joined : AreJoined links home server
 
 -- Links are a forest. Servers that links join have one hall. Its room is well formed. Each client in it, of whatever number, has its home in that part; so
--- no client is in two halls. Each home is a server that there is.
+-- no client is in two halls. Each home is a server that there is, and so is each end of a link.
 pub record IsSound (settings : List Setting) (world : World) : Type 0 where
   pub forest : IsForest world.links
   pub one_hall : (server other : Name) → AreJoined world.links server other → world.hall server ≡ world.hall other
@@ -23,6 +23,7 @@ pub record IsSound (settings : List Setting) (world : World) : Type 0 where
   pub clients_home : (server : Name) (client : ℕ) → is_some (get (world.hall server).clients client) ≡ true
       → HasHomeBy world.links world.homes client server
   pub homes_known : (client : ℕ) (home : Name) → home_of world client ≡ Some home → is_server settings home ≡ true
+  pub ends_known : (s t : Name) → AreLinked world.links s t → is_server settings s ≡ true
 
 -- none of these items is refused when its turn comes
 abbrev pub AreTaken : List Setting → World → List Item → Type 0

@@ -12,7 +12,7 @@ use Rattle.irc_merge.specs.ShownAlong.{shown_along}
 use Rattle.irc_merge.specs.Merge.{merge}
 use Rattle.irc_merge.specs.MergeShown.{merge_shown}
 use Rattle.irc_merge.specs.Split.{split, split_effects}
-use Rattle.irc_relay.specs.Links.{Name, Link, joined, without}
+use Rattle.irc_relay.specs.Links.{Name, Link, joined, links_without}
 use Rattle.irc_stage.specs.declared.clients.Client.{Client}
 use Rattle.irc_stage.specs.declared.clients.Client.TheVariants.{Registering, Registered}
 use Rattle.irc_stage.specs.RoomMachine.{Clients}
@@ -80,8 +80,8 @@ meeting_lines own other (Some (Registered nick)) =
     merge_shown own.room other.room nick
     ++ (if clashes_in other.room (Some (Registered nick)) then error_line collision_text ∷ [] else [])
 
-abbrev pub linked : World → Name → Name → Stepped
-linked world near far = record {
+abbrev pub link_made : World → Name → Name → Stepped
+link_made world near far = record {
   world = with_hall near (merged (world.hall near) (world.hall far)) (record world { links = record { near = near; far = far } ∷ world.links });
   lines = λ client.
       meeting_lines (world.hall near) (world.hall far) (get (world.hall near).clients client)
@@ -95,14 +95,14 @@ abbrev pub split_text : Name → Name → List ℕ
 split_text near far = near ++ (codes " " ++ far)
 
 -- the servers on the side of one end, in order of name
-abbrev pub side_of : List Setting → List Link → Name → List Name
-side_of settings left end = servers_where settings (joined left end)
+abbrev pub servers_on_side : List Setting → List Link → Name → List Name
+servers_on_side settings left end = servers_where settings (joined left end)
 
 -- what is left of a hall on the side of its near end: the users of the other side's servers quit, and its clients are elsewhere
 abbrev pub remaining : List Setting → World → List Link → Name → Name → Hall
 remaining settings world left near far = record {
   clients = retain_keys (world.hall near).clients (λ client. option_map_or (joined left near) (home_of world client) false);
-  room = split (split_text near far) (side_of settings left far) (world.hall near).room;
+  room = split (split_text near far) (servers_on_side settings left far) (world.hall near).room;
 }
 
 -- what a client on that side sees of it: those quit, server by server in order of name
@@ -110,7 +110,7 @@ abbrev pub leaving_lines : List Setting → List Link → Name → Name → Room
 leaving_lines settings left near far room None = []
 leaving_lines settings left near far room (Some (Registering pending)) = []
 leaving_lines settings left near far room (Some (Registered nick)) =
-    shown_along nick room (split_effects (split_text near far) (side_of settings left far) room)
+    shown_along nick room (split_effects (split_text near far) (servers_on_side settings left far) room)
 
 abbrev pub parted : List Setting → World → List Link → Name → Name → Stepped
 parted settings world left near far = record {
@@ -128,5 +128,5 @@ step settings world (connect server host) =
     by_machine settings (record world { homes = world.homes ++ server ∷ [] }) server (connects (suc (length world.homes)) host)
 step settings world (line client bytes) = by_client settings world client (says client (read_of bytes))
 step settings world (gone client) = by_client settings world client (goes client)
-step settings world (link near far) = linked world near far
-step settings world (cut near far) = parted settings world (without world.links near far) near far
+step settings world (link near far) = link_made world near far
+step settings world (cut near far) = parted settings world (links_without world.links near far) near far

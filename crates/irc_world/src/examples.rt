@@ -1,11 +1,12 @@
 //! A small network, by example.
-ghost use Rattle.irc_world.specs.Examples.{FourRefusals};
+ghost use Rattle.irc_world.specs.Examples.{WhoIsRefused};
 ghost use Rattle.irc_world.specs.Networks.{BoIsHeard, LinkIsBack, LinkIsLost, NicknamesClash, PeopleMeet, TopicsDiffer};
+ghost use Rattle.irc_world.specs.SmallWorlds.{ErrorComesLast, InvitedAtHome, KillsComeFirst, LinesAtMost, LostInOrder, OperatorBeforeVoice, PasswordsComeFirst, Whereabouts};
 
 /// What is refused where there are three servers, no link and nobody: names of no server, numbers of no client, a link that is not there to be cut, and
 /// links between servers of which one is no peer, keeps another password, or is the same server.
-pub fn four_refusals()
-    ensures { FourRefusals }
+pub fn who_is_refused()
+    ensures { WhoIsRefused }
 {}
 
 /// Two servers are linked, on each of which somebody has made one channel: its members see each other come, and who is in no channel sees nothing.
@@ -36,4 +37,45 @@ pub fn link_is_back()
 /// What is said in a channel is heard by its members on every server of the part, and not by whoever says it.
 pub fn bo_is_heard()
     ensures { BoIsHeard }
+{}
+
+/// How many lines servers need at most: for a link of two that are empty, of two with people, and of two with one nickname; for a text; for a link that is
+/// lost, and for one that is back.
+pub fn lines_at_most()
+    ensures { LinesAtMost }
+{}
+
+/// Halves have to agree on what is left once whoever is killed has quit, and not on what was there before.
+pub fn kills_come_first()
+    ensures { KillsComeFirst }
+{}
+
+/// A link is refused for its passwords before the rooms are looked at.
+pub fn passwords_come_first()
+    ensures { PasswordsComeFirst }
+{}
+
+/// What each of three servers in a line knows of the network, and what is left of that after a cut.
+pub fn whereabouts()
+    ensures { Whereabouts }
+{}
+
+/// Who is killed sees those quit who are killed before it, and its own ERROR last.
+pub fn error_comes_last()
+    ensures { ErrorComesLast }
+{}
+
+/// Of a member that has both flags, the operator's is told before voice.
+pub fn operator_before_voice()
+    ensures { OperatorBeforeVoice }
+{}
+
+/// Those of a lost side quit server by server and nickname by nickname, whichever end of the link is named first.
+pub fn lost_in_order()
+    ensures { LostInOrder }
+{}
+
+/// An invitation is known at the invited user's server and nowhere else.
+pub fn invited_at_home()
+    ensures { InvitedAtHome }
 {}

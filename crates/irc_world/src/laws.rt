@@ -1,11 +1,15 @@
 //! What holds of the network, whatever is given to it. Each law is a function that does nothing, and its contract is the law: the check
 //! proves it, and a crate above may cite it.
+ghost use Rattle.irc_world.specs.Bystanders.{OnlyConnectedReceive, OtherPartsStay, WaitingStay};
 ghost use Rattle.irc_world.specs.ClientsUsers.{RegisteredAreUsers, StepKeepsMatched};
 ghost use Rattle.irc_world.specs.Homes.{ClientsBringOwnUsers};
 ghost use Rattle.irc_world.specs.Laws.{NewWorldIsSound, StepStaysSound, WorldIsSound};
 ghost use Rattle.irc_world.specs.Bounds.{OneServerTellsNobody};
-ghost use Rattle.irc_world.specs.Even.{LinkIsEven};
-ghost use Rattle.irc_world.specs.OneServer.{NewServerIsAlone, OneServerIsTheNetwork, OneServerOwes, OneServerRefuses};
+ghost use Rattle.irc_world.specs.Distances.{PartsHoldWays};
+ghost use Rattle.irc_world.specs.Even.{CutIsEven, LinkIsEven, SameWorldsGoOn};
+ghost use Rattle.irc_world.specs.OneServer.{NewServerIsAlone, OneServerHasNoLink, OneServerIsTheNetwork, OneServerOwes, OneServerRefuses};
+ghost use Rattle.irc_world.specs.WorldHolds.{StepKeepsWorld, TakenMakeWorld};
+ghost use Rattle.irc_world.specs.Numbers.{NextNumberIsNew, NumbersStay};
 ghost use Rattle.irc_world.specs.Parts.{ClientsAreNumberedOnce, ViewIsWellFormed};
 ghost use Rattle.irc_world.specs.WithinLimits.{RoomsKeepLimits, StepKeepsLimits};
 ghost use Rattle.irc_world.specs.UsersHomes.{StepKeepsHomes, StepKeepsHomesJoined, UsersHomesAreJoined, UsersHomesAreServers};
@@ -16,7 +20,7 @@ pub fn new_world_is_sound()
 {}
 
 /// An item that is not refused leaves a sound network sound: links are a forest, servers that are joined have one hall, its room is well formed, and its
-/// clients have their homes in that part.
+/// clients have their homes in that part. Each end of a link is a server that there is.
 pub fn step_stays_sound()
     ensures { StepStaysSound }
 {
@@ -52,6 +56,11 @@ pub fn one_server_is_the_network()
     irc_routes::laws::alone_is_alone();
 }
 
+/// A network of one server has no link: both ends of a link are servers that there are.
+pub fn one_server_has_no_link()
+    ensures { OneServerHasNoLink }
+{}
+
 /// A server that is made of a configuration is the one with which a network of one server begins.
 pub fn new_server_is_alone()
     ensures { NewServerIsAlone }
@@ -71,19 +80,51 @@ pub fn one_server_refuses()
     ensures { OneServerRefuses }
 {}
 
-/// Where a link between two servers is not refused, either of them may connect: afterwards the same servers are joined, each has the same
-/// hall, and each client receives the same lines.
+/// Where a link between two servers is not refused, either of them may connect: afterwards the same servers are joined and linked, each has the same
+/// hall and the same place, and each client receives the same lines.
 pub fn link_is_even()
     ensures { LinkIsEven }
 {
+    irc_relay::laws_of_forests::turned_are_the_same();
     irc_relay::laws_of_forests::link_between_parts();
     irc_merge::laws::merge_is_even();
     irc_merge::laws::agree_tells();
 }
 
+/// Where a link is lost, it comes to the same whichever of its ends is named first.
+pub fn cut_is_even()
+    ensures { CutIsEven }
+{
+    irc_relay::laws_of_forests::turned_are_the_same();
+    irc_relay::laws_of_forests::taken_out_either_way();
+    irc_relay::laws_of_forests::tests_tell();
+    irc_relay::laws_of_forests::link_taken_out();
+}
+
+/// So it does for all that comes after: two networks that are one but for which ends of links were named first go on the same.
+pub fn same_worlds_go_on()
+    ensures { SameWorldsGoOn }
+{
+    irc_relay::laws_of_forests::turned_are_the_same();
+    irc_relay::laws_of_forests::tests_tell();
+    irc_relay::laws_of_forests::link_between_parts();
+    irc_relay::laws_of_forests::link_taken_out();
+    step_stays_sound();
+}
+
 /// Each client in a hall has a number that was given, and is in no other part's hall.
 pub fn clients_are_numbered_once()
     ensures { ClientsAreNumberedOnce }
+{}
+
+/// A number of a client stays with its home, whatever comes after: it is never given again.
+pub fn numbers_stay()
+    ensures { NumbersStay }
+{}
+
+/// Who connects gets a number that nobody has had.
+pub fn next_number_is_new()
+    ensures { NextNumberIsNew }
 {}
 
 /// What a server keeps of the room of its part, all but the invitations of other servers' users, is well formed.
@@ -194,4 +235,58 @@ pub fn rooms_keep_limits()
     irc_room::laws::no_room_is_within_limits();
     step_keeps_limits();
     step_stays_sound();
+}
+
+/// All that holds of a network holds after an item that is not refused and keeps to the limits.
+pub fn step_keeps_world()
+    ensures { StepKeepsWorld }
+{
+    step_stays_sound();
+    step_keeps_homes();
+    step_keeps_homes_joined();
+    step_keeps_matched();
+    step_keeps_limits();
+}
+
+/// So it holds after any such items of which none is refused.
+pub fn taken_make_world()
+    ensures { TakenMakeWorld }
+{
+    world_is_sound();
+    users_homes_are_servers();
+    users_homes_are_joined();
+    registered_are_users();
+    rooms_keep_limits();
+}
+
+/// A connection that is not registered stays when a link is made or lost, with what it has given, and sees nothing of it.
+pub fn waiting_stay()
+    ensures { WaitingStay }
+{
+    irc_relay::laws_of_forests::tests_tell();
+    irc_relay::laws_of_forests::link_between_parts();
+    irc_relay::laws_of_forests::link_taken_out();
+}
+
+/// A part of the network that an item is not about has the hall that it had, its servers know the same of the network, and nobody in it receives anything.
+pub fn other_parts_stay()
+    ensures { OtherPartsStay }
+{
+    irc_relay::laws_of_forests::tests_tell();
+    irc_relay::laws_of_forests::links_join();
+    irc_relay::laws_of_forests::link_between_parts();
+    irc_relay::laws_of_forests::link_taken_out();
+    irc_relay::laws_of_forests::joined_over_link();
+}
+
+/// Who is not connected receives nothing: neither a number that was never given nor one whose client is gone.
+pub fn only_connected_receive()
+    ensures { OnlyConnectedReceive }
+{}
+
+/// Between two servers there are fewer links than there are servers in their part.
+pub fn parts_hold_ways()
+    ensures { PartsHoldWays }
+{
+    irc_relay::laws_of_forests::ways_are_short();
 }

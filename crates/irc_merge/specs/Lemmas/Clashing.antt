@@ -7,7 +7,7 @@ use Rattle.irc_users.specs.declared.user.User.{User}
 use Rattle.irc_room.specs.Room.{Room, IsWellFormed}
 use Rattle.irc_room.specs.Lemmas.Rows.{not_true}
 use Rattle.irc_merge.specs.Quits.{collision_text}
-use Rattle.irc_merge.specs.Merge.{clash, without}
+use Rattle.irc_merge.specs.Merge.{clash, room_without}
 use Rattle.irc_merge.specs.Lemmas.Quitting.{among, users_left, quits_well, thinned, channels_left, among_values}
 
 -- whether a nickname is held in both rooms
@@ -23,23 +23,23 @@ clashing room other well q =
     by_row None at = refl
     by_row (Some user) at = ap (λ f. is_some (row other.users f)) (well.users_named q user at)
 
-pub users_without : (room other : Room) → IsWellFormed room → (q : List ℕ) → row (without room other).users q ≡ cond (both_hold room other q) None (row room.users q)
-unfolding without
+pub users_without : (room other : Room) → IsWellFormed room → (q : List ℕ) → row (room_without room other).users q ≡ cond (both_hold room other q) None (row room.users q)
+unfolding room_without
 users_without room other well q =
     users_left room collision_text (clash room other) q ∙ ap (λ b. cond b None (row room.users q)) (clashing room other well q)
 
 pub channels_without : (room other : Room) → IsWellFormed room → (fold : List ℕ)
-    → row (without room other).channels fold ≡ option_and_then (thinned (among (clash room other))) (row room.channels fold)
-unfolding without
+    → row (room_without room other).channels fold ≡ option_and_then (thinned (among (clash room other))) (row room.channels fold)
+unfolding room_without
 channels_without room other well fold = channels_left room collision_text (clash room other) well fold
 
-pub without_well : (room other : Room) → IsWellFormed room → IsWellFormed (without room other)
-unfolding without
+pub without_well : (room other : Room) → IsWellFormed room → IsWellFormed (room_without room other)
+unfolding room_without
 without_well room other well = quits_well room collision_text (clash room other) well
 
 -- no nickname is held on both sides then
 pub held_apart : {A : Type 0} (one other : Room) → IsWellFormed one → IsWellFormed other → (q : List ℕ)
-    → is_some (row (without one other).users q) ≡ true → is_some (row (without other one).users q) ≡ true → A
+    → is_some (row (room_without one other).users q) ≡ true → is_some (row (room_without other one).users q) ≡ true → A
 held_apart {A} one other well_one well_other q here there =
     by_rows (row one.users q) (row other.users q) (sym (ap is_some (users_without one other well_one q)) ∙ here)
     (sym (ap is_some (users_without other one well_other q)) ∙ there)

@@ -21,11 +21,11 @@ use Rattle.irc_room.specs.Loops.Viewing.{users_under}
 use Rattle.irc_room.specs.Lemmas.FoundInTurn.{table_chooses}
 use Rattle.irc_room.specs.Lemmas.ViewerLaws.{IsNamed, table_named}
 use Rattle.irc_room.specs.Lemmas.WellFormedLaw.{after_is_well_formed}
-use Rattle.irc_merge.specs.Quits.{quits, collision_text}
+use Rattle.irc_merge.specs.Quits.{quits_of, collision_text}
 use Rattle.irc_merge.specs.Deeds.{Deed, does, kills, after_deed, after_deeds}
 use Rattle.irc_merge.specs.Bursts.{user_deeds}
 use Rattle.irc_merge.specs.BurstRead.{introduced}
-use Rattle.irc_merge.specs.Merge.{clash, without, either}
+use Rattle.irc_merge.specs.Merge.{clash, room_without, either}
 use Rattle.irc_merge.specs.Lemmas.TableWords.{order, true_is, absent}
 use Rattle.irc_merge.specs.Lemmas.Quitting.{quit_well}
 use Rattle.irc_merge.specs.Lemmas.Clashing.{users_without}
@@ -112,7 +112,7 @@ abbrev quit_all : List User → Table Channel → Table Channel
 quit_all [] channels = channels
 quit_all (user ∷ users) channels = quit_all users (each (without_user (key user.nick)) channels)
 
-quit_all_is : (room : Room) (text : List ℕ) (users : List User) → (after_all room (quits text users)).channels ≡ quit_all users room.channels
+quit_all_is : (room : Room) (text : List ℕ) (users : List User) → (after_all room (quits_of text users)).channels ≡ quit_all users room.channels
 unfolding after
 quit_all_is room text [] = refl
 quit_all_is room text (user ∷ users) = quit_all_is (after room (Quit user.nick text)) text users
@@ -166,16 +166,16 @@ told_either (Some h) (Some u) = refl
 
 -- who is there of both sides once those have quit who clash
 pub both_users : (room other : Room) → IsWellFormed room → IsWellFormed other → (q : List ℕ)
-    → row (both either (without room other).users (without other room).users) q ≡ told_user (row room.users q) (row other.users q)
+    → row (both either (room_without room other).users (room_without other room).users) q ≡ told_user (row room.users q) (row other.users q)
 both_users room other well well_other q =
-    row-either (without room other).users (without other room).users q
+    row-either (room_without room other).users (room_without other room).users q
     ∙ (λ i. either (users_without room other well q i) (users_without other room well_other q i))
     ∙ sym (told_either (row room.users q) (row other.users q))
 
 pub users_introduced : (own : List ℕ) (far : List ℕ → Bool) (room other : Room) → IsWellFormed room → IsWellFormed other
-    → (reads own far room (user_deeds other)).users ≡ both either (without room other).users (without other room).users
+    → (reads own far room (user_deeds other)).users ≡ both either (room_without room other).users (room_without other room).users
 users_introduced own far room other well well_other =
-    same_table (reads own far room (user_deeds other)).users (both either (without room other).users (without other room).users) (λ q.
+    same_table (reads own far room (user_deeds other)).users (both either (room_without room other).users (room_without other room).users) (λ q.
     users_read own far (entries other.users) (true_is _ (entries_sorted other.users)) (table_named other.users well_other.users_named) room well q
     ∙ ap (told_user (row room.users q)) (sym (get-entries other.users q))
     ∙ sym (both_users room other well well_other q))
@@ -187,8 +187,8 @@ holders room other well =
     (λ fold user at. ap (λ f. is_some (row other.users f)) (sym (well.users_named fold user at)))
 
 pub channels_introduced : (own : List ℕ) (far : List ℕ → Bool) (room other : Room) → IsWellFormed room → IsWellFormed other
-    → (reads own far room (user_deeds other)).channels ≡ (without room other).channels
-unfolding without
+    → (reads own far room (user_deeds other)).channels ≡ (room_without room other).channels
+unfolding room_without
 channels_introduced own far room other well well_other =
     channels_read own far (entries other.users) (true_is _ (entries_sorted other.users)) (table_named other.users well_other.users_named) room well
     ∙ ap (λ us. quit_all us room.channels) (holders room other well)

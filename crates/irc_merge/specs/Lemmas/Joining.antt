@@ -8,7 +8,7 @@ use Rattle.irc_channels.specs.declared.channel.Channel.{Channel}
 use Rattle.irc_room.specs.Room.{Room, IsWellFormed, IsSoundRow}
 use Rattle.irc_room.specs.Lemmas.Rows.{not_true, same_some, some_row, some_key}
 use Rattle.irc_room.specs.Lemmas.SoundRows.{IsWithin, sound_more}
-use Rattle.irc_merge.specs.Merge.{AreAlike, either, one_channel, joined_channel, union, merge, without}
+use Rattle.irc_merge.specs.Merge.{AreAlike, either, one_channel, joined_channel, union, merge, room_without}
 use Rattle.irc_merge.specs.Laws.{MergeIsEven, MergeIsWellFormed}
 use Rattle.irc_merge.specs.Lemmas.Clashing.{without_well, held_apart}
 
@@ -95,7 +95,7 @@ union_well one other well_one well_other = record {
 pub merge_is_well_formed : MergeIsWellFormed
 unfolding merge
 merge_is_well_formed one other well_one well_other =
-    union_well (without one other) (without other one) (without_well one other well_one) (without_well other one well_other)
+    union_well (room_without one other) (room_without other one) (without_well one other well_one) (without_well other one well_other)
 
 -- ---- and even
 
@@ -131,8 +131,8 @@ channels_turned x y well_x well_y apart alike = same_table (both joined_channel 
 pub merge_is_even : MergeIsEven
 unfolding merge
 merge_is_even one other well_one well_other agree =
-    let x = without one other in
-    let y = without other one in
+    let x = room_without one other in
+    let y = room_without other one in
     let apart : (q : List ℕ) → is_some (row x.users q) ≡ true → is_some (row y.users q) ≡ true → ⊥ = λ q. held_apart one other well_one well_other q in
     λ i. record {
       users = turned x.users y.users apart i;

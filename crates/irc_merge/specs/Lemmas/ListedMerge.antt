@@ -22,11 +22,11 @@ use Rattle.irc_room.specs.Lemmas.ListedRooms.{ListedChannel, ListedRoom, channel
 use Rattle.irc_room.specs.Lemmas.ListedSeen.{user_listed, channel_listed}
 use Rattle.irc_room.specs.Viewers.{shows_to}
 use Rattle.irc_merge.specs.ShownAlong.{shown_along}
-use Rattle.irc_merge.specs.Quits.{quits, collision_text}
+use Rattle.irc_merge.specs.Quits.{quits_of, collision_text}
 use Rattle.irc_merge.specs.Deeds.{Deed, does, brings, sets}
 use Rattle.irc_modes.specs.ModesSet.{set_changes, ban_changes}
 use Rattle.irc_merge.specs.Bursts.{in_lines, members_a_line, bans_a_line, burst, stored_member, settings_line, topic_line, channel_deeds}
-use Rattle.irc_merge.specs.Merge.{clash, without, either, joined_channel, merge}
+use Rattle.irc_merge.specs.Merge.{clash, room_without, either, joined_channel, merge}
 use Rattle.irc_merge.specs.MergeShown.{arrival, member_arrival, channel_arrivals, arrivals, merge_shown}
 use Rattle.irc_merge.specs.Lemmas.Joining.{row-either, row-joined}
 use Rattle.irc_merge.specs.Lemmas.ShownUsers.{quit_shows}
@@ -94,18 +94,18 @@ clash_listed : (room other : ListedRoom) → AreInOrder room → clash (room_of 
 clash_listed room other order = λ i. filter (λ (user : User). is_some (user_listed other (key user.nick) i)) (users_listed room order i)
 
 abbrev pub list_without : ListedRoom → ListedRoom → ListedRoom
-list_without room other = fold list_after room (quits collision_text (list_clash room other))
+list_without room other = fold list_after room (quits_of collision_text (list_clash room other))
 
 in_turn : (room : Room) (effects : List Effect) → after_all room effects ≡ fold after room effects
 in_turn room [] = refl
 in_turn room (effect ∷ effects) = in_turn (after room effect) effects
 
-without_listed : (room other : ListedRoom) → AreInOrder room → without (room_of room) (room_of other) ≡ room_of (list_without room other)
-unfolding without
+without_listed : (room other : ListedRoom) → AreInOrder room → room_without (room_of room) (room_of other) ≡ room_of (list_without room other)
+unfolding room_without
 without_listed room other order =
-    ap (λ us. after_all (room_of room) (quits collision_text us)) (clash_listed room other order)
-    ∙ in_turn (room_of room) (quits collision_text (list_clash room other))
-    ∙ all_listed room (quits collision_text (list_clash room other))
+    ap (λ us. after_all (room_of room) (quits_of collision_text us)) (clash_listed room other order)
+    ∙ in_turn (room_of room) (quits_of collision_text (list_clash room other))
+    ∙ all_listed room (quits_of collision_text (list_clash room other))
 
 -- ---- what a merge leaves
 
@@ -113,7 +113,7 @@ pub user_merged : (one other : ListedRoom) → AreInOrder one → AreInOrder oth
     → row (merge (room_of one) (room_of other)).users q ≡ either (find fold_cmp q (list_without one other).users) (find fold_cmp q (list_without other one).users)
 unfolding merge
 user_merged one other order_one order_other q =
-    row-either (without (room_of one) (room_of other)).users (without (room_of other) (room_of one)).users q
+    row-either (room_without (room_of one) (room_of other)).users (room_without (room_of other) (room_of one)).users q
     ∙ (λ i. either ((ap (λ (r : Room). row r.users q) (without_listed one other order_one) ∙ user_listed (list_without one other) q) i)
     ((ap (λ (r : Room). row r.users q) (without_listed other one order_other) ∙ user_listed (list_without other one) q) i))
 
@@ -140,7 +140,7 @@ pub flags_merged : (one other : ListedRoom) → AreInOrder one → AreInOrder ot
 unfolding merge
 flags_merged one other order_one order_other nick channel =
     ap (option_and_then (λ (c : Channel). row c.members nick))
-    (row-joined (without (room_of one) (room_of other)).channels (without (room_of other) (room_of one)).channels channel
+    (row-joined (room_without (room_of one) (room_of other)).channels (room_without (room_of other) (room_of one)).channels channel
     ∙ (λ i. joined_channel ((ap (λ (r : Room). row r.channels channel) (without_listed one other order_one) ∙ channel_listed (list_without one other) channel) i)
     ((ap (λ (r : Room). row r.channels channel) (without_listed other one order_other) ∙ channel_listed (list_without other one) channel) i)))
     ∙ joined_flags nick (find fold_cmp channel (list_without one other).channels) (find fold_cmp channel (list_without other one).channels)
@@ -185,11 +185,11 @@ InOrderAlong room [] = Unit {0}
 InOrderAlong room (user ∷ users) = AreInOrder room × InOrderAlong (list_after room (Quit user.nick collision_text)) users
 
 quits_listed : (viewer : List ℕ) (room : ListedRoom) (users : List User) → InOrderAlong room users
-    → shown_along viewer (room_of room) (quits collision_text users) ≡ list_quits viewer room users
+    → shown_along viewer (room_of room) (quits_of collision_text users) ≡ list_quits viewer room users
 quits_listed viewer room [] order = refl
 quits_listed viewer room (user ∷ users) order =
     λ i. option_to_list (quit_listed viewer room order.0 user.nick collision_text i)
-    ++ (ap (λ r. shown_along viewer r (quits collision_text users)) (after_listed room (Quit user.nick collision_text))
+    ++ (ap (λ r. shown_along viewer r (quits_of collision_text users)) (after_listed room (Quit user.nick collision_text))
     ∙ quits_listed viewer (list_after room (Quit user.nick collision_text)) users order.1) i
 
 abbrev list_comes : List (List ℕ × User) → User → List ℕ → List (List ℕ × Flags) → List (List ℕ)
@@ -246,7 +246,7 @@ pub merge_listed : (room other : ListedRoom) (viewer : List ℕ) → CanBeListed
     → merge_shown (room_of room) (room_of other) viewer ≡ list_merge_shown room other viewer
 unfolding merge_shown
 merge_listed room other viewer order =
-    λ i. (ap (λ us. shown_along viewer (room_of room) (quits collision_text us)) (clash_listed room other order.first)
+    λ i. (ap (λ us. shown_along viewer (room_of room) (quits_of collision_text us)) (clash_listed room other order.first)
     ∙ quits_listed viewer room (list_clash room other) order.along) i
     ++ ((λ j. option_map_or (arrivals (without_listed room other order.first j) (without_listed other room order.second j))
     (row (without_listed room other order.first j).users (key viewer)) [])

@@ -20,7 +20,7 @@ use Rattle.irc_room.specs.InTurn.{after_all}
 use Rattle.irc_room.specs.Lemmas.Rows.{not_none, not_true, no_row, some_key}
 use Rattle.irc_room.specs.Lemmas.SoundRows.{without_sound}
 use Rattle.irc_room.specs.Lemmas.ViewerLaws.{IsNamed, table_named}
-use Rattle.irc_merge.specs.Quits.{quits}
+use Rattle.irc_merge.specs.Quits.{quits_of}
 use Rattle.irc_merge.specs.Lemmas.TableWords.{true_is, row-kept, absent}
 
 -- whether the user with a fold is one of these
@@ -34,7 +34,7 @@ twice_gone false true o = refl
 twice_gone false false o = refl
 
 pub users_left : (room : Room) (text : List ℕ) (users : List User) (q : List ℕ)
-    → row (after_all room (quits text users)).users q ≡ cond (among users q) None (row room.users q)
+    → row (after_all room (quits_of text users)).users q ≡ cond (among users q) None (row room.users q)
 unfolding after
 users_left room text [] q = refl
 users_left room text (user ∷ users) q =
@@ -60,7 +60,7 @@ quit_well room nick text well = record {
     by_row fold channel None at is = not_none channel is
     by_row fold channel (Some before) at is = without_sound room.users fold (key nick) before channel (well.channels_sound fold before at) is
 
-pub quits_well : (room : Room) (text : List ℕ) (users : List User) → IsWellFormed room → IsWellFormed (after_all room (quits text users))
+pub quits_well : (room : Room) (text : List ℕ) (users : List User) → IsWellFormed room → IsWellFormed (after_all room (quits_of text users))
 quits_well room text [] well = well
 quits_well room text (user ∷ users) well = quits_well (after room (Quit user.nick text)) text users (quit_well room user.nick text well)
 
@@ -132,7 +132,7 @@ none_thinned channel some =
     ∙ ap (λ b. cond b None (Some channel)) some
 
 pub channels_left : (room : Room) (text : List ℕ) (users : List User) → IsWellFormed room → (fold : List ℕ)
-    → row (after_all room (quits text users)).channels fold ≡ option_and_then (thinned (among users)) (row room.channels fold)
+    → row (after_all room (quits_of text users)).channels fold ≡ option_and_then (thinned (among users)) (row room.channels fold)
 unfolding after
 channels_left room text [] well fold = by_row (row room.channels fold) refl
   where

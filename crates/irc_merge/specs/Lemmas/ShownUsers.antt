@@ -21,7 +21,7 @@ use Rattle.irc_room.specs.Lemmas.Rows.{not_true}
 use Rattle.irc_room.specs.Lemmas.ViewerLaws.{IsNamed, table_named}
 use Rattle.irc_room.specs.Viewers.{shows_to, line_for}
 use Rattle.irc_merge.specs.ShownAlong.{shown_along}
-use Rattle.irc_merge.specs.Quits.{quits, collision_text}
+use Rattle.irc_merge.specs.Quits.{quits_of, collision_text}
 use Rattle.irc_merge.specs.Deeds.{does, kills, shown_by, shown_by_all}
 use Rattle.irc_merge.specs.Bursts.{user_deeds}
 use Rattle.irc_merge.specs.Merge.{clash}
@@ -59,7 +59,7 @@ quit_beside fold one other nick text beside = record {
 
 quits_beside : (fold viewer text : List ℕ) (users : List User) (one other : Room) → AreBeside fold one other → same_fold (key viewer) fold ≡ false
     → AllByRecursion (λ (user : User). same_fold (key user.nick) fold ≡ false) users
-    → shown_along viewer one (quits text users) ≡ shown_along viewer other (quits text users)
+    → shown_along viewer one (quits_of text users) ≡ shown_along viewer other (quits_of text users)
 quits_beside fold viewer text [] one other beside apart others = refl
 quits_beside fold viewer text (user ∷ users) one other beside apart others =
     (λ i. option_to_list ((
@@ -128,26 +128,26 @@ viewer_apart viewer room e es named there none = by_fold (same_fold (key viewer)
 
 one_shows : (viewer own : List ℕ) (far : List ℕ → Bool) (room : Room) (e : List ℕ × User) (es : List (List ℕ × User)) → IsWellFormed room → key e.1.nick ≡ e.0
     → below_all fold_cmp e.0 es ≡ true → IsThere viewer room (e ∷ es)
-    → shown_one viewer own far room (does (AddUser e.1)) ++ shown_along viewer (met room e.1) (quits collision_text (users_under room.users es))
-    ≡ shown_along viewer room (quits collision_text (option_to_list (row room.users (key e.1.nick)) ++ users_under room.users es))
+    → shown_one viewer own far room (does (AddUser e.1)) ++ shown_along viewer (met room e.1) (quits_of collision_text (users_under room.users es))
+    ≡ shown_along viewer room (quits_of collision_text (option_to_list (row room.users (key e.1.nick)) ++ users_under room.users es))
 unfolding shown_by
 one_shows viewer own far room e es well named below there = by_row (row room.users (key e.1.nick)) refl
   where
     by_row : (o : Option User) → row room.users (key e.1.nick) ≡ o
         → shown_by_all viewer room (option_map_or (λ (holder : User). kills own holder.nick ∷ []) o (does (AddUser e.1) ∷ []))
-        ++ shown_along viewer (met_by room e.1 o) (quits collision_text (users_under room.users es))
-        ≡ shown_along viewer room (quits collision_text (option_to_list o ++ users_under room.users es))
+        ++ shown_along viewer (met_by room e.1 o) (quits_of collision_text (users_under room.users es))
+        ≡ shown_along viewer room (quits_of collision_text (option_to_list o ++ users_under room.users es))
     by_row None at =
-        ap (λ o. ((option_to_list o ++ []) ++ []) ++ shown_along viewer (after room (AddUser e.1)) (quits collision_text (users_under room.users es))) (added_shows room e.1 viewer)
+        ap (λ o. ((option_to_list o ++ []) ++ []) ++ shown_along viewer (after room (AddUser e.1)) (quits_of collision_text (users_under room.users es))) (added_shows room e.1 viewer)
         ∙ quits_beside e.0 viewer collision_text (users_under room.users es) (after room (AddUser e.1)) room (added_beside room e.1 e.0 named)
         (viewer_apart viewer room e es named there at) (under_apart room.users e.0 well.users_named es below)
     by_row (Some holder) at =
-        ap (λ lines. lines ++ shown_along viewer (after room (Quit holder.nick collision_text)) (quits collision_text (users_under room.users es)))
+        ap (λ lines. lines ++ shown_along viewer (after room (Quit holder.nick collision_text)) (quits_of collision_text (users_under room.users es)))
         (append-nil (option_to_list (shows_to room (Quit holder.nick collision_text) viewer) ++ []) ∙ append-nil (option_to_list (shows_to room (Quit holder.nick collision_text) viewer)))
 
 users_show : (viewer own : List ℕ) (far : List ℕ → Bool) (es : List (List ℕ × User)) → is_sorted fold_cmp es ≡ true → AllByRecursion IsNamed es
     → (room : Room) → IsWellFormed room → IsThere viewer room es
-    → shown_reads viewer own far room (introductions es) ≡ shown_along viewer room (quits collision_text (users_under room.users es))
+    → shown_reads viewer own far room (introductions es) ≡ shown_along viewer room (quits_of collision_text (users_under room.users es))
 users_show viewer own far [] rise named room well there = refl
 users_show viewer own far (e ∷ es) rise named room well there =
     let parts = and_parts _ _ rise in
@@ -155,15 +155,15 @@ users_show viewer own far (e ∷ es) rise named room well there =
     ∙ ap (λ r. shown_one viewer own far room (does (AddUser e.1)) ++ shown_reads viewer own far r (introductions es)) (is_met own room e.1)
     ∙ ap (λ rest. shown_one viewer own far room (does (AddUser e.1)) ++ rest)
     (users_show viewer own far es parts.1 named.1 (met room e.1) (met_well room e.1 well) (still_there viewer room e es well named.0 parts.0 there)
-    ∙ ap (λ us. shown_along viewer (met room e.1) (quits collision_text us))
+    ∙ ap (λ us. shown_along viewer (met room e.1) (quits_of collision_text us))
     (under_same (met room e.1).users room.users e.0 (other_met room e.1 e.0 well named.0) es parts.0))
     ∙ one_shows viewer own far room e es well named.0 parts.0 there
-    ∙ ap (λ f. shown_along viewer room (quits collision_text (option_to_list (row room.users f) ++ users_under room.users es))) named.0
+    ∙ ap (λ f. shown_along viewer room (quits_of collision_text (option_to_list (row room.users f) ++ users_under room.users es))) named.0
 
 -- one of this side is shown just the quits of those who clash
 pub kills_shown : (viewer own : List ℕ) (far : List ℕ → Bool) (room other : Room) → IsWellFormed room → IsWellFormed other
     → is_some (row room.users (key viewer)) ≡ true
-    → shown_reads viewer own far room (user_deeds other) ≡ shown_along viewer room (quits collision_text (clash room other))
+    → shown_reads viewer own far room (user_deeds other) ≡ shown_along viewer room (quits_of collision_text (clash room other))
 kills_shown viewer own far room other well well_other there =
     users_show viewer own far (entries other.users) (true_is _ (entries_sorted other.users)) (table_named other.users well_other.users_named) room well (λ known. there)
-    ∙ ap (λ us. shown_along viewer room (quits collision_text us)) (holders room other well)
+    ∙ ap (λ us. shown_along viewer room (quits_of collision_text us)) (holders room other well)

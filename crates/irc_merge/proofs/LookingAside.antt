@@ -1,0 +1,264 @@
+-- Agreement, and what is read, done and shown, does not look at invitations.
+use Rattle.std.proofs.Common.{◌≡◌, ℕ, Bool, true, false, not, ◌&&◌, Option, Some, None, List, [], ◌∷◌, ◌++◌, refl, sym, ◌∙◌, ap, subst, option_map, option_to_list, if◌then◌else◌, filter_map}
+use Rattle.std.specs.Prelude.{⊤}
+use Rattle.std.specs.List.{list_all, AllByRecursion, flat_map}
+use Rattle.std.specs.Option.{option_and_then, option_map_or}
+use Rattle.std.specs.FinMap.{entries, keys}
+use Rattle.irc_names.specs.Fold.{key}
+use Rattle.irc_names.specs.Tables.{Table, row}
+use Rattle.irc_names.specs.TableLaws.{row-each}
+use Rattle.irc_users.specs.declared.user.User.{User}
+use Rattle.irc_channels.specs.declared.flags.Flags.{Flags}
+use Rattle.irc_channels.specs.declared.channel.Channel.{Channel}
+use Rattle.irc_modes.specs.declared.modes.ModeLetter.{ModeLetter}
+use Rattle.irc_modes.specs.declared.modes.ModeLetter.TheVariants as letter
+use Rattle.irc_room.specs.declared.effect.By.TheVariants as by
+use Rattle.irc_room.specs.declared.effect.Effect.{Effect}
+use Rattle.irc_room.specs.declared.effect.Effect.TheVariants.{AddUser, Rename, Quit, Join, Part, Kick, ChangeModes, SetTopic, Say, Invite, UserMode}
+use Rattle.irc_room.specs.Room.{Room, IsWellFormed}
+use Rattle.irc_room.specs.Effects.{IsPossible, brings_free}
+use Rattle.irc_room.specs.After.{after}
+use Rattle.irc_room.specs.InTurn.{after_all, EachInTurn}
+use Rattle.irc_room.specs.Invitations.{of_home, after_at, HomeFollows, HomeIsWellFormed}
+use Rattle.irc_room.specs.OtherInvitations.{uninviting, AlikeHaveAlike, AlikeTakeAlike, AlikeStayAlike}
+use Rattle.irc_room.specs.OtherInvitations.{AreAlike as AreAlikeRooms}
+use Rattle.irc_room.specs.Lemmas.WellFormedLaw.{after_is_well_formed}
+use Rattle.irc_merge.specs.Agreeing.{are_alike, agree}
+use Rattle.irc_merge.specs.AsideInvitations.{AgreeLooksAtNoInvitation, BurstTellsNoInvitation, AlikeReadAlike, AlikeDoAlike, HomeFollowsDeed}
+use Rattle.irc_merge.specs.Bursts.{home_passes}
+use Rattle.irc_merge.specs.BurstRead.{introduced, new_members, brought, all_far, read_deed, read_all}
+use Rattle.irc_merge.specs.Deeds.{Deed, does, gains, loses, kills, brings, sets, tops, flag_given, member_comes, effects_of, after_deed, after_deeds, shown_by}
+use Rattle.irc_merge.specs.Merge.{room_without, uninvited, channel_uninvited}
+use Rattle.irc_merge.specs.Quits.{quits_of, users_at, collision_text}
+use Rattle.irc_merge.specs.ShownAlong.{shown_along}
+use Rattle.irc_merge.specs.Lemmas.Quitting.{quit_well}
+use Rattle.irc_merge.specs.Lemmas.TableWords.{entries_each}
+use Rattle.irc_merge.proofs.OwnInvitations.{of_home_uninvited, of_home_burst, without_uninvited, same_without}
+
+-- ---- agreement
+
+abbrev agrees_on : Room → List ℕ × Channel → Bool
+agrees_on other e = option_map_or (are_alike e.1) (row other.channels e.0) true
+
+aside_row : (channel : Channel) (found : Option Channel)
+    → option_map_or (are_alike channel) (option_and_then channel_uninvited found) true ≡ option_map_or (are_alike channel) found true
+aside_row channel None = refl
+aside_row channel (Some found) = refl
+
+abbrev uninvited_entry : List ℕ × Channel → Option (List ℕ × Channel)
+uninvited_entry e = option_map (λ c. (e.0, c)) (channel_uninvited e.1)
+
+all_aside : (other : Room) (es : List (List ℕ × Channel)) → list_all (agrees_on (uninvited other)) (filter_map uninvited_entry es) ≡ list_all (agrees_on other) es
+all_aside other [] = refl
+all_aside other (e ∷ es) =
+    λ i. (ap (λ found. option_map_or (are_alike e.1) found true) (row-each channel_uninvited other.channels e.0) ∙ aside_row e.1 (row other.channels e.0)) i
+    && all_aside other es i
+
+agree_uninvited : (one other : Room) → IsWellFormed one → IsWellFormed other → agree (uninvited one) (uninvited other) ≡ agree one other
+agree_uninvited one other well_one well_other =
+    (λ i. list_all (agrees_on (theirs i)) (entries (ours i).channels))
+    ∙ ap (list_all (agrees_on (uninvited (room_without other one)))) (entries_each channel_uninvited (room_without one other).channels)
+    ∙ all_aside (room_without other one) (entries (room_without one other).channels)
+  where
+    ours : room_without (uninvited one) (uninvited other) ≡ uninvited (room_without one other)
+    ours = same_without (uninvited one) other ∙ without_uninvited one other well_one
+
+    theirs : room_without (uninvited other) (uninvited one) ≡ uninvited (room_without other one)
+    theirs = same_without (uninvited other) one ∙ without_uninvited other one well_other
+
+pub agree_looks_at_no_invitation : HomeIsWellFormed → AgreeLooksAtNoInvitation
+agree_looks_at_no_invitation home_well home theirs one other well_one well_other =
+    sym (agree_uninvited (of_home home one) (of_home theirs other) (home_well home one well_one) (home_well theirs other well_other))
+    ∙ (λ i. agree (of_home_uninvited home one i) (of_home_uninvited theirs other i))
+    ∙ agree_uninvited one other well_one well_other
+
+pub burst_tells_no_invitation : BurstTellsNoInvitation
+burst_tells_no_invitation = of_home_burst
+
+-- ---- effects of a deed
+
+effects_alike : (room other : Room) (deed : Deed) → AreAlikeRooms room other → effects_of room deed ≡ effects_of other deed
+effects_alike room other (does effect) alike = refl
+effects_alike room other (gains uplink name info) alike = refl
+effects_alike room other (loses server name text) alike =
+    ap (λ (users : Table User). quits_of text (users_at name (record { users = users; channels = room.channels }))) alike.users
+effects_alike room other (kills server nick) alike = refl
+effects_alike room other (brings server channel members) alike = refl
+effects_alike room other (sets server channel changes) alike = refl
+effects_alike room other (tops server channel topic) alike = refl
+
+module _ (stay : AlikeStayAlike) (take : AlikeTakeAlike) (have : AlikeHaveAlike) where
+  all_stay : (room other : Room) (effects : List Effect) → AreAlikeRooms room other → AreAlikeRooms (after_all room effects) (after_all other effects)
+  all_stay room other [] alike = alike
+  all_stay room other (effect ∷ effects) alike = all_stay (after room effect) (after other effect) effects (stay room other effect alike)
+
+  all_show : (viewer : List ℕ) (room other : Room) (effects : List Effect) → AreAlikeRooms room other
+      → shown_along viewer room effects ≡ shown_along viewer other effects
+  all_show viewer room other [] alike = refl
+  all_show viewer room other (effect ∷ effects) alike =
+      λ i. option_to_list ((take room other effect alike).shows viewer i)
+      ++ all_show viewer (after room effect) (after other effect) effects (stay room other effect alike) i
+
+  pub alike_do_alike : AlikeDoAlike
+  unfolding after_deed shown_by
+  alike_do_alike room other deed alike =
+      let same = effects_alike room other deed alike in
+      record {
+        effects = same;
+        stays = subst (λ effects. AreAlikeRooms (after_all room (effects_of room deed)) (after_all other effects)) same
+            (all_stay room other (effects_of room deed) alike);
+        shown = λ viewer. all_show viewer room other (effects_of room deed) alike ∙ ap (shown_along viewer other) same;
+      }
+
+  deeds_stay : (room other : Room) (deeds : List Deed) → AreAlikeRooms room other → AreAlikeRooms (after_deeds room deeds) (after_deeds other deeds)
+  deeds_stay room other [] alike = alike
+  deeds_stay room other (deed ∷ deeds) alike = deeds_stay (after_deed room deed) (after_deed other deed) deeds ((alike_do_alike room other deed alike).stays)
+
+  -- ---- what is read
+
+  module _ (own : List ℕ) (far : List ℕ → Bool) where
+    introduced_alike : (room other : Room) (user : User) → AreAlikeRooms room other → introduced own room user ≡ introduced own other user
+    introduced_alike room other user alike =
+        ap (λ (users : Table User). introduced own (record { users = users; channels = room.channels }) user) alike.users
+
+    members_alike : (room other : Room) (channel : List ℕ) (members : List (List ℕ × Flags)) → AreAlikeRooms room other
+        → new_members far room channel members ≡ new_members far other channel members
+    members_alike room other channel [] alike = refl
+    members_alike room other channel (member ∷ members) alike =
+        let joining = members_alike (after_all room (member_comes channel member)) (after_all other (member_comes channel member)) channel members
+        (all_stay room other (member_comes channel member) alike) in
+        let staying = members_alike room other channel members alike in
+        λ i. if home_passes far (alike.users i) (key member.0) && not ((have room other alike).member member.0 channel i)
+        then member ∷ joining i else staying i
+
+    far_aside : (users : Table User) (found : Option Channel)
+        → option_map_or (λ (c : Channel). list_all (home_passes far users) (keys c.members)) found false
+        ≡ option_map_or (λ (c : Channel). list_all (home_passes far users) (keys c.members)) (option_map uninviting found) false
+    far_aside users None = refl
+    far_aside users (Some channel) = refl
+
+    all_far_alike : (room other : Room) (channel : List ℕ) → AreAlikeRooms room other → all_far far room channel ≡ all_far far other channel
+    all_far_alike room other channel alike =
+        far_aside room.users (row room.channels (key channel))
+        ∙ (λ i. option_map_or (λ (c : Channel). list_all (home_passes far (alike.users i)) (keys c.members)) (alike.channels (key channel) i) false)
+        ∙ sym (far_aside other.users (row other.channels (key channel)))
+
+    one_alike : (room other : Room) (deed : Deed) → AreAlikeRooms room other → read_deed own far room deed ≡ read_deed own far other deed
+    one_alike room other (does (AddUser user)) alike = introduced_alike room other user alike
+    one_alike room other (does (Rename nick new)) alike = refl
+    one_alike room other (does (Quit nick text)) alike = refl
+    one_alike room other (does (Join nick channel op)) alike = refl
+    one_alike room other (does (Part nick channel text)) alike = refl
+    one_alike room other (does (Kick by channel nick text)) alike = refl
+    one_alike room other (does (ChangeModes by channel changes)) alike = refl
+    one_alike room other (does (SetTopic by channel text)) alike = refl
+    one_alike room other (does (Say by notice to text)) alike = refl
+    one_alike room other (does (Invite by nick channel)) alike = refl
+    one_alike room other (does (UserMode nick invisible)) alike = refl
+    one_alike room other (gains uplink name info) alike = refl
+    one_alike room other (loses server name text) alike = refl
+    one_alike room other (kills server nick) alike = refl
+    one_alike room other (brings server channel members) alike = ap (brought server channel) (members_alike room other channel members alike)
+    one_alike room other (sets server channel changes) alike =
+        ap (λ b. if b then sets server channel changes ∷ [] else []) (all_far_alike room other channel alike)
+    one_alike room other (tops server channel topic) alike =
+        ap (λ b. if b then tops server channel topic ∷ [] else []) (all_far_alike room other channel alike)
+
+    read_alike : (room other : Room) (deeds : List Deed) → AreAlikeRooms room other → read_all own far room deeds ≡ read_all own far other deeds
+    read_alike room other [] alike = refl
+    read_alike room other (deed ∷ deeds) alike =
+        ap (λ rest. read_deed own far room deed ++ rest)
+        (read_alike (after_deeds room (read_deed own far room deed)) (after_deeds other (read_deed own far room deed)) deeds
+        (deeds_stay room other (read_deed own far room deed) alike))
+        ∙ ap (λ now. now ++ read_all own far (after_deeds other now) deeds) (one_alike room other deed alike)
+
+  pub alike_read_alike : AlikeReadAlike
+  alike_read_alike own far room other alike = record {
+    one = λ deed. one_alike own far room other deed alike;
+    all = λ deeds. read_alike own far room other deeds alike;
+  }
+
+-- ---- one server's part of the room
+
+-- an effect that invites nobody
+abbrev InvitesNobody : Effect → Type 0
+InvitesNobody (Invite by nick channel) = ⊥
+InvitesNobody other = ⊤
+
+all_append : (one other : List Effect) → AllByRecursion InvitesNobody one → AllByRecursion InvitesNobody other → AllByRecursion InvitesNobody (one ++ other)
+all_append [] other all rest = rest
+all_append (effect ∷ one) other all rest = (all.0, all_append one other all.1 rest)
+
+quits_invite : (text : List ℕ) (users : List User) → AllByRecursion InvitesNobody (quits_of text users)
+quits_invite text [] = tt
+quits_invite text (user ∷ users) = (tt, quits_invite text users)
+
+flag_invites : (has : Bool) (which : ModeLetter) (channel nick : List ℕ) → AllByRecursion InvitesNobody (flag_given has which channel nick)
+flag_invites true which channel nick = (tt, tt)
+flag_invites false which channel nick = tt
+
+members_invite : (channel : List ℕ) (members : List (List ℕ × Flags)) → AllByRecursion InvitesNobody (flat_map (member_comes channel) members)
+members_invite channel [] = tt
+members_invite channel (member ∷ members) =
+    all_append (member_comes channel member) (flat_map (member_comes channel) members) (
+      tt,
+      all_append (flag_given member.1.op letter.Operator channel member.0) (flag_given member.1.voice letter.Voice channel member.0)
+          (flag_invites member.1.op letter.Operator channel member.0) (flag_invites member.1.voice letter.Voice channel member.0),
+    )
+    (members_invite channel members)
+
+at_all : (home : List ℕ) (room : Room) (effect : Effect) → InvitesNobody effect → after_at home room effect ≡ after room effect
+at_all home room (AddUser user) none = refl
+at_all home room (Rename nick new) none = refl
+at_all home room (Quit nick text) none = refl
+at_all home room (Join nick channel op) none = refl
+at_all home room (Part nick channel text) none = refl
+at_all home room (Kick by channel nick text) none = refl
+at_all home room (ChangeModes by channel changes) none = refl
+at_all home room (SetTopic by channel text) none = refl
+at_all home room (Say by notice to text) none = refl
+at_all home room (Invite by nick channel) none = absurd none
+at_all home room (UserMode nick invisible) none = refl
+
+-- each effect can be done when its turn comes, as far as a room has to stay well formed
+abbrev StaysWell : Room → Effect → Type 0
+StaysWell room effect = (IsWellFormed room → IsWellFormed (after room effect)) × (brings_free room effect ≡ true)
+
+users_at_home : (home : List ℕ) (room : Room) (name : List ℕ) → users_at name room ≡ users_at name (of_home home room)
+unfolding of_home
+users_at_home home room name = refl
+
+module _ (follows : HomeFollows) where
+  all_follow : (home : List ℕ) (room : Room) (effects : List Effect) → IsWellFormed room → AllByRecursion InvitesNobody effects
+      → EachInTurn StaysWell room effects → of_home home (after_all room effects) ≡ after_all (of_home home room) effects
+  all_follow home room [] well none stays = refl
+  all_follow home room (effect ∷ effects) well none stays =
+      all_follow home (after room effect) effects (stays.now.0 well) none.1 stays.later
+      ∙ ap (λ r. after_all r effects) (follows home room effect well stays.now.1 ∙ at_all home (of_home home room) effect none.0)
+
+  quits_stay : (room : Room) (text : List ℕ) (users : List User) → EachInTurn StaysWell room (quits_of text users)
+  quits_stay room text [] = tt
+  quits_stay room text (user ∷ users) =
+      record { now = (quit_well room user.nick text, refl); later = quits_stay (after room (Quit user.nick text)) text users }
+
+  possible_stay : (room : Room) (effects : List Effect) → EachInTurn IsPossible room effects → EachInTurn StaysWell room effects
+  possible_stay room [] possible = tt
+  possible_stay room (effect ∷ effects) possible = record {
+    now = (λ well. after_is_well_formed room effect well possible.now, possible.now.nick_free);
+    later = possible_stay (after room effect) effects possible.later;
+  }
+
+  pub home_follows_deed : HomeFollowsDeed
+  unfolding after_deed
+  home_follows_deed home room (does effect) well can = follows home room effect well can
+  home_follows_deed home room (gains uplink name info) well can = refl
+  home_follows_deed home room (loses server name text) well can =
+      all_follow home room (quits_of text (users_at name room)) well (quits_invite text (users_at name room)) (quits_stay room text (users_at name room))
+      ∙ ap (λ users. after_all (of_home home room) (quits_of text users)) (users_at_home home room name)
+  home_follows_deed home room (kills server nick) well can =
+      all_follow home room (Quit nick collision_text ∷ []) well (tt, tt) (record { now = (quit_well room nick collision_text, refl); later = tt })
+  home_follows_deed home room (brings server channel members) well can =
+      all_follow home room (flat_map (member_comes channel) members) well (members_invite channel members) (possible_stay room _ can)
+  home_follows_deed home room (sets server channel changes) well can =
+      follows home room (ChangeModes by.Home channel changes) well refl
+  home_follows_deed home room (tops server channel topic) well can = follows home room (SetTopic by.Home channel topic) well refl
