@@ -3,6 +3,7 @@
 
   flood    one client that sends without end among a hundred quiet ones: each of these is answered soon
   unread   a client that never reads: it is lost once its outbox is full, and nobody else waits for it
+  lagging  a client that fell behind and reads again: what waits for it comes without a pause
   files    no file descriptors left: the daemon does not spin, serves those that it has, and takes who waits once one is free
   backlog  two hundred connections at once, each of which is served
   idle     10,000 idle clients (fewer where the system allows fewer): memory, and processor time while nothing happens
@@ -146,6 +147,51 @@ def unread():
                     f"lost behind {said} lines of 416 bytes; nobody else waited more than {longest * 1000:.1f} ms")
 
 
+def talks_to(speaker, nick, lines):
+    """Has somebody say so many lines, and whether who is meant is still there then."""
+    speaker.sendall((b"PRIVMSG " + nick + b" :" + b"x" * 400 + b"\r\n") * lines + b"ISON " + nick + b"\r\n")
+    return nick in wait_for(speaker, b" 303 ").rsplit(b" 303 ", 1)[1]
+
+
+def longest_pause(client, mark):
+    """How many seconds lie between two pieces that are read, at most, up to a mark."""
+    longest, last, read = 0.0, time.monotonic(), b""
+    while mark not in read:
+        piece = client.recv(65536)
+        if not piece:
+            raise OSError("closed")
+        now = time.monotonic()
+        longest, last, read = max(longest, now - last), now, read[-100:] + piece
+    return longest
+
+
+def lagging():
+    with Daemon(room=1 << 20) as daemon:
+        speaker = daemon.person("sp")
+        lost = daemon.person("lost")
+        hundreds = 0
+        while talks_to(speaker, b"lost", 100):
+            hundreds += 1
+        lost.close()
+        pauses = []
+        for number in range(10):
+            nick = f"r{number}".encode()
+            reader = daemon.person(nick.decode())
+            # half of what would be too much waits, and as much again once some of it was read: so it lies in two pieces
+            for _ in range(hundreds - 12):
+                talks_to(speaker, nick, 100)
+            wanted = reader.recv(1 << 20)
+            while len(wanted) < 1_500_000:
+                wanted += reader.recv(1 << 20)
+            for _ in range(12):
+                talks_to(speaker, nick, 100)
+            speaker.sendall(b"PRIVMSG " + nick + b" :the last\r\n")
+            asks(speaker, b"done")
+            pauses.append(longest_pause(reader, b":the last\r\n"))
+            reader.close()
+        return told("lagging", max(pauses) < 0.05, f"of ten who fell behind by half a megabyte and read again, the longest pause was {max(pauses) * 1000:.1f} ms")
+
+
 def files():
     with Daemon(files=FILES_OF_THE_DAEMON) as daemon:
         served = []
@@ -225,7 +271,7 @@ def idle():
                     f"{busy * 100:.2f} of 100 of a processor while they are idle; a PING takes {answer * 1000:.1f} ms")
 
 
-PARTS = {"flood": flood, "unread": unread, "files": files, "backlog": backlog, "idle": idle}
+PARTS = {"flood": flood, "unread": unread, "lagging": lagging, "files": files, "backlog": backlog, "idle": idle}
 
 
 def main():

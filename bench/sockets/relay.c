@@ -12,15 +12,16 @@
 #include <sys/socket.h>
 #include <unistd.h>
 
-enum { MOST = 20000, ROOM = 65536, LINE = 512, EVENTS = 1024 };
+enum { MOST = 20000, ROOM = 65536, LINE = 512, EVENTS = 1024, BUCKETS = 32768 };
 
 struct client {
     int fd, in_room, is_dirty;
     size_t got, waiting, room;
     char nick[32], line[LINE], *out;
+    struct client *next; /* of those whose nicknames have this hash value */
 };
 
-static struct client *clients[MOST];
+static struct client *clients[MOST], *by_nick[BUCKETS];
 static int dirty[MOST], dirty_count, room[MOST], room_count, poller;
 
 static void put(struct client *c, const char *text, size_t length) {
@@ -53,17 +54,37 @@ static void flush_all(void) {
     dirty_count = 0;
 }
 
+static struct client **bucket(const char *nick) {
+    unsigned hash = 2166136261u;
+    for (; *nick; nick++) hash = (hash ^ (unsigned char)*nick) * 16777619u;
+    return &by_nick[hash % BUCKETS];
+}
+
 static struct client *named(const char *nick) {
-    for (int i = 0; i < MOST; i++)
-        if (clients[i] && !strcmp(clients[i]->nick, nick)) return clients[i];
-    return NULL;
+    struct client *c = *bucket(nick);
+    while (c && strcmp(c->nick, nick)) c = c->next;
+    return c;
+}
+
+static void forget_name(struct client *c) {
+    struct client **at = bucket(c->nick);
+    while (*at && *at != c) at = &(*at)->next;
+    if (*at) *at = c->next;
+}
+
+static void rename_to(struct client *c, const char *nick) {
+    forget_name(c);
+    snprintf(c->nick, sizeof c->nick, "%s", nick);
+    struct client **at = bucket(c->nick);
+    c->next = *at;
+    *at = c;
 }
 
 static void obey(struct client *c, char *line) {
     char text[1024], *word = strchr(line, ' ');
     int n = 0;
     if (!strncmp(line, "NICK ", 5)) {
-        snprintf(c->nick, sizeof c->nick, "%s", line + 5);
+        rename_to(c, line + 5);
     } else if (!strncmp(line, "USER ", 5)) {
         n = snprintf(text, sizeof text,
                      ":a.net 001 %s :Welcome to the Internet Relay Network %s!u@127.0.0.1\r\n"
@@ -98,6 +119,7 @@ static void obey(struct client *c, char *line) {
 
 static void lose(struct client *c) {
     clients[c->fd] = NULL;
+    forget_name(c);
     for (int i = 0; i < room_count; i++)
         if (room[i] == c->fd) room[i--] = room[--room_count];
     close(c->fd);

@@ -1,5 +1,7 @@
 -- How the program ends: the exit status, and what it says on standard error.
 use Rattle.std.specs.Prelude.{ℕ, List, [], ◌++◌, codes, decimal, Result, Ok, Err}
+use Rattle.std.specs.declared.io.ErrorKind.{ErrorKind}
+use Rattle.std.specs.declared.io.ErrorKind.TheVariants as kind
 use Rattle.irc_settings.specs.declared.fault.SettingsFault.{SettingsFault}
 use Rattle.irc_settings.specs.declared.fault.SettingsFault.TheVariants as settings
 use Rattle.irc_server.specs.declared.config.ConfigFault.{ConfigFault}
@@ -27,6 +29,11 @@ abbrev pub stop_of_config : ConfigFault → Stop
 stop_of_config config.BadName = stop.BadConfiguration
 stop_of_config config.DoubleName = stop.BadConfiguration
 stop_of_config config.Memory = stop.Failed
+
+-- of the words of the command line, where the system does not give them: one that is no text is none of ours
+abbrev pub stop_unread : ErrorKind → Stop
+stop_unread kind.InvalidData = stop.Usage
+stop_unread other = stop.Failed
 
 -- the exit status
 abbrev pub status_of : Stop → ℕ

@@ -1,8 +1,15 @@
 -- What the words of the command line ask for.
-use Rattle.std.specs.Prelude.{ℕ, Option, Some, None, List, [], ◌∷◌, map, option_map, codes, string_bytes, String, if◌then◌else◌}
+use Rattle.std.specs.Prelude.{◌≡◌, ℕ, ⊤, Option, Some, None, Result, Ok, Err, List, [], ◌∷◌, map, option_map, codes, string_bytes, String, Vec, if◌then◌else◌}
 use Rattle.std.specs.Str.{bytes_eq}
+use Rattle.std.specs.IoError.{error_kind}
+use Rattle.std.specs.declared.alloc.Global.{Global}
+use Rattle.std.specs.declared.io.Error.{Error}
+use Rattle.std.specs.declared.vec.IntoIter.{IntoIter}
 use Rattle.irc_endings.specs.declared.words.Task.{Task}
 use Rattle.irc_endings.specs.declared.words.Task.TheVariants as task
+use Rattle.irc_endings.specs.declared.fault.Stop.{Stop}
+use Rattle.irc_endings.specs.declared.fault.Stop.TheVariants.{Failed}
+use Rattle.irc_endings.specs.Statuses.{stop_unread}
 use Rattle.irc_script.specs.Limits.{max_number}
 use Rattle.irc_script.specs.Numbers.{number_of}
 
@@ -26,3 +33,15 @@ task_of (word ∷ file ∷ turns ∷ next ∷ words) = None
 
 abbrev pub texts_of : {Z : Type 0} → List (String Z) → List (List ℕ)
 texts_of words = map string_bytes words
+
+-- What comes of the words that the system gives, of which the first is the program's name: those behind it (which a stored run shows), or the program ends.
+-- Where memory runs out, it ends as though it had failed.
+abbrev pub AreWordsOf : Result (IntoIter (String Global) Global) Error → Result (Vec (String Global) Global) Stop → Type 0
+AreWordsOf (Ok given) (Ok words) = ⊤
+AreWordsOf (Ok given) (Err stop) = stop ≡ Failed
+AreWordsOf (Err error) (Ok words) = ⊥
+AreWordsOf (Err error) (Err stop) = stop ≡ stop_unread (error_kind error)
+
+-- What the system gives no clause can tell: it is some words, or an error.
+abbrev pub AreGiven : Result (Vec (String Global) Global) Stop → Type 0
+AreGiven result = (given : Result (IntoIter (String Global) Global) Error) × AreWordsOf given result

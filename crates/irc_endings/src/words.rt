@@ -1,11 +1,15 @@
 //! What the words of the command line ask for.
-ghost use Rattle.std.specs.Prelude.{◌≡◌, option_map};
+ghost use Rattle.std.specs.Prelude.{◌≡◌, option_map, IfErr};
+ghost use Rattle.irc_endings.specs.declared.fault.Stop.TheVariants.{Failed};
 ghost use Rattle.irc_script.specs.Numbers.{number_of};
-ghost use Rattle.irc_endings.specs.Words.{errand, serves, task_of, texts_of};
+ghost use Rattle.irc_endings.specs.Words.{errand, serves, task_of, texts_of, AreGiven, AreWordsOf};
+ghost use Rattle.irc_endings.specs.Statuses.{stop_unread};
 
 use crate::fault::Stop;
 use irc_script::read_number;
-use std::env::{Env, args};
+use std::alloc::Global;
+use std::env::{Args, Env, args};
+use std::io;
 use std::io::ErrorKind;
 
 /// What the program is asked to do.
@@ -50,11 +54,39 @@ fn serve_for<'a>(file: &'a str, turns: &[u8]) -> Option<Task<'a>>
 /// The words behind the program's name.
 ///
 /// # Errors
-/// Where a word is no text, and where memory runs out.
-pub fn words_given<T: Env + AllocGlobal>(rt: &T) -> Result<Vec<String>, Stop> {
-    match args(rt) {
-        Ok(words) => words.skip(1).collect(rt.alloc()).map_err(|_| Stop::Failed),
-        Err(error) if error.kind() == ErrorKind::InvalidData => Err(Stop::Usage),
+/// [`Stop::Usage`] where a word is no text; [`Stop::Failed`] where memory runs out.
+pub fn words_given<T: Env + AllocGlobal>(rt: &T) -> Result<Vec<String>, Stop>
+    ensures { AreGiven result }
+{
+    words_of(rt.alloc(), args(rt))
+}
+
+/// The words behind the first of those that the system gives, which is the program's name.
+fn words_of(alloc: Global, given: io::Result<Args>) -> Result<Vec<String>, Stop>
+    ensures { AreWordsOf given result }
+{
+    match given {
+        Ok(words) => behind_first(alloc, words),
+        Err(error) => Err(unread(error.kind())),
+    }
+}
+
+/// The words behind the first.
+fn behind_first(alloc: Global, words: Args) -> Result<Vec<String>, Stop>
+    ensures { IfErr result (λ stop. stop ≡ Failed) }
+{
+    match words.skip(1).collect(alloc) {
+        Ok(words) => Ok(words),
         Err(_) => Err(Stop::Failed),
+    }
+}
+
+/// How the program ends where the system does not give its words.
+fn unread(kind: ErrorKind) -> Stop
+    ensures { result ≡ stop_unread kind }
+{
+    match kind {
+        ErrorKind::InvalidData => Stop::Usage,
+        _ => Stop::Failed,
     }
 }

@@ -24,7 +24,7 @@ use Rattle.irc_server.specs.declared.event.Event.TheVariants.{Gone}
 use Rattle.irc_line.specs.Lines.{Begun}
 use Rattle.irc_line.specs.Framed.{found_in}
 use Rattle.irc_engine.specs.Hearing.{begun_at, is_connect, lines_by, times_gone, nothing_of, only_of, Hears}
-use Rattle.irc_engine.specs.Running.{Moment, AreAsked, Ran, RanOn, Standing, standing_of, Tells}
+use Rattle.irc_engine.specs.Running.{Moment, AreAsked, AsksOnce, Ran, RanOn, Standing, standing_of, Tells}
 use Rattle.irc_engine.specs.Writing.{one_if}
 use Rattle.irc_engine.proofs.HearingLaws.{lines_by-append, times_gone-append, hears_on, hears_kept, hears_same, hears_gone, hears_deaf}
 use Rattle.irc_engine.specs.Loops.Seats.{seat_of, at_seat, no_seat, FramesAt}
@@ -332,7 +332,7 @@ module _ {W : Type 0} (is_after : W → List Call → Type 0) where
   }
 
   -- the board has done what the server put out by an event
-  pub ran_event : (server after : Option View) (room : ℕ) (old new : Board W) (event : Event) (result : Result (Unit {0}) ServerFault) (before outs : List Sent) → before ≡ []
+  ran_event : (server after : Option View) (room : ℕ) (old new : Board W) (event : Event) (result : Result (Unit {0}) ServerFault) (before outs : List Sent) → before ≡ []
       → IsHandled server event before result after outs → Carries is_after [] old outs new
       → Ran is_after [] (event ∷ []) nothing_of (at_board server room old) (at_board after room new)
   ran_event server after room old new event result before outs none handled carries = record {
@@ -356,6 +356,13 @@ module _ {W : Type 0} (is_after : W → List Call → Type 0) where
     tells = λ conn. tells_passage conn (seat_of old.seats conn) (has old.lost conn) carries.calls outs (seat_of new.seats conn) (has new.lost conn) (carries.passage conn);
     same_room = refl;
   }
+
+  pub asked_once : (server after : Option View) (room : ℕ) (old new : Board W) (event : Event) (result : Result (Unit {0}) ServerFault) (before outs : List Sent)
+      → before ≡ [] → IsHandled server event before result after outs → Carries is_after [] old outs new
+      → AsksOnce is_after event (at_board server room old) (at_board after room new)
+  unfolding ran_event
+  asked_once server after room old new event result before outs none handled carries =
+      (ran_event server after room old new event result before outs none handled carries, refl)
 
   -- the board has done something of itself
   pub ran_board : (server : Option View) (room : ℕ) (exchanges : List Call) (old new : Board W) → Carries is_after exchanges old [] new

@@ -7,7 +7,7 @@ use Rattle.irc_outbox.specs.declared.wire.Got.{Got}
 use Rattle.irc_outbox.specs.declared.wire.IoFault.{IoFault}
 use Rattle.irc_outbox.specs.Calls.{Call, asks, reads, closes, Adds}
 use Rattle.irc_server.specs.declared.event.Event.{Event}
-use Rattle.irc_server.specs.declared.event.Event.TheVariants.{Connect}
+use Rattle.irc_server.specs.declared.event.Event.TheVariants.{Connect, Gone}
 use Rattle.irc_batch.specs.Batches.{Sent}
 use Rattle.irc_server.specs.declared.event.ServerFault.{ServerFault}
 use Rattle.irc_stage.specs.View.{View}
@@ -99,6 +99,28 @@ pub record Ran {W : Type 0} (is_after : W → List Call → Type 0) (exchanges :
 -- This and no more: nothing is asked, read or written, and the server is told of no connection but those that are gone.
 abbrev pub RanOn : {W : Type 0} → (W → List Call → Type 0) → Moment W → Moment W → Type 0
 RanOn is_after old new = Ran is_after [] [] nothing_of old new
+
+-- The server is asked for this event, and told of no connection that is gone besides.
+abbrev pub AsksOnce : {W : Type 0} → (W → List Call → Type 0) → Event → Moment W → Moment W → Type 0
+AsksOnce is_after event old new = (ran : Ran is_after [] (event ∷ []) nothing_of old new) × (ran.events ≡ [])
+
+-- This connection was lost, and none that has a lower number.
+pub record IsLowestLost (conn : ℕ) (lost : ℕ → Bool) : Type 0 where
+  pub is_lost : lost conn ≡ true
+  pub is_lowest : (q : ℕ) → lost q ≡ true → conn ≤ q
+
+-- The server is told of losses, one after another: each time of the one with the lowest number, of those that there are by then.
+pub data TellsLosses {W : Type 0} (is_after : W → List Call → Type 0) (old : Moment W) : Moment W → Type 0 where
+  none_so_far : TellsLosses is_after old old
+  tells_lowest : (conn : ℕ) (before told new : Moment W) → TellsLosses is_after old before → IsLowestLost conn before.lost
+      → told ≡ record before { lost = told.lost } → ((q : ℕ) → told.lost q ≡ (if nat_eq conn q then false else before.lost q))
+      → AsksOnce is_after (Gone conn) told new → TellsLosses is_after old new
+
+-- The server is asked for an event, and then told of the connections that were lost by it.
+pub record PassesOn {W : Type 0} (is_after : W → List Call → Type 0) (event : Event) (old new : Moment W) : Type 0 where
+  pub between : Moment W
+  pub asks : AsksOnce is_after event old between
+  pub losses : TellsLosses is_after between new
 
 -- A client has connected, and has a seat: nothing is owed to it, and nothing has come. A number that has a seat is passed over.
 pub data Connects {W : Type 0} (is_after : W → List Call → Type 0) (room conn : ℕ) (host : List ℕ) (old new : Moment W) : Type 0 where

@@ -13,11 +13,12 @@ use Rattle.irc_engine.specs.Running.{Moment, IsInOrder, Does, Turn}
 use Rattle.irc_engine.specs.Loops.Desks.{moment_of}
 
 -- an engine that has served nobody
-pub record IsNew {W : Type 0} (server : Option View) (wire : W) (room : ℕ) (engine : Engine W) : Type 0 where
+pub record IsNew {W : Type 0} (server : Option View) (wire : W) (room link_room : ℕ) (engine : Engine W) : Type 0 where
   pub serves : engine.failed ≡ false
   pub server_is : engine.desk.server ≡ server
   pub wire_is : engine.desk.board.wire ≡ wire
   pub room_is : engine.client_room ≡ room
+  pub link_room_is : engine.link_room ≡ link_room
   pub no_seats : (conn : ℕ) → (moment_of engine.desk).seats conn ≡ None
   pub in_order : IsInOrder (moment_of engine.desk)
   pub reads_at_most : (moment_of engine.desk).read_room ≡ 4096

@@ -1,7 +1,8 @@
 //! The connections and the wire: what the server puts out goes to outboxes, and outboxes are written.
-ghost use Rattle.std.specs.Prelude.{◌≡◌, ◌+◌, ◌≤◌, true, false, [], ◌∷◌, OnOk};
-ghost use Rattle.std.specs.BTreeSet.{btree_set_len};
-ghost use Rattle.irc_engine.specs.Loops.Boards.{Carries, Ends, IsNoted, KeepsMarks, Loses, Settles, Writes};
+ghost use Rattle.std.specs.Prelude.{◌≡◌, ◌+◌, ◌<◌, ◌≤◌, ◌↔◌, true, false, is_some, [], ◌∷◌, IfSome, IsSome, IsTrue, OnOk, if◌then◌else◌};
+ghost use Rattle.std.specs.Ordering.{nat_cmp};
+ghost use Rattle.std.specs.BTreeSet.{btree_set_len, IsLowerBound, Updates};
+ghost use Rattle.irc_engine.specs.Loops.Boards.{has, Carries, Ends, IsNoted, KeepsMarks, Loses, Settles, Writes};
 ghost use Rattle.irc_batch.specs.Batches.{end_of, line_to, sent_of};
 
 use crate::seat::{Offered, Seats};
@@ -40,6 +41,17 @@ fn forget(numbers: &mut BTreeSet<u64, Global>, conn: u64)
     ensures len { btree_set_len numbers.new ≤ btree_set_len numbers.old }
 {
     numbers.remove(&conn);
+}
+
+/// Takes the lowest of these numbers out.
+pub(crate) fn take_lowest(numbers: &mut BTreeSet<u64, Global>) -> Option<u64>
+    ensures variant { IsSome result ↔ (0 < btree_set_len numbers.old) }
+    ensures member { IfSome result (λ conn. IsTrue (has numbers.old conn)) }
+    ensures least { IfSome result (IsLowerBound nat_cmp numbers.old) }
+    ensures updates { IfSome result (λ conn. Updates nat_cmp numbers.old numbers.new conn false) }
+    ensures len { btree_set_len numbers.new + (if is_some result then 1 else 0) ≡ btree_set_len numbers.old }
+{
+    numbers.pop_first()
 }
 
 impl<W: Wire> Board<W> {

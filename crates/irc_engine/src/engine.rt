@@ -3,11 +3,11 @@ ghost use Rattle.std.specs.Prelude.{◌≡◌, ◌≤◌, true, Ok, [], ◌∷�
 ghost use Rattle.irc_engine.specs.Loops.Counts.{count_of};
 ghost use Rattle.irc_engine.specs.Loops.Desks.{came, moment_of, passed_on, IsNobodyNoted, KeepsOrder, KeepsTold};
 ghost use Rattle.irc_engine.specs.Loops.Boards.{KeepsMarks, KeepsNotes};
-ghost use Rattle.irc_engine.specs.Running.{AllTold, Answers, Connects, Does, Flushes, Ran, RanOn, Reads, RefusesLink};
+ghost use Rattle.irc_engine.specs.Running.{AllTold, Answers, AsksOnce, Connects, Does, Flushes, PassesOn, Ran, RanOn, Reads, RefusesLink, TellsLosses};
 ghost use Rattle.irc_engine.specs.Hearing.{nothing_of, only_of};
 ghost use Rattle.irc_engine.specs.Turning.{brings_nothing, IsNew, Runs, Taken, Turned};
 
-use crate::board::Board;
+use crate::board::{Board, take_lowest};
 use crate::seat::Seats;
 use irc_batch::Batch;
 use irc_line::Line;
@@ -42,6 +42,8 @@ pub struct Engine<W: Wire> {
     failed: bool,
     /// How many bytes the outbox of a client holds.
     client_room: usize,
+    /// How many bytes that of a link is to hold, once servers can be linked.
+    link_room: usize,
     desk: Desk<W>,
 }
 
@@ -59,7 +61,7 @@ pub(crate) struct Desk<W: Wire> {
 
 impl<W: Wire + Drop> Engine<W> {
     /// An engine for a server that has no connection, over a wire that has reported nothing. An outbox of a client has room for
-    /// `client_room` bytes. Servers cannot be linked yet, so `_link_room` has no use.
+    /// `client_room` bytes. Servers cannot be linked yet, so `link_room` is kept, and has no use.
     ///
     /// # Errors
     /// Where memory runs out.
@@ -68,14 +70,15 @@ impl<W: Wire + Drop> Engine<W> {
         server: Server,
         wire: W,
         client_room: usize,
-        _link_room: usize,
+        link_room: usize,
     ) -> Result<Self, AllocError>
-        ensures { IfOk result (λ engine. IsNew server wire client_room engine) }
+        ensures { IfOk result (λ engine. IsNew server wire client_room link_room engine) }
     {
         let buffer = vec![in alloc; 0u8; READ_SIZE]?;
         Ok(Engine {
             failed: false,
             client_room,
+            link_room,
             desk: Desk {
                 server,
                 board: Board {
@@ -242,6 +245,7 @@ impl<W: Wire> Desk<W> {
     /// Passes an event on to the server, and does what it puts out. Then it is told of each connection that was lost by this.
     fn pass(&mut self, event: &Event) -> Result<(), AllocError>
         ensures ran { OnOk result (Ran W.is_after [] (event.now ∷ []) nothing_of (moment_of self.old) (moment_of self.new)) }
+        ensures in_order { OnOk result (PassesOn W.is_after event.now (moment_of self.old) (moment_of self.new)) }
         ensures told { OnOk result (AllTold (moment_of self.new)) }
         ensures marks { OnOk result (KeepsMarks self.old.board self.new.board) }
         ensures same { self.new.buffer ≡ self.old.buffer }
@@ -253,11 +257,12 @@ impl<W: Wire> Desk<W> {
     /// Tells the server of each connection that was lost, the lowest number first, until there is none.
     fn tell_losses(&mut self) -> Result<(), AllocError>
         ensures ran { OnOk result (RanOn W.is_after (moment_of self.old) (moment_of self.new)) }
+        ensures in_order { OnOk result (TellsLosses W.is_after (moment_of self.old) (moment_of self.new)) }
         ensures told { OnOk result (AllTold (moment_of self.new)) }
         ensures marks { OnOk result (KeepsMarks self.old.board self.new.board) }
         ensures same { self.new.buffer ≡ self.old.buffer }
     {
-        while let Some(conn) = self.board.lost.pop_first() {
+        while let Some(conn) = take_lowest(&mut self.board.lost) {
             self.handle(&Event::Gone(conn))?;
         }
         Ok(())
@@ -266,7 +271,7 @@ impl<W: Wire> Desk<W> {
     /// Passes an event on to the server, and does what it puts out.
     fn handle(&mut self, event: &Event) -> Result<(), AllocError>
         ensures count { OnOk result (count_of self.new.board ≤ count_of self.old.board) }
-        ensures ran { OnOk result (Ran W.is_after [] (event.now ∷ []) nothing_of (moment_of self.old) (moment_of self.new)) }
+        ensures asks { OnOk result (AsksOnce W.is_after event.now (moment_of self.old) (moment_of self.new)) }
         ensures marks { OnOk result (KeepsMarks self.old.board self.new.board) }
         ensures same { self.new.buffer ≡ self.old.buffer }
     {

@@ -14,7 +14,7 @@ use Rattle.irc_stage.specs.RoomMachine.{RoomMachine, client_of, with_client, wit
 use Rattle.irc_stage.specs.View.{View, machine_of}
 use Rattle.irc_stage.specs.Handle.{Happening, connects, says, goes, Handled, handled, stepped, all_stepped, closing, unchanged, user_decided, said_by, client_after, quits, user_of}
 use Rattle.irc_stage.specs.Matched.{IsMatched, StaysMatched}
-use Rattle.irc_server.specs.Served.{by_client, link_up, link_says, link_down, served, LoneServerIsOneRoom, ServedStaysMatched}
+use Rattle.irc_server.specs.Served.{of_client, link_up, link_says, link_down, served, LoneServerIsOneRoom, ServedStaysMatched}
 
 -- What a decision may know of its server is never changed.
 
@@ -66,13 +66,13 @@ place_is_kept machine (goes conn) = quits_keep (user_of machine.room (client_of 
 
 -- The machine of a server that was served is the machine that was handled.
 
-pub one_machine : (view : View) (happening : Happening) → machine_of (served view (by_client happening)).view ≡ (handled (machine_of view) happening).machine
+pub one_machine : (view : View) (happening : Happening) → machine_of (served view (of_client happening)).view ≡ (handled (machine_of view) happening).machine
 unfolding served
 one_machine view happening =
     let after = (handled (machine_of view) happening).machine in
     ap (λ place. record { place = place; clients = after.clients; room = after.room }) (sym (place_is_kept (machine_of view) happening))
 
-pub same_out : (view : View) (happening : Happening) → (served view (by_client happening)).out ≡ (handled (machine_of view) happening).out
+pub same_out : (view : View) (happening : Happening) → (served view (of_client happening)).out ≡ (handled (machine_of view) happening).out
 unfolding served
 same_out view happening = refl
 
@@ -87,7 +87,7 @@ one_room view happening alone = record {
 
 pub served_stays_matched : StaysMatched → ServedStaysMatched
 unfolding served
-served_stays_matched stays view matched well (by_client happening) due =
+served_stays_matched stays view matched well (of_client happening) due =
     subst IsMatched (sym (one_machine view happening)) (stays (machine_of view) matched well happening due)
 served_stays_matched stays view matched well (link_up link starts) due = matched
 served_stays_matched stays view matched well (link_says link read) due = matched

@@ -7,17 +7,17 @@ use Rattle.irc_server.specs.declared.event.ServerFault.{ServerFault}
 use Rattle.irc_stage.specs.RoomMachine.{RoomMachine}
 use Rattle.irc_stage.specs.View.{View, machine_of}
 use Rattle.irc_stage.specs.Handle.{Happening, handled}
-use Rattle.irc_server.specs.Served.{Occurrence, by_client, served}
+use Rattle.irc_server.specs.Served.{Occurrence, of_client, served}
 use Rattle.irc_server.specs.Happening.{occurrence_of, Does, IsHandled, takes_it, AreHandled}
 use Rattle.irc_server.proofs.OneMachine.{one_machine, same_out}
 use Rattle.irc_server.specs.Owed.{line_for, lines_to, after_all, owed, AreOfClients, Receives}
 
 receives_more : (view after : View) (event : Event) (happening : Happening) (left : List Happening) (out out_between : List Sent) (new : Option View)
-    (out_after : List Sent) → occurrence_of event ≡ by_client happening → Does view event out after out_between → Receives after left out_between new out_after
+    (out_after : List Sent) → occurrence_of event ≡ of_client happening → Does view event out after out_between → Receives after left out_between new out_after
     → Receives view (happening ∷ left) out new out_after
 receives_more view after event happening left out out_between new out_after event_is does later =
     let put = (handled (machine_of view) happening).out in
-    let view_is : after ≡ (served view (by_client happening)).view = does.view_is ∙ ap (λ (o : Occurrence). (served view o).view) event_is in
+    let view_is : after ≡ (served view (of_client happening)).view = does.view_is ∙ ap (λ (o : Occurrence). (served view o).view) event_is in
     let after_is : machine_of after ≡ (handled (machine_of view) happening).machine = ap machine_of view_is ∙ one_machine view happening in
     let out_is : out_between ≡ out ++ put =
     does.out_is ∙ ap (λ (o : Occurrence). out ++ (served view o).out) event_is ∙ ap (λ l. out ++ l) (same_out view happening) in
@@ -33,7 +33,7 @@ receives_more view after event happening left out out_between new out_after even
 
 -- the first event is handled, and those behind it
 by_between : {view : View} {event : Event} {out out_between : List Sent} {between : Option View} (happening : Happening) (events : List Event) (left : List Happening)
-    (new : Option View) (out_after : List Sent) → occurrence_of event ≡ by_client happening
+    (new : Option View) (out_after : List Sent) → occurrence_of event ≡ of_client happening
     → ((after : View) → AreHandled (Some after) events out_between (Ok tt) new out_after → Receives after left out_between new out_after)
     → IsHandled (Some view) event out (Ok tt) between out_between → AreHandled between events out_between (Ok tt) new out_after
     → Receives view (happening ∷ left) out new out_after
@@ -41,7 +41,7 @@ by_between {view = view} {event = event} {out = out} {out_between = out_between}
     receives_more view after event happening left out out_between new out_after event_is does (later after more)
 
 by_first : (view : View) (event : Event) (happening : Happening) (events : List Event) (left : List Happening) (out : List Sent) (new : Option View) (out_after : List Sent)
-    → occurrence_of event ≡ by_client happening
+    → occurrence_of event ≡ of_client happening
     → ((after : View) (out_between : List Sent) → AreHandled (Some after) events out_between (Ok tt) new out_after → Receives after left out_between new out_after)
     → AreHandled (Some view) (event ∷ events) out (Ok tt) new out_after → Receives view (happening ∷ left) out new out_after
 by_first view event happening events left out new out_after event_is later (inl stops) = absurd (let is = stops.result_is in cc)

@@ -30,7 +30,7 @@ use Rattle.irc_stage.specs.View.{End, View, known_peer, machine_of, with_end, wi
 use Rattle.irc_stage.specs.Handle.{Happening, connects, says, goes, Handled, handled, fresh, gone, read_as, unchanged, closing, all_stepped, decided, user_decided, user_of, lost_text}
 use Rattle.irc_server.specs.Happening.{occurrence_of, Does, IsHandled, takes_it, refuses_it, wants_memory, has_failed}
 use Rattle.irc_server.specs.Loops.Acting.{nick_of, is_want_of_memory, Both, Comes, IsActed, IsSame, Stands}
-use Rattle.irc_server.specs.Served.{Occurrence, by_client, link_up, link_says, link_down, Served, in_silence, put_back, served, there, fault_of, AreMatched, IsDueAt, ServedStaysMatched}
+use Rattle.irc_server.specs.Served.{Occurrence, of_client, link_up, link_says, link_down, Served, in_silence, put_back, served, there, fault_of, AreMatched, IsDueAt, ServedStaysMatched}
 use Rattle.irc_batch.specs.Growing.{Grew}
 use Rattle.irc_stage.specs.Loops.Stage.{behind, numbered, so_far, view_of, machine_at, IsNoUser, Keeps}
 use Rattle.irc_stage.specs.Matched.{IsMatched}
@@ -89,7 +89,7 @@ said_is old out after conn read is = is
 
 -- and so to the server
 
-pub does : (old new : Stage) (event : Event) (happening : Happening) (out out_after : List Sent) → occurrence_of event ≡ by_client happening → Keeps old new
+pub does : (old new : Stage) (event : Event) (happening : Happening) (out out_after : List Sent) → occurrence_of event ≡ of_client happening → Keeps old new
     → Happens (machine_at old) happening out (so_far new out_after) → Does (view_of old) event out (view_of new) out_after
 unfolding served
 does old new event happening out out_after event_is keeps is = record {

@@ -8,13 +8,13 @@ use Rattle.irc_server.specs.declared.event.ServerFault.{ServerFault}
 use Rattle.irc_server.specs.declared.event.ServerFault.TheVariants.{Memory, Failed}
 use Rattle.irc_stage.specs.View.{View}
 use Rattle.irc_stage.specs.Handle.{connects, says, goes}
-use Rattle.irc_server.specs.Served.{Occurrence, by_client, link_up, link_says, link_down, served, fault_of}
+use Rattle.irc_server.specs.Served.{Occurrence, of_client, link_up, link_says, link_down, served, fault_of}
 
 -- what happens by an event; of a line, what it is read as
 abbrev pub occurrence_of : Event → Occurrence
-occurrence_of (Connect conn host) = by_client (connects conn host)
-occurrence_of (Line conn line) = by_client (says conn (read_of line.items))
-occurrence_of (Gone conn) = by_client (goes conn)
+occurrence_of (Connect conn host) = of_client (connects conn host)
+occurrence_of (Line conn line) = of_client (says conn (read_of line.items))
+occurrence_of (Gone conn) = of_client (goes conn)
 occurrence_of (LinkUp link starts) = link_up link starts
 occurrence_of (LinkLine link line) = link_says link (read_of line.items)
 occurrence_of (LinkDown link) = link_down link

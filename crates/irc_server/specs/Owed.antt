@@ -6,7 +6,7 @@ use Rattle.irc_batch.specs.Batches.{Sent, line_to}
 use Rattle.irc_stage.specs.RoomMachine.{RoomMachine}
 use Rattle.irc_stage.specs.View.{View, machine_of}
 use Rattle.irc_stage.specs.Handle.{Happening, handled}
-use Rattle.irc_server.specs.Served.{by_client, served}
+use Rattle.irc_server.specs.Served.{of_client, served}
 use Rattle.irc_server.specs.Happening.{occurrence_of}
 
 -- a line, where it is one to this connection
@@ -21,7 +21,7 @@ lines_to conn out = filter_map (line_for conn) out
 -- the server after these happenings
 abbrev pub after_all : View → List Happening → View
 after_all view [] = view
-after_all view (happening ∷ happenings) = after_all (served view (by_client happening)).view happenings
+after_all view (happening ∷ happenings) = after_all (served view (of_client happening)).view happenings
 
 -- what a connection is owed by them
 abbrev pub owed : ℕ → RoomMachine → List Happening → List (List ℕ)
@@ -30,7 +30,7 @@ owed conn machine (happening ∷ happenings) = lines_to conn (handled machine ha
 
 -- These events are of clients alone, and this is what happens by them.
 abbrev pub AreOfClients : List Event → List Happening → Type 0
-AreOfClients events happenings = map occurrence_of events ≡ map by_client happenings
+AreOfClients events happenings = map occurrence_of events ≡ map of_client happenings
 
 -- From one view of a server to another by what clients do, each connection has received what the room machine that the server was to it owes it.
 pub record Receives (old : View) (happenings : List Happening) (out : List Sent) (new : Option View) (out_after : List Sent) : Type 0 where

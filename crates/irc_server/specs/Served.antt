@@ -18,7 +18,7 @@ use Rattle.irc_stage.specs.Matched.{IsDue, IsMatched}
 -- What happens to a server: something by one of its clients; a link that this end opened to a peer, or that was opened to it; a line of the server at the
 -- other end, as it is read; a link that is lost.
 pub data Occurrence : Type 0 where
-  by_client : (happening : Happening) → Occurrence
+  of_client : (happening : Happening) → Occurrence
   link_up : (link : ℕ) (starts : Option (List ℕ)) → Occurrence
   link_says : (link : ℕ) (read : Result Parsed LineFault) → Occurrence
   link_down : (link : ℕ) → Occurrence
@@ -38,7 +38,7 @@ in_silence view = record { view = view; out = [] }
 -- What happens by a client is done by the room machine that the server is to it. Of links the server keeps which are open; what their lines say it does not
 -- take yet.
 unfoldable pub served : View → Occurrence → Served
-served view (by_client happening) = put_back view (handled (machine_of view) happening)
+served view (of_client happening) = put_back view (handled (machine_of view) happening)
 served view (link_up link starts) = in_silence (with_end link starts view)
 served view (link_says link read) = in_silence view
 served view (link_down link) = in_silence (without_end link view)
@@ -74,7 +74,7 @@ AreMatched view = IsMatched (machine_of view)
 
 -- a connection that connects is not there yet
 abbrev pub IsDueAt : View → Occurrence → Type 0
-IsDueAt view (by_client happening) = IsDue (machine_of view) happening
+IsDueAt view (of_client happening) = IsDue (machine_of view) happening
 IsDueAt view occurrence = ⊤
 
 -- Whatever is served, they stay so.
@@ -86,10 +86,10 @@ ServedStaysMatched =
 -- A server and a room machine say the same of a happening: put back, what the machine has is what the server has; its machine is the machine's; and the
 -- same is put out.
 pub record SaysTheSame (view : View) (happening : Happening) : Type 0 where
-  pub whole : served view (by_client happening) ≡ put_back view (handled (machine_of view) happening)
-  pub machine : machine_of (served view (by_client happening)).view ≡ (handled (machine_of view) happening).machine
-  pub out : (served view (by_client happening)).out ≡ (handled (machine_of view) happening).out
-  pub alone : IsAlone (served view (by_client happening)).view
+  pub whole : served view (of_client happening) ≡ put_back view (handled (machine_of view) happening)
+  pub machine : machine_of (served view (of_client happening)).view ≡ (handled (machine_of view) happening).machine
+  pub out : (served view (of_client happening)).out ≡ (handled (machine_of view) happening).out
+  pub alone : IsAlone (served view (of_client happening)).view
 
 -- A server without links is one room.
 abbrev pub LoneServerIsOneRoom : Type 0

@@ -1,4 +1,6 @@
 //! A listening socket.
+ghost use Rattle.std.specs.Prelude.{◌≡◌, IfOk};
+
 use mio::net::{TcpListener, TcpStream};
 use mio::{Interest, Registry, Token};
 use std::io;
@@ -9,6 +11,8 @@ use std::net::{Net, SocketAddr};
 #[derive(Drop)]
 pub(crate) struct Door {
     listener: TcpListener,
+    /// Where it was asked to listen.
+    pub asked: SocketAddr,
     may_have: bool,
     /// Whether a connection could not be taken, as where the process has no descriptor left: asking again at once would spin.
     is_resting: bool,
@@ -24,11 +28,14 @@ impl Door {
         address: SocketAddr,
         registry: &Registry,
         token: Token,
-    ) -> io::Result<Self> {
+    ) -> io::Result<Self>
+        ensures { IfOk result (λ door. door.asked ≡ address) }
+    {
         let mut listener = TcpListener::bind(net, address)?;
         registry.register(&mut listener, token, Interest::READABLE)?;
         Ok(Door {
             listener,
+            asked: address,
             may_have: false,
             is_resting: false,
         })

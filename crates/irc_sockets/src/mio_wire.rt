@@ -1,6 +1,7 @@
 //! A wire of TCP sockets.
 ghost use Rattle.std.specs.Prelude.{⊤, ◌≤◌, length, IfOk};
 ghost use Rattle.irc_outbox.specs.Calls.{Call, asks, reads, writes, closes, bytes_got, Adds, FitsIn};
+ghost use Rattle.irc_sockets.specs.Listening.{ListensAt};
 
 use crate::door::Door;
 use crate::host::host_of;
@@ -43,8 +44,8 @@ pub struct MioWire {
     /// How many sockets and how many arrivals are left of this round.
     reports: usize,
     arrivals: usize,
-    /// Whether a write has failed since the system was last asked. What others are told of that waits to be written, so no wait is due.
-    has_failed: bool,
+    /// Whether bytes may wait though nothing is in their way, by the writes since the last report: then no wait is due.
+    has_more: bool,
 }
 
 impl MioWire {
@@ -57,7 +58,9 @@ impl MioWire {
         alloc: Global,
         clients: SocketAddr,
         links: Option<SocketAddr>,
-    ) -> io::Result<Self> {
+    ) -> io::Result<Self>
+        ensures { IfOk result (λ wire. ListensAt clients links wire) }
+    {
         let poll = Poll::new(net)?;
         let events = Events::with_capacity(alloc, EVENTS)?;
         let clients = Door::open(net, clients, poll.registry(), Token(CLIENTS))?;
@@ -73,7 +76,7 @@ impl MioWire {
             sockets: Sockets::new(alloc),
             reports: 0,
             arrivals: 0,
-            has_failed: false,
+            has_more: false,
         })
     }
 
@@ -90,9 +93,8 @@ impl MioWire {
     /// # Errors
     /// Where the system fails.
     fn begin_round(&mut self) -> io::Result<()> {
-        let is_busy = self.sockets.waiting() > 0 || self.has_arrivals() || self.has_failed;
+        let is_busy = self.sockets.waiting() > 0 || self.has_arrivals() || self.has_more;
         let wait = Duration::from_millis(if is_busy { 0 } else { WAIT });
-        self.has_failed = false;
         self.poll.poll(&mut self.events, Some(wait))?;
         if self.events.is_empty() && !is_busy {
             self.wake_doors();
@@ -198,6 +200,7 @@ impl Wire for MioWire {
         if is_over && self.begin_round().is_err() {
             return Err(IoFault::Failed);
         }
+        self.has_more = false;
         Ok(self.report())
     }
 
@@ -207,7 +210,8 @@ impl Wire for MioWire {
 
     fn write(&mut self, conn: u64, bytes: &[u8]) -> Result<usize, IoFault> {
         let taken = self.sockets.write(conn as usize, bytes);
-        self.has_failed |= taken.is_err();
+        // where it failed, what others are told of that was put into their outboxes behind the writes of this turn
+        self.has_more |= taken.is_err() || self.sockets.may_have_more(conn as usize);
         taken
     }
 

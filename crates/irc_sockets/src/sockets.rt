@@ -20,6 +20,8 @@ struct Socket {
     is_readable: bool,
     /// Whether it takes no bytes for now. The system tells when it does again.
     is_full: bool,
+    /// Whether it has once taken less than it was given. What waits for it may since lie in two pieces, of which a write gives one.
+    has_lagged: bool,
     /// Whether the system has told that no more bytes will come behind those that are there: it tells that once.
     is_ending: bool,
     /// Whether it stands in the queue.
@@ -55,6 +57,7 @@ impl Sockets {
             stream,
             is_readable: false,
             is_full: false,
+            has_lagged: false,
             is_ending: false,
             is_queued: false,
         };
@@ -162,6 +165,14 @@ impl Sockets {
             None => Err(IoFault::Failed),
         }
     }
+
+    /// Whether bytes may wait for a socket though nothing keeps it from taking them. The system has nothing to tell of it then.
+    pub fn may_have_more(&self, number: usize) -> bool {
+        match self.by_number.get(number) {
+            Some(socket) => socket.has_lagged && !socket.is_full,
+            None => false,
+        }
+    }
 }
 
 /// There is room: it was made as the socket came.
@@ -190,6 +201,7 @@ impl Socket {
         match self.stream.write(bytes) {
             Ok(count) => {
                 self.is_full = count < bytes.len();
+                self.has_lagged |= self.is_full;
                 Ok(count)
             }
             Err(error) => self.unwritten(error.kind()),
@@ -200,6 +212,7 @@ impl Socket {
     fn unwritten(&mut self, kind: ErrorKind) -> Result<usize, IoFault>
         ensures { IfOk result (λ count. count ≡ 0) }
     {
+        self.has_lagged = true;
         match kind {
             ErrorKind::WouldBlock => {
                 self.is_full = true;

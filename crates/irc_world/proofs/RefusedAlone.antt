@@ -5,10 +5,11 @@ use Rattle.std.specs.FinMap.{get}
 use Rattle.irc_line.specs.Reading.{read_of}
 use Rattle.irc_stage.specs.declared.clients.Client.{Client}
 use Rattle.irc_server.specs.declared.event.Event.{Event}
-use Rattle.irc_server.specs.declared.event.Event.TheVariants.{Connect, Line, Gone}
+use Rattle.irc_server.specs.declared.event.Event.TheVariants.{Connect, Line, Gone, LinkUp, LinkLine, LinkDown}
 use Rattle.irc_server.specs.declared.event.ServerFault.TheVariants.{NoSuchConnection}
 use Rattle.irc_stage.specs.RoomMachine.{client_of}
-use Rattle.irc_server.specs.Happening.{happening_of}
+use Rattle.irc_server.specs.Happening.{occurrence_of}
+use Rattle.irc_server.specs.Served.{Occurrence, of_client}
 use Rattle.irc_server.specs.Served.{fault_of, not_there}
 use Rattle.irc_stage.specs.View.{View, machine_of}
 use Rattle.irc_stage.specs.Handle.{Happening, connects, says, goes}
@@ -29,6 +30,9 @@ is_refused : (b : Bool) → (if b then None else Some no_such_client) ≡ Some n
 is_refused true is = absurd (cc is)
 is_refused false is = refl
 
+its_happening : (a b : Happening) → of_client a ≡ of_client b → a ≡ b
+its_happening a b is = cc is
+
 module _ (setting : Setting) (world : World) (view : View) (sound : IsSound (setting ∷ []) world) (is : IsTheServer setting world view) where
   nobody : (client : ℕ) → is_some (open_client world client) ≡ false → client_of (machine_of view) client ≡ None
   nobody client none = ap (λ clients. get clients client) is.clients ∙ by (get (world.hall setting.name).clients client) refl
@@ -42,14 +46,17 @@ module _ (setting : Setting) (world : World) (view : View) (sound : IsSound (set
           ∙ ap (λ o. is_some (option_and_then (λ home. get (world.hall home).clients client) o)) (at_home.is_home ∙ ap Some (sym here))
           ∙ ap is_some there in cc clash)
 
-  event_refused : (client : ℕ) (happening : Happening) (event : Event) → happening ≡ happening_of event → conn_of happening ≡ client
+  event_refused : (client : ℕ) (happening : Happening) (event : Event) → of_client happening ≡ occurrence_of event → conn_of happening ≡ client
       → (((conn : ℕ) (host : List ℕ) → happening ≡ connects conn host → ⊥))
       → is_some (open_client world client) ≡ false → fault_of view event ≡ Some NoSuchConnection
-  event_refused client happening (Connect conn host) same number apart none = absurd (apart conn _ same)
+  event_refused client happening (Connect conn host) same number apart none = absurd (apart conn _ (its_happening _ _ same))
   event_refused client happening (Line conn text) same number apart none =
-      ap not_there (ap (client_of (machine_of view)) (sym (ap conn_of same) ∙ number) ∙ nobody client none)
+      ap not_there (ap (client_of (machine_of view)) (sym (ap conn_of (its_happening _ _ same)) ∙ number) ∙ nobody client none)
   event_refused client happening (Gone conn) same number apart none =
-      ap not_there (ap (client_of (machine_of view)) (sym (ap conn_of same) ∙ number) ∙ nobody client none)
+      ap not_there (ap (client_of (machine_of view)) (sym (ap conn_of (its_happening _ _ same)) ∙ number) ∙ nobody client none)
+  event_refused client happening (LinkUp number starts) same is apart none = absurd (cc same)
+  event_refused client happening (LinkLine number text) same is apart none = absurd (cc same)
+  event_refused client happening (LinkDown number) same is apart none = absurd (cc same)
 
 pub one_server_refuses : OneServerRefuses
 unfolding refused
@@ -61,10 +68,10 @@ one_server_refuses setting world view (connect server host) event sound is same 
     by false taken = cc taken
 one_server_refuses setting world view (line client bytes) event sound is same taken =
     event_refused setting world view sound is client (says client (read_of bytes)) event
-    (same_some (says client (read_of bytes)) (happening_of event) same) refl
+    (same_some (of_client (says client (read_of bytes))) (occurrence_of event) same) refl
     (λ conn host is. cc is) (is_refused (is_some (open_client world client)) taken)
 one_server_refuses setting world view (gone client) event sound is same taken =
-    event_refused setting world view sound is client (goes client) event (same_some (goes client) (happening_of event) same) refl
+    event_refused setting world view sound is client (goes client) event (same_some (of_client (goes client)) (occurrence_of event) same) refl
     (λ conn host is. cc is) (is_refused (is_some (open_client world client)) taken)
 one_server_refuses setting world view (link near far) event sound is same taken = absurd (cc same)
 one_server_refuses setting world view (cut near far) event sound is same taken = absurd (cc same)

@@ -23,7 +23,7 @@ use Rattle.irc_stage.specs.declared.clients.Client.{Client}
 use Rattle.irc_stage.specs.RoomMachine.{Clients, RoomMachine, client_of}
 use Rattle.irc_stage.specs.View.{View, machine_of}
 use Rattle.irc_stage.specs.Handle.{Happening, connects, says, goes, handled}
-use Rattle.irc_server.specs.Served.{served, LoneServerIsOneRoom, SaysTheSame}
+use Rattle.irc_server.specs.Served.{of_client, served, LoneServerIsOneRoom, SaysTheSame}
 use Rattle.irc_server.specs.Owed.{lines_to}
 use Rattle.irc_server.specs.Owed.{owed as owed_by_server}
 use Rattle.irc_world.specs.World.{Setting, Hall, World, new_world, setting_of, is_server, home_of, known_from, place_in, place_at, machine_at}
@@ -103,8 +103,8 @@ machine_with place clients room = record { place = place; clients = clients; roo
 
 -- what a client does, does the same to both
 pub record IsDone (setting : Setting) (done : Stepped) (view : View) (happening : Happening) : Type 0 where
-  pub stays : IsTheServer setting done.world (served view happening).view
-  pub lines : (client : ℕ) → done.lines client ≡ lines_to client (served view happening).out
+  pub stays : IsTheServer setting done.world (served view (of_client happening)).view
+  pub lines : (client : ℕ) → done.lines client ≡ lines_to client (served view (of_client happening)).out
 
 pub past_end : (homes : List Name) → slice_get homes (length homes) ≡ None
 past_end [] = refl
@@ -257,7 +257,7 @@ module _ (alone_is : AloneIsAlone) (one_room : LoneServerIsOneRoom) (stays_sound
   owes (item ∷ items) world view sound is taken =
       ap (λ lines. lines ++ owed_from (setting ∷ []) next items client) (first.lines client ∙ ap (lines_to client) same.out)
       ∙ ap (λ lines. lines_to client (handled (machine_of view) first.happening).out ++ lines)
-      (owes items next (served view first.happening).view (stays_sound (setting ∷ []) world item sound taken.now) first.stays taken.later
+      (owes items next (served view (of_client first.happening)).view (stays_sound (setting ∷ []) world item sound taken.now) first.stays taken.later
       ∙ ap (λ m. owed_by_server client m (happenings_from (setting ∷ []) next items)) same.machine)
       ∙ ap (λ o. owed_by_server client (machine_of view) (option_to_list o ++ happenings_from (setting ∷ []) next items)) (sym first.is_item)
     where

@@ -1,6 +1,7 @@
 -- A network of one server is that server: what happens to the one happens to the other, and their clients receive the same.
 use Rattle.std.specs.Prelude.{◌≡◌, ℕ, suc, true, Option, Some, None, is_some, List, [], ◌∷◌, ◌++◌, Ok, length, map, option_to_list}
 use Rattle.std.specs.FinMap.{empty}
+use Rattle.std.specs.Option.{option_map}
 use Rattle.irc_line.specs.Reading.{read_of}
 use Rattle.irc_room.specs.Laws.{no_room}
 use Rattle.irc_routes.specs.Known.{alone_known}
@@ -8,11 +9,11 @@ use Rattle.irc_stage.specs.RoomMachine.{RoomMachine, client_of}
 use Rattle.irc_server.specs.declared.config.Config.{Config}
 use Rattle.irc_server.specs.declared.event.Event.{Event}
 use Rattle.irc_server.specs.declared.event.ServerFault.TheVariants.{NoSuchConnection}
-use Rattle.irc_server.specs.Happening.{happening_of}
+use Rattle.irc_server.specs.Happening.{occurrence_of}
 use Rattle.irc_server.specs.Configuring.{IsMade}
 use Rattle.irc_stage.specs.View.{View, known_peer, machine_of}
 use Rattle.irc_stage.specs.Handle.{Happening, connects, says, goes}
-use Rattle.irc_server.specs.Served.{served, fault_of}
+use Rattle.irc_server.specs.Served.{of_client, served, fault_of}
 use Rattle.irc_server.specs.Owed.{lines_to}
 use Rattle.irc_server.specs.Owed.{owed as owed_by_server}
 use Rattle.irc_world.specs.World.{Setting, World, new_world}
@@ -26,7 +27,7 @@ abbrev pub lone_view : Setting → View
 lone_view setting = record {
   routes = alone_known setting.name setting.info setting.created;
   peers = setting.peers;
-  ends = [];
+  ends = empty;
   clients = empty;
   room = no_room;
 }
@@ -51,7 +52,7 @@ NewServerIsAlone = (config : Config) (server : Option View) → IsMade config (O
 -- a server is all that a network of one server is to its clients: it knows no other, and has the clients and the room of its hall
 pub record IsTheServer (setting : Setting) (world : World) (view : View) : Type 0 where
   pub routes : view.routes ≡ alone_known setting.name setting.info setting.created
-  pub no_ends : view.ends ≡ []
+  pub no_ends : view.ends ≡ empty
   pub clients : view.clients ≡ (world.hall setting.name).clients
   pub room : view.room ≡ (world.hall setting.name).room
 
@@ -74,8 +75,8 @@ pub record IsServed (setting : Setting) (world : World) (view : View) (item : It
   pub happening : Happening
   pub is_item : happening_at world item ≡ Some happening
   pub expected : IsExpected (machine_of view) happening
-  pub stays : IsTheServer setting (step (setting ∷ []) world item).world (served view happening).view
-  pub lines : (client : ℕ) → (step (setting ∷ []) world item).lines client ≡ lines_to client (served view happening).out
+  pub stays : IsTheServer setting (step (setting ∷ []) world item).world (served view (of_client happening)).view
+  pub lines : (client : ℕ) → (step (setting ∷ []) world item).lines client ≡ lines_to client (served view (of_client happening)).out
 
 -- any item that is not refused is one for the one server, and it does the same
 abbrev pub OneServerIsTheNetwork : Type 0
@@ -97,5 +98,5 @@ OneServerOwes = (setting : Setting) (items : List Item) → AreTaken (setting �
 abbrev pub OneServerRefuses : Type 0
 OneServerRefuses =
     (setting : Setting) (world : World) (view : View) (item : Item) (event : Event) → IsSound (setting ∷ []) world → IsTheServer setting world view
-    → happening_at world item ≡ Some (happening_of event) → refused (setting ∷ []) world item ≡ Some no_such_client
+    → option_map of_client (happening_at world item) ≡ Some (occurrence_of event) → refused (setting ∷ []) world item ≡ Some no_such_client
     → fault_of view event ≡ Some NoSuchConnection

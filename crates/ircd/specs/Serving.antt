@@ -8,7 +8,7 @@ use Rattle.irc_settings.specs.declared.settings.Settings.{Settings}
 use Rattle.irc_settings.specs.declared.settings.PeerSettings.{PeerSettings}
 use Rattle.irc_settings.specs.Configuration.{IsReadAs, is_configuration}
 use Rattle.irc_server.specs.declared.config.Config.{Config}
-use Rattle.irc_server.specs.Configuring.{config_fault, new_view}
+use Rattle.irc_server.specs.Configuring.{config_fault, made_view}
 use Rattle.irc_stage.specs.View.{KnownPeer, known_peer}
 use Rattle.irc_engine.specs.declared.engine.Engine.{Engine}
 use Rattle.irc_engine.specs.declared.engine.EngineFault.{EngineFault}
@@ -60,7 +60,7 @@ pub record IsSetUp (settings : Settings) (setup : Setup) : Type 0 where
   pub config : Config
   pub configures : Configures settings config
   pub no_fault : config_fault config ≡ None
-  pub server_is : setup.server ≡ Some (new_view config)
+  pub server_is : setup.server ≡ Some (made_view config)
   pub clients : IsSocketText (string_bytes settings.listen) setup.clients
   pub links : IsAddress (option_map string_bytes settings.listen_links) setup.links
   pub called : AreCalled settings.peers.items

@@ -1,13 +1,14 @@
 use Rattle.std.proofs.Common.{◌≡◌}
 use Rattle.irc_engine.specs.Loops.Boards.{KeepsMarks}
 use Rattle.irc_engine.specs.Loops.Counts.{count_of}
-use Rattle.irc_engine.specs.Running.{RanOn}
+use Rattle.irc_engine.specs.Running.{RanOn, TellsLosses}
 use Rattle.irc_engine.specs.Loops.Desks.{moment_of}
 use Rattle.irc_engine.proofs.engine.Desk.tell_losses.Given as goal
 
 abbrev pub invariant-loop-conn : goal.invariant-loop-conn
 invariant-loop-conn g l = record {
   ran : RanOn g.W.Wire.is_after (moment_of l.fn.self) (moment_of l.self);
+  in_order : TellsLosses g.W.Wire.is_after (moment_of l.fn.self) (moment_of l.self);
   marks : KeepsMarks l.fn.self.board l.self.board;
   same : l.self.buffer ≡ l.fn.self.buffer;
 }

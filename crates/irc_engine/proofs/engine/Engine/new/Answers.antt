@@ -11,6 +11,7 @@ returns g c = record {
   server_is = refl;
   wire_is = refl;
   room_is = refl;
+  link_room_is = refl;
   no_seats = c.new.ensures;
   in_order = record {
     all_told = λ conn. ap (list_any (is_at (nat_cmp conn))) c.new-3.ensures.empty;
