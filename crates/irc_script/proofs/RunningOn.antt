@@ -1,16 +1,17 @@
 -- What is begun can be run to its end: what was printed then is a front of what the whole script prints.
 use Rattle.std.proofs.Common.{◌≡◌, ℕ, Option, Some, None, Ok, Err, List, [], ◌∷◌, ◌++◌, ◌⊎◌, inl, inr, ap, sym, subst, refl, ◌∙◌, append_assoc}
 use Rattle.std.specs.Bool.{⊤}
+use Rattle.std.specs.FinMap.{get}
 use Rattle.irc_server.specs.declared.event.Event.{Event}
-use Rattle.irc_server.specs.declared.event.Event.TheVariants.{Connect, Line, Gone}
+use Rattle.irc_server.specs.declared.event.Event.TheVariants.{Connect, Line, Gone, LinkUp, LinkLine, LinkDown}
 use Rattle.irc_batch.specs.Batches.{Sent}
 use Rattle.irc_server.specs.declared.event.ServerFault.{ServerFault}
-use Rattle.irc_server.specs.declared.event.ServerFault.TheVariants.{NoSuchConnection, ConnectionThere}
+use Rattle.irc_server.specs.declared.event.ServerFault.TheVariants.{NoSuchConnection, ConnectionThere, NoSuchLink, LinkThere}
 use Rattle.irc_stage.specs.declared.clients.Client.{Client}
 use Rattle.irc_stage.specs.RoomMachine.{client_of}
-use Rattle.irc_stage.specs.View.{View, machine_of}
-use Rattle.irc_server.specs.Served.{served, fault_of, there, not_there}
-use Rattle.irc_server.specs.Happening.{happening_of, IsHandled, takes_it, refuses_it, wants_memory, has_failed}
+use Rattle.irc_stage.specs.View.{End, View, machine_of}
+use Rattle.irc_server.specs.Served.{served, fault_of, there, not_there, link_there, no_link}
+use Rattle.irc_server.specs.Happening.{occurrence_of, IsHandled, takes_it, refuses_it, wants_memory, has_failed}
 use Rattle.irc_script.specs.Events.{events_of}
 use Rattle.irc_script.specs.Printing.{refusal_number}
 use Rattle.irc_script.specs.Loops.Steps.{Begins, to_the_end, partly, further}
@@ -63,10 +64,26 @@ refused_not_there : (client : Option Client) (fault : ServerFault) → not_there
 refused_not_there None fault is = cc is
 refused_not_there (Some client) fault is = cc is
 
-refused_by : (view : View) (e : Event) (fault : ServerFault) → fault_of view e ≡ Some fault → (fault ≡ ConnectionThere) ⊎ (fault ≡ NoSuchConnection)
-refused_by view (Connect conn host) fault is = inl (refused_there (client_of (machine_of view) conn) fault is)
-refused_by view (Line conn line) fault is = inr (refused_not_there (client_of (machine_of view) conn) fault is)
-refused_by view (Gone conn) fault is = inr (refused_not_there (client_of (machine_of view) conn) fault is)
+refused_link_there : (end : Option End) (fault : ServerFault) → link_there end ≡ Some fault → fault ≡ LinkThere
+refused_link_there None fault is = cc is
+refused_link_there (Some end) fault is = cc is
+
+refused_no_link : (end : Option End) (fault : ServerFault) → no_link end ≡ Some fault → fault ≡ NoSuchLink
+refused_no_link None fault is = cc is
+refused_no_link (Some end) fault is = cc is
+
+-- each refusal has a number
+record IsNumbered (fault : ServerFault) : Type 0 where
+  number : ℕ
+  is : refusal_number fault ≡ Some number
+
+numbered_by : (view : View) (e : Event) (fault : ServerFault) → fault_of view e ≡ Some fault → IsNumbered fault
+numbered_by view (Connect conn host) fault is = record { number = 4; is = ap refusal_number (refused_there (client_of (machine_of view) conn) fault is) }
+numbered_by view (Line conn line) fault is = record { number = 3; is = ap refusal_number (refused_not_there (client_of (machine_of view) conn) fault is) }
+numbered_by view (Gone conn) fault is = record { number = 3; is = ap refusal_number (refused_not_there (client_of (machine_of view) conn) fault is) }
+numbered_by view (LinkUp link starts) fault is = record { number = 6; is = ap refusal_number (refused_link_there (get view.ends link) fault is) }
+numbered_by view (LinkLine link line) fault is = record { number = 5; is = ap refusal_number (refused_no_link (get view.ends link) fault is) }
+numbered_by view (LinkDown link) fault is = record { number = 5; is = ap refusal_number (refused_no_link (get view.ends link) fault is) }
 
 record Answered (old : Option (Option View)) (e : Event) : Type 0 where
   answer : Answer
@@ -83,7 +100,7 @@ refusal view e fault number owed is = record {
 
 taken : (view : View) (e : Event) → fault_of view e ≡ None → Answered (Some (Some view)) e
 taken view e owed =
-    let after = served view (happening_of e) in
+    let after = served view (occurrence_of e) in
     record {
       answer = puts_out after.out;
       new = Some (Some after.view);
@@ -96,10 +113,7 @@ answered (Some None) e lives = absurd lives
 answered (Some (Some view)) e lives =
     elim (fault_of view e) as (λ o. fault_of view e ≡ o → Answered (Some (Some view)) e) [
       | None ↦ λ owed. taken view e owed
-      | Some fault ↦ λ owed. elim (refused_by view e fault owed) [
-        | inl is ↦ refusal view e fault 4 owed (ap refusal_number is)
-        | inr is ↦ refusal view e fault 3 owed (ap refusal_number is)
-      ]
+      | Some fault ↦ λ owed. let known = numbered_by view e fault owed in refusal view e fault known.number owed known.is
     ] refl
 
 record PlayedOn (first : Standing) (events : List Event) : Type 0 where

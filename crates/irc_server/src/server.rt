@@ -1,18 +1,20 @@
 //! One server.
-ghost use Rattle.std.specs.Prelude.{◌≡◌, Some, List, OnOk};
+ghost use Rattle.std.specs.Prelude.{◌≡◌, false, is_some, Some, List, OnOk};
+ghost use Rattle.std.specs.FinMap.{get};
+ghost use Rattle.std.specs.Option.{option_and_then, option_copied, option_map, option_map_or};
+ghost use Rattle.irc_room.specs.Applying.{Kept};
 ghost use Rattle.irc_server.specs.Configuring.{IsMade};
 ghost use Rattle.irc_server.specs.Happening.{AreHandled, IsHandled};
 ghost use Rattle.irc_server.specs.Owed.{AreOfClients, Receives};
 ghost use Rattle.irc_stage.specs.Handle.{Happening};
 ghost use Rattle.irc_server.specs.Loops.Acting.{is_want_of_memory};
-ghost use Rattle.irc_stage.specs.View.{View};
+ghost use Rattle.irc_stage.specs.View.{password_for, View};
 
 use crate::acting::act;
 use crate::config::{Config, ConfigFault, config_fault};
 use crate::event::{Event, ServerFault};
 use crate::laws;
 use irc_batch::Batch;
-use irc_names::ServerName;
 use irc_room::Room;
 use irc_routes::Routes;
 use irc_stage::Stage;
@@ -66,6 +68,46 @@ impl Server {
             failed: false,
             stage: Stage::new(alloc, routes, config.peers),
         })
+    }
+
+    /// Its room; none once memory ran out.
+    pub fn room(&self) -> Option<&Room>
+        ensures { option_map (λ (kept : Kept). kept.room) (option_copied result) ≡ option_map (λ (view : View). view.room) self.now }
+    {
+        if self.failed {
+            None
+        } else {
+            Some(self.stage.room())
+        }
+    }
+
+    /// Its own row, and the servers that it knows; none once memory ran out.
+    pub fn routes(&self) -> Option<&Routes>
+        ensures { option_copied result ≡ option_map (λ (view : View). view.routes) self.now }
+    {
+        if self.failed {
+            None
+        } else {
+            Some(self.stage.routes())
+        }
+    }
+
+    /// The password that it and the peer of a name give each other, if it has such a peer; none once memory ran out.
+    pub fn password_for(&self, name: &[u8]) -> Option<&[u8]>
+        ensures { option_copied result ≡ option_and_then (λ (view : View). password_for view name.now) self.now }
+    {
+        if self.failed {
+            None
+        } else {
+            self.stage.password_for(name)
+        }
+    }
+
+    /// Whether a client has this connection; none does once memory ran out.
+    pub fn has_client(&self, conn: u64) -> bool
+        ensures { result ≡ option_map_or (λ (view : View). is_some (get view.clients conn)) self.now false }
+    {
+        !self.failed && self.stage.client_of(conn).is_some()
     }
 
     /// Handles an event: what it puts out is appended to `out`, in order.

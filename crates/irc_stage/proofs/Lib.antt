@@ -3,3 +3,4 @@ pub mod Showings
 pub mod HomeRoom
 pub mod Listening
 pub mod Telling
+pub mod Peers

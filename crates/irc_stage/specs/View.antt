@@ -1,5 +1,7 @@
 -- What a server is, to those above: what it knows of others, its configuration, its links, its clients, its room. No index or queue is in it.
-use Rattle.std.specs.Prelude.{◌≡◌, ℕ, Option, None, List, [], map}
+use Rattle.std.specs.Prelude.{◌≡◌, ℕ, Bool, nat_eq, Option, None, List, [], map, find}
+use Rattle.std.specs.Option.{option_map}
+use Rattle.std.specs.Cmp.Lexicographic.{pointwise}
 use Rattle.std.specs.Ordering.{nat_cmp}
 use Rattle.std.specs.FinMap.{FinMap, empty, insert, remove}
 use Rattle.irc_routes.specs.Known.{Known, others, place_of}
@@ -52,6 +54,16 @@ without_end link view = record view { ends = remove view.ends link }
 -- a server without clients, linked to none, in an empty room
 abbrev pub new_view : Known → List Peer → View
 new_view routes peers = record { routes = routes; peers = map known_peer peers; ends = empty; clients = empty; room = no_room }
+
+-- the password that a server and a peer give each other; servers' names have one spelling
+abbrev pub is_peer_named : List ℕ → Peer → Bool
+is_peer_named name peer = pointwise nat_eq peer.name.items name
+
+abbrev pub is_named : List ℕ → KnownPeer → Bool
+is_named name peer = pointwise nat_eq peer.name name
+
+abbrev pub password_for : View → List ℕ → Option (List ℕ)
+password_for view name = option_map (λ (peer : KnownPeer). peer.password) (find (is_named name) view.peers)
 
 -- no link of the server is open, and it knows no other server
 pub record IsAlone (view : View) : Type 0 where

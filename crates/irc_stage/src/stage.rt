@@ -1,5 +1,5 @@
 //! One server while an event is handled: what each step of a decision does to it, and what it puts out.
-ghost use Rattle.std.specs.Prelude.{◌≡◌, None, [], ◌∷◌, is_some, OnOk, IfOk};
+ghost use Rattle.std.specs.Prelude.{◌≡◌, None, [], ◌∷◌, find, is_some, OnOk, IfOk};
 ghost use Rattle.std.specs.FinMap.{get};
 ghost use Rattle.std.specs.Option.{option_copied};
 ghost use Rattle.irc_line.specs.MessageViews.{optional_now};
@@ -10,7 +10,7 @@ ghost use Rattle.irc_room.specs.Laws.{no_room};
 ghost use Rattle.irc_batch.specs.Growing.{Grew};
 ghost use Rattle.irc_stage.specs.RoomMachine.{client_of, with_client, without_client};
 ghost use Rattle.irc_stage.specs.Handle.{all_stepped, clients_after, closing, stepped, with_effect};
-ghost use Rattle.irc_stage.specs.View.{new_view, with_end, without_end};
+ghost use Rattle.irc_stage.specs.View.{is_peer_named, new_view, password_for, with_end, without_end};
 ghost use Rattle.irc_stage.specs.Loops.Listening.{IsSaidBy, IsSaidTo};
 ghost use Rattle.std.specs.FinMap.{insert};
 ghost use Rattle.irc_stage.specs.Loops.Stage.{clients_of, machine_at, numbered, so_far, view_of, AreFit, IsFit, IsFreeOf, IsIndexed, IsNoUser, IsReady, IsSound, Keeps, LeavesApart};
@@ -110,11 +110,21 @@ impl Stage {
         &self.routes
     }
 
-    /// The servers that it may be linked to.
-    pub fn peers(&self) -> &[Peer]
-        ensures { result.now ≡ self.now.peers.items }
+    /// The peer of a name, if there is one.
+    fn peer(&self, name: &[u8]) -> Option<&Peer>
+        ensures { option_copied result ≡ find (is_peer_named name.now) self.now.peers.items }
     {
-        self.peers.as_slice()
+        self.peers.iter().find(|peer| peer.name.as_slice() == name)
+    }
+
+    /// The password that it and the peer of a name give each other, if it has such a peer.
+    pub fn password_for(&self, name: &[u8]) -> Option<&[u8]>
+        ensures { option_copied result ≡ password_for (view_of self.now) name.now }
+    {
+        match self.peer(name) {
+            Some(peer) => Some(peer.password.as_slice()),
+            None => None,
+        }
     }
 
     /// Its room.
