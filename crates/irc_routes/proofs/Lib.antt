@@ -5,3 +5,4 @@ pub mod ServersCounted
 pub mod Numbered
 pub mod RouteLaws
 pub mod SmallestFree
+pub mod ToldInOrder

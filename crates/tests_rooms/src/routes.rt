@@ -2,7 +2,7 @@
 use crate::script::{Row, Shown, Stage, append, append_word, script_holds, server};
 use arrayvec::ArrayVec;
 use irc_names::{MAX_SERVER, ServerName, is_server};
-use irc_routes::{Info, Own, Routes, RoutesFault};
+use irc_routes::{Info, Own, Routes, RoutesFault, ServerRow};
 use itoa::Buffer;
 use std::alloc::Global;
 use std::process::Abort;
@@ -10,7 +10,8 @@ use std::test::Fail;
 
 /// `add LINK UPLINK NAME NUMBER` adds a server that is so many links away and has that number on its link, and `fill LINK COUNT` as
 /// many more; `lose LINK` loses those behind a link. `out` shows our own number for a server, `in LINK NUMBER` the server of a number,
-/// `away` how far away a server is, `behind` the servers behind a link, `all` all.
+/// `away` how far away a server is, `behind` the servers behind a link, `told` those of which its neighbour is
+/// told, `all` all.
 const SERVERS: &str = "\
 add 1 a.net b.net 1 =
 add 1 b.net c.net 2 =
@@ -28,7 +29,13 @@ all = a.net b.net c.net
 lose 1 =
 all = a.net
 add 1 a.net c.net 1 =
-out c.net = 2";
+out c.net = 2
+add 1 c.net b.net 2 =
+add 2 a.net e.net 1 =
+add 2 e.net d.net 3 =
+told 3 = c.net e.net b.net d.net
+told 1 = e.net d.net
+told 2 = c.net b.net";
 
 fn show_number(number: Option<u32>, shown: &mut Shown) {
     if let Some(number) = number {
@@ -45,6 +52,12 @@ fn show_name(name: Option<&ServerName>, shown: &mut Shown) {
 fn show_names(names: &[&ServerName], shown: &mut Shown) {
     for name in names {
         append_word(shown, b"", name.as_bytes());
+    }
+}
+
+fn show_rows(rows: &[&ServerRow], shown: &mut Shown) {
+    for row in rows {
+        append_word(shown, b"", row.name.as_bytes());
     }
 }
 
@@ -117,6 +130,7 @@ impl Stage for Routes {
             "away" => show_number(self.distance(row.first.as_bytes()), shown),
             "in" => show_name(self.token_in(link, number_of(row.second)), shown),
             "behind" => show_names(&self.behind(link).unwrap_or(Vec::new(alloc)), shown),
+            "told" => show_rows(&self.told_on(link).unwrap_or(Vec::new(alloc)), shown),
             "all" => show_names(&self.servers().unwrap_or(Vec::new(alloc)), shown),
             _ => change(rt, self, row, shown),
         }
