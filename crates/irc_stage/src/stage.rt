@@ -50,14 +50,21 @@ pub struct Stage {
     alloc: Global,
 }
 
-/// Applies an effect to a room in which it is possible; `shown` is what it shows.
-fn happen(room: &mut Room, effect: &Effect, shown: &mut ShownLine) -> Result<(), AllocError>
+/// Applies an effect to a room in which it is possible; `shown` is what it shows, and who listens there is `stale` by it.
+fn happen(
+    room: &mut Room,
+    stale: &mut Listeners,
+    effect: &Effect,
+    shown: &mut ShownLine,
+) -> Result<(), AllocError>
     requires sound { IsSound room.old }
     requires possible { IsPossible room.old.room effect.now }
     ensures after { OnOk result (room.new ≡ record room.old { room = after room.old.room effect.now }) }
     ensures shown { OnOk result (pairs_of shown.new ≡ shown_here room.old effect.now) }
     ensures sound { OnOk result (IsSound room.new) }
+    ensures forgotten { OnOk result (stale.new.channel ≡ None) }
 {
+    stale.clear();
     laws::after_is_well_formed();
     match room.apply(effect, shown) {
         Ok(()) => Ok(()),
@@ -281,8 +288,7 @@ impl Stage {
         ensures keeps { Keeps self.old self.new }
         ensures grew { Grew out.old.outs out.new.outs }
     {
-        self.listeners.clear();
-        happen(&mut self.room, effect, &mut self.shown)?;
+        happen(&mut self.room, &mut self.listeners, effect, &mut self.shown)?;
         show_all(&self.clients, &self.shown, out)?;
         follow(&mut self.clients, effect)
     }
