@@ -1,3 +1,2 @@
 mod SettingUp
-mod GoingOn
 mod Ready

@@ -1,5 +1,5 @@
 -- What a configuration sets up, and how serving ends.
-use Rattle.std.specs.Prelude.{◌≡◌, ℕ, ◌+◌, Bool, true, false, Option, Some, None, Result, Ok, Err, List, [], ◌∷◌, map, option_map, is_some, string_bytes, ⊤}
+use Rattle.std.specs.Prelude.{◌≡◌, ℕ, true, false, Option, Some, None, Result, Ok, Err, List, [], ◌∷◌, map, option_map, is_some, string_bytes, ⊤}
 use Rattle.std.specs.Io.KnownBytes.{Appends}
 use Rattle.std.specs.Net.Grammar.{IsSocketText}
 use Rattle.std.specs.declared.net.socket_addr.SocketAddr.{SocketAddr}
@@ -11,9 +11,9 @@ use Rattle.irc_server.specs.declared.config.Config.{Config}
 use Rattle.irc_server.specs.Configuring.{config_fault, made_view}
 use Rattle.irc_stage.specs.View.{KnownPeer, known_peer}
 use Rattle.irc_engine.specs.declared.engine.Engine.{Engine}
-use Rattle.irc_engine.specs.declared.engine.EngineFault.{EngineFault}
-use Rattle.irc_engine.specs.declared.engine.EngineFault.TheVariants as turn
-use Rattle.irc_engine.specs.Turning.{Turned}
+use Rattle.irc_engine.specs.Turning.{IsNew, Turns}
+use Rattle.irc_sockets.specs.declared.mio_wire.MioWire.{MioWire}
+use Rattle.irc_sockets.specs.Listening.{ListensAt}
 use Rattle.irc_endings.specs.declared.fault.Stop.{Stop}
 use Rattle.irc_endings.specs.declared.fault.Stop.TheVariants.{Usage, BadScript, BadConfiguration, Failed}
 use Rattle.ircd.specs.declared.setup.Setup.{Setup}
@@ -99,22 +99,16 @@ IsReadSetup text (Err Failed) = ⊤
 IsReadSetup text (Err Usage) = ⊥
 IsReadSetup text (Err (BadScript line)) = ⊥
 
--- whether a turn that ended so is followed by others: one in which the device failed is
-abbrev pub goes_on : Result (Unit {0}) EngineFault → Bool
-goes_on (Ok _) = true
-goes_on (Err turn.Device) = true
-goes_on (Err turn.Memory) = false
-goes_on (Err turn.Failed) = false
-
--- so many turns are asked for, one after another, and each goes on
-pub data GoesOn {W : Type 0} (is_after : W → List Call → Type 0) (old : Engine W) : ℕ → Engine W → Type 0 where
-  no_turn : GoesOn is_after old 0 old
-  one_more : (n : ℕ) (between new : Engine W) (ended : Result (Unit {0}) EngineFault) → GoesOn is_after old n between
-      → Turned is_after between new ended → goes_on ended ≡ true → GoesOn is_after old (n + 1) new
+-- An engine is open: it has served nobody, its server is the one that was set up, an outbox has room for as much as was set up, and its wire listens where that
+-- was.
+pub record IsOpened (setup : Setup) (engine : Engine MioWire) : Type 0 where
+  pub wire : MioWire
+  pub listens : ListensAt setup.clients setup.links wire
+  pub is_new : IsNew setup.server wire setup.client_room setup.link_room engine
 
 -- `ready` was printed, and all turns were taken; else a front of it was, and the program failed
 abbrev pub Serves : {W : Type 0} → (W → List Call → Type 0) → ℕ → Engine W → Engine W → Option (List ℕ) → Option (List ℕ) → Result (Unit {0}) Stop → Type 0
-Serves is_after turns old new printed printed_after (Ok _) = Appends printed printed_after ready_text × GoesOn is_after old turns new
+Serves is_after turns old new printed printed_after (Ok _) = Appends printed printed_after ready_text × Turns is_after old turns new
 Serves is_after turns old new printed printed_after (Err Failed) = Tells printed printed_after ready_text
 Serves is_after turns old new printed printed_after (Err BadConfiguration) = ⊥
 Serves is_after turns old new printed printed_after (Err Usage) = ⊥
@@ -125,25 +119,35 @@ pub data IsCutShort (text : List ℕ) (printed printed_after : Option (List ℕ)
   unprinted : printed_after ≡ printed → IsCutShort text printed printed_after
   printing : (setup : Setup) → IsTextOf text setup → Tells printed printed_after ready_text → IsCutShort text printed printed_after
 
+-- A text was served: it sets up a server; once this was open, `ready` was printed, and all of so many turns were taken. Sockets keep no account of their calls.
+pub record IsServed (text : List ℕ) (turns : ℕ) (printed printed_after : Option (List ℕ)) : Type 0 where
+  pub setup : Setup
+  pub is_text_of : IsTextOf text setup
+  pub first : Engine MioWire
+  pub last : Engine MioWire
+  pub is_opened : IsOpened setup first
+  pub is_ready : Appends printed printed_after ready_text
+  pub taken : Turns (λ wire calls. ⊤) first turns last
+
 -- How serving by a text ends: anything was printed only where the text sets up a server; a bad text is refused, and nothing printed.
-abbrev pub ServesText : List ℕ → Result (Unit {0}) Stop → Option (List ℕ) → Option (List ℕ) → Type 0
-ServesText text (Ok _) printed printed_after = (setup : Setup) × IsTextOf text setup × Appends printed printed_after ready_text
-ServesText text (Err BadConfiguration) printed printed_after = IsBadText text × (printed_after ≡ printed)
-ServesText text (Err Failed) printed printed_after = IsCutShort text printed printed_after
-ServesText text (Err Usage) printed printed_after = ⊥
-ServesText text (Err (BadScript line)) printed printed_after = ⊥
+abbrev pub ServesText : List ℕ → ℕ → Result (Unit {0}) Stop → Option (List ℕ) → Option (List ℕ) → Type 0
+ServesText text turns (Ok _) printed printed_after = IsServed text turns printed printed_after
+ServesText text turns (Err BadConfiguration) printed printed_after = IsBadText text × (printed_after ≡ printed)
+ServesText text turns (Err Failed) printed printed_after = IsCutShort text printed printed_after
+ServesText text turns (Err Usage) printed printed_after = ⊥
+ServesText text turns (Err (BadScript line)) printed printed_after = ⊥
 
 -- How serving by a file ends. What the file holds no clause can tell: some text, or none where it cannot be read.
-abbrev pub ServesFile : Result (Unit {0}) Stop → Option (List ℕ) → Option (List ℕ) → Type 0
-ServesFile (Err BadConfiguration) printed printed_after = printed_after ≡ printed
-ServesFile (Err Failed) printed printed_after = Tells printed printed_after ready_text
-ServesFile (Err Usage) printed printed_after = ⊥
-ServesFile (Err (BadScript line)) printed printed_after = ⊥
-ServesFile (Ok _) printed printed_after = Appends printed printed_after ready_text
+abbrev pub ServesFile : ℕ → Result (Unit {0}) Stop → Option (List ℕ) → Option (List ℕ) → Type 0
+ServesFile turns (Err BadConfiguration) printed printed_after = printed_after ≡ printed
+ServesFile turns (Err Failed) printed printed_after = Tells printed printed_after ready_text
+ServesFile turns (Err Usage) printed printed_after = ⊥
+ServesFile turns (Err (BadScript line)) printed printed_after = ⊥
+ServesFile turns (Ok _) printed printed_after = (text : List ℕ) × IsServed text turns printed printed_after
 
 -- the status is that of how serving ended, and so is what is said on standard error
-pub record EndsServing (status : ℕ) (printed printed_after errors errors_after : Option (List ℕ)) : Type 0 where
+pub record EndsServing (turns status : ℕ) (printed printed_after errors errors_after : Option (List ℕ)) : Type 0 where
   pub ending : Result (Unit {0}) Stop
-  pub served : ServesFile ending printed printed_after
+  pub served : ServesFile turns ending printed printed_after
   pub status_is : status ≡ exit_status ending
   pub tells : Tells errors errors_after (told_of ending)

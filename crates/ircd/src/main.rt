@@ -1,6 +1,9 @@
 //! `ircd sim` runs a script of clients on one IRC server; `ircd serve` serves clients on TCP sockets.
 #![tactic(auto)]
 
+ghost use Rattle.std.specs.Process.{exit_status};
+ghost use Rattle.ircd.specs.Endings.{IsStatus};
+
 mod program;
 #[cfg(test)]
 mod program_tests;
@@ -14,10 +17,22 @@ use program::run;
 use std::process::ExitCode;
 
 fn main(rt: HostRuntime) -> ExitCode {
+    run_words(&rt)
+}
+
+/// Does what the words of the command line ask for. The status is one of how the program may end.
+fn run_words(rt: &HostRuntime) -> ExitCode
+    ensures { IsStatus (exit_status result) }
+{
+    ExitCode::from(run_given(rt))
+}
+
+fn run_given(rt: &HostRuntime) -> u8
+    ensures { IsStatus result }
+{
     let mut errors = rt.stderr();
-    let status = match words_given(&rt) {
-        Ok(words) => run(&rt, &words, &mut rt.stdin(), &mut rt.stdout(), &mut errors),
+    match words_given(rt) {
+        Ok(words) => run(rt, &words, &mut rt.stdin(), &mut rt.stdout(), &mut errors),
         Err(stop) => stop_with(stop, &mut errors),
-    };
-    ExitCode::from(status)
+    }
 }

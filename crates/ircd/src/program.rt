@@ -1,7 +1,7 @@
 //! The program, on whatever streams it is given.
 ghost use Rattle.std.specs.Prelude.{◌≡◌, ℕ, List, Some, None};
 ghost use Rattle.irc_endings.specs.declared.fault.Stop.TheVariants.{Usage};
-ghost use Rattle.ircd.specs.Endings.{EndsRun};
+ghost use Rattle.ircd.specs.Endings.{EndsRun, IsStatus};
 ghost use Rattle.ircd.specs.Serving.{EndsServing};
 ghost use Rattle.irc_script.specs.Sinks.{Tells};
 ghost use Rattle.irc_endings.specs.Statuses.{ending_of, status_of, told};
@@ -24,12 +24,13 @@ pub fn run<T: AllocGlobal + Files + Net, R: Read, W: Write, E: Write>(
     output: &mut W,
     errors: &mut E,
 ) -> u8
+    ensures status { IsStatus result }
     ensures usage { task_of (texts_of words.now) ≡ None → result ≡ status_of Usage }
     ensures usage_told { task_of (texts_of words.now) ≡ None → Tells (E.contents errors.old) (E.contents errors.new) (told Usage) }
     ensures unread { task_of (texts_of words.now) ≡ None → input.new ≡ input.old }
     ensures unwritten { task_of (texts_of words.now) ≡ None → output.new ≡ output.old }
     ensures sim { task_of (texts_of words.now) ≡ Some runs_script → EndsRun result (R.remaining input.old) (W.contents output.old) (W.contents output.new) (E.contents errors.old) (E.contents errors.new) }
-    ensures serve { (file : List ℕ) (turns : ℕ) → task_of (texts_of words.now) ≡ Some (serves file turns) → EndsServing result (W.contents output.old) (W.contents output.new) (E.contents errors.old) (E.contents errors.new) }
+    ensures serve { (file : List ℕ) (turns : ℕ) → task_of (texts_of words.now) ≡ Some (serves file turns) → EndsServing turns result (W.contents output.old) (W.contents output.new) (E.contents errors.old) (E.contents errors.new) }
     ensures serve_unread { (file : List ℕ) (turns : ℕ) → task_of (texts_of words.now) ≡ Some (serves file turns) → input.new ≡ input.old }
 {
     match Task::read(words) {
@@ -68,7 +69,7 @@ fn run_server<T: AllocGlobal + Files + Net, W: Write, E: Write>(
     output: &mut W,
     errors: &mut E,
 ) -> u8
-    ensures { EndsServing result (W.contents output.old) (W.contents output.new) (E.contents errors.old) (E.contents errors.new) }
+    ensures { EndsServing turns result (W.contents output.old) (W.contents output.new) (E.contents errors.old) (E.contents errors.new) }
 {
     let ended = serve(rt, file, turns, output);
     end_with(ended, errors)

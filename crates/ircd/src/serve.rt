@@ -1,12 +1,11 @@
 //! `ircd serve`: a server on TCP sockets.
-ghost use Rattle.std.specs.Prelude.{◌≡◌, IfErr};
-ghost use Rattle.irc_endings.specs.declared.fault.Stop.TheVariants.{Failed};
-ghost use Rattle.ircd.specs.Loops.Turns.{HasGone, IsOfFile, stop_after};
+ghost use Rattle.std.specs.Prelude.{IfErr};
+ghost use Rattle.ircd.specs.Loops.Turns.{IsOfFile, Opens, TakesTurns};
 ghost use Rattle.ircd.specs.Serving.{Serves, ServesFile, ServesText};
 
 use crate::setup::{Setup, read_setup};
 use irc_endings::{Stop, say_ready};
-use irc_engine::{Engine, EngineFault};
+use irc_engine::Engine;
 use irc_outbox::Wire;
 use irc_sockets::MioWire;
 use std::alloc::Global;
@@ -18,14 +17,15 @@ use std::net::Net;
 ///
 /// # Errors
 /// - [`Stop::BadConfiguration`] where the file cannot be read, or is no configuration. Then nothing is printed.
-/// - [`Stop::Failed`] where the system lets nobody listen, `ready` cannot be written, or memory runs out.
+/// - [`Stop::Failed`] where the system lets nobody listen, where `ready` cannot be written, and behind a turn that is not done: the device
+///   failed, or memory ran out.
 pub fn serve<T: AllocGlobal + Files + Net, W: Write>(
     rt: &T,
     file: &str,
     turns: u64,
     output: &mut W,
 ) -> Result<(), Stop>
-    ensures { ServesFile result (W.contents output.old) (W.contents output.new) }
+    ensures { ServesFile turns result (W.contents output.old) (W.contents output.new) }
 {
     let text = read_file(rt, file)?;
     serve_text(rt, rt.alloc(), text.as_str(), turns, output)
@@ -50,7 +50,7 @@ fn serve_text<T: Net, W: Write>(
     turns: u64,
     output: &mut W,
 ) -> Result<(), Stop>
-    ensures { ServesText text.now result (W.contents output.old) (W.contents output.new) }
+    ensures { ServesText text.now turns result (W.contents output.old) (W.contents output.new) }
 {
     let setup = read_setup(alloc, text)?;
     let mut engine = open(net, alloc, setup)?;
@@ -59,7 +59,7 @@ fn serve_text<T: Net, W: Write>(
 
 /// An engine that listens. Whoever connects where servers are listened for is closed by the engine: servers cannot be linked yet.
 fn open<T: Net>(net: &T, alloc: Global, setup: Setup) -> Result<Engine<MioWire>, Stop>
-    ensures { IfErr result (λ stop. stop ≡ Failed) }
+    ensures { Opens setup result }
 {
     let Ok(wire) = MioWire::listen(net, alloc, setup.clients, setup.links) else {
         return Err(Stop::Failed);
@@ -86,22 +86,12 @@ fn run_engine<W: Wire, O: Write>(
     take_turns(engine, turns)
 }
 
-/// Takes so many turns. One in which the device failed counts, and the next one is taken.
+/// Takes so many turns, up to the first that is not done: it is the last, and the program fails.
 fn take_turns<W: Wire>(engine: &mut Engine<W>, turns: u64) -> Result<(), Stop>
-    ensures { HasGone W.is_after engine.old turns engine.new result }
+    ensures { TakesTurns W.is_after engine.old turns engine.new result }
 {
-    for _turn in 0..turns {
-        go_on(engine.turn())?;
-    }
-    Ok(())
-}
-
-/// Whether turns are taken behind one that ended so.
-fn go_on(turn: Result<(), EngineFault>) -> Result<(), Stop>
-    ensures { result ≡ stop_after turn }
-{
-    match turn {
-        Ok(()) | Err(EngineFault::Device) => Ok(()),
-        Err(EngineFault::Memory | EngineFault::Failed) => Err(Stop::Failed),
+    match engine.run(turns) {
+        Ok(()) => Ok(()),
+        Err(_) => Err(Stop::Failed),
     }
 }

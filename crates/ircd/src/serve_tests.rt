@@ -4,18 +4,21 @@ use crate::program_tests::add_words;
 use std::fs;
 use std::io::empty;
 
-/// A configuration, without its last lines.
-const GOOD: &str = "\
+/// The first lines of a configuration.
+const MOST: &str = "\
 name = \"a.net\"
 info = \"Test server\"
 created = \"2024-01-01\"
 listen = \"127.0.0.1:0\"
-client_room = 4096
 link_room = 8192
 ";
 
-/// The last lines of the file, which words there are, and what comes of it.
+/// The line that is wanted behind them.
+const ROOM: &str = "client_room = 4096\n";
+
+/// What stands behind the first lines of the file, which words there are, and what comes of it.
 struct Row {
+    room: &'static str,
     more: &'static str,
     words: &'static [&'static str],
     status: u8,
@@ -34,8 +37,9 @@ const READY: &[u8] = b"ready\n";
 /// The file that each configuration is written to.
 const FILE: &str = "serve_tests.toml";
 
-static ROWS: [Row; 17] = [
+static ROWS: [Row; 24] = [
     Row {
+        room: ROOM,
         more: "",
         words: &["serve", FILE, "0"],
         status: 0,
@@ -43,6 +47,7 @@ static ROWS: [Row; 17] = [
         errors: b"",
     },
     Row {
+        room: ROOM,
         more: "",
         words: &["serve", FILE, "3"],
         status: 0,
@@ -50,6 +55,7 @@ static ROWS: [Row; 17] = [
         errors: b"",
     },
     Row {
+        room: ROOM,
         more: "",
         words: &["serve"],
         status: 2,
@@ -57,6 +63,7 @@ static ROWS: [Row; 17] = [
         errors: USAGE,
     },
     Row {
+        room: ROOM,
         more: "",
         words: &["serve", FILE, "0", "0"],
         status: 2,
@@ -64,6 +71,7 @@ static ROWS: [Row; 17] = [
         errors: USAGE,
     },
     Row {
+        room: ROOM,
         more: "",
         words: &["serve", FILE, "-1"],
         status: 2,
@@ -71,6 +79,7 @@ static ROWS: [Row; 17] = [
         errors: USAGE,
     },
     Row {
+        room: ROOM,
         more: "",
         words: &["serve", FILE, "00"],
         status: 2,
@@ -78,6 +87,7 @@ static ROWS: [Row; 17] = [
         errors: USAGE,
     },
     Row {
+        room: ROOM,
         more: "",
         words: &["serve", FILE, "18446744073709551616"],
         status: 2,
@@ -85,6 +95,7 @@ static ROWS: [Row; 17] = [
         errors: USAGE,
     },
     Row {
+        room: ROOM,
         more: "",
         words: &["Serve", FILE, "0"],
         status: 2,
@@ -92,6 +103,7 @@ static ROWS: [Row; 17] = [
         errors: USAGE,
     },
     Row {
+        room: ROOM,
         more: "",
         words: &["serve", "no_such_file.toml", "0"],
         status: 3,
@@ -99,6 +111,7 @@ static ROWS: [Row; 17] = [
         errors: BAD,
     },
     Row {
+        room: ROOM,
         more: "port = 1\n",
         words: &["serve", FILE, "0"],
         status: 3,
@@ -106,6 +119,7 @@ static ROWS: [Row; 17] = [
         errors: BAD,
     },
     Row {
+        room: ROOM,
         more: "listen_links = \"localhost:0\"\n",
         words: &["serve", FILE, "0"],
         status: 3,
@@ -113,6 +127,7 @@ static ROWS: [Row; 17] = [
         errors: BAD,
     },
     Row {
+        room: ROOM,
         more: "listen_links = \"127.0.0.1:0\"\n",
         words: &["serve", FILE, "0"],
         status: 0,
@@ -120,6 +135,7 @@ static ROWS: [Row; 17] = [
         errors: b"",
     },
     Row {
+        room: ROOM,
         more: "listen_links = \"192.0.2.1:1\"\n",
         words: &["serve", FILE, "0"],
         status: 4,
@@ -127,6 +143,7 @@ static ROWS: [Row; 17] = [
         errors: FAILED,
     },
     Row {
+        room: ROOM,
         more: "[[peer]]\nname = \"b.net\"\npassword = \"pw\"\nconnect = \"127.0.0.1:1\"\n",
         words: &["serve", FILE, "0"],
         status: 0,
@@ -134,6 +151,7 @@ static ROWS: [Row; 17] = [
         errors: b"",
     },
     Row {
+        room: ROOM,
         more: "[[peer]]\nname = \"b.net\"\npassword = \"pw\"\nconnect = \"b.net\"\n",
         words: &["serve", FILE, "0"],
         status: 3,
@@ -141,6 +159,7 @@ static ROWS: [Row; 17] = [
         errors: BAD,
     },
     Row {
+        room: ROOM,
         more: "[[peer]]\nname = \"b.net\"\npassword = \":pw\"\n",
         words: &["serve", FILE, "0"],
         status: 3,
@@ -148,20 +167,84 @@ static ROWS: [Row; 17] = [
         errors: BAD,
     },
     Row {
+        room: ROOM,
         more: "[[peer]]\nname = \"a.net\"\npassword = \"pw\"\n",
         words: &["serve", FILE, "0"],
         status: 3,
         output: b"",
         errors: BAD,
     },
+    // no TOML
+    Row {
+        room: ROOM,
+        more: "client_room\n",
+        words: &["serve", FILE, "0"],
+        status: 3,
+        output: b"",
+        errors: BAD,
+    },
+    // no room
+    Row {
+        room: "",
+        more: "",
+        words: &["serve", FILE, "0"],
+        status: 3,
+        output: b"",
+        errors: BAD,
+    },
+    // a room that is no number, and one that is too small, or too large
+    Row {
+        room: "client_room = \"4096\"\n",
+        more: "",
+        words: &["serve", FILE, "0"],
+        status: 3,
+        output: b"",
+        errors: BAD,
+    },
+    Row {
+        room: "client_room = 511\n",
+        more: "",
+        words: &["serve", FILE, "0"],
+        status: 3,
+        output: b"",
+        errors: BAD,
+    },
+    Row {
+        room: "client_room = 1048577\n",
+        more: "",
+        words: &["serve", FILE, "0"],
+        status: 3,
+        output: b"",
+        errors: BAD,
+    },
+    // a key that no peer has
+    Row {
+        room: ROOM,
+        more: "[[peer]]\nname = \"b.net\"\npassword = \"pw\"\nport = 1\n",
+        words: &["serve", FILE, "0"],
+        status: 3,
+        output: b"",
+        errors: BAD,
+    },
+    // the largest room
+    Row {
+        room: "client_room = 1048576\n",
+        more: "",
+        words: &["serve", FILE, "0"],
+        status: 0,
+        output: READY,
+        errors: b"",
+    },
 ];
 
-/// Whether a configuration is written, the good one with these lines behind it.
-fn is_written(rt: &HostRuntime, more: &str) -> bool {
-    let Ok(mut text) = String::from_str(rt.alloc(), GOOD) else {
+/// Whether a configuration is written, with these lines behind the first ones.
+fn is_written(rt: &HostRuntime, row: &Row) -> bool {
+    let Ok(mut text) = String::from_str(rt.alloc(), MOST) else {
         return false;
     };
-    text.push_str(more).is_ok() && fs::write(rt, FILE, text.as_str()).is_ok()
+    text.push_str(row.room).is_ok()
+        && text.push_str(row.more).is_ok()
+        && fs::write(rt, FILE, text.as_str()).is_ok()
 }
 
 /// Whether the program ends so.
@@ -169,7 +252,7 @@ fn ends_so(rt: &HostRuntime, row: &Row) -> bool {
     let mut words = Vec::new(rt.alloc());
     let mut output = Vec::new(rt.alloc());
     let mut errors = Vec::new(rt.alloc());
-    is_written(rt, row.more)
+    is_written(rt, row)
         && add_words(rt.alloc(), row.words, &mut words).is_ok()
         && run(rt, &words, &mut empty(), &mut output, &mut errors) == row.status
         && output.as_slice() == row.output
