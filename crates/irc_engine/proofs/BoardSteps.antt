@@ -248,10 +248,10 @@ module _ {W : Type 0} (is_after : W → List Call → Type 0) where
 pub carries_as : {W : Type 0} (is_after : W → List Call → Type 0) (exchanges : List Call) (old : Board W) (outs outs' : List Sent) (new : Board W)
     → ((conn : ℕ) (unshut : Bool) → owed unshut conn outs ≡ owed unshut conn outs') → ((conn : ℕ) → is_closed_by conn outs ≡ is_closed_by conn outs')
     → Carries is_after exchanges old outs new → Carries is_after exchanges old outs' new
-carries_as is_after exchanges old outs outs' new owes closes carries = record {
+carries_as is_after exchanges old outs outs' new owes ends carries = record {
   calls = carries.calls;
   account = carries.account;
-  passage = λ conn. passage_as conn carries.calls outs outs' (owes conn) (closes conn) _ _ _ _ (carries.passage conn);
+  passage = λ conn. passage_as conn carries.calls outs outs' (owes conn) (ends conn) _ _ _ _ (carries.passage conn);
   exchanged = carries.exchanged;
   count = carries.count;
 }

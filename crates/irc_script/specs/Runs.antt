@@ -4,7 +4,7 @@ use Rattle.std.specs.Io.KnownBytes.{Appends}
 use Rattle.std.specs.List.{flat_map}
 use Rattle.std.specs.FinMap.{empty}
 use Rattle.irc_server.specs.declared.event.Event.{Event}
-use Rattle.irc_server.specs.declared.event.Event.TheVariants.{Connect, Line, Gone}
+use Rattle.irc_server.specs.declared.event.Event.TheVariants.{Connect}
 use Rattle.irc_batch.specs.Batches.{Sent}
 use Rattle.irc_server.specs.declared.event.ServerFault.{ServerFault}
 use Rattle.irc_server.specs.declared.event.ServerFault.TheVariants.{NoSuchConnection}
@@ -35,8 +35,7 @@ number_behind number = if nat_lt number max_number then number + 1 else number
 -- the number for the next client, once an event was not refused
 abbrev pub next_if_taken : Event → ℕ → ℕ
 next_if_taken (Connect client host) next = number_behind next
-next_if_taken (Line client line) next = next
-next_if_taken (Gone client) next = next
+next_if_taken event next = next
 
 -- A connect that is refused uses no number.
 abbrev pub next_after : Event → Answer → ℕ → ℕ

@@ -166,7 +166,7 @@ fn next_if_taken(event: &Event, next: u64) -> u64
 {
     match event {
         Event::Connect(_, _) => number_behind(next),
-        Event::Line(_, _) | Event::Gone(_) => next,
+        _ => next,
     }
 }
 
