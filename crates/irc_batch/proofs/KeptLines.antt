@@ -5,22 +5,24 @@ use Rattle.std.proofs.Math.Seq.{drop-append_seam, take-length}
 use Rattle.std.proofs.lemmas.List.{length-drop}
 use Rattle.std.proofs.lemmas.List.Elements.{All-head, All-tail}
 use Rattle.std.specs.List.{All, slice_range}
-use Rattle.irc_batch.specs.Batches.{line_to}
+use Rattle.irc_batch.specs.Batches.{line_on, line_to}
 use Rattle.irc_batch.specs.Loops.Marks.{bytes_at, sent_by, IsMark, IsSpan}
 use Rattle.irc_batch.specs.declared.batch.Mark.{Mark}
-use Rattle.irc_batch.specs.declared.batch.Mark.TheVariants.{Line, Close}
+use Rattle.irc_batch.specs.declared.batch.Mark.TheVariants.{Line, Close, LinkLine, LinkClose}
 use Rattle.irc_batch.specs.declared.batch.Span.{Span}
 
 pub span_kept : (bytes more : List ℕ) (span : Span) → IsSpan (length bytes) span → bytes_at (bytes ++ more) span ≡ bytes_at bytes span
 span_kept bytes more span within =
-    let inside : span.start ≤ length bytes = omega (arith, within.0, within.1) in
-    let long : span.end - span.start ≤ length (drop span.start bytes) = omega (arith, within.0, within.1, length-drop span.start bytes) in
+    let inside : span.start ≤ length bytes = omega (arith, within.forward, within.within_bytes) in
+    let long : span.end - span.start ≤ length (drop span.start bytes) = omega (arith, within.forward, within.within_bytes, length-drop span.start bytes) in
     ap (take (span.end - span.start)) (drop-append-le span.start bytes more inside)
     ∙ take-append-le (span.end - span.start) (drop span.start bytes) more long
 
 mark_kept : (bytes more : List ℕ) (mark : Mark) → IsMark (length bytes) mark → sent_by (bytes ++ more) mark ≡ sent_by bytes mark
 mark_kept bytes more (Line conn span) within = ap (line_to conn) (span_kept bytes more span within)
 mark_kept bytes more (Close conn) within = refl
+mark_kept bytes more (LinkLine link span) within = ap (line_on link) (span_kept bytes more span within)
+mark_kept bytes more (LinkClose link reason) within = refl
 
 pub marks_kept : (bytes more : List ℕ) (marks : List Mark) → All (IsMark (length bytes)) marks → map (sent_by (bytes ++ more)) marks ≡ map (sent_by bytes) marks
 marks_kept bytes more [] within = refl

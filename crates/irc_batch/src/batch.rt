@@ -1,10 +1,14 @@
-//! A batch: lines to connections, and ends of connections, in order.
-ghost use Rattle.std.specs.Prelude.{◌≡◌, [], ◌∷◌, ◌++◌, length, take, OnOk, OnErr};
+//! A batch: lines to connections and on links, and ends of these, in order.
+ghost use Rattle.std.specs.Prelude.{◌≡◌, ◌≤◌, Some, [], ◌∷◌, ◌++◌, length, take, OnOk, OnErr};
 ghost use Rattle.std.specs.Option.{option_map};
 ghost use Rattle.std.specs.List.{slice_get};
-ghost use Rattle.irc_batch.specs.Batches.{batch_of, end_of, line_to, nothing, to_others, told};
+ghost use Rattle.irc_line.specs.Limits.{max_text};
+ghost use Rattle.irc_batch.specs.Batches.{batch_of, end_of, end_of_link, line_on, line_to, nothing, sent_of, to_others, IsText};
 ghost use Rattle.irc_batch.specs.Growing.{Grew};
+ghost use Rattle.irc_batch.specs.Loops.Marks.{bytes_at, IsSpan};
+ghost use Rattle.irc_batch.specs.declared.batch.Out.{Out as AnOut};
 
+use crate::close_reason::CloseReason;
 use std::alloc::{AllocError, Global};
 use std::marker::Model;
 
@@ -15,6 +19,10 @@ pub enum Out<'a> {
     Line(u64, &'a [u8]),
     /// The end of a connection.
     Close(u64),
+    /// A line on a link, with its CR LF (RFC 2813 section 3.3).
+    LinkLine(u64, &'a [u8]),
+    /// The end of a link.
+    LinkClose(u64, CloseReason),
 }
 
 /// Where a line lies among the bytes of a batch.
@@ -29,10 +37,12 @@ struct Span {
 enum Mark {
     Line(u64, Span),
     Close(u64),
+    LinkLine(u64, Span),
+    LinkClose(u64, CloseReason),
 }
 
-/// Lines to connections, and ends of connections, in order. The bytes of all lines lie one behind another, and a line that goes to many
-/// connections lies there once.
+/// Lines to connections and on links, and ends of these, in order. The bytes of all lines lie one behind another, and a line that goes to many
+/// lies there once. No line has more than 512 bytes (RFC 2812 section 2.3).
 #[derive(Drop)]
 pub struct Batch {
     bytes: Vec<u8, Global>,
@@ -43,18 +53,37 @@ pub struct Batch {
 
 /// In a clause it is what is put out, and the line that is at hand.
 impl Model for Batch {
-    ghost use Rattle.std.specs.Prelude.{length, map, All};
+    ghost use Rattle.std.specs.Prelude.{length, map};
     ghost use Rattle.irc_batch.specs.Batches.{Batch};
-    ghost use Rattle.irc_batch.specs.Loops.Marks.{bytes_at, sent_by, IsMark, IsSpan};
+    ghost use Rattle.irc_batch.specs.Loops.Marks.{bytes_at, sent_by, Lies};
 
     ghost Value = { Batch };
 
     ghost view = { λ b. record { outs = map (sent_by b.bytes.items) b.marks.items; held = bytes_at b.bytes.items b.held } };
 
-    ghost invariant = { λ b. IsSpan (length b.bytes.items) b.held × All (IsMark (length b.bytes.items)) b.marks.items };
+    ghost invariant = { λ b. Lies (length b.bytes.items) b.held b.marks.items };
 }
 
 const NOWHERE: Span = Span { start: 0, end: 0 };
+
+/// The bytes of a line that lies among these.
+fn bytes_at(bytes: &[u8], span: Span) -> &[u8]
+    requires within { IsSpan (length bytes.now) span }
+    ensures { result.now ≡ bytes_at bytes.now span }
+{
+    &bytes[span.start..span.end]
+}
+
+/// Notes one thing more that is put out.
+fn note(marks: &mut Vec<Mark, Global>, mark: Mark) -> Result<(), AllocError>
+    ensures ok { OnOk result (marks.new.items ≡ marks.old.items ++ mark ∷ []) }
+    ensures refused { OnErr result (marks.new.items ≡ marks.old.items) }
+{
+    match marks.push(mark) {
+        Ok(()) => Ok(()),
+        Err(_) => Err(AllocError),
+    }
+}
 
 impl Batch {
     /// A batch in which there is nothing.
@@ -77,22 +106,27 @@ impl Batch {
 
     /// One of the things that are put out, counted from 0.
     pub fn get(&self, place: usize) -> Option<Out<'_>>
-        ensures { option_map told result ≡ slice_get self.now.outs place }
+        ensures there { option_map sent_of result ≡ slice_get self.now.outs place }
+        ensures fits { (out : AnOut) → result ≡ Some out → IsText (sent_of out) }
     {
         match self.marks.get(place) {
             None => None,
+            Some(Mark::Line(conn, span)) => Some(Out::Line(*conn, bytes_at(&self.bytes, *span))),
             Some(Mark::Close(conn)) => Some(Out::Close(*conn)),
-            Some(Mark::Line(conn, span)) => {
-                Some(Out::Line(*conn, &self.bytes[span.start..span.end]))
-            }
+            Some(Mark::LinkLine(link, span)) => Some(Out::LinkLine(
+                *link,
+                bytes_at(&self.bytes, *span),
+            )),
+            Some(Mark::LinkClose(link, reason)) => Some(Out::LinkClose(*link, *reason)),
         }
     }
 
-    /// Takes a line to hand, for [`Batch::send`].
+    /// Takes a line of at most 512 bytes to hand, for [`Batch::send`] and [`Batch::send_on`].
     ///
     /// # Errors
     /// Where memory runs out; nothing has changed then.
     pub fn hold(&mut self, line: &[u8]) -> Result<(), AllocError>
+        requires fits { length line.now ≤ max_text }
         ensures ok { OnOk result (self.new ≡ record self.old { held = line.now }) }
         ensures refused { OnErr result (self.new ≡ self.old) }
     {
@@ -111,10 +145,18 @@ impl Batch {
         ensures ok { OnOk result (self.new ≡ record self.old { outs = self.old.outs ++ line_to conn self.old.held ∷ [] }) }
         ensures refused { OnErr result (self.new ≡ self.old) }
     {
-        match self.marks.push(Mark::Line(conn, self.held)) {
-            Ok(()) => Ok(()),
-            Err(_) => Err(AllocError),
-        }
+        note(&mut self.marks, Mark::Line(conn, self.held))
+    }
+
+    /// Puts out the line at hand on a link.
+    ///
+    /// # Errors
+    /// Where memory runs out; nothing has changed then.
+    pub fn send_on(&mut self, link: u64) -> Result<(), AllocError>
+        ensures ok { OnOk result (self.new ≡ record self.old { outs = self.old.outs ++ line_on link self.old.held ∷ [] }) }
+        ensures refused { OnErr result (self.new ≡ self.old) }
+    {
+        note(&mut self.marks, Mark::LinkLine(link, self.held))
     }
 
     /// Puts out the line at hand to each of these connections in turn, but for one.
@@ -142,16 +184,30 @@ impl Batch {
         }
     }
 
-    /// Puts out a line to a connection, and takes it to hand.
+    /// Puts out a line of at most 512 bytes to a connection, and takes it to hand.
     ///
     /// # Errors
     /// Where memory runs out; nothing more is put out then.
     pub fn put(&mut self, conn: u64, line: &[u8]) -> Result<(), AllocError>
+        requires fits { length line.now ≤ max_text }
         ensures ok { OnOk result (self.new ≡ batch_of (self.old.outs ++ line_to conn line.now ∷ []) line.now) }
         ensures refused { OnErr result (self.new.outs ≡ self.old.outs) }
     {
         self.hold(line)?;
         self.send(conn)
+    }
+
+    /// Puts out a line of at most 512 bytes on a link, and takes it to hand.
+    ///
+    /// # Errors
+    /// Where memory runs out; nothing more is put out then.
+    pub fn put_on(&mut self, link: u64, line: &[u8]) -> Result<(), AllocError>
+        requires fits { length line.now ≤ max_text }
+        ensures ok { OnOk result (self.new ≡ batch_of (self.old.outs ++ line_on link line.now ∷ []) line.now) }
+        ensures refused { OnErr result (self.new.outs ≡ self.old.outs) }
+    {
+        self.hold(line)?;
+        self.send_on(link)
     }
 
     /// Puts out the end of a connection.
@@ -162,10 +218,18 @@ impl Batch {
         ensures ok { OnOk result (self.new ≡ record self.old { outs = self.old.outs ++ end_of conn ∷ [] }) }
         ensures refused { OnErr result (self.new ≡ self.old) }
     {
-        match self.marks.push(Mark::Close(conn)) {
-            Ok(()) => Ok(()),
-            Err(_) => Err(AllocError),
-        }
+        note(&mut self.marks, Mark::Close(conn))
+    }
+
+    /// Puts out the end of a link.
+    ///
+    /// # Errors
+    /// Where memory runs out; nothing has changed then.
+    pub fn close_link(&mut self, link: u64, reason: CloseReason) -> Result<(), AllocError>
+        ensures ok { OnOk result (self.new ≡ record self.old { outs = self.old.outs ++ end_of_link link reason ∷ [] }) }
+        ensures refused { OnErr result (self.new ≡ self.old) }
+    {
+        note(&mut self.marks, Mark::LinkClose(link, reason))
     }
 
     /// Takes out all but the first of the things that are put out, so many at most. The line at hand stays.

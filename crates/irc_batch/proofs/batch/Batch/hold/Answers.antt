@@ -16,5 +16,5 @@ returns-clause-ok c =
     ap (λ bs. batch_of (map (sent_by bs) marks) (slice_range bs c.len-start.result c.len-end.result)) items
     ∙ ap (λ s. batch_of (map (sent_by (bytes ++ line)) marks) (slice_range (bytes ++ line) s c.len-end.result)) start
     ∙ ap (batch_of (map (sent_by (bytes ++ line)) marks)) (held_there bytes line c.len-end.result end)
-    ∙ ap (λ outs. batch_of outs line) (marks_kept bytes line marks c.self.invariant.1)
+    ∙ ap (λ outs. batch_of outs line) (marks_kept bytes line marks c.self.invariant.marks_within)
     ∙ ap (λ (batch : Batch). batch_of batch.outs line) c.self.view_is
