@@ -30,9 +30,9 @@ more_done line whole members i past fits so_far =
 
 -- a member: two marks, and its nickname
 pub member_pushed : (line a b d op voice nick : List ℕ) → a ≡ cut (line ++ op) → b ≡ cut (a ++ voice) → d ≡ cut (b ++ nick)
-    → d ≡ cut (line ++ (op ++ (voice ++ nick)))
+    → d ≡ cut (line ++ (op ++ voice ++ nick))
 member_pushed line a b d op voice nick first second third =
-    cut_two line b d (op ++ voice) nick (cut_two line a b op voice first second) third ∙ ap (λ t. cut (line ++ t)) (append_assoc op voice nick)
+    cut_two line b d (op ++ voice) nick (cut_two line a b op voice first second) third
 
 -- all pieces of the line are its parts
 behind_channel : (c m : List ℕ) → ((c ++ 32 ∷ []) ++ 58 ∷ []) ++ m ≡ (c ++ []) ++ 32 ∷ 58 ∷ m

@@ -1,13 +1,13 @@
 -- A server finds itself under its own name.
 use Rattle.std.proofs.Common.{◌≡◌, ℕ, zero, suc, true, Bool, ◌&&◌, Some, List, [], ◌∷◌, if◌then◌else◌, nat_eq, refl, sym, ◌∙◌, ap}
 use Rattle.std.specs.Cmp.Lexicographic.{pointwise}
+use Rattle.std.specs.Cmp.{nat_eq_equiv}
 use Rattle.std.specs.Option.{option_map}
 use Rattle.irc_routes.specs.Known.{Known, is_itself, info_of, row_of}
 use Rattle.irc_routes.specs.declared.server_row.ServerRow.{ServerRow}
 
 eq_itself : (n : ℕ) → nat_eq n n ≡ true
-eq_itself zero = refl
-eq_itself (suc n) = eq_itself n
+eq_itself n = nat_eq_equiv.refl n
 
 pointwise_itself : (xs : List ℕ) → pointwise nat_eq xs xs ≡ true
 pointwise_itself [] = refl

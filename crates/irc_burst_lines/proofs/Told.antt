@@ -1,12 +1,14 @@
 -- Lines put behind others, one after another.
-use Rattle.std.proofs.Common.{◌≡◌, ℕ, ◌<◌, List, [], ◌∷◌, ◌++◌, map, length, take, drop, refl, sym, ◌∙◌, ap, append_assoc, append-nil}
-use Rattle.std.proofs.lemmas.List.{map-append}
-use Rattle.std.specs.List.{flat_map}
+use Rattle.std.proofs.Common.{◌≡◌, ℕ, ◌+◌, ◌<◌, Option, Some, None, List, [], ◌∷◌, ◌++◌, map, filter_map, length, get_or, take, drop, option_to_list, refl, sym, ◌∙◌, ap, append_assoc, append-nil}
+use Rattle.std.proofs.lemmas.List.{map-append, take_more}
+use Rattle.std.proofs.lemmas.List.Elements.{filter_map-append}
+use Rattle.std.specs.List.{flat_map, cons_option}
 use Rattle.std.specs.FinMap.{entries, values}
 use Rattle.arrayvec.specs.ArrayVec.{ArrayVec}
 use Rattle.irc_names.specs.Tables.{Table}
 use Rattle.irc_tables.specs.declared.table.Row.{Row}
 use Rattle.irc_tables.specs.RowViews.{row_entry}
+use Rattle.irc_channels.specs.declared.flags.Flags.{Flags}
 use Rattle.irc_channels.specs.declared.channel.Channel.{Channel}
 use Rattle.irc_line.specs.Messages.{Written, text}
 use Rattle.irc_merge.specs.Bursts.{in_lines}
@@ -68,3 +70,18 @@ rows_told f rows table are = by_rows rows ∙ ap (λ es. flat_map f (map (λ (e 
     by_rows : (rs : List (Row Channel)) → flat_map (λ (r : Row Channel). f r.value) rs ≡ flat_map f (map (λ (e : List ℕ × Channel). e.1) (map (row_entry {V = Channel}) rs))
     by_rows [] = refl
     by_rows (r ∷ rs) = ap (λ more. f r.value ++ more) (by_rows rs)
+
+-- what one row more gives
+pub one_more_row : (f : List ℕ × Flags → Option (List ℕ × Flags)) (rows : List (Row Flags)) (i : ℕ) (d : Row Flags) (so_far : List (List ℕ × Flags))
+    → i < length rows → so_far ≡ filter_map f (map (row_entry {V = Flags}) (take i rows))
+    → so_far ++ option_to_list (f (row_entry (get_or rows i d))) ≡ filter_map f (map (row_entry {V = Flags}) (take (i + 1) rows))
+one_more_row f rows i d so_far within are =
+    ap (λ ms. ms ++ option_to_list (f (row_entry (get_or rows i d)))) are
+    ∙ ap (λ ms. filter_map f (map (row_entry {V = Flags}) (take i rows)) ++ ms) (one (f (row_entry (get_or rows i d))))
+    ∙ sym (ap (λ rs. filter_map f (map (row_entry {V = Flags}) rs)) (take_more rows i d within)
+    ∙ ap (filter_map f) (map-append (row_entry {V = Flags}) (take i rows) (get_or rows i d ∷ []))
+    ∙ filter_map-append f (map (row_entry {V = Flags}) (take i rows)) (row_entry (get_or rows i d) ∷ []))
+  where
+    one : (o : Option (List ℕ × Flags)) → option_to_list o ≡ cons_option o []
+    one None = refl
+    one (Some member) = refl

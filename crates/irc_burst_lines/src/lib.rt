@@ -12,9 +12,7 @@ mod telling;
 pub use bursting::burst;
 pub use mode_line::mode_text;
 pub use njoin_line::{Member, njoin_text};
-pub use server_lines::{
-    greeting_text, kill_text, pass_text, server_text, squit_text, topic_text,
-};
+pub use server_lines::{greeting_text, kill_text, pass_text, server_text, squit_text, topic_text};
 
 /// How many members one NJOIN brings (our own choice).
 pub const MEMBERS_A_LINE: usize = 30;

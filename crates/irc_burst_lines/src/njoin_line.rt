@@ -41,7 +41,7 @@ fn push_members(line: &mut Text, members: &[Member<'_>])
 {
     match members.split_first() {
         Some((first, more)) => {
-            push_member(line, *first);
+            push_member(line, first);
             push_more(line, more);
         }
         None => push_cut(line, b""),
@@ -57,14 +57,14 @@ fn push_more(line: &mut Text, members: &[Member<'_>])
     push_cut(line, b"");
     for member in members {
         push_cut(line, b",");
-        push_member(line, *member);
+        push_member(line, member);
     }
 }
 
 /// Appends a member: `@` before an operator, `+` before who may speak.
-fn push_member(line: &mut Text, member: Member<'_>)
+fn push_member(line: &mut Text, member: &Member<'_>)
     requires { array_vec_len line.old ≤ max_line }
-    ensures pushed { line.new.items ≡ cut (line.old.items ++ member_text (told_member member.entry)) }
+    ensures pushed { line.new.items ≡ cut (line.old.items ++ member_text (told_member member.now)) }
     ensures still_cut { array_vec_len line.new ≤ max_line }
 {
     push_cut(line, operator_mark(member.flags));

@@ -1,6 +1,7 @@
 //! Lines that speak of servers, and the other lines of a server (RFC 2813 section 4). Nothing here takes memory.
 ghost use Rattle.std.specs.Prelude.{◌≡◌, Some};
-ghost use Rattle.irc_line.specs.Messages.{text};
+ghost use Rattle.irc_line.specs.Messages.{nobody, text};
+ghost use Rattle.irc_line.specs.MessageViews.{optional_now};
 ghost use Rattle.irc_line.specs.PartViews.{words_now};
 ghost use Rattle.irc_wire.specs.Written.{from, next_distance, written_token};
 ghost use Rattle.irc_burst_lines.specs.DeedLines.{greeting, kill_parts, pass_parts, server_parts, squit_parts, topic_parts};
@@ -16,25 +17,29 @@ use itoa::Buffer;
 pub fn pass_text(password: &[u8]) -> Text
     ensures { result.items ≡ text (pass_parts password.now) }
 {
-    let version: &[u8] = VERSION;
-    let agreement: &[u8] = AGREEMENT;
-    write_message(&Parts {
-        prefix: Prefix::Nothing,
-        command: b"PASS",
-        middle: &[password, version, agreement],
-        last: None,
-    })
+    plain_line(b"PASS", &[password, VERSION, AGREEMENT], None)
 }
 
 /// The second line of a link, by which a server names itself: `SERVER a.net 1 1 :A` (RFC 2813 section 4.1.2).
 pub fn greeting_text(routes: &Routes) -> Text
     ensures { result.items ≡ text (greeting routes.now) }
 {
+    plain_line(
+        b"SERVER",
+        &[routes.name().as_bytes(), b"1", b"1"],
+        Some(own_info(routes).as_bytes()),
+    )
+}
+
+/// A line from nobody.
+fn plain_line<'a>(command: &'a [u8], middle: &'a [&'a [u8]], last: Option<&'a [u8]>) -> Text
+    ensures { result.items ≡ text (record { sender = nobody; command = command.now; middle = words_now middle.now; last = optional_now last.entry }) }
+{
     write_message(&Parts {
         prefix: Prefix::Nothing,
-        command: b"SERVER",
-        middle: &[routes.name().as_bytes(), b"1", b"1"],
-        last: Some(own_info(routes).as_bytes()),
+        command,
+        middle,
+        last,
     })
 }
 

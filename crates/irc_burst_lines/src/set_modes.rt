@@ -60,10 +60,7 @@ fn push_flag(
 }
 
 /// Appends the change that sets p or s, if one of them is set.
-fn push_privacy(
-    changes: &mut Vec<ModeChange, Global>,
-    privacy: Privacy,
-) -> Result<(), AllocError>
+fn push_privacy(changes: &mut Vec<ModeChange, Global>, privacy: Privacy) -> Result<(), AllocError>
     ensures { OnOk result (changes.new.items ≡ changes.old.items ++ privacy_set privacy) }
 {
     match privacy {

@@ -51,7 +51,10 @@ fn tell_members(
 {
     let mut rest = members;
     while !rest.is_empty() {
-        put(lines, njoin_text(server, channel, front(rest, MEMBERS_A_LINE)))?;
+        put(
+            lines,
+            njoin_text(server, channel, front(rest, MEMBERS_A_LINE)),
+        )?;
         rest = behind(rest, MEMBERS_A_LINE);
     }
     Ok(())

@@ -9,8 +9,8 @@ loop-member-init c = record { still_cut = c.push_cut.ensures.still_cut; pushed =
 pub loop-member-preserved : goal.loop-member-preserved
 loop-member-preserved c = record {
   still_cut = c.push_member.ensures.still_cut;
-  pushed = more_on c.loop-member.line.items _ _ _ c.args.members.now c.loop-member.member-index _ _ c.loop-member-test.true c.member-item.is
-      c.push_cut-2.ensures.appended c.push_member.ensures.pushed c.loop-member.invariant.pushed;
+  pushed = more_on c.loop-member.line.items _ _ _ c.args.members.now c.loop-member.member-index _ _ c.loop-member-test.true refl
+      c.push_cut-in-loop-member.ensures.appended c.push_member.ensures.pushed c.loop-member.invariant.pushed;
 }
 
 pub returns-clause-pushed : goal.returns-clause-pushed
