@@ -20,7 +20,7 @@ use Rattle.irc_routes.specs.declared.server_row.ServerRow.{ServerRow}
 use Rattle.irc_merge.specs.Deeds.{Deed, does, brings, sets, tops}
 use Rattle.irc_merge.specs.Bursts.{burst, side_of, user_deeds, channel_deeds, channel_side, user_passes, home_passes, stored_member, stored_members, settings_line, topic_line, in_lines, members_a_line, bans_a_line}
 use Rattle.irc_merge.specs.Lemmas.TableWords.{values_each, entries_kept}
-use Rattle.irc_wire.specs.Written.{introduction}
+use Rattle.irc_link_writer.specs.Written.{introduction}
 use Rattle.irc_burst_lines.specs.DeedLines.{deed_parts, njoin_parts, mode_parts}
 use Rattle.irc_burst_lines.specs.BurstLines.{is_near, server_deed, burst_deeds, burst_parts}
 use Rattle.irc_burst_lines.specs.Loops.Telling.{row_parts, is_near_user, near_user, near_member, near_members, member_lines, settings_lines, ban_lines, topic_lines, channel_lines, channel_told}

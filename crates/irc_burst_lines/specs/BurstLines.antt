@@ -14,7 +14,7 @@ use Rattle.irc_routes.specs.Known.{Known, servers_told}
 use Rattle.irc_routes.specs.declared.server_row.ServerRow.{ServerRow}
 use Rattle.irc_merge.specs.Deeds.{Deed, gains}
 use Rattle.irc_merge.specs.Bursts.{burst_of}
-use Rattle.irc_wire.specs.Reader.{is_behind_link}
+use Rattle.irc_link_reader.specs.Reader.{is_behind_link}
 use Rattle.irc_burst_lines.specs.DeedLines.{deed_parts}
 
 -- a server is on this side where it is not behind the link: the server itself too

@@ -17,7 +17,7 @@ use Rattle.irc_modes.specs.ModeWritten.{changes_written}
 use Rattle.irc_room.specs.Room.{Room}
 use Rattle.irc_routes.specs.Known.{Known}
 use Rattle.irc_merge.specs.Deeds.{Deed, does, gains, loses, kills, brings, sets, tops}
-use Rattle.irc_wire.specs.Written.{from, wire, next_distance, written_token}
+use Rattle.irc_link_writer.specs.Written.{from, wire, next_distance, written_token}
 
 -- ---- the beginning of a link
 

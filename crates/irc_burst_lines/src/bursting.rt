@@ -10,7 +10,7 @@ ghost use Rattle.irc_line.specs.Messages.{text};
 ghost use Rattle.irc_tables.specs.RowViews.{row_entry};
 ghost use Rattle.irc_channels.specs.declared.channel.Channel.{Channel};
 ghost use Rattle.irc_tables.specs.declared.table.Row.{Row};
-ghost use Rattle.irc_wire.specs.Written.{introduction};
+ghost use Rattle.irc_link_writer.specs.Written.{introduction};
 ghost use Rattle.irc_burst_lines.specs.BurstLines.{burst_parts, is_near};
 ghost use Rattle.irc_burst_lines.specs.Loops.Telling.{Writes, channel_told, is_near_user, lines_now, near_member, near_members, row_parts, rows_now, told_member, told_members, users_now};
 
@@ -24,7 +24,7 @@ use irc_room::{Effect, Room};
 use irc_routes::{Routes, ServerRow};
 use irc_tables::Row;
 use irc_users::User;
-use irc_wire::write_effect;
+use irc_link_writer::write_effect;
 use std::alloc::{AllocError, Global};
 
 /// The lines that tell a new neighbour of the network on this side: of all that is not behind the link.

@@ -9,11 +9,12 @@ ghost use Rattle.irc_line.specs.MessageViews.{optional_now};
 ghost use Rattle.irc_modes.specs.Letters.{letter_byte};
 ghost use Rattle.irc_modes.specs.ModeWritten.{letters_text};
 ghost use Rattle.irc_modes.specs.declared.modes.ModeChange.{ModeChange};
-ghost use Rattle.irc_wire.specs.Loops.Families.{sign_between};
+ghost use Rattle.irc_link_words.specs.Words.{sign_between};
 ghost use Rattle.irc_burst_lines.specs.DeedLines.{mode_parts};
 
 use crate::pieces::{push_cut, push_head};
 use irc_line::Text;
+use irc_link_words::sign_text;
 use irc_modes::ModeChange;
 use irc_names::{ChannelName, ServerName};
 
@@ -77,16 +78,6 @@ fn push_word(line: &mut Text, word: Option<&[u8]>)
             push_cut(line, word);
         }
         None => push_cut(line, b""),
-    }
-}
-
-/// The sign in front of a letter, if it has one there.
-fn sign_text(before: Option<bool>, plus: bool) -> &'static [u8]
-    ensures { result.now ≡ sign_between before plus }
-{
-    match before {
-        Some(sign) if sign == plus => b"",
-        _ => if plus { b"+" } else { b"-" },
     }
 }
 

@@ -3,7 +3,7 @@ ghost use Rattle.std.specs.Prelude.{◌≡◌, Some};
 ghost use Rattle.irc_line.specs.Messages.{nobody, text};
 ghost use Rattle.irc_line.specs.MessageViews.{optional_now};
 ghost use Rattle.irc_line.specs.PartViews.{words_now};
-ghost use Rattle.irc_wire.specs.Written.{from, next_distance, written_token};
+ghost use Rattle.irc_link_writer.specs.Written.{from, next_distance, written_token};
 ghost use Rattle.irc_burst_lines.specs.DeedLines.{greeting, kill_parts, pass_parts, server_parts, squit_parts, topic_parts};
 
 use crate::{AGREEMENT, VERSION};

@@ -16,18 +16,17 @@ use Rattle.irc_routes.specs.Known.{Known}
 use Rattle.irc_wire.specs.EachReadBack.{EachIsReadBack}
 use Rattle.irc_wire.specs.Introductions.{IntroducedIsRead, IsIntroduced}
 use Rattle.irc_wire.specs.ModesTaken.{WrittenChangesAreRead}
-use Rattle.irc_wire.specs.Numbers.{is_number}
+use Rattle.irc_link_words.specs.Numbers.{is_number}
 use Rattle.irc_wire.specs.ReadBack.{IsReadable, IsReadBack, WrittenIsReadBack, is_user_far}
-use Rattle.irc_wire.specs.Reader.{Reader, reader_of}
+use Rattle.irc_link_reader.specs.Reader.{Reader, reader_of}
 use Rattle.irc_wire.specs.WholeLines.{IsToldUser, ToldFitsItsLine}
-use Rattle.irc_wire.specs.Words.{no_mode, with_i}
-use Rattle.irc_wire.specs.Written.{from, introduction, next_distance, wire, written_token}
-use Rattle.irc_wire.proofs.DigitsRead.{number-digits}
+use Rattle.irc_link_words.specs.Words.{no_mode, with_i}
+use Rattle.irc_link_writer.specs.Written.{from, introduction, next_distance, wire, written_token}
 use Rattle.irc_wire.proofs.EffectsRead.{far_may_come}
 use Rattle.irc_wire.proofs.LinesBack.{IsKnownBelow, carried_no_nul, command_plain, from_plain, read_again}
 use Rattle.irc_wire.proofs.ModesRead.{words_written}
 use Rattle.irc_wire.proofs.ModeWords.{digits_plain, worded_counted, words_plain}
-use Rattle.irc_wire.proofs.NumberText.{number_taken}
+use Rattle.irc_wire.proofs.NumberText.{number_digits, number_taken}
 use Rattle.irc_wire.proofs.StoredNames.{channel_kept, channel_there, nick_kept}
 
 -- what is known in the crates below, and of what this crate writes
@@ -48,7 +47,7 @@ some_digits (digit ∷ digits) is = λ e. cc e
 number_plain : (n : ℕ) → 1 ≤ n → n ≤ 4294967295 → IsPlainWord (decimal n)
 number_plain n least most =
     let is = number_taken n least most in
-    digits_plain (decimal n) (number-digits (decimal n) is) (some_digits (decimal n) is)
+    digits_plain (decimal n) (number_digits n most) (some_digits (decimal n) is)
 
 mode_plain : (invisible : Bool) → IsPlainWord (if invisible then with_i else no_mode)
 mode_plain true = command_plain _ _ refl refl refl

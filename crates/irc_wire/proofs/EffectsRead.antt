@@ -15,11 +15,11 @@ use Rattle.irc_room.specs.declared.effect.Target.{Target}
 use Rattle.irc_room.specs.declared.effect.Target.TheVariants as target
 use Rattle.irc_room.specs.Effects.{needs_users}
 use Rattle.irc_room.specs.Sendable.{target_word}
-use Rattle.irc_wire.specs.Means.{first_fault, if_there, of_user, of_either, change_of, is_itself_or_none, mode_line, user_mode_line, read_by, say_line}
+use Rattle.irc_link_reader.specs.Means.{first_fault, if_there, of_user, of_either, change_of, is_itself_or_none, mode_line, user_mode_line, read_by, say_line}
 use Rattle.irc_wire.specs.ReadBack.{is_user_far}
-use Rattle.irc_wire.specs.Reader.{Reader, may_come}
-use Rattle.irc_wire.specs.Words.{with_i, without_i, marked, is_marked, is_for_channel, target_of, are_changes, changes_of}
-use Rattle.irc_wire.specs.Written.{from}
+use Rattle.irc_link_reader.specs.Reader.{Reader, may_come}
+use Rattle.irc_link_words.specs.Words.{with_i, without_i, marked, is_marked, is_for_channel, target_of, are_changes, are_members_named, changes_of}
+use Rattle.irc_link_writer.specs.Written.{from}
 use Rattle.irc_wire.proofs.NameKinds.{nick-no_server, nick-for_user, channel-for_channel, marked-told, marked-name}
 
 -- what the reader knows of whom a line is from, and of all whom it names
@@ -135,7 +135,8 @@ itself nick = ap (λ b. not (is_nick nick && is_nick nick) || b) ((same-tells ni
 for_user : (reader : Reader) (name nick : List ℕ) (words : List (List ℕ)) → IsNick nick
     → mode_line reader (Some name) (nick ∷ words) ≡ user_mode_line reader name nick words
 for_user reader name nick words named =
-    ap (λ b. if b then of_either reader name (are_changes words) nick (λ doer. ChangeModes doer nick (changes_of words))
+    ap (λ b. if b then of_either reader name (are_changes words) (is_channel nick && are_members_named (changes_of words)) nick
+    (λ doer. ChangeModes doer nick (changes_of words))
     else user_mode_line reader name nick words) (nick-for_user nick named)
 
 pub user_mode_read : (reader : Reader) (nick : List ℕ) (invisible : Bool) → IsExpected reader nick (UserMode nick invisible)

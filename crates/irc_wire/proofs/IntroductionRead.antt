@@ -14,11 +14,11 @@ use Rattle.irc_room.specs.declared.effect.Effect.TheVariants.{AddUser}
 use Rattle.irc_room.specs.Limits.{IsUserWithin}
 use Rattle.irc_routes.specs.Known.{Known, distance_of}
 use Rattle.irc_wire.specs.Introductions.{IntroducedIsRead}
-use Rattle.irc_wire.specs.Means.{Checked, first_fault, home_of, introduction_line, is_come_mode, is_distance_of}
-use Rattle.irc_wire.specs.Numbers.{is_number}
-use Rattle.irc_wire.specs.Reader.{Reader}
-use Rattle.irc_wire.specs.Words.{is_user_name, no_mode, with_i}
-use Rattle.irc_wire.specs.Written.{next_distance, written_token}
+use Rattle.irc_link_reader.specs.Means.{Checked, first_fault, home_of, introduction_line, is_distance_of}
+use Rattle.irc_link_words.specs.Numbers.{is_number}
+use Rattle.irc_link_reader.specs.Reader.{Reader}
+use Rattle.irc_link_words.specs.Words.{is_come_mode, is_user_name, no_mode, with_i}
+use Rattle.irc_link_writer.specs.Written.{next_distance, written_token}
 use Rattle.irc_wire.proofs.NumberText.{number_read, number_taken}
 
 -- a line in which there is no fault means what it says

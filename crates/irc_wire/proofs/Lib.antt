@@ -1,12 +1,3 @@
-pub mod CutPieces
-pub mod ModeLines
-pub mod DigitsRead
-pub mod TextsRead
-pub mod FarMembers
-pub mod LastWords
-pub mod KeptWords
-pub mod WordsTaken
-pub mod FoundGiven
 pub mod NameKinds
 pub mod StoredNames
 pub mod EffectsRead

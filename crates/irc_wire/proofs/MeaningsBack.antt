@@ -17,11 +17,11 @@ use Rattle.irc_room.specs.Room.{Room}
 use Rattle.irc_room.specs.Seen.{full_sender, stored_nick, stored_channel, target_name}
 use Rattle.irc_room.specs.Sendable.{IsSentTarget, IsSentText, said_parts, target_word}
 use Rattle.irc_routes.specs.Known.{Known}
-use Rattle.irc_wire.specs.Means.{read_by}
+use Rattle.irc_link_reader.specs.Means.{read_by}
 use Rattle.irc_wire.specs.ReadBack.{IsPlainEffect, IsReadable, is_user_far}
-use Rattle.irc_wire.specs.Reader.{Reader}
-use Rattle.irc_wire.specs.Words.{with_i, without_i, marked}
-use Rattle.irc_wire.specs.Written.{from, wire}
+use Rattle.irc_link_reader.specs.Reader.{Reader}
+use Rattle.irc_link_words.specs.Words.{with_i, without_i, marked}
+use Rattle.irc_link_writer.specs.Written.{from, wire}
 use Rattle.irc_wire.proofs.EffectsRead.{IsExpected, IsTarget, invite_read, join_read, kick_read, part_read, quit_read, rename_read, text_read, topic_read, user_mode_read}
 use Rattle.irc_wire.proofs.StoredNames.{IsKeptAs, nick_kept, channel_kept, channel_there}
 

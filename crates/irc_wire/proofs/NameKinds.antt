@@ -6,7 +6,7 @@ use Rattle.std.specs.List.{list_any, list_all}
 use Rattle.std.proofs.lemmas.Slice.Eq.{bytes_eq-Decides}
 use Rattle.irc_names.specs.Limits.{max_server}
 use Rattle.irc_names.specs.Names.{IsNick, IsChannel, fits, is_special, is_nick, is_nick_byte, is_channel, is_channel_byte, is_server, is_server_byte}
-use Rattle.irc_wire.specs.Words.{op_mark, marked, is_marked, unmarked, is_for_channel}
+use Rattle.irc_link_words.specs.Words.{op_mark, marked, is_marked, unmarked, is_for_channel}
 
 -- ---- bytes that a name has not
 

@@ -8,7 +8,7 @@ use Rattle.std.specs.List.{list_all}
 use Rattle.std.specs.Char.{is_ascii_digit}
 use Rattle.irc_names.specs.Names.{fits}
 use Rattle.irc_modes.specs.Modes.{number_of}
-use Rattle.irc_wire.specs.Numbers.{begins_with_zero, is_number, max_number_digits}
+use Rattle.irc_link_words.specs.Numbers.{begins_with_zero, is_number, max_number_digits}
 
 abbrev number_on : ℕ → List ℕ → ℕ
 number_on n digits = fold (λ m digit. 10 * m + (digit - 48)) n digits
@@ -37,3 +37,6 @@ number_taken n least most =
     (and_from (digits && few) _ (and_from digits few (digits_decimal numerals n small) (grind (arith, nat_tests)))
     (no_zero (decimal n) (first_decimal n (omega (arith, least)) small)))
     (and_from (nat_le 1 (number_of (decimal n))) _ (grind (arith, nat_tests)) (grind (arith, nat_tests)))
+
+pub number_digits : (n : ℕ) → n ≤ 4294967295 → list_all is_ascii_digit (decimal n) ≡ true
+number_digits n most = digits_decimal numerals n (omega (arith, most))

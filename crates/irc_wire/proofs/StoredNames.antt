@@ -43,3 +43,18 @@ channel_there room name is = by (row room.channels (key name)) is
     by : (o : Option Channel) → option_map (λ (channel : Channel). channel.name) o ≡ Some name → IsNameFor name o
     by None is = cc is
     by (Some channel) is = same_some channel.name name is
+
+-- a name by the rule is one as the room spells it too
+pub nick_stays : (room : Room) (nick : List ℕ) → IsWithinLimits room → IsNick nick → IsNick (stored_nick room nick)
+nick_stays room nick within is = by (row room.users (key nick)) refl
+  where
+    by : (o : Option User) → row room.users (key nick) ≡ o → IsNick (option_map_or (λ (user : User). user.nick) o nick)
+    by None at = is
+    by (Some user) at = (within.users (key nick) user at).nick
+
+pub channel_stays : (room : Room) (channel : List ℕ) → IsWithinLimits room → IsChannel channel → IsChannel (stored_channel room channel)
+channel_stays room channel within is = by (row room.channels (key channel)) refl
+  where
+    by : (o : Option Channel) → row room.channels (key channel) ≡ o → IsChannel (option_map_or (λ (c : Channel). c.name) o channel)
+    by None at = is
+    by (Some c) at = (within.channels (key channel) c at).name

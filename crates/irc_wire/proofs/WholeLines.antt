@@ -21,8 +21,8 @@ use Rattle.irc_room.specs.Seen.{changes_words, stored_channel}
 use Rattle.irc_room.specs.Sendable.{IsStoredChannel}
 use Rattle.irc_routes.specs.Known.{Known}
 use Rattle.irc_wire.specs.WholeLines.{IsToldUser, ToldFitsItsLine, ToldIsWhole}
-use Rattle.irc_wire.specs.Words.{is_mode_word, no_mode, with_i}
-use Rattle.irc_wire.specs.Written.{from, introduction, next_distance, wire, written_token}
+use Rattle.irc_link_words.specs.Words.{is_mode_word, no_mode, with_i}
+use Rattle.irc_link_writer.specs.Written.{from, introduction, next_distance, wire, written_token}
 use Rattle.irc_line.specs.Lemmas.CutLaws.{cut_all}
 use Rattle.irc_wire.proofs.LinesBack.{by_nickname, channel_short, four_lengths, named_length, nick_short, viewer, wire_whole}
 use Rattle.irc_wire.proofs.ModesRead.{words_written}

@@ -6,7 +6,7 @@ use Rattle.irc_room.specs.Room.{Room}
 use Rattle.irc_routes.specs.Known.{Known}
 use Rattle.irc_wire.specs.Introductions.{IsIntroduced}
 use Rattle.irc_wire.specs.ReadBack.{IsReadable, IsReadBack}
-use Rattle.irc_wire.specs.Reader.{Reader, reader_of}
+use Rattle.irc_link_reader.specs.Reader.{Reader, reader_of}
 
 -- of a user who comes, that writer and reader agree on its server
 abbrev pub AgreesOnServer : Known → Reader → Effect → Type 0

@@ -7,10 +7,10 @@ use Rattle.irc_users.specs.declared.user.User.{User}
 use Rattle.irc_room.specs.declared.effect.Effect.TheVariants.{AddUser}
 use Rattle.irc_room.specs.Limits.{IsUserWithin}
 use Rattle.irc_routes.specs.Known.{Known}
-use Rattle.irc_wire.specs.Means.{read_by}
-use Rattle.irc_wire.specs.Numbers.{max_number}
-use Rattle.irc_wire.specs.Reader.{Reader}
-use Rattle.irc_wire.specs.Written.{introduction, next_distance, written_token}
+use Rattle.irc_link_reader.specs.Means.{read_by}
+use Rattle.irc_link_words.specs.Numbers.{max_number}
+use Rattle.irc_link_reader.specs.Reader.{Reader}
+use Rattle.irc_link_writer.specs.Written.{introduction, next_distance, written_token}
 
 pub record IsIntroduced (known : Known) (reader : Reader) (user : User) : Type 0 where
   -- its names and texts keep the limits

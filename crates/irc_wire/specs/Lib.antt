@@ -1,9 +1,3 @@
-pub mod Numbers
-pub mod Words
-pub mod Written
-pub mod Reader
-pub mod Means
-pub mod Loops
 pub mod ReadBack
 pub mod Introductions
 pub mod ModesTaken

@@ -11,9 +11,9 @@ use Rattle.irc_room.specs.Limits.{IsWithinLimits}
 use Rattle.irc_room.specs.Room.{Room}
 use Rattle.irc_room.specs.Sendable.{IsSendable}
 use Rattle.irc_routes.specs.Known.{Known}
-use Rattle.irc_wire.specs.Means.{means}
-use Rattle.irc_wire.specs.Reader.{Reader, reader_of}
-use Rattle.irc_wire.specs.Written.{wire}
+use Rattle.irc_link_reader.specs.Means.{means}
+use Rattle.irc_link_reader.specs.Reader.{Reader, reader_of}
+use Rattle.irc_link_writer.specs.Written.{wire}
 
 -- whether a user is there whose server is behind the link
 abbrev pub is_user_far : Reader → List ℕ → Bool

@@ -14,8 +14,8 @@ use Rattle.irc_room.specs.Limits.{IsCarriedText, IsUserWithin, IsWithinLimits}
 use Rattle.irc_room.specs.Room.{Room}
 use Rattle.irc_room.specs.Sendable.{IsSendable, IsSentChange, IsStoredChannel}
 use Rattle.irc_routes.specs.Known.{Known}
-use Rattle.irc_wire.specs.Numbers.{max_number}
-use Rattle.irc_wire.specs.Written.{next_distance, wire, written_token}
+use Rattle.irc_link_words.specs.Numbers.{max_number}
+use Rattle.irc_link_writer.specs.Written.{next_distance, wire, written_token}
 
 -- a user who keeps the limits, and whose server has a number and a distance that can be written
 pub record IsToldUser (known : Known) (user : User) : Type 0 where

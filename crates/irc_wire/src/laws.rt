@@ -2,7 +2,7 @@
 //! proves it, and a crate above may cite it.
 ghost use Rattle.irc_wire.specs.EachReadBack.{EachIsReadBack};
 ghost use Rattle.irc_wire.specs.Introductions.{IntroducedIsRead};
-ghost use Rattle.irc_wire.specs.ModesTaken.{OtherwiseWrittenIsRefused, TakenIsReadAgain, TakenIsWrittenSo, WrittenChangesAreRead};
+ghost use Rattle.irc_wire.specs.ModesTaken.{OtherwiseWrittenIsRefused, TakenCanBeSentOn, TakenIsReadAgain, TakenIsReadByTheNext, TakenIsWrittenSo, WrittenChangesAreRead};
 ghost use Rattle.irc_wire.specs.ReadBack.{WrittenIsReadBack};
 ghost use Rattle.irc_wire.specs.WholeLines.{ToldFitsItsLine, ToldIsWhole};
 
@@ -38,6 +38,19 @@ pub fn taken_is_written_so()
     ensures refused { OtherwiseWrittenIsRefused }
     ensures again { TakenIsReadAgain }
 {}
+
+/// What a MODE line of a link is taken to say can be written again, and is read as the same, whatever the words of the line: by any room that keeps
+/// the limits, which spells the names as it has them; and by the next server, to which the user is known and is behind the link.
+pub fn taken_can_be_sent_on()
+    ensures written { TakenCanBeSentOn }
+    ensures read { TakenIsReadByTheNext }
+{
+    irc_modes::laws::written_is_read();
+    irc_modes::laws::some_asked_are_readable();
+    irc_modes::laws::reworded_is_written();
+    irc_modes::laws::reworded_is_readable();
+    irc_room::laws::names_are_line_words();
+}
 
 /// No line that tells another server of an effect is cut (RFC 2812 section 2.3: 510 bytes before CR LF), where the effect can be sent, or is one by which
 /// the server itself sets modes or the topic of a channel.

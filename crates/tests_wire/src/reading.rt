@@ -149,7 +149,7 @@ const CHANNELS: [Row; 14] = [
 ];
 
 /// Lines that are refused, each for the first cause.
-const REFUSED: [Row; 22] = [
+const REFUSED: [Row; 24] = [
     (1, b"FOO", b" unknown command", b""),
     (1, b":b.net SQUIT b.net :x", b" unknown command", b""),
     (1, b":bo PART #c", b" parameters", b""),
@@ -169,9 +169,63 @@ const REFUSED: [Row; 22] = [
     (2, b":bo MODE #c +m", b" wrong direction", b""),
     (1, b":al QUIT :x", b" wrong direction", b""),
     (1, b":c.net TOPIC #c :x", b" wrong direction", b""),
+    (2, b":bo KICK #c bi :x", b" wrong direction", b""),
+    (1, b":9d QUIT :x", b" bad name", b""),
     (1, b":bo NICK 9d", b" bad name", b""),
     (1, b":bo JOIN c", b" bad name", b""),
     (1, b":bo MODE #a:b +m", b" bad name", b""),
+];
+
+/// The words of a MODE, by the rules of their letters: those at their limits are taken, and handed on; those outside are refused.
+const MODE_WORDS: [Row; 18] = [
+    (
+        1,
+        b"NICK bo 1 u h 1 + :Bo",
+        b" adds bo u h Bo b.net no",
+        b"NICK bo 2 u h 2 + :Bo\r\n",
+    ),
+    (
+        1,
+        b":bo JOIN #c\x07o",
+        b" joins bo #c yes",
+        b":bo JOIN #c\x07o\r\n",
+    ),
+    (
+        1,
+        b":bo MODE #c +l 65535",
+        b" modes bo #c yes l 65535",
+        b":bo MODE #c +l 65535\r\n",
+    ),
+    (
+        1,
+        b":bo MODE #c +b a!bbbbbbbbbbbbbbbbbbbbbbbbbbbbbbbbbbbbbbbbbbbbbbbbbbbbbbbbbbbbbbbbbbbbbbbbbbbbbbbbbbbbbb@*",
+        b" modes bo #c yes b a!bbbbbbbbbbbbbbbbbbbbbbbbbbbbbbbbbbbbbbbbbbbbbbbbbbbbbbbbbbbbbbbbbbbbbbbbbbbbbbbbbbbbbb@*",
+        b":bo MODE #c +b a!bbbbbbbbbbbbbbbbbbbbbbbbbbbbbbbbbbbbbbbbbbbbbbbbbbbbbbbbbbbbbbbbbbbbbbbbbbbbbbbbbbbbbb@*\r\n",
+    ),
+    (
+        1,
+        b":bo MODE #c +o zz",
+        b" modes bo #c yes o zz",
+        b":bo MODE #c +o zz\r\n",
+    ),
+    (1, b":bo MODE #c +k a,b", b" parameters", b""),
+    (1, b":bo MODE #c -k a,b", b" parameters", b""),
+    (1, b":bo MODE #c -k", b" parameters", b""),
+    (1, b":bo MODE #c +l 0", b" parameters", b""),
+    (1, b":bo MODE #c +l 007", b" parameters", b""),
+    (1, b":bo MODE #c +l 65536", b" parameters", b""),
+    (1, b":bo MODE #c +l 99999", b" parameters", b""),
+    (
+        1,
+        b":bo MODE #c +b xxxxxxxxxxxxxxxxxxxxxxxxxxxxxxxxxxxxxxxxxxxxxxxxxxxxxxxxxxxxxxxxxxxxxxxxxxxxxxxxxxxxxxxxxxx",
+        b" parameters",
+        b"",
+    ),
+    (1, b":bo MODE #c +ok 9d a,b", b" parameters", b""),
+    (1, b":bo MODE #c +o 9d", b" bad name", b""),
+    (1, b":bo MODE #c -v 9d", b" bad name", b""),
+    (2, b":bo MODE #c +o 9d", b" wrong direction", b""),
+    (2, b":bo MODE #c +l 007", b" parameters", b""),
 ];
 
 /// Whether the nickname that an effect brings is free, as whoever applies one has to know.
@@ -288,5 +342,20 @@ fn lines_are_read_as_effects_and_written_so(rt: HostRuntime) -> Result<(), Fail>
     assert!(rt; rows_hold(rt.alloc(), &mut room, &routes, &USERS));
     assert!(rt; rows_hold(rt.alloc(), &mut room, &routes, &CHANNELS));
     assert!(rt; rows_hold(rt.alloc(), &mut room, &routes, &REFUSED));
+    Ok(())
+}
+
+#[test]
+fn words_of_a_mode_keep_the_rules_of_their_letters(rt: HostRuntime) -> Result<(), Fail> {
+    let own = Own {
+        name: Vec::from_slice(rt.alloc(), b"a.net")?,
+        info: Vec::new(rt.alloc()),
+        created: Vec::new(rt.alloc()),
+    };
+    assert!(rt; is_server(&own.name));
+    let mut routes = Routes::new(own);
+    add_neighbour(&rt, &mut routes);
+    let mut room = stand(&rt, rt.alloc());
+    assert!(rt; rows_hold(rt.alloc(), &mut room, &routes, &MODE_WORDS));
     Ok(())
 }

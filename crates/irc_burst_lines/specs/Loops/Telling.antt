@@ -16,7 +16,7 @@ use Rattle.irc_modes.specs.declared.modes.ModeChange.{ModeChange}
 use Rattle.irc_routes.specs.Known.{Known}
 use Rattle.irc_routes.specs.declared.server_row.ServerRow.{ServerRow}
 use Rattle.irc_merge.specs.Bursts.{in_lines, members_a_line, bans_a_line}
-use Rattle.irc_wire.specs.Written.{introduction}
+use Rattle.irc_link_writer.specs.Written.{introduction}
 use Rattle.irc_burst_lines.specs.declared.njoin_line.Member.{Member}
 use Rattle.irc_burst_lines.specs.DeedLines.{server_parts, njoin_parts, mode_parts, topic_parts}
 use Rattle.irc_burst_lines.specs.BurstLines.{is_near}

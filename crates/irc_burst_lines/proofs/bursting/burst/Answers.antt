@@ -2,7 +2,7 @@ use Rattle.std.proofs.Common.{◌++◌, ◌∙◌, ap, sym, map, filter}
 use Rattle.std.specs.List.{flat_map}
 use Rattle.std.specs.FinMap.{values}
 use Rattle.irc_line.specs.Messages.{text}
-use Rattle.irc_wire.specs.Written.{introduction}
+use Rattle.irc_link_writer.specs.Written.{introduction}
 use Rattle.irc_burst_lines.specs.Loops.Telling.{channel_told, is_near_user, lines_now, row_parts, rows_now}
 use Rattle.irc_burst_lines.proofs.SideTold.{side_told}
 use Rattle.irc_burst_lines.proofs.Told.{two_told}

@@ -1,6 +1,6 @@
 use Rattle.std.proofs.Common.{◌++◌, map, filter, drop}
 use Rattle.irc_line.specs.Messages.{text}
-use Rattle.irc_wire.specs.Written.{introduction}
+use Rattle.irc_link_writer.specs.Written.{introduction}
 use Rattle.irc_burst_lines.specs.Loops.Telling.{lines_now, is_near_user, users_now}
 use Rattle.irc_burst_lines.proofs.Told.{Completes}
 use Rattle.irc_burst_lines.proofs.bursting.tell_each_user.Given as goal

@@ -1,6 +1,6 @@
 use Rattle.std.proofs.Common.{[], ◌∷◌, ◌++◌, ◌∙◌, ap}
 use Rattle.irc_line.specs.Bytes.{cut}
-use Rattle.irc_wire.specs.Loops.Families.{sign_between}
+use Rattle.irc_link_words.specs.Words.{sign_between}
 use Rattle.irc_line.specs.Lemmas.CutLaws.{cut_two}
 use Rattle.irc_burst_lines.proofs.mode_line.push_change.Goals as goal
 

@@ -1,6 +1,6 @@
 use Rattle.std.proofs.Common.{[], refl, arith}
-use Rattle.irc_wire.proofs.CutPieces.{piece_on}
-use Rattle.irc_wire.proofs.ModeLines.{letters_on, letters_done}
+use Rattle.irc_link_writer.proofs.CutPieces.{piece_on}
+use Rattle.irc_link_writer.proofs.ModeLines.{letters_on, letters_done}
 use Rattle.irc_burst_lines.proofs.mode_line.push_letters.Goals as goal
 
 pub loop-change-init : goal.loop-change-init

@@ -2,8 +2,8 @@ use Rattle.std.proofs.Common.{[], ◌++◌, ◌∙◌, ap, refl, option_to_list,
 use Rattle.irc_line.specs.Bytes.{cut}
 use Rattle.irc_line.specs.Messages.{middle_text}
 use Rattle.irc_modes.specs.declared.modes.ModeChange.{ModeChange}
-use Rattle.irc_wire.proofs.CutPieces.{piece_on}
-use Rattle.irc_wire.proofs.ModeLines.{words_next, words_done}
+use Rattle.irc_link_writer.proofs.CutPieces.{piece_on}
+use Rattle.irc_link_writer.proofs.ModeLines.{words_next, words_done}
 use Rattle.irc_burst_lines.proofs.mode_line.push_words.Goals as goal
 
 pub loop-change-init : goal.loop-change-init

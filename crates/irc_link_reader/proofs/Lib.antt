@@ -1,0 +1,3 @@
+pub mod FarMembers
+pub mod FoundGiven
+pub mod Newcomers

@@ -1,0 +1,3 @@
+pub mod Reader
+pub mod Means
+pub mod Loops

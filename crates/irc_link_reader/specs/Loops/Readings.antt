@@ -1,0 +1,131 @@
+-- What the code that reads a line of a link gives.
+use Rattle.std.specs.Prelude.{◌≡◌, ℕ, Bool, true, false, not, ◌&&◌, ⊤, Option, Some, None, Result, Ok, Err, List, [], ◌∷◌, codes, option_to_list, if◌then◌else◌}
+use Rattle.std.specs.Borrow.{Bor}
+use Rattle.std.specs.Global.{Vec}
+use Rattle.std.specs.Option.{option_map_or}
+use Rattle.irc_names.specs.Limits.{max_real_name}
+use Rattle.irc_names.specs.Names.{fits, is_channel, is_nick, is_server}
+use Rattle.irc_tables.specs.declared.table.Row.{Row as TableRow}
+use Rattle.irc_channels.specs.declared.flags.Flags.{Flags}
+use Rattle.irc_modes.specs.declared.modes.ModeChange.{ModeChange}
+use Rattle.irc_room.specs.declared.effect.By.{By}
+use Rattle.irc_room.specs.declared.effect.By.TheVariants as by
+use Rattle.irc_room.specs.declared.effect.Effect.{Effect}
+use Rattle.irc_room.specs.declared.effect.Effect.TheVariants.{ChangeModes, SetTopic}
+use Rattle.irc_link_reader.specs.declared.arrival.Arrival.{Arrival}
+use Rattle.irc_link_reader.specs.declared.reading_users.Newcomer.{Newcomer}
+use Rattle.irc_link_reader.specs.declared.commands.Command.{Command}
+use Rattle.irc_link_reader.specs.declared.commands.Command.TheVariants as command
+use Rattle.irc_link_words.specs.declared.fault.WireFault.{WireFault}
+use Rattle.irc_link_words.specs.declared.fault.WireFault.TheVariants.{BadName, BadToken, Memory, Parameters}
+use Rattle.irc_link_reader.specs.Reader.{Reader, reader_of}
+use Rattle.irc_link_reader.specs.Means.{Checked, Row, first_fault, line, if_there, home_of, introduction_line, nick_line, of_either, quit_line, join_line, part_line, kick_line, mode_line, topic_line, say_line, invite_line}
+use Rattle.irc_link_words.specs.Words.{are_members_named, is_come_mode, is_user_name}
+
+-- what is looked at where a line came
+abbrev pub reader : Arrival → Reader
+reader at = reader_of at.room.now.room at.routes.now at.link
+
+-- what is read, as a list
+abbrev pub found : Result (Option Effect) WireFault → Result (List Effect) WireFault
+found (Ok effect) = Ok (option_to_list effect)
+found (Err fault) = Err fault
+
+-- what is looked at in a line of each command
+abbrev pub row : Command → Row
+row command.Nick = line (codes "NICK") nick_line
+row command.Quit = line (codes "QUIT") quit_line
+row command.Join = line (codes "JOIN") join_line
+row command.Part = line (codes "PART") part_line
+row command.Kick = line (codes "KICK") kick_line
+row command.Mode = line (codes "MODE") mode_line
+row command.Topic = line (codes "TOPIC") topic_line
+row (command.Say true) = line (codes "NOTICE") (say_line true)
+row (command.Say false) = line (codes "PRIVMSG") (say_line false)
+row command.Invite = line (codes "INVITE") invite_line
+
+-- the rows of the commands that change neither users nor channels, but for the topic
+abbrev pub telling_table : List Row
+telling_table =
+    line (codes "TOPIC") topic_line ∷ line (codes "PRIVMSG") (say_line false) ∷ line (codes "NOTICE") (say_line true)
+    ∷ line (codes "INVITE") invite_line ∷ []
+
+-- who changes a channel, or that no name is read
+abbrev pub doer_or_fault : List ℕ → Result By WireFault
+doer_or_fault name = if is_server name then Ok by.Home else (if is_nick name then Ok (by.User name) else Err BadName)
+
+-- an effect that a user or a server brings about
+abbrev pub IsChange : Effect → Type 0
+IsChange (SetTopic by channel text) = ⊤
+IsChange (ChangeModes by channel changes) = ⊤
+IsChange other = ⊥
+
+-- the channel of it, where a server does it
+abbrev pub home_channel : Effect → Option (List ℕ)
+home_channel (SetTopic by.Home channel text) = Some channel
+home_channel (ChangeModes by.Home channel changes) = Some channel
+home_channel other = None
+
+-- the effect, where it counts
+abbrev pub counted : Reader → Effect → List Effect
+counted reader effect = if option_map_or reader.is_far_channel (home_channel effect) true then if_there reader effect else []
+
+-- the words of an introduction
+abbrev pub introduction_of : Reader → Newcomer → Checked
+introduction_of reader words =
+    introduction_line reader words.nick.now words.distance.now words.user.now words.host.now words.token.now words.mode.now words.real.now
+
+-- whether the words of an introduction that are neither names nor numbers keep their rules
+abbrev pub are_right : Newcomer → Bool
+are_right words = is_user_name words.user.now && (is_come_mode words.mode.now && fits max_real_name words.real.now)
+
+abbrev pub home_or_bad : Option (List ℕ) → Result (List ℕ) WireFault
+home_or_bad (Some home) = Ok home
+home_or_bad None = Err BadToken
+
+-- the server that a user comes from, or why the words of its introduction are refused
+abbrev pub home_or_fault : Reader → Newcomer → Result (List ℕ) WireFault
+home_or_fault reader words =
+    if not (introduction_of reader words).parameters then Err Parameters
+    else home_or_bad (home_of reader words.token.now)
+
+abbrev pub home_now : Result (Bor (List ℕ)) WireFault → Result (List ℕ) WireFault
+home_now (Ok home) = Ok (home.now)
+home_now (Err fault) = Err fault
+
+-- what is looked at in a line of changes of a channel, once these are read
+abbrev pub channel_change : Reader → List ℕ → List ℕ → List ModeChange → Checked
+channel_change reader name channel changes =
+    of_either reader name true (is_channel channel && are_members_named changes) channel (λ doer. ChangeModes doer channel changes)
+
+-- whether a member is behind the link
+abbrev pub is_member_far : Reader → TableRow Flags → Bool
+is_member_far reader member = option_map_or reader.is_far (reader.home member.name.items) false
+
+-- ---- want of memory
+
+-- whether the reading of a line of this command takes memory: that of a MODE does
+abbrev pub takes_memory : Command → Bool
+takes_memory command.Mode = true
+takes_memory other = false
+
+-- what is found of a line whose reading takes memory or takes none, by what it means
+abbrev pub IsFound : Bool → Result (List Effect) WireFault → Result (Option Effect) WireFault → Type 0
+IsFound takes meant (Ok effect) = meant ≡ Ok (option_to_list effect)
+IsFound takes meant (Err Memory) = takes ≡ true
+IsFound takes meant (Err fault) = meant ≡ Err fault
+
+-- the list of what is found, for which memory may run out
+abbrev pub IsListed : Result (Option Effect) WireFault → Result (Vec Effect) WireFault → Type 0
+IsListed (Ok effect) (Ok effects) = effects.items ≡ option_to_list effect
+IsListed (Ok effect) (Err Memory) = ⊤
+IsListed (Ok effect) (Err fault) = ⊥
+IsListed (Err fault) result = result ≡ Err fault
+
+-- ---- the words of an introduction
+
+-- the seven words of an introduction, or what a line means that has another number of them
+abbrev pub IsNewcomer : List (List ℕ) → Result Newcomer WireFault → Type 0
+IsNewcomer words (Ok w) =
+    words ≡ w.nick.now ∷ w.distance.now ∷ w.user.now ∷ w.host.now ∷ w.token.now ∷ w.mode.now ∷ w.real.now ∷ []
+IsNewcomer words (Err fault) = (reader : Reader) → Err fault ≡ first_fault (nick_line reader None words)

@@ -1,0 +1,11 @@
+//! Lines of a link read as effects (RFC 2813 section 4). Definitions are in `specs/`.
+#![tactic(auto)]
+
+mod arrival;
+mod commands;
+mod reading;
+mod reading_channels;
+mod reading_modes;
+mod reading_users;
+
+pub use reading::read_effect;

@@ -1,0 +1,146 @@
+//! Lines about a channel (RFC 2813 section 4).
+ghost use Rattle.std.specs.Prelude.{◌≡◌, Some, true, not, option_to_list};
+ghost use Rattle.std.specs.Option.{option_map_or};
+ghost use Rattle.irc_link_reader.specs.Loops.Readings.{IsChange, counted, doer_or_fault, found, home_channel, reader};
+ghost use Rattle.irc_link_reader.specs.Means.{first_fault, join_line, kick_line, part_line, topic_line};
+
+use crate::arrival::{Arrival, expect_from, if_there, is_far_channel};
+use irc_link_words::{Params, WireFault, is_marked, read_channel, read_nick, read_words, unmarked};
+use irc_names::is_server;
+use irc_room::{By, Effect};
+
+/// A user joins a channel.
+pub(crate) fn join_line(
+    at: Arrival<'_>,
+    nick: &[u8],
+    mut params: Params<'_>,
+) -> Result<Option<Effect>, WireFault>
+    ensures { found result ≡ first_fault (join_line (reader at.entry) (Some nick.now) params.entry) }
+{
+    let word = params.next()?;
+    params.end()?;
+    expect_from(at, nick)?;
+    let nick = read_nick(nick)?;
+    let channel = read_channel(unmarked(word))?;
+    Ok(if_there(
+        at,
+        Effect::Join {
+            nick,
+            channel,
+            op: is_marked(word),
+        },
+    ))
+}
+
+/// A member leaves a channel.
+pub(crate) fn part_line(
+    at: Arrival<'_>,
+    nick: &[u8],
+    mut params: Params<'_>,
+) -> Result<Option<Effect>, WireFault>
+    ensures { found result ≡ first_fault (part_line (reader at.entry) (Some nick.now) params.entry) }
+{
+    let channel = params.next()?;
+    let text = params.next()?;
+    params.end()?;
+    let text = read_words(text)?;
+    expect_from(at, nick)?;
+    let nick = read_nick(nick)?;
+    let channel = read_channel(channel)?;
+    Ok(if_there(
+        at,
+        Effect::Part {
+            nick,
+            channel,
+            text,
+        },
+    ))
+}
+
+/// A member is made to leave a channel.
+pub(crate) fn kick_line(
+    at: Arrival<'_>,
+    by: &[u8],
+    mut params: Params<'_>,
+) -> Result<Option<Effect>, WireFault>
+    ensures { found result ≡ first_fault (kick_line (reader at.entry) (Some by.now) params.entry) }
+{
+    let channel = params.next()?;
+    let nick = params.next()?;
+    let text = params.next()?;
+    params.end()?;
+    let text = read_words(text)?;
+    expect_from(at, by)?;
+    let by = read_nick(by)?;
+    let channel = read_channel(channel)?;
+    let nick = read_nick(nick)?;
+    Ok(if_there(
+        at,
+        Effect::Kick {
+            by,
+            channel,
+            nick,
+            text,
+        },
+    ))
+}
+
+/// A channel's topic changes.
+pub(crate) fn topic_line(
+    at: Arrival<'_>,
+    name: &[u8],
+    mut params: Params<'_>,
+) -> Result<Option<Effect>, WireFault>
+    ensures { found result ≡ first_fault (topic_line (reader at.entry) (Some name.now) params.entry) }
+{
+    let channel = params.next()?;
+    let text = params.next()?;
+    params.end()?;
+    let text = read_words(text)?;
+    expect_from(at, name)?;
+    let by = read_doer(name)?;
+    let channel = read_channel(channel)?;
+    Ok(if_counts(at, Effect::SetTopic { by, channel, text }))
+}
+
+/// Whoever changes a channel: a user, or a server.
+pub(crate) fn read_doer(name: &[u8]) -> Result<By, WireFault>
+    ensures { result ≡ doer_or_fault name.now }
+{
+    if is_server(name) {
+        Ok(By::Home)
+    } else {
+        Ok(By::User(read_nick(name)?))
+    }
+}
+
+/// The change of a channel, where it counts: a user's if that is there, a server's if all members of the channel are behind the link.
+pub(crate) fn if_counts(at: Arrival<'_>, effect: Effect) -> Option<Effect>
+    requires { IsChange effect }
+    ensures { option_to_list result ≡ counted (reader at.entry) effect }
+{
+    if is_near_change(at, &effect) {
+        None
+    } else {
+        if_there(at, effect)
+    }
+}
+
+/// Whether a server changes a channel of which not all members are behind the link.
+fn is_near_change(at: Arrival<'_>, effect: &Effect) -> bool
+    ensures { result ≡ not (option_map_or (reader at.entry).is_far_channel (home_channel effect.now) true) }
+{
+    match effect {
+        Effect::SetTopic {
+            by: By::Home,
+            channel,
+            ..
+        }
+        | Effect::ChangeModes {
+            by: By::Home,
+            channel,
+            ..
+        } => !is_far_channel(at, channel.as_bytes()),
+        _ => false,
+    }
+}

@@ -1,0 +1,222 @@
+//! Lines of users (RFC 2813 section 4).
+ghost use Rattle.std.specs.Prelude.{◌≡◌, ◌||◌, None, Some, IsOk, true};
+ghost use Rattle.std.specs.Str.{bytes_eq};
+ghost use Rattle.irc_line.specs.MessageViews.{optional_now};
+ghost use Rattle.irc_link_reader.specs.Loops.Readings.{IsNewcomer, are_right, found, home_now, home_or_fault, introduction_of, reader};
+ghost use Rattle.irc_link_reader.specs.Means.{first_fault, invite_line, is_itself_or_none, nick_line, quit_line, say_line, user_mode_line};
+ghost use Rattle.irc_link_words.specs.Words.{with_i, without_i};
+
+use crate::arrival::{Arrival, expect_from, if_there, is_distance_of, server};
+use irc_link_words::{
+    Params, WireFault, is_come_mode, is_real_name, is_user_name, is_with_i, is_without_i,
+    read_channel, read_host, read_line, read_nick, read_number, read_target, read_words, real_name,
+    user_name,
+};
+use irc_names::{ServerName, is_nick, same};
+use irc_room::Effect;
+use irc_users::User;
+
+/// A user leaves.
+pub(crate) fn quit_line(
+    at: Arrival<'_>,
+    nick: &[u8],
+    mut params: Params<'_>,
+) -> Result<Option<Effect>, WireFault>
+    ensures { found result ≡ first_fault (quit_line (reader at.entry) (Some nick.now) params.entry) }
+{
+    let text = params.next()?;
+    params.end()?;
+    let text = read_words(text)?;
+    expect_from(at, nick)?;
+    let nick = read_nick(nick)?;
+    Ok(if_there(at, Effect::Quit { nick, text }))
+}
+
+/// A text is said.
+pub(crate) fn say_line(
+    at: Arrival<'_>,
+    notice: bool,
+    by: &[u8],
+    mut params: Params<'_>,
+) -> Result<Option<Effect>, WireFault>
+    ensures { found result ≡ first_fault (say_line notice (reader at.entry) (Some by.now) params.entry) }
+{
+    let target = params.next()?;
+    let text = params.next()?;
+    params.end()?;
+    let text = read_line(text)?;
+    expect_from(at, by)?;
+    let by = read_nick(by)?;
+    let target = read_target(target)?;
+    Ok(if_there(
+        at,
+        Effect::Say {
+            by,
+            notice,
+            target,
+            text,
+        },
+    ))
+}
+
+/// A user is invited.
+pub(crate) fn invite_line(
+    at: Arrival<'_>,
+    by: &[u8],
+    mut params: Params<'_>,
+) -> Result<Option<Effect>, WireFault>
+    ensures { found result ≡ first_fault (invite_line (reader at.entry) (Some by.now) params.entry) }
+{
+    let nick = params.next()?;
+    let channel = params.next()?;
+    params.end()?;
+    expect_from(at, by)?;
+    let by = read_nick(by)?;
+    let nick = read_nick(nick)?;
+    let channel = read_channel(channel)?;
+    Ok(if_there(at, Effect::Invite { by, nick, channel }))
+}
+
+/// A user comes, or takes another nickname.
+pub(crate) fn nick_line(
+    at: Arrival<'_>,
+    prefix: Option<&[u8]>,
+    params: Params<'_>,
+) -> Result<Option<Effect>, WireFault>
+    ensures { found result ≡ first_fault (nick_line (reader at.entry) (optional_now prefix.entry) params.entry) }
+{
+    match prefix {
+        Some(nick) => rename_line(at, nick, params),
+        None => introduction_line(at, params),
+    }
+}
+
+/// A user takes another nickname.
+fn rename_line(
+    at: Arrival<'_>,
+    nick: &[u8],
+    mut params: Params<'_>,
+) -> Result<Option<Effect>, WireFault>
+    ensures { found result ≡ first_fault (nick_line (reader at.entry) (Some nick.now) params.entry) }
+{
+    let new = params.next()?;
+    params.end()?;
+    expect_from(at, nick)?;
+    let nick = read_nick(nick)?;
+    let new = read_nick(new)?;
+    Ok(if_there(at, Effect::Rename { nick, new }))
+}
+
+/// The words of the line that a user comes with.
+#[derive(Clone, Copy)]
+struct Newcomer<'a> {
+    nick: &'a [u8],
+    distance: &'a [u8],
+    user: &'a [u8],
+    host: &'a [u8],
+    token: &'a [u8],
+    mode: &'a [u8],
+    real: &'a [u8],
+}
+
+/// The words of the line that a user comes with.
+#[tactic(auto, using(crate::proofs::Newcomers::newcomers))]
+fn words_of_newcomer(mut params: Params<'_>) -> Result<Newcomer<'_>, WireFault>
+    ensures { IsNewcomer params.entry result }
+{
+    let nick = params.next()?;
+    let distance = params.next()?;
+    let user = params.next()?;
+    let host = params.next()?;
+    let token = params.next()?;
+    let mode = params.next()?;
+    let real = params.next()?;
+    params.end()?;
+    Ok(Newcomer {
+        nick,
+        distance,
+        user,
+        host,
+        token,
+        mode,
+        real,
+    })
+}
+
+/// A user comes (RFC 2813 section 4.1.3).
+fn introduction_line(at: Arrival<'_>, params: Params<'_>) -> Result<Option<Effect>, WireFault>
+    ensures { found result ≡ first_fault (nick_line (reader at.entry) None params.entry) }
+{
+    let words = words_of_newcomer(params)?;
+    let home = read_home(at, words)?;
+    let nick = read_nick(words.nick)?;
+    let host = read_host(words.host)?;
+    Ok(Some(Effect::AddUser(User {
+        nick,
+        user: user_name(words.user),
+        host,
+        real: real_name(words.real),
+        home: home.copy(),
+        invisible: is_with_i(words.mode),
+    })))
+}
+
+/// The server that a user comes from, where the words of the line keep their rules.
+fn read_home<'a>(at: Arrival<'a>, words: Newcomer<'_>) -> Result<&'a ServerName, WireFault>
+    ensures home { home_now result ≡ home_or_fault (reader at.entry) words.entry }
+    ensures right { IsOk result → are_right words.entry ≡ true }
+{
+    let distance = read_number(words.distance)?;
+    let token = read_number(words.token)?;
+    let home = server(at, token);
+    if !are_right(words) || !is_distance_of(at, home, distance) {
+        return Err(WireFault::Parameters);
+    }
+    home.ok_or(WireFault::BadToken)
+}
+
+/// Whether the words that are neither names nor numbers keep their rules.
+fn are_right(words: Newcomer<'_>) -> bool
+    ensures { result ≡ are_right words.entry }
+{
+    is_user_name(words.user) && is_come_mode(words.mode) && is_real_name(words.real)
+}
+
+/// A user's own mode changes.
+pub(crate) fn user_mode_line(
+    at: Arrival<'_>,
+    nick: &[u8],
+    target: &[u8],
+    mut params: Params<'_>,
+) -> Result<Option<Effect>, WireFault>
+    ensures { found result ≡ first_fault (user_mode_line (reader at.entry) nick.now target.now params.entry) }
+{
+    let mode = params.next()?;
+    params.end()?;
+    if !is_user_mode(mode) || !is_itself_or_none(nick, target) {
+        return Err(WireFault::Parameters);
+    }
+    expect_from(at, nick)?;
+    let nick = read_nick(nick)?;
+    read_nick(target)?;
+    Ok(if_there(
+        at,
+        Effect::UserMode {
+            nick,
+            invisible: is_with_i(mode),
+        },
+    ))
+}
+
+fn is_user_mode(mode: &[u8]) -> bool
+    ensures { result ≡ (bytes_eq mode.now with_i || bytes_eq mode.now without_i) }
+{
+    is_with_i(mode) || is_without_i(mode)
+}
+
+/// Whether these are no two nicknames of different users.
+fn is_itself_or_none(nick: &[u8], target: &[u8]) -> bool
+    ensures { result ≡ is_itself_or_none nick.now target.now }
+{
+    !(is_nick(nick) && is_nick(target)) || same(nick, target)
+}

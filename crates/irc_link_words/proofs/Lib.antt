@@ -1,0 +1,4 @@
+pub mod DigitsRead
+pub mod TextsRead
+pub mod KeptWords
+pub mod WordsTaken

@@ -1,0 +1,2 @@
+pub mod CutPieces
+pub mod ModeLines

@@ -1,0 +1,249 @@
+//! Effects written as lines of a link (RFC 2813 section 4). Nothing here takes memory.
+ghost use Rattle.std.specs.Prelude.{◌≡◌, ◌≤◌, None, Some, [], ◌∷◌, codes, length, if◌then◌else◌};
+ghost use Rattle.irc_line.specs.MessageViews.{optional_now};
+ghost use Rattle.irc_line.specs.Messages.{text};
+ghost use Rattle.irc_line.specs.PartViews.{words_now};
+ghost use Rattle.irc_names.specs.Limits.{max_channel};
+ghost use Rattle.irc_room.specs.Seen.{stored_channel, stored_nick};
+ghost use Rattle.irc_link_writer.specs.Loops.Families.{IsOfUsers, introduced};
+ghost use Rattle.irc_link_words.specs.Words.{marked, with_i, without_i};
+ghost use Rattle.irc_link_writer.specs.Written.{from, introduction, next_distance, wire, written_token};
+
+use crate::asking::{by_name, stored_channel, stored_nick, target_name};
+use crate::mode_line::mode_line;
+use arrayvec::ArrayVec;
+use irc_line::{Parts, Prefix, Text, write_message};
+use irc_link_words::OPERATOR_MARK;
+use irc_names::{ChannelName, MAX_CHANNEL, Nick, ServerName, copied};
+use irc_room::{Effect, Room};
+use irc_routes::Routes;
+use irc_users::User;
+use itoa::Buffer;
+
+/// A channel's name, and room for what makes its first member an operator.
+type MarkedName = ArrayVec<u8, 52>;
+
+/// The line that tells the server at the other end of a link of an effect (RFC 2813 section 4). It is the same for every link. It is to be written
+/// before the effect is applied. It takes no memory.
+pub fn write_effect(effect: &Effect, room: &Room, routes: &Routes, link: u64) -> Text
+    ensures { result.items ≡ text (wire room.now.room routes.now effect.now) }
+{
+    let _every_link = link;
+    match effect {
+        Effect::ChangeModes {
+            by,
+            channel,
+            changes,
+        } => mode_line(
+            room,
+            by_name(room, routes, by),
+            stored_channel(room, channel),
+            changes.as_slice(),
+        ),
+        Effect::SetTopic { by, channel, text } => line(
+            by_name(room, routes, by),
+            b"TOPIC",
+            &[stored_channel(room, channel)],
+            Some(text.as_bytes()),
+        ),
+        Effect::Join { nick, channel, op } => {
+            join_line(room, nick, stored_channel(room, channel), *op)
+        }
+        Effect::Part {
+            nick,
+            channel,
+            text,
+        } => line(
+            stored_nick(room, nick.as_bytes()),
+            b"PART",
+            &[stored_channel(room, channel)],
+            Some(text.as_bytes()),
+        ),
+        Effect::Kick {
+            by,
+            channel,
+            nick,
+            text,
+        } => kick_line(room, by, channel, nick, text.as_bytes()),
+        _ => user_line(effect, room, routes),
+    }
+}
+
+/// The line of an effect on users alone, of a text or of an invitation.
+fn user_line(effect: &Effect, room: &Room, routes: &Routes) -> Text
+    requires { IsOfUsers effect.now }
+    ensures { result.items ≡ text (wire room.now.room routes.now effect.now) }
+{
+    match effect {
+        Effect::AddUser(user) => introduction_line(routes, user),
+        Effect::Rename { nick, new } => line(
+            stored_nick(room, nick.as_bytes()),
+            b"NICK",
+            &[new.as_bytes()],
+            None,
+        ),
+        Effect::Quit { nick, text } => line(
+            stored_nick(room, nick.as_bytes()),
+            b"QUIT",
+            &[],
+            Some(text.as_bytes()),
+        ),
+        Effect::Say {
+            by,
+            notice,
+            target,
+            text,
+        } => line(
+            stored_nick(room, by.as_bytes()),
+            say_command(*notice),
+            &[target_name(room, target)],
+            Some(text.as_slice()),
+        ),
+        Effect::Invite { by, nick, channel } => invite_line(room, by, nick, channel),
+        Effect::UserMode { nick, invisible } => {
+            user_mode_line(stored_nick(room, nick.as_bytes()), *invisible)
+        }
+        _ => unreachable!(),
+    }
+}
+
+/// A line from a nickname or from a server.
+fn line(name: &[u8], command: &[u8], middle: &[&[u8]], last: Option<&[u8]>) -> Text
+    ensures { result.items ≡ text (from name.now command.now (words_now middle.now) (optional_now last.entry)) }
+{
+    write_message(&Parts {
+        prefix: Prefix::Name(name),
+        command,
+        middle,
+        last,
+    })
+}
+
+fn say_command(notice: bool) -> &'static [u8]
+    ensures { result.now ≡ (if notice then codes "NOTICE" else codes "PRIVMSG") }
+{
+    if notice { b"NOTICE" } else { b"PRIVMSG" }
+}
+
+fn join_line(room: &Room, nick: &Nick, channel: &[u8], op: bool) -> Text
+    requires { length channel.now ≤ max_channel }
+    ensures { result.items ≡ text (from (stored_nick room.now.room nick.now) (codes "JOIN") (marked channel.now op ∷ []) None) }
+{
+    let word = marked(channel, op);
+    line(
+        stored_nick(room, nick.as_bytes()),
+        b"JOIN",
+        &[word.as_slice()],
+        None,
+    )
+}
+
+/// The channel of a JOIN, and behind it the mark of one who becomes an operator.
+fn marked(channel: &[u8], op: bool) -> MarkedName
+    requires { length channel.now ≤ max_channel }
+    ensures { result.items ≡ marked channel.now op }
+{
+    let mut word: MarkedName = copied(channel);
+    if op {
+        let _ = word.try_extend_from_slice(OPERATOR_MARK);
+    }
+    word
+}
+
+fn kick_line<'a>(
+    room: &'a Room,
+    by: &Nick,
+    channel: &'a ChannelName,
+    nick: &'a Nick,
+    words: &[u8],
+) -> Text
+    ensures { result.items ≡ text (from (stored_nick room.now.room by.now) (codes "KICK")
+        (stored_channel room.now.room channel.now ∷ stored_nick room.now.room nick.now ∷ []) (Some words.now)) }
+{
+    line(
+        stored_nick(room, by.as_bytes()),
+        b"KICK",
+        &[
+            stored_channel(room, channel),
+            stored_nick(room, nick.as_bytes()),
+        ],
+        Some(words),
+    )
+}
+
+fn invite_line<'a>(room: &'a Room, by: &Nick, nick: &'a Nick, channel: &'a ChannelName) -> Text
+    ensures { result.items ≡ text (from (stored_nick room.now.room by.now) (codes "INVITE")
+        (stored_nick room.now.room nick.now ∷ stored_channel room.now.room channel.now ∷ []) None) }
+{
+    line(
+        stored_nick(room, by.as_bytes()),
+        b"INVITE",
+        &[
+            stored_nick(room, nick.as_bytes()),
+            stored_channel(room, channel),
+        ],
+        None,
+    )
+}
+
+fn user_mode_line(nick: &[u8], invisible: bool) -> Text
+    ensures { result.items ≡ text (from nick.now (codes "MODE") (nick.now ∷ (if invisible then with_i else without_i) ∷ []) None) }
+{
+    let mode: &[u8] = if invisible { b"+i" } else { b"-i" };
+    line(nick, b"MODE", &[nick, mode], None)
+}
+
+/// A user is introduced (RFC 2813 section 4.1.3).
+fn introduction_line(routes: &Routes, user: &User) -> Text
+    ensures { result.items ≡ text (introduction routes.now user.now) }
+{
+    let mut distance = Buffer::new();
+    let mut token = Buffer::new();
+    introduction(
+        user,
+        distance
+            .format(next_distance(routes, &user.home))
+            .as_bytes(),
+        token.format(written_token(routes, &user.home)).as_bytes(),
+    )
+}
+
+/// The introduction of a user, with the distance of its server and the number that stands for it.
+fn introduction(user: &User, distance: &[u8], token: &[u8]) -> Text
+    ensures { result.items ≡ text (introduced user.now distance.now token.now) }
+{
+    let mode: &[u8] = if user.invisible { b"+i" } else { b"+" };
+    write_message(&Parts {
+        prefix: Prefix::Nothing,
+        command: b"NICK",
+        middle: &[
+            user.nick.as_bytes(),
+            distance,
+            user.user.as_bytes(),
+            user.host.as_bytes(),
+            token,
+            mode,
+        ],
+        last: Some(user.real.as_bytes()),
+    })
+}
+
+/// How far away a reader is that is one link further from a server.
+fn next_distance(routes: &Routes, home: &ServerName) -> u64
+    ensures { result ≡ next_distance routes.now home.now }
+{
+    match routes.distance(home.as_bytes()) {
+        Some(distance) => u64::from(distance) + 1,
+        None => 1,
+    }
+}
+
+/// The number that stands for a server, or 0 where it is not known.
+fn written_token(routes: &Routes, home: &ServerName) -> u32
+    ensures { result ≡ written_token routes.now home.now }
+{
+    match routes.token_out(home.as_bytes()) {
+        Some(token) => token,
+        None => 0,
+    }
+}

@@ -1,5 +1,0 @@
-use Rattle.irc_wire.proofs.KeptWords.{mode_words_so}
-use Rattle.irc_wire.proofs.changes.are_mode_words.Goals as goal
-
-pub returns : goal.returns
-returns c = mode_words_so c.args.words.now c.pass_as_mode_words.result c.pass_as_mode_words.ensures
