@@ -1,13 +1,11 @@
-// A library with one function.
+//! Lines of servers read as what they tell: servers that come and go, nicknames that two users have, members and modes and topics of a burst. Definitions
+//! are in `specs/`.
 #![tactic(auto)]
 
-ghost use Rattle.std.specs.Prelude.{◌≡◌};
-ghost use Rattle.irc_burst.specs.Echo.{echo_of};
+mod acts;
+mod fault;
+mod kill_line;
+mod server_lines;
 
-// The `ensures` clause is the contract: what `echo` returns is `echo_of` of its argument, a definition
-// in `specs/Echo.antt`, which a caller's clause can cite too.
-pub fn echo(x: usize) -> usize
-    ensures { result ≡ echo_of x }
-{
-    x
-}
+pub use acts::{BurstAct, NewMember};
+pub use fault::BurstFault;
