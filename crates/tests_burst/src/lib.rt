@@ -1,0 +1,7 @@
+//! Tests of bursts, and of the lines in which servers speak of each other.
+#![tactic(auto)]
+
+#[cfg(test)]
+mod bursting;
+#[cfg(test)]
+mod stage;
