@@ -156,12 +156,10 @@ in_order one other = if is_lt (name_cmp other one) then other ∷ one ∷ [] els
 abbrev pub takes_anothers : Room → List ℕ → List ℕ → Bool
 takes_anothers room nick new = is_some (row room.users (key new)) && not (same nick new)
 
--- what an effect comes to: where it gives a nickname that is held, its holder is killed, and who was to have it is killed or not taken
-abbrev pub collided : List ℕ → Room → Effect → List Deed
-collided own room (AddUser user) = introduced own room user
-collided own room (Rename nick new) =
+-- a user takes another nickname: where somebody else has it, both are killed
+abbrev pub renamed : List ℕ → Room → List ℕ → List ℕ → List Deed
+renamed own room nick new =
     if takes_anothers room nick new then map (kills own) (in_order (stored_nick room nick) (stored_nick room new)) else does (Rename nick new) ∷ []
-collided own room other = does other ∷ []
 
 -- ---- members of a channel (RFC 2813 section 4.2.2)
 
@@ -204,11 +202,22 @@ njoin_line reader room _ _ = malformed
 
 -- ---- lines that tell of effects
 
+-- the server whose line it is, if it is one of a server
+abbrev pub server_of : Option (List ℕ) → Option (List ℕ)
+server_of None = None
+server_of (Some name) = if is_server name then Some name else None
+
 -- A server's change of modes or of a topic is told on in the name of that server.
-abbrev pub effect_deeds : List ℕ → Room → Option (List ℕ) → Effect → List Deed
-effect_deeds own room (Some server) (ChangeModes by.Home channel changes) = sets server channel changes ∷ []
-effect_deeds own room (Some server) (SetTopic by.Home channel topic) = tops server channel topic ∷ []
-effect_deeds own room prefix effect = collided own room effect
+abbrev pub kept_prefix : Option (List ℕ) → Effect → Deed
+kept_prefix (Some server) (ChangeModes by.Home channel changes) = sets server channel changes
+kept_prefix (Some server) (SetTopic by.Home channel topic) = tops server channel topic
+kept_prefix server effect = does effect
+
+-- what an effect comes to: where it gives a nickname that is held, its holder is killed, and who was to have it is killed or not taken
+abbrev pub collided : List ℕ → Room → Option (List ℕ) → Effect → List Deed
+collided own room server (AddUser user) = introduced own room user
+collided own room server (Rename nick new) = renamed own room nick new
+collided own room server other = kept_prefix server other ∷ []
 
 -- why a line is refused that tells of an effect; none is for want of memory
 abbrev pub reason_of : WireFault → CloseReason
@@ -220,7 +229,7 @@ reason_of fault.BadName = reason.BadName
 reason_of fault.Memory = reason.Parameters
 
 abbrev pub effects_told : List ℕ → Room → Option (List ℕ) → Result (List Effect) WireFault → Result (List Told) CloseReason
-effects_told own room prefix (Ok effects) = Ok (map a_deed (flat_map (effect_deeds own room prefix) effects))
+effects_told own room prefix (Ok effects) = Ok (map a_deed (flat_map (collided own room (server_of prefix)) effects))
 effects_told own room prefix (Err fault) = Err (reason_of fault)
 
 -- ---- the table

@@ -3,8 +3,11 @@
 #![tactic(auto)]
 
 mod acts;
+mod effect_acts;
 mod fault;
 mod kill_line;
+mod member_words;
+mod njoin_line;
 mod server_lines;
 
 pub use acts::{BurstAct, NewMember};
