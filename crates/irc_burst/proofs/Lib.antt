@@ -1,1 +1,2 @@
+pub mod MembersInTurn
 pub mod MemberWords

@@ -40,3 +40,23 @@ all_last f text past = ap (list_all f) (no_comma text past) ∙ and_true (f text
 pub all_on : (f : List ℕ → Bool) (text : List ℕ) → position_or_len is_comma text < length text
     → list_all f (slice_split is_comma text) ≡ (f (before_first is_comma text) && list_all f (slice_split is_comma (after_first is_comma text)))
 all_on f text there = ap (list_all f) (slice_split_first is_comma text 0 there)
+
+-- the loop over the words: it stops at one that is no nickname, goes on behind one that is, and ends with the last
+module _ (f : List ℕ → Bool) (rest : List ℕ) (all : Bool) (so_far : all ≡ list_all f (slice_split is_comma rest)) where
+  pub stops : (word : List ℕ) (b : Bool) → position_or_len is_comma rest < length rest → word ≡ before_first is_comma rest → b ≡ f word → b ≡ false
+      → false ≡ all
+  stops word b there is tests fails =
+      sym (so_far ∙ all_on f rest there
+      ∙ ap (λ w. f w && list_all f (slice_split is_comma (after_first is_comma rest))) (sym is)
+      ∙ ap (λ c. c && list_all f (slice_split is_comma (after_first is_comma rest))) (sym tests ∙ fails))
+
+  pub goes_on : (word after : List ℕ) (b : Bool) → position_or_len is_comma rest < length rest → word ≡ before_first is_comma rest → b ≡ f word → b ≡ true
+      → after ≡ after_first is_comma rest → all ≡ list_all f (slice_split is_comma after)
+  goes_on word after b there is tests passes behind =
+      so_far ∙ all_on f rest there
+      ∙ ap (λ w. f w && list_all f (slice_split is_comma (after_first is_comma rest))) (sym is)
+      ∙ ap (λ c. c && list_all f (slice_split is_comma (after_first is_comma rest))) (sym tests ∙ passes)
+      ∙ ap (λ w. list_all f (slice_split is_comma w)) (sym behind)
+
+  pub ends : (b : Bool) → length rest ≤ position_or_len is_comma rest → b ≡ f rest → b ≡ all
+  ends b past tests = tests ∙ sym (so_far ∙ all_last f rest past)

@@ -1,6 +1,6 @@
 //! The members that an NJOIN names: nicknames with their marks, parted by commas (RFC 2813 section 4.2.2). Nothing here takes memory.
-ghost use Rattle.std.specs.Prelude.{◌≡◌, Ok, Err, count_by, length, nat_le, if◌then◌else◌};
-ghost use Rattle.std.specs.List.{list_all, position_or_len, slice_split};
+ghost use Rattle.std.specs.Prelude.{◌≡◌, ◌<◌, Ok, Err, count_by, length, nat_le, if◌then◌else◌};
+ghost use Rattle.std.specs.List.{after_first, before_first, list_all, position_or_len, slice_split};
 ghost use Rattle.irc_names.specs.Names.{is_nick};
 ghost use Rattle.irc_merge.specs.Bursts.{members_a_line};
 ghost use Rattle.irc_channels.specs.declared.flags.Flags.{Flags};
@@ -49,13 +49,28 @@ fn are_nicks(text: &[u8]) -> bool
 {
     let mut rest = text;
     while first_comma(rest) < rest.len() {
-        let comma = first_comma(rest);
-        if !has_nick(&rest[..comma]) {
+        if !has_nick(before_comma(rest)) {
             return false;
         }
-        rest = &rest[comma + 1..];
+        rest = after_comma(rest);
     }
     has_nick(rest)
+}
+
+/// What is before the first comma.
+fn before_comma(text: &[u8]) -> &[u8]
+    requires { position_or_len is_comma text.now < length text.now }
+    ensures { result.now ≡ before_first is_comma text.now }
+{
+    &text[..first_comma(text)]
+}
+
+/// What is after the first comma.
+fn after_comma(text: &[u8]) -> &[u8]
+    requires { position_or_len is_comma text.now < length text.now }
+    ensures { result.now ≡ after_first is_comma text.now }
+{
+    &text[first_comma(text) + 1..]
 }
 
 /// Where the first comma is, or how long the text is where there is none.

@@ -1,9 +1,10 @@
 //! NJOIN: users become members of a channel (RFC 2813 section 4.2.2).
-ghost use Rattle.std.specs.Prelude.{◌≡◌, ◌&&◌, Some, None, map, not, IfOk, OnOk, if◌then◌else◌};
-ghost use Rattle.std.specs.List.{slice_split};
+ghost use Rattle.std.specs.Prelude.{◌≡◌, ◌&&◌, [], Some, None, fold, map, not, IfOk, OnOk, if◌then◌else◌};
+ghost use Rattle.std.specs.List.{list_any, slice_split};
 ghost use Rattle.irc_line.specs.PartViews.{words_now};
-ghost use Rattle.irc_names.specs.Fold.{key};
+ghost use Rattle.irc_names.specs.Fold.{key, same};
 ghost use Rattle.irc_room.specs.Effects.{is_member};
+ghost use Rattle.irc_room.specs.Room.{IsWellFormed};
 ghost use Rattle.irc_room.specs.Seen.{stored_nick};
 ghost use Rattle.irc_merge.specs.Bursts.{home_passes};
 ghost use Rattle.irc_merge.specs.BurstRead.{new_members};
@@ -57,6 +58,39 @@ fn split(alloc: Global, text: &[u8]) -> Result<Vec<&[u8], Global>, AllocError>
     text.split(|byte| *byte == b',').collect(alloc)
 }
 
+/// Those who become members, in order.
+fn new_members(
+    alloc: Global,
+    at: Arrival<'_>,
+    channel: &[u8],
+    text: &[u8],
+) -> Result<Vec<NewMember, Global>, AllocError>
+    ensures { IfOk result (λ members. members_told members.items
+        ≡ map (as_stored at.entry.room.now.room) (new_members (reader at.entry).is_far at.entry.room.now.room channel.now (members_of text.now))) }
+{
+    let words = split(alloc, text)?;
+    members_in_turn(alloc, at, channel, words.as_slice())
+}
+
+/// The same, by the words between commas.
+fn members_in_turn(
+    alloc: Global,
+    at: Arrival<'_>,
+    channel: &[u8],
+    words: &[&[u8]],
+) -> Result<Vec<NewMember, Global>, AllocError>
+    ensures ones { IfOk result (λ members. members_told members.items
+        ≡ fold (taken_as_stored (reader at.entry).is_far at.entry.room.now.room channel.now) [] (map member_of (words_now words.now))) }
+    ensures well { IsWellFormed at.entry.room.now.room }
+{
+    at.room.own();
+    let mut members = Vec::new(alloc);
+    for word in words {
+        push_new(&mut members, at, channel, word)?;
+    }
+    Ok(members)
+}
+
 /// Appends the user of a word, if it becomes a member and is none of those before.
 fn push_new(
     members: &mut Vec<NewMember, Global>,
@@ -79,10 +113,20 @@ fn push_new(
 }
 
 /// Whether a nickname is one of those of some members.
+#[tactic(auto, using(crate::proofs::MembersInTurn::among_told))]
 fn is_among(members: &[NewMember], nick: &[u8]) -> bool
     ensures { result ≡ is_among (members_told members.now) nick.now }
 {
-    members.iter().any(|member| same(member.nick.as_bytes(), nick))
+    is_named(members, nick)
+}
+
+/// The same, member by member where each lies.
+fn is_named(members: &[NewMember], nick: &[u8]) -> bool
+    ensures { result ≡ list_any (λ member. same member.nick nick.now) members.now }
+{
+    members
+        .iter()
+        .any(|member| same(member.nick.as_bytes(), nick))
 }
 
 /// The nickname, as it is stored, of one who becomes a member: a user behind the link who is none yet.
