@@ -1,2 +1,3 @@
+pub mod LinesRead
 pub mod MembersInTurn
 pub mod MemberWords

@@ -1,5 +1,5 @@
 //! NJOIN: users become members of a channel (RFC 2813 section 4.2.2).
-ghost use Rattle.std.specs.Prelude.{◌≡◌, ◌&&◌, [], Some, None, fold, map, not, IfOk, OnOk, if◌then◌else◌};
+ghost use Rattle.std.specs.Prelude.{◌≡◌, ◌&&◌, [], Some, None, fold, map, not, option_to_list, IfOk, OnOk, if◌then◌else◌};
 ghost use Rattle.std.specs.List.{list_any, slice_split};
 ghost use Rattle.irc_line.specs.PartViews.{words_now};
 ghost use Rattle.irc_names.specs.Fold.{key, same};
@@ -7,10 +7,10 @@ ghost use Rattle.irc_room.specs.Effects.{is_member};
 ghost use Rattle.irc_room.specs.Room.{IsWellFormed};
 ghost use Rattle.irc_room.specs.Seen.{stored_nick};
 ghost use Rattle.irc_merge.specs.Bursts.{home_passes};
-ghost use Rattle.irc_merge.specs.BurstRead.{new_members};
+ghost use Rattle.irc_merge.specs.BurstRead.{brought, new_members};
 ghost use Rattle.irc_link_reader.specs.Loops.Readings.{reader};
-ghost use Rattle.irc_burst.specs.DeedsMeant.{as_stored, first_reason, is_comma, member_of, members_of, njoin_line};
-ghost use Rattle.irc_burst.specs.Loops.Acts.{IsRead, closes, is_among, members_found, members_told, taken_as_stored};
+ghost use Rattle.irc_burst.specs.DeedsMeant.{a_deed, as_stored, first_reason, is_comma, member_of, members_of, njoin_line};
+ghost use Rattle.irc_burst.specs.Loops.Acts.{IsRead, act_told, closes, is_among, members_found, members_told, taken_as_stored};
 
 use crate::acts::{BurstAct, NewMember};
 use crate::fault::BurstFault;
@@ -20,7 +20,44 @@ use irc_link_words::{Params, read_channel, read_server};
 use irc_names::{ChannelName, Nick, ServerName, same};
 use std::alloc::{AllocError, Global};
 
+/// Users become members of a channel; nothing is done where nobody does.
+#[tactic(auto, using(crate::proofs::LinesRead::lines_read))]
+pub(crate) fn njoin_line(
+    alloc: Global,
+    at: Arrival<'_>,
+    server: &[u8],
+    params: Params<'_>,
+) -> Result<Option<BurstAct>, BurstFault>
+    ensures { IsRead (first_reason (njoin_line (reader at.entry) at.entry.room.now.room (Some server.now) params.entry)) result }
+{
+    let words = member_words(at, server, params)?;
+    match new_members(alloc, at, words.channel.as_bytes(), words.text) {
+        Ok(members) => Ok(brought(words.server, words.channel, members)),
+        Err(_) => Err(BurstFault::Memory),
+    }
+}
+
+/// Members are brought, if there are any.
+fn brought(
+    server: ServerName,
+    channel: ChannelName,
+    members: Vec<NewMember, Global>,
+) -> Option<BurstAct>
+    ensures { map act_told (option_to_list result) ≡ map a_deed (brought server channel (members_told members.items)) }
+{
+    if members.is_empty() {
+        None
+    } else {
+        Some(BurstAct::Members {
+            server,
+            channel,
+            members,
+        })
+    }
+}
+
 /// The words of an NJOIN.
+#[derive(Drop)]
 struct MemberWords<'a> {
     server: ServerName,
     channel: ChannelName,

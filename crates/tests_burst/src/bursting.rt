@@ -50,9 +50,13 @@ static WRITTEN: [&[u8]; 5] = [
 
 /// Whether lines are these, from one of them on.
 fn are_from(lines: &[Text], first: usize, rows: &[&[u8]]) -> bool {
-    let mut all = lines.len() == first + rows.len();
+    if lines.len() < first {
+        return false;
+    }
+    let rest = &lines[first..];
+    let mut all = rest.len() == rows.len();
     for (place, row) in rows.iter().enumerate() {
-        all &= match lines.get(first + place) {
+        all &= match rest.get(place) {
             Some(line) => line.as_slice() == *row,
             None => false,
         };
