@@ -26,3 +26,5 @@ read-so meant (Ok read) same = read-ok meant (map act_told (option_to_list read)
 read-so meant (Err given) same = read-err meant given same
 
 pub ruleset lines_read = (read-ok, read-err, read-memory)
+
+pub ruleset lines_so = (read-so)

@@ -14,7 +14,7 @@ use irc_users::User;
 use std::alloc::{AllocError, Global};
 
 /// What an effect comes to, of which a line tells; `server` is whose line it is, if it is one of a server.
-pub(crate) fn effect_acts(
+pub fn collided(
     alloc: Global,
     at: Arrival<'_>,
     server: Option<ServerName>,

@@ -3,12 +3,17 @@
 #![tactic(auto)]
 
 mod acts;
+mod commands;
 mod effect_acts;
 mod fault;
 mod kill_line;
 mod member_words;
 mod njoin_line;
+mod reading;
 mod server_lines;
 
 pub use acts::{BurstAct, NewMember};
+pub use commands::{Command, command_of};
+pub use effect_acts::collided;
 pub use fault::BurstFault;
+pub use reading::read_server_line;
