@@ -7,7 +7,7 @@ ghost use Rattle.irc_burst.specs.Loops.Commands.{row};
 
 /// A command of a line of a server (RFC 2813 section 4).
 #[derive(Clone, Copy)]
-pub enum Command {
+pub(crate) enum Command {
     /// A server comes.
     Server,
     /// A server is lost.
@@ -21,7 +21,7 @@ pub enum Command {
 }
 
 /// The command that a word is, in any case of letters, if it is one of these.
-pub fn command_of(word: &[u8]) -> Option<Command>
+pub(crate) fn command_of(word: &[u8]) -> Option<Command>
     ensures { option_map row result ≡ row_of word.now }
 {
     if is_command(b"SERVER", word) {

@@ -13,7 +13,5 @@ mod reading;
 mod server_lines;
 
 pub use acts::{BurstAct, NewMember};
-pub use commands::{Command, command_of};
-pub use effect_acts::collided;
 pub use fault::BurstFault;
-pub use reading::read_server_line;
+pub use reading::read_burst_line;

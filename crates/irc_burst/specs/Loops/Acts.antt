@@ -1,5 +1,8 @@
 -- What the code that reads a line of a server gives.
-use Rattle.std.specs.Prelude.{◌≡◌, ℕ, Bool, not, ◌&&◌, ◌++◌, IsOk, if◌then◌else◌, Option, Some, None, Result, Ok, Err, List, [], ◌∷◌, map, option_to_list}
+use Rattle.std.specs.Global.{Vec}
+use Rattle.irc_line.specs.Messages.{Parsed}
+use Rattle.irc_link_reader.specs.Means.{is_mode_line}
+use Rattle.std.specs.Prelude.{◌≡◌, ◌⊎◌, ⊤, true, ℕ, Bool, not, ◌&&◌, ◌++◌, IsOk, if◌then◌else◌, Option, Some, None, Result, Ok, Err, List, [], ◌∷◌, map, option_to_list}
 use Rattle.std.specs.List.{list_any}
 use Rattle.irc_batch.specs.declared.close_reason.CloseReason.{CloseReason}
 use Rattle.irc_batch.specs.declared.close_reason.CloseReason.TheVariants as reason
@@ -87,3 +90,19 @@ abbrev pub IsRead : Result (List Told) CloseReason → Result (Option BurstAct) 
 IsRead meant (Ok read) = meant ≡ Ok (map act_told (option_to_list read))
 IsRead meant (Err Memory) = IsOk meant
 IsRead meant (Err (Closes reason)) = meant ≡ Err reason
+
+-- the list of what is read, for which memory may run out
+abbrev pub IsListed : Result (Option BurstAct) BurstFault → Result (Vec BurstAct) BurstFault → Type 0
+IsListed (Ok read) (Ok acts) = acts.items ≡ option_to_list read
+IsListed (Ok read) (Err Memory) = ⊤
+IsListed (Ok read) (Err (Closes reason)) = ⊥
+IsListed (Err given) result = result ≡ Err given
+
+-- ---- a whole line
+
+-- What is read is what the line means, or why it closes the link. Memory may run out where the line means something, or is a MODE, whose reading takes
+-- memory: it is never told in place of another line's fault.
+abbrev pub IsBurstMeant : Parsed → Result (List Told) CloseReason → Result (Vec BurstAct) BurstFault → Type 0
+IsBurstMeant message meant (Ok acts) = meant ≡ Ok (acts_told acts.items)
+IsBurstMeant message meant (Err Memory) = (is_mode_line message ≡ true) ⊎ IsOk meant
+IsBurstMeant message meant (Err (Closes reason)) = meant ≡ Err reason
