@@ -1,5 +1,5 @@
 -- What is read of a line that tells of effects.
-use Rattle.std.proofs.Common.{◌≡◌, ◌⊎◌, inl, inr, ℕ, true, Option, Some, None, Result, Ok, Err, List, [], ◌∷◌, ◌++◌, IsOk, map, option_to_list, sym, refl, subst, ◌∙◌, ap, append_assoc}
+use Rattle.std.proofs.Common.{◌≡◌, inl, inr, ℕ, Option, Some, None, Result, Ok, Err, List, ◌∷◌, ◌++◌, IsOk, map, sym, refl, subst, ◌∙◌, ap, append_assoc}
 use Rattle.std.proofs.lemmas.List.{map-append}
 use Rattle.std.specs.Global.{Vec}
 use Rattle.std.specs.List.{flat_map}
@@ -10,7 +10,7 @@ use Rattle.irc_room.specs.Room.{Room}
 use Rattle.irc_merge.specs.Deeds.{Deed}
 use Rattle.irc_link_words.specs.declared.fault.WireFault.{WireFault}
 use Rattle.irc_link_words.specs.declared.fault.WireFault.TheVariants as fault
-use Rattle.irc_link_reader.specs.Means.{IsMeant, is_mode_line, means}
+use Rattle.irc_link_reader.specs.Means.{IsMeant, means}
 use Rattle.irc_link_reader.specs.Reader.{reader_of}
 use Rattle.irc_routes.specs.Known.{Known}
 use Rattle.irc_burst.specs.declared.acts.BurstAct.{BurstAct}

@@ -1,5 +1,5 @@
 -- What is read of a line, as its contract says it.
-use Rattle.std.proofs.Common.{◌≡◌, Option, Result, Ok, Err, List, IsOk, map, option_to_list, sym, refl, subst, ◌∙◌, ap}
+use Rattle.std.proofs.Common.{◌≡◌, Option, Result, Ok, Err, List, map, option_to_list, refl}
 use Rattle.irc_batch.specs.declared.close_reason.CloseReason.{CloseReason}
 use Rattle.irc_burst.specs.declared.acts.BurstAct.{BurstAct}
 use Rattle.irc_burst.specs.declared.fault.BurstFault.{BurstFault}

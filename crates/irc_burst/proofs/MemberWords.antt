@@ -1,5 +1,5 @@
 -- The members that an NJOIN names, by the words between commas.
-use Rattle.std.proofs.Common.{◌≡◌, ℕ, suc, ◌+◌, ◌<◌, ◌≤◌, Bool, true, false, cond, not, ◌&&◌, List, [], ◌∷◌, refl, length, map, count_by, nat_le, sym, ◌∙◌, ap, arith}
+use Rattle.std.proofs.Common.{◌≡◌, ℕ, suc, ◌+◌, ◌<◌, ◌≤◌, Bool, true, false, cond, not, ◌&&◌, List, [], ◌∷◌, refl, length, count_by, sym, ◌∙◌, ap, arith}
 use Rattle.std.proofs.lemmas.List.{length-map}
 use Rattle.std.proofs.lemmas.List.Splits.{length-slice_split, slice_split_first}
 use Rattle.std.proofs.lemmas.List.Folds.{list_all-map}
@@ -16,6 +16,7 @@ pub all_nicks : (text : List ℕ) → list_all (λ (member : List ℕ × Flags).
 all_nicks text = list_all-map (λ (member : List ℕ × Flags). is_nick member.0) member_of (slice_split is_comma text)
 
 pub ruleset few_told = (how_many)
+
 pub ruleset nicks_told = (all_nicks)
 
 -- ---- the words between commas, one after another

@@ -27,7 +27,7 @@ use Rattle.irc_room.specs.Room.{Room, IsWellFormed}
 use Rattle.irc_room.specs.Seen.{stored_nick}
 use Rattle.irc_burst.specs.declared.acts.NewMember.{NewMember}
 use Rattle.irc_burst.specs.DeedsMeant.{as_stored}
-use Rattle.irc_burst.specs.Loops.Acts.{is_among, member_told, members_told, taken_as_stored}
+use Rattle.irc_burst.specs.Loops.Acts.{is_among, members_told, taken_as_stored}
 
 pub among-told : (nick : List ℕ) (members : List NewMember) → is_among (members_told members) nick ≡ list_any (λ (member : NewMember). same member.nick nick) members
 among-told nick [] = refl

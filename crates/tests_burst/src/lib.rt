@@ -4,4 +4,6 @@
 #[cfg(test)]
 mod bursting;
 #[cfg(test)]
+mod reading;
+#[cfg(test)]
 mod stage;

@@ -2,7 +2,7 @@
 use Rattle.std.specs.Global.{Vec}
 use Rattle.irc_line.specs.Messages.{Parsed}
 use Rattle.irc_link_reader.specs.Means.{is_mode_line}
-use Rattle.std.specs.Prelude.{◌≡◌, ◌⊎◌, ⊤, true, ℕ, Bool, not, ◌&&◌, ◌++◌, IsOk, if◌then◌else◌, Option, Some, None, Result, Ok, Err, List, [], ◌∷◌, map, option_to_list}
+use Rattle.std.specs.Prelude.{◌≡◌, ◌⊎◌, ⊤, true, ℕ, Bool, not, ◌&&◌, ◌++◌, IsOk, if◌then◌else◌, Option, Result, Ok, Err, List, [], ◌∷◌, map, option_to_list}
 use Rattle.std.specs.List.{list_any}
 use Rattle.irc_batch.specs.declared.close_reason.CloseReason.{CloseReason}
 use Rattle.irc_batch.specs.declared.close_reason.CloseReason.TheVariants as reason

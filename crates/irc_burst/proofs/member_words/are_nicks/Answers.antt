@@ -1,4 +1,4 @@
-use Rattle.std.proofs.Common.{◌<◌, ◌≤◌, length, subst, arith}
+use Rattle.std.proofs.Common.{◌<◌, length, subst, arith}
 use Rattle.irc_names.specs.Names.{is_nick}
 use Rattle.irc_burst.specs.DeedsMeant.{member_of}
 use Rattle.irc_burst.proofs.MemberWords.{stops, goes_on, ends}
