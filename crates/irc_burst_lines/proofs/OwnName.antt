@@ -1,9 +1,9 @@
 -- A server finds itself under its own name.
-use Rattle.std.proofs.Common.{◌≡◌, ℕ, zero, suc, true, Bool, ◌&&◌, Some, List, [], ◌∷◌, if◌then◌else◌, nat_eq, refl, sym, ◌∙◌, ap}
+use Rattle.std.proofs.Common.{◌≡◌, ℕ, true, ◌&&◌, Some, List, [], ◌∷◌, if◌then◌else◌, nat_eq, refl, ◌∙◌, ap}
 use Rattle.std.specs.Cmp.Lexicographic.{pointwise}
 use Rattle.std.specs.Cmp.{nat_eq_equiv}
 use Rattle.std.specs.Option.{option_map}
-use Rattle.irc_routes.specs.Known.{Known, is_itself, info_of, row_of}
+use Rattle.irc_routes.specs.Known.{Known, info_of, row_of}
 use Rattle.irc_routes.specs.declared.server_row.ServerRow.{ServerRow}
 
 eq_itself : (n : ℕ) → nat_eq n n ≡ true

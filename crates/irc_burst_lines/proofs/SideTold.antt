@@ -1,5 +1,5 @@
 -- What is told of one side of a room, by looking at the whole room.
-use Rattle.std.proofs.Common.{◌≡◌, ℕ, Bool, true, false, cond, Option, Some, None, List, [], ◌∷◌, ◌++◌, map, filter, filter_map, refl, sym, ◌∙◌, ap, if◌then◌else◌}
+use Rattle.std.proofs.Common.{◌≡◌, ℕ, Bool, true, false, cond, Option, Some, None, List, [], ◌∷◌, ◌++◌, map, filter, filter_map, refl, ◌∙◌, ap, if◌then◌else◌}
 use Rattle.std.proofs.lemmas.List.{map-append}
 use Rattle.std.specs.List.{flat_map, cons_option}
 use Rattle.std.specs.Option.{option_map, option_map_or, option_and_then}
@@ -16,13 +16,12 @@ use Rattle.irc_modes.specs.ModesSet.{set_changes, ban_changes}
 use Rattle.irc_room.specs.declared.effect.Effect.TheVariants.{AddUser}
 use Rattle.irc_room.specs.Room.{Room}
 use Rattle.irc_routes.specs.Known.{Known, servers_told}
-use Rattle.irc_routes.specs.declared.server_row.ServerRow.{ServerRow}
 use Rattle.irc_merge.specs.Deeds.{Deed, does, brings, sets, tops}
 use Rattle.irc_merge.specs.Bursts.{burst, side_of, user_deeds, channel_deeds, channel_side, user_passes, home_passes, stored_member, stored_members, settings_line, topic_line, in_lines, members_a_line, bans_a_line}
 use Rattle.irc_merge.specs.Lemmas.TableWords.{values_each, entries_kept}
 use Rattle.irc_link_writer.specs.Written.{introduction}
-use Rattle.irc_burst_lines.specs.DeedLines.{deed_parts, njoin_parts, mode_parts}
-use Rattle.irc_burst_lines.specs.BurstLines.{is_near, server_deed, burst_deeds, burst_parts}
+use Rattle.irc_burst_lines.specs.DeedLines.{deed_parts}
+use Rattle.irc_burst_lines.specs.BurstLines.{is_near, server_deed, burst_parts}
 use Rattle.irc_burst_lines.specs.Loops.Telling.{row_parts, is_near_user, near_user, near_member, near_members, member_lines, settings_lines, ban_lines, topic_lines, channel_lines, channel_told}
 
 map_mapped : {X Y Z : Type 0} (f : Y → Z) (g : X → Y) (xs : List X) → map f (map g xs) ≡ map (λ x. f (g x)) xs

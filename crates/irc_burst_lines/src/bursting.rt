@@ -19,12 +19,12 @@ use crate::server_lines::server_text;
 use crate::telling::{put, tell_channel};
 use irc_channels::{Channel, Flags};
 use irc_line::Text;
+use irc_link_writer::write_effect;
 use irc_names::ServerName;
 use irc_room::{Effect, Room};
 use irc_routes::{Routes, ServerRow};
 use irc_tables::Row;
 use irc_users::User;
-use irc_link_writer::write_effect;
 use std::alloc::{AllocError, Global};
 
 /// The lines that tell a new neighbour of the network on this side: of all that is not behind the link.

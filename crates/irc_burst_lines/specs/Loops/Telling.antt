@@ -1,7 +1,7 @@
 -- Lines put behind others, part by part of a burst.
-use Rattle.std.specs.Prelude.{◌≡◌, ℕ, Bool, Option, Some, None, List, [], ◌∷◌, ◌++◌, map, filter, if◌then◌else◌}
+use Rattle.std.specs.Prelude.{◌≡◌, ℕ, Bool, Option, Some, None, List, [], ◌∷◌, ◌++◌, map, if◌then◌else◌}
 use Rattle.std.specs.Borrow.{Bor}
-use Rattle.std.specs.List.{filter_map, flat_map}
+use Rattle.std.specs.List.{filter_map}
 use Rattle.std.specs.Option.{option_and_then}
 use Rattle.std.specs.FinMap.{entries}
 use Rattle.arrayvec.specs.ArrayVec.{ArrayVec}
@@ -16,7 +16,6 @@ use Rattle.irc_modes.specs.declared.modes.ModeChange.{ModeChange}
 use Rattle.irc_routes.specs.Known.{Known}
 use Rattle.irc_routes.specs.declared.server_row.ServerRow.{ServerRow}
 use Rattle.irc_merge.specs.Bursts.{in_lines, members_a_line, bans_a_line}
-use Rattle.irc_link_writer.specs.Written.{introduction}
 use Rattle.irc_burst_lines.specs.declared.njoin_line.Member.{Member}
 use Rattle.irc_burst_lines.specs.DeedLines.{server_parts, njoin_parts, mode_parts, topic_parts}
 use Rattle.irc_burst_lines.specs.BurstLines.{is_near}

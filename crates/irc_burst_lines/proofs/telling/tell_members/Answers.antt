@@ -1,4 +1,4 @@
-use Rattle.std.proofs.Common.{◌∙◌, ap, sym, rules, arith}
+use Rattle.std.proofs.Common.{◌∙◌, ap, rules, arith}
 use Rattle.irc_burst_lines.specs.DeedLines.{njoin_parts}
 use Rattle.irc_burst_lines.specs.Loops.Telling.{told_members}
 use Rattle.irc_burst_lines.proofs.Chunks.{smaller}
