@@ -19,7 +19,7 @@ use irc_tables::Row;
 
 /// Where a line came, and by which link.
 #[derive(Clone, Copy)]
-pub(crate) struct Arrival<'a> {
+pub struct Arrival<'a> {
     /// The room.
     pub room: &'a Room,
     /// The servers that are known.
@@ -46,7 +46,7 @@ fn is_known(at: Arrival<'_>, nick: &[u8]) -> bool
 }
 
 /// Whether a server is behind the link.
-fn is_far(at: Arrival<'_>, name: &[u8]) -> bool
+pub fn is_far(at: Arrival<'_>, name: &[u8]) -> bool
     ensures { result ≡ (reader at.entry).is_far name.now }
 {
     match at.routes.next_hop(name) {
@@ -72,7 +72,7 @@ fn may_come(at: Arrival<'_>, name: &[u8]) -> bool
 }
 
 /// Refuses a line from a name that may not come by the link.
-pub(crate) fn expect_from(at: Arrival<'_>, name: &[u8]) -> Result<(), WireFault>
+pub fn expect_from(at: Arrival<'_>, name: &[u8]) -> Result<(), WireFault>
     ensures { result ≡ (if may_come (reader at.entry) name.now then Ok tt else Err WrongDirection) }
 {
     if may_come(at, name) {
@@ -83,7 +83,7 @@ pub(crate) fn expect_from(at: Arrival<'_>, name: &[u8]) -> Result<(), WireFault>
 }
 
 /// The server that a number of the neighbour stands for.
-pub(crate) fn server<'a>(at: Arrival<'a>, number: u32) -> Option<&'a ServerName>
+pub fn server<'a>(at: Arrival<'a>, number: u32) -> Option<&'a ServerName>
     ensures { option_copied result ≡ (reader at.entry).server number }
 {
     at.routes.token_in(at.link, number)

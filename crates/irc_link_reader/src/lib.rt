@@ -8,4 +8,5 @@ mod reading_channels;
 mod reading_modes;
 mod reading_users;
 
+pub use arrival::{Arrival, expect_from, is_far, server};
 pub use reading::read_effect;

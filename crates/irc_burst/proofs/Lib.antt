@@ -1,0 +1,4 @@
+pub mod EffectsRead
+pub mod LinesRead
+pub mod MembersInTurn
+pub mod MemberWords

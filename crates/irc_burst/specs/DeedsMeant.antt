@@ -1,0 +1,262 @@
+-- What a line of a linked server means: the deeds that it tells of, or why the link is closed (RFC 2813 sections 4 and 5.7). Lines of users are read as
+-- irc_link_reader has it; here are the lines of servers, and what becomes of a nickname that two users have.
+--
+-- Lines by the link to b.net, as a.net reads them; bo is a user of b.net, al one of a.net, and c.net is unknown.
+--   `:b.net SERVER c.net 2 2 :C`           c.net is behind the link, two links away, and has number 2 there
+--   `:b.net SERVER c.net 3 2 :C`           Parameters: a server linked to b.net is two links away
+--   `:b.net SERVER c.net 2 1 :C`           BadToken: number 1 is b.net's
+--   `:b.net SERVER a.net 2 2 :A`           AlreadyKnown
+--   `:b.net SQUIT c.net :b.net c.net`      BadName, as c.net is unknown; of a.net it would be WrongDirection
+--   `:b.net KILL al :Nick collision`       al quits; with another text Parameters; of a nickname that nobody has it means nothing
+--   `:b.net NJOIN #c :@bo,+zz`             bo becomes a member, and an operator, if it is none; zz is nobody, and left out
+--   `:b.net TOPIC #c :hello`               counts where #c is there and all its members are behind the link, else it means nothing
+--   `NICK al 1 u h 1 + :Al`                al is killed in the name of a.net, and the newcomer is not taken
+--   `:bo NICK al`                          both are killed, al first: the nicknames are in folded order
+--   `PASS pw 0210010000 TREE|`             Order: it begins a link
+use Rattle.std.specs.Prelude.{ℕ, ◌+◌, Bool, true, false, not, ◌&&◌, ◌||◌, is_some, is_none, Option, Some, None, Result, Ok, Err, List, [], ◌∷◌, codes, length, map, nat_eq, nat_lt, nat_le, if◌then◌else◌}
+use Rattle.std.specs.List.{find, flat_map, list_all, slice_split}
+use Rattle.std.specs.Option.{option_map_or}
+use Rattle.std.specs.Ordering.{is_lt}
+use Rattle.std.specs.Str.{bytes_eq}
+use Rattle.irc_batch.specs.declared.close_reason.CloseReason.{CloseReason}
+use Rattle.irc_batch.specs.declared.close_reason.CloseReason.TheVariants as reason
+use Rattle.irc_line.specs.Messages.{Parsed}
+use Rattle.irc_names.specs.Fold.{key, same, name_cmp}
+use Rattle.irc_names.specs.Names.{is_nick, is_channel, is_server}
+use Rattle.irc_names.specs.Tables.{row}
+use Rattle.irc_users.specs.declared.user.User.{User}
+use Rattle.irc_channels.specs.declared.flags.Flags.{Flags}
+use Rattle.irc_modes.specs.Modes.{number_of}
+use Rattle.irc_room.specs.declared.effect.By.TheVariants as by
+use Rattle.irc_room.specs.declared.effect.Effect.{Effect}
+use Rattle.irc_room.specs.declared.effect.Effect.TheVariants.{AddUser, Rename, ChangeModes, SetTopic}
+use Rattle.irc_room.specs.Room.{Room}
+use Rattle.irc_room.specs.Seen.{stored_nick}
+use Rattle.irc_routes.specs.Info.{is_info}
+use Rattle.irc_routes.specs.Known.{Known, is_known, is_full}
+use Rattle.irc_merge.specs.Bursts.{members_a_line}
+use Rattle.irc_merge.specs.BurstRead.{introduced, new_members, brought}
+use Rattle.irc_merge.specs.Deeds.{Deed, does, kills, loses, sets, tops}
+use Rattle.irc_link_words.specs.declared.fault.WireFault.{WireFault}
+use Rattle.irc_link_words.specs.declared.fault.WireFault.TheVariants as fault
+use Rattle.irc_link_words.specs.Numbers.{is_number, max_number}
+use Rattle.irc_link_words.specs.Words.{is_command, are_words}
+use Rattle.irc_link_reader.specs.Means.{means}
+use Rattle.irc_link_reader.specs.Reader.{Reader, reader_of, may_come}
+use Rattle.irc_burst_lines.specs.DeedLines.{version, agreement}
+
+-- a deed, with the numbers of a SERVER line
+pub data Told : Type 0 where
+  a_deed : (deed : Deed) → Told
+  a_server : (uplink name : List ℕ) (distance token : ℕ) (info : List ℕ) → Told
+
+-- What is looked at in a line of a server whose command is known, in this order: whether its parameters are as they should be, whether its number is free,
+-- whether it came by the right link, whether its names are names, and whether something else is against it; and what it tells if nothing is.
+pub record Judged : Type 0 where
+  pub parameters : Bool
+  pub token : Bool
+  pub direction : Bool
+  pub names : Bool
+  pub late : Option CloseReason
+  pub told : List Told
+
+abbrev pub unless_late : Option CloseReason → List Told → Result (List Told) CloseReason
+unless_late None told = Ok told
+unless_late (Some reason) told = Err reason
+
+-- the first that is not so closes the link
+abbrev pub first_reason : Judged → Result (List Told) CloseReason
+first_reason judged =
+    if not judged.parameters then Err reason.Parameters
+    else (if not judged.token then Err reason.BadToken
+    else (if not judged.direction then Err reason.WrongDirection
+    else (if not judged.names then Err reason.BadName
+    else unless_late judged.late judged.told)))
+
+-- a line with too few or too many parameters, or not from a name where it has to be
+abbrev pub malformed : Judged
+malformed = record { parameters = false; token = true; direction = true; names = true; late = None; told = [] }
+
+-- a line of a server, without a number in it
+abbrev pub of_server : Reader → List ℕ → Bool → Bool → Bool → List Deed → Judged
+of_server reader server parameters direction names deeds = record {
+  parameters = parameters;
+  token = true;
+  direction = may_come reader server && direction;
+  names = is_server server && names;
+  late = None;
+  told = map a_deed deeds;
+}
+
+-- ---- servers come and go
+
+-- A server that is linked to one that is known is one link further away; a distance is looked at where that one is known. The greatest number is no
+-- distance, for there would be none for the next link.
+abbrev pub is_next_distance : Reader → List ℕ → ℕ → Bool
+is_next_distance reader uplink distance = option_map_or (λ links. nat_eq distance (links + 1)) (reader.distance uplink) true && nat_lt distance max_number
+
+-- why a server more is not taken (RFC 2813 section 4.1.2)
+abbrev pub not_taken : Known → List ℕ → Option CloseReason
+not_taken known name = if is_known known name then Some reason.AlreadyKnown else (if is_full known then Some reason.Full else None)
+
+abbrev pub later_server : Reader → Known → (uplink name distance token info : List ℕ) → Judged
+later_server reader known uplink name distance token info = record {
+  parameters = is_number distance && is_number token && is_info info && is_next_distance reader uplink (number_of distance);
+  token = is_none (reader.server (number_of token));
+  direction = may_come reader uplink;
+  names = is_server uplink && is_server name;
+  late = not_taken known name;
+  told = a_server uplink name (number_of distance) (number_of token) info ∷ [];
+}
+
+-- a line that stands at the beginning of a link alone
+abbrev pub only_first : Bool → Judged
+only_first parameters = record { parameters = parameters; token = true; direction = true; names = true; late = Some reason.Order; told = [] }
+
+-- whether these are the parameters by which a server names itself: a name, how far it is, its number, and how it describes itself
+abbrev pub is_greeting : List (List ℕ) → Bool
+is_greeting (name ∷ distance ∷ token ∷ info ∷ []) = bytes_eq distance (codes "1") && bytes_eq token (codes "1") && is_info info
+is_greeting other = false
+
+abbrev pub server_line : Reader → Known → Option (List ℕ) → List (List ℕ) → Judged
+server_line reader known (Some uplink) (name ∷ distance ∷ token ∷ info ∷ []) = later_server reader known uplink name distance token info
+server_line reader known (Some uplink) other = malformed
+server_line reader known None params = only_first (is_greeting params)
+
+abbrev pub is_pass : List (List ℕ) → Bool
+is_pass (password ∷ given ∷ agreed ∷ []) = bytes_eq given version && bytes_eq agreed agreement
+is_pass other = false
+
+abbrev pub pass_line : Option (List ℕ) → List (List ℕ) → Judged
+pass_line None params = only_first (is_pass params)
+pass_line (Some name) params = malformed
+
+-- A server that is lost has to be behind the link; of one that is unknown the line has a bad name.
+abbrev pub squit_line : Reader → Known → Option (List ℕ) → List (List ℕ) → Judged
+squit_line reader known (Some server) (name ∷ text ∷ []) =
+    of_server reader server (are_words text) (not (is_known known name) || reader.is_far name) (is_server name && is_known known name) (loses server name text ∷ [])
+squit_line reader known _ _ = malformed
+
+-- ---- a nickname that two users have (RFC 2813 section 5.7)
+
+-- the holder of a nickname is killed
+abbrev pub killed : List ℕ → Room → List ℕ → List Deed
+killed server room nick = option_map_or (λ (holder : User). kills server holder.nick ∷ []) (row room.users (key nick)) []
+
+abbrev pub kill_line : Reader → Room → Option (List ℕ) → List (List ℕ) → Judged
+kill_line reader room (Some server) (nick ∷ text ∷ []) =
+    of_server reader server (bytes_eq text (codes "Nick collision")) true (is_nick nick) (killed server room nick)
+kill_line reader room _ _ = malformed
+
+-- two nicknames in folded order
+abbrev pub in_order : List ℕ → List ℕ → List (List ℕ)
+in_order one other = if is_lt (name_cmp other one) then other ∷ one ∷ [] else one ∷ other ∷ []
+
+-- whether a user takes the nickname of another
+abbrev pub takes_anothers : Room → List ℕ → List ℕ → Bool
+takes_anothers room nick new = is_some (row room.users (key new)) && not (same nick new)
+
+-- a user takes another nickname: where somebody else has it, both are killed
+abbrev pub renamed : List ℕ → Room → List ℕ → List ℕ → List Deed
+renamed own room nick new =
+    if takes_anothers room nick new then map (kills own) (in_order (stored_nick room nick) (stored_nick room new)) else does (Rename nick new) ∷ []
+
+-- ---- members of a channel (RFC 2813 section 4.2.2)
+
+-- the first byte of a word, if it is this mark, is one
+abbrev pub has_mark : ℕ → List ℕ → Bool
+has_mark mark [] = false
+has_mark mark (first ∷ rest) = nat_eq first mark
+
+abbrev pub without_mark : ℕ → List ℕ → List ℕ
+without_mark mark [] = []
+without_mark mark (first ∷ rest) = if nat_eq first mark then rest else first ∷ rest
+
+abbrev pub at_mark : ℕ
+at_mark = 0x40
+
+abbrev pub plus_mark : ℕ
+plus_mark = 0x2B
+
+-- `@` before an operator, and behind it `+` before who may speak
+abbrev pub member_of : List ℕ → List ℕ × Flags
+member_of word =
+    (without_mark plus_mark (without_mark at_mark word), record { op = has_mark at_mark word; voice = has_mark plus_mark (without_mark at_mark word) })
+
+abbrev pub is_comma : ℕ → Bool
+is_comma byte = nat_eq byte 0x2C
+
+abbrev pub members_of : List ℕ → List (List ℕ × Flags)
+members_of text = map member_of (slice_split is_comma text)
+
+-- a member's nickname as the room has it
+abbrev pub as_stored : Room → List ℕ × Flags → List ℕ × Flags
+as_stored room member = (stored_nick room member.0, member.1)
+
+abbrev pub njoin_line : Reader → Room → Option (List ℕ) → List (List ℕ) → Judged
+njoin_line reader room (Some server) (channel ∷ text ∷ []) =
+    of_server reader server (nat_le (length (members_of text)) members_a_line) true
+    (is_channel channel && list_all (λ (member : List ℕ × Flags). is_nick member.0) (members_of text))
+    (brought server channel (map (as_stored room) (new_members reader.is_far room channel (members_of text))))
+njoin_line reader room _ _ = malformed
+
+-- ---- lines that tell of effects
+
+-- the server whose line it is, if it is one of a server
+abbrev pub server_of : Option (List ℕ) → Option (List ℕ)
+server_of None = None
+server_of (Some name) = if is_server name then Some name else None
+
+-- A server's change of modes or of a topic is told on in the name of that server.
+abbrev pub kept_prefix : Option (List ℕ) → Effect → Deed
+kept_prefix (Some server) (ChangeModes by.Home channel changes) = sets server channel changes
+kept_prefix (Some server) (SetTopic by.Home channel topic) = tops server channel topic
+kept_prefix server effect = does effect
+
+-- what an effect comes to: where it gives a nickname that is held, its holder is killed, and who was to have it is killed or not taken
+abbrev pub collided : List ℕ → Room → Option (List ℕ) → Effect → List Deed
+collided own room server (AddUser user) = introduced own room user
+collided own room server (Rename nick new) = renamed own room nick new
+collided own room server other = kept_prefix server other ∷ []
+
+-- why a line is refused that tells of an effect; none is for want of memory
+abbrev pub reason_of : WireFault → CloseReason
+reason_of fault.UnknownCommand = reason.UnknownCommand
+reason_of fault.Parameters = reason.Parameters
+reason_of fault.BadToken = reason.BadToken
+reason_of fault.WrongDirection = reason.WrongDirection
+reason_of fault.BadName = reason.BadName
+reason_of fault.Memory = reason.Parameters
+
+abbrev pub effects_told : List ℕ → Room → Option (List ℕ) → Result (List Effect) WireFault → Result (List Told) CloseReason
+effects_told own room prefix (Ok effects) = Ok (map a_deed (flat_map (collided own room (server_of prefix)) effects))
+effects_told own room prefix (Err fault) = Err (reason_of fault)
+
+-- ---- the table
+
+-- a command of the lines of servers, and what is looked at in a line of it
+pub record Row : Type 0 where
+  pub command : List ℕ
+  pub judge : Reader → Known → Room → Option (List ℕ) → List (List ℕ) → Judged
+
+abbrev pub line : List ℕ → (Reader → Known → Room → Option (List ℕ) → List (List ℕ) → Judged) → Row
+line command judge = record { command = command; judge = judge }
+
+abbrev pub table : List Row
+table =
+    line (codes "SERVER") (λ reader known room. server_line reader known)
+    ∷ line (codes "SQUIT") (λ reader known room. squit_line reader known)
+    ∷ line (codes "KILL") (λ reader known room. kill_line reader room)
+    ∷ line (codes "NJOIN") (λ reader known room. njoin_line reader room)
+    ∷ line (codes "PASS") (λ reader known room. pass_line) ∷ []
+
+abbrev pub row_of : List ℕ → Option Row
+row_of word = find (λ (r : Row). is_command r.command word) table
+
+abbrev pub read_row : Room → Known → ℕ → Parsed → Option Row → Result (List Told) CloseReason
+read_row room known link message (Some r) = first_reason (r.judge (reader_of room known link) known room message.prefix message.params)
+read_row room known link message None = effects_told known.name room message.prefix (means room known link message)
+
+-- what a line means that came by a link after its handshake
+unfoldable pub deeds_meant : Room → Known → ℕ → Parsed → Result (List Told) CloseReason
+deeds_meant room known link message = read_row room known link message (row_of message.command)

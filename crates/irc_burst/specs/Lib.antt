@@ -1,0 +1,2 @@
+pub mod DeedsMeant
+pub mod Loops

@@ -1,0 +1,108 @@
+-- What the code that reads a line of a server gives.
+use Rattle.std.specs.Global.{Vec}
+use Rattle.irc_line.specs.Messages.{Parsed}
+use Rattle.irc_link_reader.specs.Means.{is_mode_line}
+use Rattle.std.specs.Prelude.{◌≡◌, ◌⊎◌, ⊤, true, ℕ, Bool, not, ◌&&◌, ◌++◌, IsOk, if◌then◌else◌, Option, Result, Ok, Err, List, [], ◌∷◌, map, option_to_list}
+use Rattle.std.specs.List.{list_any}
+use Rattle.irc_batch.specs.declared.close_reason.CloseReason.{CloseReason}
+use Rattle.irc_batch.specs.declared.close_reason.CloseReason.TheVariants as reason
+use Rattle.irc_channels.specs.declared.flags.Flags.{Flags}
+use Rattle.irc_merge.specs.Deeds.{does, loses, kills, brings, sets, tops}
+use Rattle.irc_link_words.specs.declared.fault.WireFault.{WireFault}
+use Rattle.irc_link_words.specs.declared.fault.WireFault.TheVariants as fault
+use Rattle.irc_burst.specs.declared.acts.BurstAct.{BurstAct}
+use Rattle.irc_burst.specs.declared.acts.BurstAct.TheVariants as act
+use Rattle.irc_burst.specs.declared.acts.NewMember.{NewMember}
+use Rattle.irc_burst.specs.declared.fault.BurstFault.{BurstFault}
+use Rattle.irc_burst.specs.declared.fault.BurstFault.TheVariants.{Closes, Memory}
+use Rattle.irc_burst.specs.declared.server_lines.ServerWords.{ServerWords}
+use Rattle.irc_burst.specs.declared.njoin_line.MemberWords.{MemberWords}
+use Rattle.irc_merge.specs.BurstRead.{is_new_member, new_members, brought}
+use Rattle.irc_names.specs.Fold.{same}
+use Rattle.irc_room.specs.Room.{Room}
+use Rattle.irc_burst.specs.DeedsMeant.{Told, a_deed, a_server, Judged, later_server, as_stored, members_of}
+use Rattle.irc_link_reader.specs.Reader.{Reader}
+use Rattle.irc_routes.specs.Known.{Known}
+
+abbrev pub member_told : NewMember → List ℕ × Flags
+member_told member = (member.nick, member.flags)
+
+abbrev pub members_told : List NewMember → List (List ℕ × Flags)
+members_told members = map member_told members
+
+-- the deed that an act is
+abbrev pub act_told : BurstAct → Told
+act_told (act.Does effect) = a_deed (does effect)
+act_told (act.Server uplink name distance token info) = a_server uplink name distance token info
+act_told (act.Lost server name text) = a_deed (loses server name text)
+act_told (act.Kill server nick) = a_deed (kills server nick)
+act_told (act.Members server channel members) = a_deed (brings server channel (members_told members.items))
+act_told (act.Modes server channel changes) = a_deed (sets server channel changes)
+act_told (act.Topic server channel text) = a_deed (tops server channel text)
+
+abbrev pub acts_told : List BurstAct → List Told
+acts_told acts = map act_told acts
+
+-- what is read, as a list
+abbrev pub found : Result (Option BurstAct) BurstFault → Result (List Told) BurstFault
+found (Ok read) = Ok (map act_told (option_to_list read))
+found (Err given) = Err given
+
+-- what a line means, where its reading takes no memory
+abbrev pub closes : Result (List Told) CloseReason → Result (List Told) BurstFault
+closes (Ok told) = Ok told
+closes (Err reason) = Err (Closes reason)
+
+-- a word of a line that is refused
+abbrev pub fault_of : WireFault → BurstFault
+fault_of fault.UnknownCommand = Closes reason.UnknownCommand
+fault_of fault.Parameters = Closes reason.Parameters
+fault_of fault.BadToken = Closes reason.BadToken
+fault_of fault.WrongDirection = Closes reason.WrongDirection
+fault_of fault.BadName = Closes reason.BadName
+fault_of fault.Memory = Memory
+
+-- what is looked at in the words of a later SERVER
+abbrev pub server_judged : Reader → Known → List ℕ → ServerWords → Judged
+server_judged reader known uplink words = later_server reader known uplink words.name.now words.distance.now words.token.now words.info.now
+
+-- ---- NJOIN
+
+-- whether a nickname is one of those of some members
+abbrev pub is_among : List (List ℕ × Flags) → List ℕ → Bool
+is_among members nick = list_any (λ (member : List ℕ × Flags). same member.0 nick) members
+
+-- one more becomes a member, if it is a new one and none of those before
+abbrev pub taken_as_stored : (List ℕ → Bool) → Room → List ℕ → List (List ℕ × Flags) → List ℕ × Flags → List (List ℕ × Flags)
+taken_as_stored far room channel members member =
+    if is_new_member far room channel member && not (is_among members member.0) then members ++ as_stored room member ∷ [] else members
+
+abbrev pub brought_of : Reader → Room → MemberWords → List Told
+brought_of reader room words =
+    map a_deed (brought words.server words.channel (map (as_stored room) (new_members reader.is_far room words.channel (members_of words.text.now))))
+
+abbrev pub members_found : Reader → Room → Result MemberWords BurstFault → Result (List Told) BurstFault
+members_found reader room (Ok words) = Ok (brought_of reader room words)
+members_found reader room (Err given) = Err given
+
+-- what is read is what the line means, or why it closes the link; memory may run out where it means something
+abbrev pub IsRead : Result (List Told) CloseReason → Result (Option BurstAct) BurstFault → Type 0
+IsRead meant (Ok read) = meant ≡ Ok (map act_told (option_to_list read))
+IsRead meant (Err Memory) = IsOk meant
+IsRead meant (Err (Closes reason)) = meant ≡ Err reason
+
+-- the list of what is read, for which memory may run out
+abbrev pub IsListed : Result (Option BurstAct) BurstFault → Result (Vec BurstAct) BurstFault → Type 0
+IsListed (Ok read) (Ok acts) = acts.items ≡ option_to_list read
+IsListed (Ok read) (Err Memory) = ⊤
+IsListed (Ok read) (Err (Closes reason)) = ⊥
+IsListed (Err given) result = result ≡ Err given
+
+-- ---- a whole line
+
+-- What is read is what the line means, or why it closes the link. Memory may run out where the line means something, or is a MODE, whose reading takes
+-- memory: it is never told in place of another line's fault.
+abbrev pub IsBurstMeant : Parsed → Result (List Told) CloseReason → Result (Vec BurstAct) BurstFault → Type 0
+IsBurstMeant message meant (Ok acts) = meant ≡ Ok (acts_told acts.items)
+IsBurstMeant message meant (Err Memory) = (is_mode_line message ≡ true) ⊎ IsOk meant
+IsBurstMeant message meant (Err (Closes reason)) = meant ≡ Err reason

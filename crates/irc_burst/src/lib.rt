@@ -1,0 +1,17 @@
+//! Lines of servers read as what they tell: servers that come and go, nicknames that two users have, members and modes and topics of a burst. Definitions
+//! are in `specs/`.
+#![tactic(auto)]
+
+mod acts;
+mod commands;
+mod effect_acts;
+mod fault;
+mod kill_line;
+mod member_words;
+mod njoin_line;
+mod reading;
+mod server_lines;
+
+pub use acts::{BurstAct, NewMember};
+pub use fault::BurstFault;
+pub use reading::read_burst_line;

@@ -1,0 +1,187 @@
+//! NJOIN: users become members of a channel (RFC 2813 section 4.2.2).
+ghost use Rattle.std.specs.Prelude.{◌≡◌, ◌&&◌, [], Some, None, fold, map, not, option_to_list, IfOk, OnOk, if◌then◌else◌};
+ghost use Rattle.std.specs.List.{list_any, slice_split};
+ghost use Rattle.irc_line.specs.PartViews.{words_now};
+ghost use Rattle.irc_names.specs.Fold.{key, same};
+ghost use Rattle.irc_room.specs.Effects.{is_member};
+ghost use Rattle.irc_room.specs.Room.{IsWellFormed};
+ghost use Rattle.irc_room.specs.Seen.{stored_nick};
+ghost use Rattle.irc_merge.specs.Bursts.{home_passes};
+ghost use Rattle.irc_merge.specs.BurstRead.{brought, new_members};
+ghost use Rattle.irc_link_reader.specs.Loops.Readings.{reader};
+ghost use Rattle.irc_burst.specs.DeedsMeant.{a_deed, as_stored, first_reason, is_comma, member_of, members_of, njoin_line};
+ghost use Rattle.irc_burst.specs.Loops.Acts.{IsRead, act_told, closes, is_among, members_found, members_told, taken_as_stored};
+
+use crate::acts::{BurstAct, NewMember};
+use crate::fault::BurstFault;
+use crate::member_words::{expect_few, expect_nicks, flags_of, nick_of};
+use irc_link_reader::{Arrival, expect_from, is_far};
+use irc_link_words::{Params, read_channel, read_server};
+use irc_names::{ChannelName, Nick, ServerName, same};
+use std::alloc::{AllocError, Global};
+
+/// Users become members of a channel; nothing is done where nobody does.
+#[tactic(auto, using(crate::proofs::LinesRead::lines_read))]
+pub(crate) fn njoin_line(
+    alloc: Global,
+    at: Arrival<'_>,
+    server: &[u8],
+    params: Params<'_>,
+) -> Result<Option<BurstAct>, BurstFault>
+    ensures { IsRead (first_reason (njoin_line (reader at.entry) at.entry.room.now.room (Some server.now) params.entry)) result }
+{
+    let words = member_words(at, server, params)?;
+    match new_members(alloc, at, words.channel.as_bytes(), words.text) {
+        Ok(members) => Ok(brought(words.server, words.channel, members)),
+        Err(_) => Err(BurstFault::Memory),
+    }
+}
+
+/// Members are brought, if there are any.
+fn brought(
+    server: ServerName,
+    channel: ChannelName,
+    members: Vec<NewMember, Global>,
+) -> Option<BurstAct>
+    ensures { map act_told (option_to_list result) ≡ map a_deed (brought server channel (members_told members.items)) }
+{
+    if members.is_empty() {
+        None
+    } else {
+        Some(BurstAct::Members {
+            server,
+            channel,
+            members,
+        })
+    }
+}
+
+/// The words of an NJOIN.
+#[derive(Drop)]
+struct MemberWords<'a> {
+    server: ServerName,
+    channel: ChannelName,
+    text: &'a [u8],
+}
+
+/// The words of an NJOIN, once they have kept their rules.
+fn member_words<'a>(
+    at: Arrival<'_>,
+    server: &[u8],
+    mut params: Params<'a>,
+) -> Result<MemberWords<'a>, BurstFault>
+    ensures { members_found (reader at.entry) at.entry.room.now.room result
+        ≡ closes (first_reason (njoin_line (reader at.entry) at.entry.room.now.room (Some server.now) params.entry)) }
+{
+    let channel = params.next()?;
+    let text = params.next()?;
+    params.end()?;
+    expect_few(text)?;
+    expect_from(at, server)?;
+    let server = read_server(server)?;
+    let channel = read_channel(channel)?;
+    expect_nicks(text)?;
+    Ok(MemberWords {
+        server,
+        channel,
+        text,
+    })
+}
+
+/// The words between commas.
+fn split(alloc: Global, text: &[u8]) -> Result<Vec<&[u8], Global>, AllocError>
+    ensures { IfOk result (λ words. words_now words.items ≡ slice_split is_comma text.now) }
+{
+    text.split(|byte| *byte == b',').collect(alloc)
+}
+
+/// Those who become members, in order.
+fn new_members(
+    alloc: Global,
+    at: Arrival<'_>,
+    channel: &[u8],
+    text: &[u8],
+) -> Result<Vec<NewMember, Global>, AllocError>
+    ensures { IfOk result (λ members. members_told members.items
+        ≡ map (as_stored at.entry.room.now.room) (new_members (reader at.entry).is_far at.entry.room.now.room channel.now (members_of text.now))) }
+{
+    let words = split(alloc, text)?;
+    members_in_turn(alloc, at, channel, words.as_slice())
+}
+
+/// The same, by the words between commas.
+fn members_in_turn(
+    alloc: Global,
+    at: Arrival<'_>,
+    channel: &[u8],
+    words: &[&[u8]],
+) -> Result<Vec<NewMember, Global>, AllocError>
+    ensures ones { IfOk result (λ members. members_told members.items
+        ≡ fold (taken_as_stored (reader at.entry).is_far at.entry.room.now.room channel.now) [] (map member_of (words_now words.now))) }
+    ensures well { IsWellFormed at.entry.room.now.room }
+{
+    at.room.own();
+    let mut members = Vec::new(alloc);
+    for word in words {
+        push_new(&mut members, at, channel, word)?;
+    }
+    Ok(members)
+}
+
+/// Appends the user of a word, if it becomes a member and is none of those before.
+fn push_new(
+    members: &mut Vec<NewMember, Global>,
+    at: Arrival<'_>,
+    channel: &[u8],
+    word: &[u8],
+) -> Result<(), AllocError>
+    ensures { OnOk result (members_told members.new.items
+        ≡ taken_as_stored (reader at.entry).is_far at.entry.room.now.room channel.now (members_told members.old.items) (member_of word.now)) }
+{
+    let among = is_among(members.as_slice(), nick_of(word));
+    match new_nick(at, channel, nick_of(word)) {
+        Some(nick) if !among => {
+            let flags = flags_of(word);
+            members.push(NewMember { nick, flags })?;
+        }
+        _ => {}
+    }
+    Ok(())
+}
+
+/// Whether a nickname is one of those of some members.
+#[tactic(auto, using(crate::proofs::MembersInTurn::among_told))]
+fn is_among(members: &[NewMember], nick: &[u8]) -> bool
+    ensures { result ≡ is_among (members_told members.now) nick.now }
+{
+    is_named(members, nick)
+}
+
+/// The same, member by member where each lies.
+fn is_named(members: &[NewMember], nick: &[u8]) -> bool
+    ensures { result ≡ list_any (λ member. same member.nick nick.now) members.now }
+{
+    members
+        .iter()
+        .any(|member| same(member.nick.as_bytes(), nick))
+}
+
+/// The nickname, as it is stored, of one who becomes a member: a user behind the link who is none yet.
+fn new_nick(at: Arrival<'_>, channel: &[u8], nick: &[u8]) -> Option<Nick>
+    ensures { result ≡ (if home_passes (reader at.entry).is_far at.entry.room.now.room.users (key nick.now)
+        && not (is_member at.entry.room.now.room nick.now channel.now) then Some (stored_nick at.entry.room.now.room nick.now) else None) }
+{
+    match at.room.user(nick) {
+        Some(user) if is_far(at, user.home.as_bytes()) && is_outside(at, channel, nick) => {
+            Some(user.nick.copy())
+        }
+        _ => None,
+    }
+}
+
+/// Whether a user is no member of a channel.
+fn is_outside(at: Arrival<'_>, channel: &[u8], nick: &[u8]) -> bool
+    ensures { result ≡ not (is_member at.entry.room.now.room nick.now channel.now) }
+{
+    at.room.member(nick, channel).is_none()
+}

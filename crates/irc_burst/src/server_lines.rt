@@ -1,0 +1,242 @@
+//! Lines that speak of servers (RFC 2813 section 4.1).
+ghost use Rattle.std.specs.Prelude.{◌≡◌, ◌||◌, ◌+◌, true, not, is_none, nat_eq, Ok, Err, Some, None, codes, if◌then◌else◌};
+ghost use Rattle.std.specs.Option.{option_map_or};
+ghost use Rattle.std.specs.Str.{bytes_eq};
+ghost use Rattle.irc_link_words.specs.declared.fault.WireFault.TheVariants.{BadName, BadToken, Parameters, WrongDirection};
+ghost use Rattle.irc_line.specs.MessageViews.{optional_now};
+ghost use Rattle.irc_line.specs.PartViews.{words_now};
+ghost use Rattle.irc_link_reader.specs.Loops.Readings.{reader};
+ghost use Rattle.irc_routes.specs.Info.{is_info};
+ghost use Rattle.irc_routes.specs.Known.{is_known};
+ghost use Rattle.irc_burst.specs.DeedsMeant.{first_reason, is_greeting, is_next_distance, is_pass, not_taken, pass_line, server_line, squit_line};
+ghost use Rattle.irc_burst.specs.Loops.Acts.{closes, found, server_judged};
+
+use crate::acts::BurstAct;
+use crate::fault::BurstFault;
+use irc_batch::CloseReason;
+use irc_burst_lines::{AGREEMENT, VERSION};
+use irc_link_reader::{Arrival, expect_from, is_far, server};
+use irc_link_words::{MAX_NUMBER, Params, WireFault, read_number, read_server, read_words};
+use irc_routes::Info;
+
+/// A server comes; the line by which one names itself stands at the beginning of a link alone.
+pub(crate) fn server_line(
+    at: Arrival<'_>,
+    prefix: Option<&[u8]>,
+    params: Params<'_>,
+) -> Result<Option<BurstAct>, BurstFault>
+    ensures { found result ≡ closes (first_reason (server_line (reader at.entry) at.entry.routes.now (optional_now prefix.entry) params.entry)) }
+{
+    match prefix {
+        Some(uplink) => later_server(at, uplink, params),
+        None => greeting_line(at, params),
+    }
+}
+
+/// The words of a SERVER.
+#[derive(Clone, Copy)]
+struct ServerWords<'a> {
+    name: &'a [u8],
+    distance: &'a [u8],
+    token: &'a [u8],
+    info: &'a [u8],
+}
+
+/// A server comes.
+fn later_server(
+    at: Arrival<'_>,
+    uplink: &[u8],
+    mut params: Params<'_>,
+) -> Result<Option<BurstAct>, BurstFault>
+    ensures { found result ≡ closes (first_reason (server_line (reader at.entry) at.entry.routes.now (Some uplink.now) params.entry)) }
+{
+    let name = params.next()?;
+    let distance = params.next()?;
+    let token = params.next()?;
+    let info = params.next()?;
+    params.end()?;
+    let words = ServerWords {
+        name,
+        distance,
+        token,
+        info,
+    };
+    server_told(at, uplink, words)
+}
+
+/// A server comes, of which the line has these words.
+fn server_told(
+    at: Arrival<'_>,
+    uplink: &[u8],
+    words: ServerWords<'_>,
+) -> Result<Option<BurstAct>, BurstFault>
+    ensures { found result ≡ closes (first_reason (server_judged (reader at.entry) at.entry.routes.now uplink.now words.entry)) }
+{
+    let distance = read_number(words.distance)?;
+    let token = read_number(words.token)?;
+    let info = read_info(words.info)?;
+    expect_next_distance(at, uplink, distance)?;
+    expect_free(at, token)?;
+    expect_from(at, uplink)?;
+    let uplink = read_server(uplink)?;
+    let name = read_server(words.name)?;
+    match not_taken(at, words.name) {
+        Some(reason) => Err(BurstFault::Closes(reason)),
+        None => Ok(Some(BurstAct::Server {
+            uplink,
+            name,
+            distance,
+            token,
+            info,
+        })),
+    }
+}
+
+/// How a server describes itself.
+fn read_info(bytes: &[u8]) -> Result<Info, WireFault>
+    ensures { result ≡ (if is_info bytes.now then Ok bytes.now else Err Parameters) }
+{
+    match Info::read(bytes) {
+        Some(info) => Ok(info),
+        None => Err(WireFault::Parameters),
+    }
+}
+
+/// Refuses a distance that is not one more than that of the server to which the new one is linked.
+fn expect_next_distance(at: Arrival<'_>, uplink: &[u8], distance: u32) -> Result<(), WireFault>
+    ensures { result ≡ (if is_next_distance (reader at.entry) uplink.now distance then Ok tt else Err Parameters) }
+{
+    if is_one_further(at, uplink, distance) && distance < MAX_NUMBER {
+        Ok(())
+    } else {
+        Err(WireFault::Parameters)
+    }
+}
+
+/// Whether a distance is one more than that of a server; one that is not known is not looked at.
+fn is_one_further(at: Arrival<'_>, uplink: &[u8], distance: u32) -> bool
+    ensures { result ≡ option_map_or (λ links. nat_eq distance (links + 1)) ((reader at.entry).distance uplink.now) true }
+{
+    match at.routes.distance(uplink) {
+        Some(links) => u64::from(distance) == u64::from(links) + 1,
+        None => true,
+    }
+}
+
+/// Refuses a number that the neighbour has given to a server already.
+fn expect_free(at: Arrival<'_>, token: u32) -> Result<(), WireFault>
+    ensures { result ≡ (if is_none ((reader at.entry).server token) then Ok tt else Err BadToken) }
+{
+    match server(at, token) {
+        Some(_) => Err(WireFault::BadToken),
+        None => Ok(()),
+    }
+}
+
+/// Why a server more is not taken, if it is not.
+fn not_taken(at: Arrival<'_>, name: &[u8]) -> Option<CloseReason>
+    ensures { result ≡ not_taken at.entry.routes.now name.now }
+{
+    if at.routes.is_known(name) {
+        Some(CloseReason::AlreadyKnown)
+    } else if at.routes.is_full() {
+        Some(CloseReason::Full)
+    } else {
+        None
+    }
+}
+
+/// A server names itself, but the link has begun.
+fn greeting_line(at: Arrival<'_>, params: Params<'_>) -> Result<Option<BurstAct>, BurstFault>
+    ensures { found result ≡ closes (first_reason (server_line (reader at.entry) at.entry.routes.now None params.entry)) }
+{
+    if is_greeting(params.rest()) {
+        Err(BurstFault::Closes(CloseReason::Order))
+    } else {
+        Err(BurstFault::Closes(CloseReason::Parameters))
+    }
+}
+
+/// Whether these are the parameters by which a server names itself.
+fn is_greeting(words: &[&[u8]]) -> bool
+    ensures { result ≡ is_greeting (words_now words.now) }
+{
+    match words {
+        [_, distance, token, info] => {
+            is_one(distance) && is_one(token) && Info::read(info).is_some()
+        }
+        _ => false,
+    }
+}
+
+fn is_one(word: &[u8]) -> bool
+    ensures { result ≡ bytes_eq word.now (codes "1") }
+{
+    word == b"1".as_slice()
+}
+
+/// A password comes, but the link has begun.
+pub(crate) fn pass_line(
+    prefix: Option<&[u8]>,
+    params: Params<'_>,
+) -> Result<Option<BurstAct>, BurstFault>
+    ensures { found result ≡ closes (first_reason (pass_line (optional_now prefix.entry) params.entry)) }
+{
+    if prefix.is_none() && is_pass(params.rest()) {
+        Err(BurstFault::Closes(CloseReason::Order))
+    } else {
+        Err(BurstFault::Closes(CloseReason::Parameters))
+    }
+}
+
+/// Whether these are the parameters of a PASS.
+fn is_pass(words: &[&[u8]]) -> bool
+    ensures { result ≡ is_pass (words_now words.now) }
+{
+    match words {
+        [_, given, agreed] => *given == VERSION && *agreed == AGREEMENT,
+        _ => false,
+    }
+}
+
+/// A server is lost.
+pub(crate) fn squit_line(
+    at: Arrival<'_>,
+    server: &[u8],
+    mut params: Params<'_>,
+) -> Result<Option<BurstAct>, BurstFault>
+    ensures { found result ≡ closes (first_reason (squit_line (reader at.entry) at.entry.routes.now (Some server.now) params.entry)) }
+{
+    let name = params.next()?;
+    let text = params.next()?;
+    params.end()?;
+    let text = read_words(text)?;
+    expect_from(at, server)?;
+    expect_lost(at, name)?;
+    let server = read_server(server)?;
+    let name = read_server(name)?;
+    expect_known(at, name.as_bytes())?;
+    Ok(Some(BurstAct::Lost { server, name, text }))
+}
+
+/// Refuses a server that is known and not behind the link.
+fn expect_lost(at: Arrival<'_>, name: &[u8]) -> Result<(), WireFault>
+    ensures { result ≡ (if not (is_known at.entry.routes.now name.now) || (reader at.entry).is_far name.now then Ok tt else Err WrongDirection) }
+{
+    if !at.routes.is_known(name) || is_far(at, name) {
+        Ok(())
+    } else {
+        Err(WireFault::WrongDirection)
+    }
+}
+
+/// Refuses a server that is not known.
+fn expect_known(at: Arrival<'_>, name: &[u8]) -> Result<(), WireFault>
+    ensures { result ≡ (if is_known at.entry.routes.now name.now then Ok tt else Err BadName) }
+{
+    if at.routes.is_known(name) {
+        Ok(())
+    } else {
+        Err(WireFault::BadName)
+    }
+}

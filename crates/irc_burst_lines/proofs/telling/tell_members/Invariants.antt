@@ -1,0 +1,13 @@
+use Rattle.std.proofs.Common.{◌++◌, map, length}
+use Rattle.irc_line.specs.Messages.{text}
+use Rattle.irc_burst_lines.specs.Loops.Telling.{lines_now, member_lines, told_members}
+use Rattle.irc_burst_lines.proofs.Told.{Completes}
+use Rattle.irc_burst_lines.proofs.telling.tell_members.Given as goal
+
+abbrev pub invariant-loop-rest : goal.invariant-loop-rest
+invariant-loop-rest l =
+    Completes (lines_now l.fn.lines.items ++ map text (member_lines l.server l.channel (told_members l.members))) l.lines.items
+    (member_lines l.server l.channel (told_members l.rest))
+
+abbrev pub decreases-loop-rest : goal.decreases-loop-rest
+decreases-loop-rest l = length l.rest

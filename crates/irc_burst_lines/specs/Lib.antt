@@ -1,0 +1,4 @@
+pub mod DeedLines
+pub mod BurstLines
+pub mod Loops
+pub mod Examples

@@ -1,0 +1,85 @@
+-- Lines put behind others, part by part of a burst.
+use Rattle.std.specs.Prelude.{◌≡◌, ℕ, Bool, Option, Some, None, List, [], ◌∷◌, ◌++◌, map, if◌then◌else◌}
+use Rattle.std.specs.Borrow.{Bor}
+use Rattle.std.specs.List.{filter_map}
+use Rattle.std.specs.Option.{option_and_then}
+use Rattle.std.specs.FinMap.{entries}
+use Rattle.arrayvec.specs.ArrayVec.{ArrayVec}
+use Rattle.irc_names.specs.Tables.{Table, row}
+use Rattle.irc_line.specs.Messages.{Written, text}
+use Rattle.irc_users.specs.declared.user.User.{User}
+use Rattle.irc_channels.specs.declared.flags.Flags.{Flags}
+use Rattle.irc_channels.specs.declared.channel.Channel.{Channel}
+use Rattle.irc_modes.specs.Modes.{is_nil}
+use Rattle.irc_modes.specs.ModesSet.{set_changes, ban_changes}
+use Rattle.irc_modes.specs.declared.modes.ModeChange.{ModeChange}
+use Rattle.irc_routes.specs.Known.{Known}
+use Rattle.irc_routes.specs.declared.server_row.ServerRow.{ServerRow}
+use Rattle.irc_merge.specs.Bursts.{in_lines, members_a_line, bans_a_line}
+use Rattle.irc_burst_lines.specs.declared.njoin_line.Member.{Member}
+use Rattle.irc_burst_lines.specs.DeedLines.{server_parts, njoin_parts, mode_parts, topic_parts}
+use Rattle.irc_burst_lines.specs.BurstLines.{is_near}
+
+abbrev pub lines_now : List (ArrayVec ℕ) → List (List ℕ)
+lines_now lines = map (λ (line : ArrayVec ℕ). line.items) lines
+
+-- the lines of these parts were put behind others
+abbrev pub Writes : List Written → List (ArrayVec ℕ) → List (ArrayVec ℕ) → Type 0
+Writes parts old new = lines_now new ≡ lines_now old ++ map text parts
+
+abbrev pub told_member : Member → List ℕ × Flags
+told_member member = (member.nick.now, member.flags)
+
+abbrev pub told_members : List Member → List (List ℕ × Flags)
+told_members members = map told_member members
+
+-- ---- servers and users
+
+abbrev pub row_parts : Known → ServerRow → Written
+row_parts known r = server_parts known r.uplink r.name r.info
+
+abbrev pub rows_now : List (Bor ServerRow) → List ServerRow
+rows_now rows = map (λ (r : Bor ServerRow). r.now) rows
+
+abbrev pub users_now : List (Bor User) → List User
+users_now users = map (λ (user : Bor User). user.now) users
+
+abbrev pub is_near_user : Known → ℕ → User → Bool
+is_near_user known link user = is_near known link user.home
+
+-- ---- a channel
+
+-- a member that is on this side, with its nickname as it is stored
+abbrev pub near_user : (List ℕ → Bool) → Flags → User → Option (List ℕ × Flags)
+near_user passes flags user = if passes user.home then Some (user.nick, flags) else None
+
+abbrev pub near_member : (List ℕ → Bool) → Table User → List ℕ × Flags → Option (List ℕ × Flags)
+near_member passes users member = option_and_then (near_user passes member.1) (row users member.0)
+
+abbrev pub near_members : (List ℕ → Bool) → Table User → Channel → List (List ℕ × Flags)
+near_members passes users channel = filter_map (near_member passes users) (entries channel.members)
+
+abbrev pub member_lines : List ℕ → List ℕ → List (List ℕ × Flags) → List Written
+member_lines server channel members = map (njoin_parts server channel) (in_lines members_a_line members)
+
+abbrev pub settings_lines : List ℕ → List ℕ → List ModeChange → List Written
+settings_lines server channel [] = []
+settings_lines server channel (change ∷ changes) = mode_parts server channel (change ∷ changes) ∷ []
+
+abbrev pub ban_lines : List ℕ → List ℕ → List ModeChange → List Written
+ban_lines server channel changes = map (mode_parts server channel) (in_lines bans_a_line changes)
+
+abbrev pub topic_lines : List ℕ → List ℕ → List ℕ → List Written
+topic_lines server channel topic = if is_nil topic then [] else topic_parts server channel topic ∷ []
+
+-- what a channel is told by where these of its members are told of
+abbrev pub channel_lines : List ℕ → Channel → List (List ℕ × Flags) → List Written
+channel_lines server channel [] = []
+channel_lines server channel (member ∷ members) =
+    member_lines server channel.name (member ∷ members)
+    ++ (settings_lines server channel.name (set_changes channel.modes)
+    ++ (ban_lines server channel.name (ban_changes channel.modes.bans)
+    ++ topic_lines server channel.name channel.topic))
+
+abbrev pub channel_told : Known → ℕ → Table User → Channel → List Written
+channel_told known link users channel = channel_lines known.name channel (near_members (is_near known link) users channel)

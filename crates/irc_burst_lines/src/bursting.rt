@@ -1,0 +1,206 @@
+//! The burst: what a server writes to a neighbour that is new (RFC 2813 section 5.2).
+//!
+//! The neighbour has to know a server before what is linked to it and before its users, and users before the channels that they are in. So the order is:
+//! the servers that are not behind the link, the nearer first; their users; channel by channel the members, the modes, the bans and the topic.
+ghost use Rattle.std.specs.Prelude.{◌≡◌, ◌++◌, filter, map, option_to_list, IfOk, OnOk};
+ghost use Rattle.std.specs.List.{filter_map, flat_map};
+ghost use Rattle.std.specs.Option.{option_map};
+ghost use Rattle.std.specs.FinMap.{values};
+ghost use Rattle.irc_line.specs.Messages.{text};
+ghost use Rattle.irc_tables.specs.RowViews.{row_entry};
+ghost use Rattle.irc_channels.specs.declared.channel.Channel.{Channel};
+ghost use Rattle.irc_tables.specs.declared.table.Row.{Row};
+ghost use Rattle.irc_link_writer.specs.Written.{introduction};
+ghost use Rattle.irc_burst_lines.specs.BurstLines.{burst_parts, is_near};
+ghost use Rattle.irc_burst_lines.specs.Loops.Telling.{Writes, channel_told, is_near_user, lines_now, near_member, near_members, row_parts, rows_now, told_member, told_members, users_now};
+
+use crate::njoin_line::Member;
+use crate::server_lines::server_text;
+use crate::telling::{put, tell_channel};
+use irc_channels::{Channel, Flags};
+use irc_line::Text;
+use irc_link_writer::write_effect;
+use irc_names::ServerName;
+use irc_room::{Effect, Room};
+use irc_routes::{Routes, ServerRow};
+use irc_tables::Row;
+use irc_users::User;
+use std::alloc::{AllocError, Global};
+
+/// The lines that tell a new neighbour of the network on this side: of all that is not behind the link.
+///
+/// # Errors
+/// Where memory runs out.
+pub fn burst(room: &Room, routes: &Routes, link: u64) -> Result<Vec<Text, Global>, AllocError>
+    ensures { IfOk result (λ lines. lines_now lines.items ≡ map text (burst_parts room.now.room routes.now link)) }
+{
+    let servers = routes.told_on(link)?;
+    let mut lines = Vec::new(*servers.allocator());
+    tell_servers(&mut lines, routes, servers.as_slice())?;
+    tell_users(&mut lines, room, routes, link)?;
+    tell_channels(&mut lines, room, routes, link)?;
+    Ok(lines)
+}
+
+/// Tells of servers, in their order.
+fn tell_servers(
+    lines: &mut Vec<Text, Global>,
+    routes: &Routes,
+    servers: &[&ServerRow],
+) -> Result<(), AllocError>
+    ensures { OnOk result (Writes (map (row_parts routes.now) (rows_now servers.now)) lines.old.items lines.new.items) }
+{
+    for server in servers {
+        put(lines, row_text(routes, server))?;
+    }
+    Ok(())
+}
+
+/// The line of a server.
+fn row_text(routes: &Routes, server: &ServerRow) -> Text
+    ensures { result.items ≡ text (row_parts routes.now server.now) }
+{
+    server_text(routes, &server.uplink, &server.name, &server.info)
+}
+
+/// Tells of the users on this side, in folded order.
+fn tell_users(
+    lines: &mut Vec<Text, Global>,
+    room: &Room,
+    routes: &Routes,
+    link: u64,
+) -> Result<(), AllocError>
+    ensures { OnOk result (Writes (map (introduction routes.now) (filter (is_near_user routes.now link) (values room.now.room.users)))
+        lines.old.items lines.new.items) }
+{
+    let users = room.users()?;
+    tell_each_user(lines, room, routes, link, users.as_slice())
+}
+
+/// Tells of those of some users that are on this side.
+fn tell_each_user(
+    lines: &mut Vec<Text, Global>,
+    room: &Room,
+    routes: &Routes,
+    link: u64,
+    users: &[&User],
+) -> Result<(), AllocError>
+    ensures { OnOk result (Writes (map (introduction routes.now) (filter (is_near_user routes.now link) (users_now users.now))) lines.old.items lines.new.items) }
+{
+    for user in users {
+        if is_near(routes, link, &user.home) {
+            put(lines, user_text(room, routes, link, user))?;
+        }
+    }
+    Ok(())
+}
+
+/// The line of a user.
+fn user_text(room: &Room, routes: &Routes, link: u64, user: &User) -> Text
+    ensures { result.items ≡ text (introduction routes.now user.now) }
+{
+    write_effect(&Effect::AddUser(user.copy()), room, routes, link)
+}
+
+/// Whether a server is on this side: not behind the link.
+fn is_near(routes: &Routes, link: u64, home: &ServerName) -> bool
+    ensures { result ≡ is_near routes.now link home.now }
+{
+    match routes.next_hop(home.as_bytes()) {
+        Some(hop) => link != hop,
+        None => true,
+    }
+}
+
+/// Tells of the channels that have a member on this side, in folded order.
+fn tell_channels(
+    lines: &mut Vec<Text, Global>,
+    room: &Room,
+    routes: &Routes,
+    link: u64,
+) -> Result<(), AllocError>
+    ensures { OnOk result (Writes (flat_map (channel_told routes.now link room.now.room.users) (values room.now.room.channels)) lines.old.items lines.new.items) }
+{
+    tell_each_channel(lines, room, routes, link, room.channels())
+}
+
+/// Tells of some channels.
+fn tell_each_channel(
+    lines: &mut Vec<Text, Global>,
+    room: &Room,
+    routes: &Routes,
+    link: u64,
+    channels: &[Row<Channel>],
+) -> Result<(), AllocError>
+    ensures { OnOk result (Writes (flat_map (λ (r : Row Channel). channel_told routes.now link room.now.room.users r.value) channels.now)
+        lines.old.items lines.new.items) }
+{
+    for row in channels {
+        tell_one_channel(lines, room, routes, link, &row.value)?;
+    }
+    Ok(())
+}
+
+/// Tells of a channel.
+fn tell_one_channel(
+    lines: &mut Vec<Text, Global>,
+    room: &Room,
+    routes: &Routes,
+    link: u64,
+    channel: &Channel,
+) -> Result<(), AllocError>
+    ensures { OnOk result (Writes (channel_told routes.now link room.now.room.users channel.now) lines.old.items lines.new.items) }
+{
+    let rows = channel.members.as_slice();
+    let members = near_members(*lines.allocator(), room, routes, link, rows)?;
+    tell_channel(lines, routes.name(), channel, members.as_slice())
+}
+
+/// Those of some members that are on this side.
+fn near_members<'a>(
+    alloc: Global,
+    room: &'a Room,
+    routes: &Routes,
+    link: u64,
+    rows: &[Row<Flags>],
+) -> Result<Vec<Member<'a>, Global>, AllocError>
+    ensures { IfOk result (λ members. told_members members.items
+        ≡ filter_map (near_member (is_near routes.now link) room.now.room.users) (map row_entry rows.now)) }
+{
+    let mut members = Vec::new(alloc);
+    for row in rows {
+        push_if(&mut members, near_member(room, routes, link, row))?;
+    }
+    Ok(members)
+}
+
+/// Appends the member, if there is one.
+fn push_if<'a>(
+    members: &mut Vec<Member<'a>, Global>,
+    member: Option<Member<'a>>,
+) -> Result<(), AllocError>
+    ensures { OnOk result (told_members members.new.items ≡ told_members members.old.items ++ option_to_list (option_map told_member member.entry)) }
+{
+    if let Some(member) = member {
+        members.push(member)?;
+    }
+    Ok(())
+}
+
+/// A member, if it is on this side, with its nickname as it is stored.
+fn near_member<'a>(
+    room: &'a Room,
+    routes: &Routes,
+    link: u64,
+    row: &Row<Flags>,
+) -> Option<Member<'a>>
+    ensures { option_map told_member result ≡ near_member (is_near routes.now link) room.now.room.users (row_entry row.now) }
+{
+    match room.user(row.name.as_slice()) {
+        Some(user) if is_near(routes, link, &user.home) => Some(Member {
+            nick: user.nick.as_bytes(),
+            flags: row.value,
+        }),
+        _ => None,
+    }
+}

@@ -1,0 +1,142 @@
+//! What a channel is told by.
+ghost use Rattle.std.specs.Prelude.{◌≡◌, ◌++◌, ◌∷◌, [], drop, take, OnOk};
+ghost use Rattle.irc_modes.specs.ModesSet.{ban_changes, set_changes};
+ghost use Rattle.irc_burst_lines.specs.Loops.Telling.{Writes, ban_lines, channel_lines, member_lines, settings_lines, told_members, topic_lines};
+
+use crate::mode_line::mode_text;
+use crate::njoin_line::{Member, njoin_text};
+use crate::server_lines::topic_text;
+use crate::set_modes::{ban_changes, set_changes};
+use crate::{BANS_A_LINE, MEMBERS_A_LINE};
+use irc_channels::{Channel, Words};
+use irc_line::Text;
+use irc_modes::ModeChange;
+use irc_names::{ChannelName, ServerName};
+use std::alloc::{AllocError, Global};
+
+/// Puts a line behind others.
+pub(crate) fn put(lines: &mut Vec<Text, Global>, line: Text) -> Result<(), AllocError>
+    ensures { OnOk result (lines.new.items ≡ lines.old.items ++ line ∷ []) }
+{
+    lines.push(line)?;
+    Ok(())
+}
+
+/// Tells of a channel: these of its members, its modes, its bans, its topic. Without a member there is nothing to tell.
+pub(crate) fn tell_channel(
+    lines: &mut Vec<Text, Global>,
+    server: &ServerName,
+    channel: &Channel,
+    members: &[Member<'_>],
+) -> Result<(), AllocError>
+    ensures { OnOk result (Writes (channel_lines server.now channel.now (told_members members.now)) lines.old.items lines.new.items) }
+{
+    if members.is_empty() {
+        return Ok(());
+    }
+    tell_members(lines, server, &channel.name, members)?;
+    tell_settings(lines, server, channel)?;
+    tell_bans(lines, server, channel)?;
+    tell_topic(lines, server, &channel.name, &channel.topic)
+}
+
+/// Tells of members, thirty a line.
+fn tell_members(
+    lines: &mut Vec<Text, Global>,
+    server: &ServerName,
+    channel: &ChannelName,
+    members: &[Member<'_>],
+) -> Result<(), AllocError>
+    ensures { OnOk result (Writes (member_lines server.now channel.now (told_members members.now)) lines.old.items lines.new.items) }
+{
+    let mut rest = members;
+    while !rest.is_empty() {
+        put(
+            lines,
+            njoin_text(server, channel, front(rest, MEMBERS_A_LINE)),
+        )?;
+        rest = behind(rest, MEMBERS_A_LINE);
+    }
+    Ok(())
+}
+
+/// Tells in one line of the modes but bans, where any is set.
+fn tell_settings(
+    lines: &mut Vec<Text, Global>,
+    server: &ServerName,
+    channel: &Channel,
+) -> Result<(), AllocError>
+    ensures { OnOk result (Writes (settings_lines server.now channel.now.name (set_changes channel.now.modes)) lines.old.items lines.new.items) }
+{
+    let changes = set_changes(*lines.allocator(), &channel.modes)?;
+    if changes.is_empty() {
+        return Ok(());
+    }
+    put(lines, mode_text(server, &channel.name, &changes))
+}
+
+/// Tells of the bans, three a line.
+fn tell_bans(
+    lines: &mut Vec<Text, Global>,
+    server: &ServerName,
+    channel: &Channel,
+) -> Result<(), AllocError>
+    ensures { OnOk result (Writes (ban_lines server.now channel.now.name (ban_changes channel.now.modes.bans)) lines.old.items lines.new.items) }
+{
+    let changes = ban_changes(*lines.allocator(), channel.modes.bans.as_slice())?;
+    tell_changes(lines, server, &channel.name, &changes)
+}
+
+/// Tells of changes, three a line.
+fn tell_changes(
+    lines: &mut Vec<Text, Global>,
+    server: &ServerName,
+    channel: &ChannelName,
+    changes: &[ModeChange],
+) -> Result<(), AllocError>
+    ensures { OnOk result (Writes (ban_lines server.now channel.now changes.now) lines.old.items lines.new.items) }
+{
+    let mut rest = changes;
+    while !rest.is_empty() {
+        put(lines, mode_text(server, channel, front(rest, BANS_A_LINE)))?;
+        rest = behind(rest, BANS_A_LINE);
+    }
+    Ok(())
+}
+
+/// Tells of the topic, where there is one.
+fn tell_topic(
+    lines: &mut Vec<Text, Global>,
+    server: &ServerName,
+    channel: &ChannelName,
+    topic: &Words,
+) -> Result<(), AllocError>
+    ensures { OnOk result (Writes (topic_lines server.now channel.now topic.now) lines.old.items lines.new.items) }
+{
+    if topic.as_bytes().is_empty() {
+        return Ok(());
+    }
+    put(lines, topic_text(server, channel, topic))
+}
+
+/// The first so many of some things, or all where there are fewer.
+fn front<T>(things: &[T], most: usize) -> &[T]
+    ensures { result.now ≡ take most things.now }
+{
+    if things.len() <= most {
+        things
+    } else {
+        &things[..most]
+    }
+}
+
+/// What is behind the first so many of some things.
+fn behind<T>(things: &[T], most: usize) -> &[T]
+    ensures { result.now ≡ drop most things.now }
+{
+    if things.len() <= most {
+        &[]
+    } else {
+        &things[most..]
+    }
+}

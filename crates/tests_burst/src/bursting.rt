@@ -1,0 +1,162 @@
+//! Bursts, line by line, and the other lines of servers (RFC 2813 sections 4 and 5.2).
+use crate::stage::{add_neighbour, come, join, nick, routes, server, set, set_topic};
+use arrayvec::ArrayVec;
+use irc_burst_lines::{burst, greeting_text, kill_text, pass_text, server_text, squit_text};
+use irc_channels::Words;
+use irc_line::Text;
+use irc_room::Room;
+use irc_routes::Info;
+use itoa::Buffer;
+use std::alloc::Global;
+use std::process::Abort;
+use std::test::Fail;
+
+/// What a.net tells of al, who is alone in #m.
+static ALONE: [&[u8]; 6] = [
+    b"NICK al 1 u h 1 + :Al\r\n",
+    b":a.net NJOIN #m :@al\r\n",
+    b":a.net MODE #m +ntl 5\r\n",
+    b":a.net MODE #m +bbb a!*@* b!*@* c!*@*\r\n",
+    b":a.net MODE #m +b d!*@*\r\n",
+    b":a.net TOPIC #m :hello\r\n",
+];
+
+/// What it tells c.net besides, once b.net is linked and bo of b.net is in #m.
+static BOTH: [&[u8]; 8] = [
+    b":a.net SERVER b.net 2 2 :B\r\n",
+    b"NICK al 1 u h 1 + :Al\r\n",
+    b"NICK bo 2 u h 2 + :Bo\r\n",
+    b":a.net NJOIN #m :@al,bo\r\n",
+    b":a.net MODE #m +ntl 5\r\n",
+    b":a.net MODE #m +bbb a!*@* b!*@* c!*@*\r\n",
+    b":a.net MODE #m +b d!*@*\r\n",
+    b":a.net TOPIC #m :hello\r\n",
+];
+
+/// The link of a burst, and its lines, where 31 users of a.net are in #c: only the last two of the lines are looked at.
+static LAST_TWO: [&[u8]; 2] = [
+    b":a.net NJOIN #c :@n01,n02,n03,n04,n05,n06,n07,n08,n09,n10,n11,n12,n13,n14,n15,n16,n17,n18,n19,n20,n21,n22,n23,n24,n25,n26,n27,n28,n29,n30\r\n",
+    b":a.net NJOIN #c :n31\r\n",
+];
+
+/// The lines of servers, as they are written.
+static WRITTEN: [&[u8]; 5] = [
+    b"PASS pw 0210010000 TREE|\r\n",
+    b"SERVER a.net 1 1 :Test server\r\n",
+    b":a.net SERVER b.net 2 2 :B\r\n",
+    b":a.net SQUIT b.net :a.net b.net\r\n",
+    b":a.net KILL al :Nick collision\r\n",
+];
+
+/// Whether lines are these, from one of them on.
+fn are_from(lines: &[Text], first: usize, rows: &[&[u8]]) -> bool {
+    if lines.len() < first {
+        return false;
+    }
+    let rest = &lines[first..];
+    let mut all = rest.len() == rows.len();
+    for (place, row) in rows.iter().enumerate() {
+        all &= match rest.get(place) {
+            Some(line) => line.as_slice() == *row,
+            None => false,
+        };
+    }
+    all
+}
+
+fn furnish(rt: &impl Abort, alloc: Global, room: &mut Room) {
+    come(rt, alloc, room, b"al", b"a.net", b"Al");
+    join(rt, alloc, room, b"al", true, b"#m");
+    set(rt, alloc, room, b"#m", &[b"+ntl", b"5"]);
+    set(
+        rt,
+        alloc,
+        room,
+        b"#m",
+        &[b"+bbb", b"c!*@*", b"b!*@*", b"d!*@*"],
+    );
+    set(rt, alloc, room, b"#m", &[b"+b", b"a!*@*"]);
+    set_topic(rt, alloc, room, b"#m", b"hello");
+}
+
+/// 31 users who join #c, each with a number behind `n`.
+fn crowd(rt: &impl Abort, alloc: Global, room: &mut Room) {
+    for number in 1..32_u32 {
+        let mut name: ArrayVec<u8, 9> = ArrayVec::new();
+        let _ = name.try_extend_from_slice(if number < 10 {
+            b"n0".as_slice()
+        } else {
+            b"n".as_slice()
+        });
+        let _ = name.try_extend_from_slice(Buffer::new().format(number).as_bytes());
+        come(rt, alloc, room, &name, b"a.net", b"N");
+        join(rt, alloc, room, &name, number == 1, b"#c");
+    }
+}
+
+#[test]
+fn one_side_is_told_in_six_lines(rt: HostRuntime) -> Result<(), Fail> {
+    let alloc = rt.alloc();
+    let routes = routes(&rt, alloc)?;
+    let mut room = Room::new(alloc, server(&rt, b"a.net"));
+    furnish(&rt, alloc, &mut room);
+    let lines = burst(&room, &routes, 1)?;
+    assert!(rt; are_from(&lines, 0, &ALONE));
+    Ok(())
+}
+
+#[test]
+fn what_is_behind_the_link_is_not_told(rt: HostRuntime) -> Result<(), Fail> {
+    let alloc = rt.alloc();
+    let mut routes = routes(&rt, alloc)?;
+    add_neighbour(&rt, &mut routes);
+    let mut room = Room::new(alloc, server(&rt, b"a.net"));
+    furnish(&rt, alloc, &mut room);
+    come(&rt, alloc, &mut room, b"bo", b"b.net", b"Bo");
+    join(&rt, alloc, &mut room, b"bo", false, b"#m");
+    join(&rt, alloc, &mut room, b"bo", true, b"#own");
+    assert!(rt; are_from(&burst(&room, &routes, 1)?, 0, &ALONE));
+    Ok(())
+}
+
+#[test]
+fn another_neighbour_is_told_of_all(rt: HostRuntime) -> Result<(), Fail> {
+    let alloc = rt.alloc();
+    let mut routes = routes(&rt, alloc)?;
+    add_neighbour(&rt, &mut routes);
+    let mut room = Room::new(alloc, server(&rt, b"a.net"));
+    furnish(&rt, alloc, &mut room);
+    come(&rt, alloc, &mut room, b"bo", b"b.net", b"Bo");
+    join(&rt, alloc, &mut room, b"bo", false, b"#m");
+    assert!(rt; are_from(&burst(&room, &routes, 2)?, 0, &BOTH));
+    Ok(())
+}
+
+#[test]
+fn thirty_one_members_are_told_in_two_lines(rt: HostRuntime) -> Result<(), Fail> {
+    let alloc = rt.alloc();
+    let routes = routes(&rt, alloc)?;
+    let mut room = Room::new(alloc, server(&rt, b"a.net"));
+    crowd(&rt, alloc, &mut room);
+    assert!(rt; are_from(&burst(&room, &routes, 1)?, 31, &LAST_TWO));
+    Ok(())
+}
+
+#[test]
+fn lines_of_servers_are_written(rt: HostRuntime) -> Result<(), Fail> {
+    let alloc = rt.alloc();
+    let mut routes = routes(&rt, alloc)?;
+    add_neighbour(&rt, &mut routes);
+    let own = server(&rt, b"a.net");
+    let other = server(&rt, b"b.net");
+    let info = Info::read(b"B").expect(&rt, "a description");
+    let lines = [
+        pass_text(b"pw"),
+        greeting_text(&routes),
+        server_text(&routes, &own, &other, &info),
+        squit_text(&own, &other, &Words::cut(b"a.net b.net")),
+        kill_text(&own, &nick(&rt, b"al")),
+    ];
+    assert!(rt; are_from(&lines, 0, &WRITTEN));
+    Ok(())
+}
