@@ -66,11 +66,11 @@ refused_not_there (Some client) fault is = cc is
 
 refused_link_there : (end : Option End) (fault : ServerFault) → link_there end ≡ Some fault → fault ≡ LinkThere
 refused_link_there None fault is = cc is
-refused_link_there (Some end) fault is = cc is
+refused_link_there (Some there) fault is = cc is
 
 refused_no_link : (end : Option End) (fault : ServerFault) → no_link end ≡ Some fault → fault ≡ NoSuchLink
 refused_no_link None fault is = cc is
-refused_no_link (Some end) fault is = cc is
+refused_no_link (Some there) fault is = cc is
 
 -- each refusal has a number
 record IsNumbered (fault : ServerFault) : Type 0 where
