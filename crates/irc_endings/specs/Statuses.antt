@@ -33,7 +33,7 @@ stop_of_config config.Memory = stop.Failed
 -- of the words of the command line, where the system does not give them: one that is no text is none of ours
 abbrev pub stop_unread : ErrorKind → Stop
 stop_unread kind.InvalidData = stop.Usage
-stop_unread other = stop.Failed
+stop_unread _ = stop.Failed
 
 -- the exit status
 abbrev pub status_of : Stop → ℕ
