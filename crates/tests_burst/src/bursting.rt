@@ -5,7 +5,7 @@ use irc_burst_lines::{burst, greeting_text, kill_text, pass_text, server_text, s
 use irc_channels::Words;
 use irc_line::Text;
 use irc_room::Room;
-use irc_routes::Info;
+use irc_routes::{Info, Routes};
 use itoa::Buffer;
 use std::alloc::Global;
 use std::process::Abort;
@@ -64,6 +64,14 @@ fn are_from(lines: &[Text], first: usize, rows: &[&[u8]]) -> bool {
     all
 }
 
+/// Whether a neighbour is told just these lines, but for so many that stand before them.
+fn is_told(room: &Room, routes: &Routes, link: u64, first: usize, rows: &[&[u8]]) -> bool {
+    match burst(room, routes, link) {
+        Ok(lines) => are_from(&lines, first, rows),
+        Err(_) => false,
+    }
+}
+
 fn furnish(rt: &impl Abort, alloc: Global, room: &mut Room) {
     come(rt, alloc, room, b"al", b"a.net", b"Al");
     join(rt, alloc, room, b"al", true, b"#m");
@@ -100,8 +108,7 @@ fn one_side_is_told_in_six_lines(rt: HostRuntime) -> Result<(), Fail> {
     let routes = routes(&rt, alloc)?;
     let mut room = Room::new(alloc, server(&rt, b"a.net"));
     furnish(&rt, alloc, &mut room);
-    let lines = burst(&room, &routes, 1)?;
-    assert!(rt; are_from(&lines, 0, &ALONE));
+    assert!(rt; is_told(&room, &routes, 1, 0, &ALONE));
     Ok(())
 }
 
@@ -115,7 +122,7 @@ fn what_is_behind_the_link_is_not_told(rt: HostRuntime) -> Result<(), Fail> {
     come(&rt, alloc, &mut room, b"bo", b"b.net", b"Bo");
     join(&rt, alloc, &mut room, b"bo", false, b"#m");
     join(&rt, alloc, &mut room, b"bo", true, b"#own");
-    assert!(rt; are_from(&burst(&room, &routes, 1)?, 0, &ALONE));
+    assert!(rt; is_told(&room, &routes, 1, 0, &ALONE));
     Ok(())
 }
 
@@ -128,7 +135,7 @@ fn another_neighbour_is_told_of_all(rt: HostRuntime) -> Result<(), Fail> {
     furnish(&rt, alloc, &mut room);
     come(&rt, alloc, &mut room, b"bo", b"b.net", b"Bo");
     join(&rt, alloc, &mut room, b"bo", false, b"#m");
-    assert!(rt; are_from(&burst(&room, &routes, 2)?, 0, &BOTH));
+    assert!(rt; is_told(&room, &routes, 2, 0, &BOTH));
     Ok(())
 }
 
@@ -138,7 +145,7 @@ fn thirty_one_members_are_told_in_two_lines(rt: HostRuntime) -> Result<(), Fail>
     let routes = routes(&rt, alloc)?;
     let mut room = Room::new(alloc, server(&rt, b"a.net"));
     crowd(&rt, alloc, &mut room);
-    assert!(rt; are_from(&burst(&room, &routes, 1)?, 31, &LAST_TWO));
+    assert!(rt; is_told(&room, &routes, 1, 31, &LAST_TWO));
     Ok(())
 }
 
