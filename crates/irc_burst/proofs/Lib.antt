@@ -1,4 +1,6 @@
 pub mod EffectsRead
+pub mod GoingOn
 pub mod LinesRead
-pub mod MembersInTurn
 pub mod MemberWords
+pub mod MembersInTurn
+pub mod OutOfPlace

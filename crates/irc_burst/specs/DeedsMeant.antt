@@ -33,7 +33,7 @@ use Rattle.irc_room.specs.declared.effect.Effect.TheVariants.{AddUser, Rename, C
 use Rattle.irc_room.specs.Room.{Room}
 use Rattle.irc_room.specs.Seen.{stored_nick}
 use Rattle.irc_routes.specs.Info.{is_info}
-use Rattle.irc_routes.specs.Known.{Known, is_known, is_full}
+use Rattle.irc_routes.specs.Known.{Known, is_known}
 use Rattle.irc_merge.specs.Bursts.{members_a_line}
 use Rattle.irc_merge.specs.BurstRead.{introduced, new_members, brought}
 use Rattle.irc_merge.specs.Deeds.{Deed, does, kills, loses, sets, tops}
@@ -43,7 +43,8 @@ use Rattle.irc_link_words.specs.Numbers.{is_number, max_number}
 use Rattle.irc_link_words.specs.Words.{is_command, are_words}
 use Rattle.irc_link_reader.specs.Means.{means}
 use Rattle.irc_link_reader.specs.Reader.{Reader, reader_of, may_come}
-use Rattle.irc_burst_lines.specs.DeedLines.{version, agreement}
+use Rattle.irc_handshake.specs.Openings.{password_of, greeting_of}
+use Rattle.irc_handshake.specs.Peers.{not_taken}
 
 -- a deed, with the numbers of a SERVER line
 pub data Told : Type 0 where
@@ -95,10 +96,6 @@ of_server reader server parameters direction names deeds = record {
 abbrev pub is_next_distance : Reader → List ℕ → ℕ → Bool
 is_next_distance reader uplink distance = option_map_or (λ links. nat_eq distance (links + 1)) (reader.distance uplink) true && nat_lt distance max_number
 
--- why a server more is not taken (RFC 2813 section 4.1.2)
-abbrev pub not_taken : Known → List ℕ → Option CloseReason
-not_taken known name = if is_known known name then Some reason.AlreadyKnown else (if is_full known then Some reason.Full else None)
-
 abbrev pub later_server : Reader → Known → (uplink name distance token info : List ℕ) → Judged
 later_server reader known uplink name distance token info = record {
   parameters = is_number distance && is_number token && is_info info && is_next_distance reader uplink (number_of distance);
@@ -113,22 +110,13 @@ later_server reader known uplink name distance token info = record {
 abbrev pub only_first : Bool → Judged
 only_first parameters = record { parameters = parameters; token = true; direction = true; names = true; late = Some reason.Order; told = [] }
 
--- whether these are the parameters by which a server names itself: a name, how far it is, its number, and how it describes itself
-abbrev pub is_greeting : List (List ℕ) → Bool
-is_greeting (name ∷ distance ∷ token ∷ info ∷ []) = bytes_eq distance (codes "1") && bytes_eq token (codes "1") && is_info info
-is_greeting other = false
-
 abbrev pub server_line : Reader → Known → Option (List ℕ) → List (List ℕ) → Judged
 server_line reader known (Some uplink) (name ∷ distance ∷ token ∷ info ∷ []) = later_server reader known uplink name distance token info
 server_line reader known (Some uplink) other = malformed
-server_line reader known None params = only_first (is_greeting params)
-
-abbrev pub is_pass : List (List ℕ) → Bool
-is_pass (password ∷ given ∷ agreed ∷ []) = bytes_eq given version && bytes_eq agreed agreement
-is_pass other = false
+server_line reader known None params = only_first (is_some (greeting_of params))
 
 abbrev pub pass_line : Option (List ℕ) → List (List ℕ) → Judged
-pass_line None params = only_first (is_pass params)
+pass_line None params = only_first (is_some (password_of params))
 pass_line (Some name) params = malformed
 
 -- A server that is lost has to be behind the link; of one that is unknown the line has a bad name.

@@ -1,2 +1,4 @@
 pub mod DeedsMeant
+pub mod GoingOn
+pub mod HandshakeMeant
 pub mod Loops

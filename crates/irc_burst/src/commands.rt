@@ -1,9 +1,10 @@
 //! The commands of the lines of servers.
 ghost use Rattle.std.specs.Prelude.{◌≡◌};
 ghost use Rattle.std.specs.Option.{option_map};
-ghost use Rattle.irc_link_words.specs.Words.{is_command};
 ghost use Rattle.irc_burst.specs.DeedsMeant.{row_of};
 ghost use Rattle.irc_burst.specs.Loops.Commands.{row};
+
+use irc_link_words::is_command;
 
 /// A command of a line of a server (RFC 2813 section 4).
 #[derive(Clone, Copy)]
@@ -37,10 +38,4 @@ pub(crate) fn command_of(word: &[u8]) -> Option<Command>
     } else {
         None
     }
-}
-
-fn is_command(command: &[u8], word: &[u8]) -> bool
-    ensures { result ≡ is_command command.now word.now }
-{
-    word.eq_ignore_ascii_case(command)
 }

@@ -6,7 +6,9 @@ mod acts;
 mod commands;
 mod effect_acts;
 mod fault;
+mod handshake;
 mod kill_line;
+pub mod laws;
 mod member_words;
 mod njoin_line;
 mod reading;
@@ -14,4 +16,5 @@ mod server_lines;
 
 pub use acts::{BurstAct, NewMember};
 pub use fault::BurstFault;
+pub use handshake::read_handshake_line;
 pub use reading::read_burst_line;

@@ -10,7 +10,7 @@ ghost use Rattle.irc_merge.specs.Bursts.{home_passes};
 ghost use Rattle.irc_merge.specs.BurstRead.{brought, new_members};
 ghost use Rattle.irc_link_reader.specs.Loops.Readings.{reader};
 ghost use Rattle.irc_burst.specs.DeedsMeant.{a_deed, as_stored, first_reason, is_comma, member_of, members_of, njoin_line};
-ghost use Rattle.irc_burst.specs.Loops.Acts.{IsRead, act_told, closes, is_among, members_found, members_told, taken_as_stored};
+ghost use Rattle.irc_burst.specs.Loops.Acts.{IsRead, act_told, closes, is_among, members_found, members_told, njoin_line_at, taken_as_stored};
 
 use crate::acts::{BurstAct, NewMember};
 use crate::fault::BurstFault;
@@ -28,7 +28,7 @@ pub(crate) fn njoin_line(
     server: &[u8],
     params: Params<'_>,
 ) -> Result<Option<BurstAct>, BurstFault>
-    ensures { IsRead (first_reason (njoin_line (reader at.entry) at.entry.room.now.room (Some server.now) params.entry)) result }
+    ensures { IsRead (first_reason (njoin_line_at at.entry server.now params.entry)) result }
 {
     let words = member_words(at, server, params)?;
     match new_members(alloc, at, words.channel.as_bytes(), words.text) {
@@ -172,16 +172,8 @@ fn new_nick(at: Arrival<'_>, channel: &[u8], nick: &[u8]) -> Option<Nick>
         && not (is_member at.entry.room.now.room nick.now channel.now) then Some (stored_nick at.entry.room.now.room nick.now) else None) }
 {
     match at.room.user(nick) {
-        Some(user) if is_far(at, user.home.as_bytes()) && is_outside(at, channel, nick) => {
-            Some(user.nick.copy())
-        }
+        Some(user) if is_far(at, user.home.as_bytes()) && at.room.member(nick, channel).is_none() =>
+            { Some(user.nick.copy()) }
         _ => None,
     }
-}
-
-/// Whether a user is no member of a channel.
-fn is_outside(at: Arrival<'_>, channel: &[u8], nick: &[u8]) -> bool
-    ensures { result ≡ not (is_member at.entry.room.now.room nick.now channel.now) }
-{
-    at.room.member(nick, channel).is_none()
 }

@@ -1,20 +1,17 @@
 //! Lines that speak of servers (RFC 2813 section 4.1).
-ghost use Rattle.std.specs.Prelude.{◌≡◌, ◌||◌, ◌+◌, true, not, is_none, nat_eq, Ok, Err, Some, None, codes, if◌then◌else◌};
-ghost use Rattle.std.specs.Option.{option_map_or};
-ghost use Rattle.std.specs.Str.{bytes_eq};
+ghost use Rattle.std.specs.Prelude.{◌≡◌, is_none, Ok, Err, Some, if◌then◌else◌};
 ghost use Rattle.irc_link_words.specs.declared.fault.WireFault.TheVariants.{BadName, BadToken, Parameters, WrongDirection};
 ghost use Rattle.irc_line.specs.MessageViews.{optional_now};
-ghost use Rattle.irc_line.specs.PartViews.{words_now};
 ghost use Rattle.irc_link_reader.specs.Loops.Readings.{reader};
 ghost use Rattle.irc_routes.specs.Info.{is_info};
 ghost use Rattle.irc_routes.specs.Known.{is_known};
-ghost use Rattle.irc_burst.specs.DeedsMeant.{first_reason, is_greeting, is_next_distance, is_pass, not_taken, pass_line, server_line, squit_line};
-ghost use Rattle.irc_burst.specs.Loops.Acts.{closes, found, server_judged};
+ghost use Rattle.irc_burst.specs.DeedsMeant.{first_reason, is_next_distance, only_first, pass_line};
+ghost use Rattle.irc_burst.specs.Loops.Acts.{closes, found, is_one_further, may_be_lost, server_judged_at, server_line_at, squit_line_at, Comes};
 
 use crate::acts::BurstAct;
 use crate::fault::BurstFault;
 use irc_batch::CloseReason;
-use irc_burst_lines::{AGREEMENT, VERSION};
+use irc_handshake::{not_taken, read_greeting, read_password};
 use irc_link_reader::{Arrival, expect_from, is_far, server};
 use irc_link_words::{MAX_NUMBER, Params, WireFault, read_number, read_server, read_words};
 use irc_routes::Info;
@@ -25,11 +22,11 @@ pub(crate) fn server_line(
     prefix: Option<&[u8]>,
     params: Params<'_>,
 ) -> Result<Option<BurstAct>, BurstFault>
-    ensures { found result ≡ closes (first_reason (server_line (reader at.entry) at.entry.routes.now (optional_now prefix.entry) params.entry)) }
+    ensures { Comes (server_line_at at.entry (optional_now prefix.entry) params.entry) result }
 {
     match prefix {
         Some(uplink) => later_server(at, uplink, params),
-        None => greeting_line(at, params),
+        None => only_first(read_greeting(params.rest()).is_some()),
     }
 }
 
@@ -48,7 +45,7 @@ fn later_server(
     uplink: &[u8],
     mut params: Params<'_>,
 ) -> Result<Option<BurstAct>, BurstFault>
-    ensures { found result ≡ closes (first_reason (server_line (reader at.entry) at.entry.routes.now (Some uplink.now) params.entry)) }
+    ensures { Comes (server_line_at at.entry (Some uplink.now) params.entry) result }
 {
     let name = params.next()?;
     let distance = params.next()?;
@@ -70,7 +67,7 @@ fn server_told(
     uplink: &[u8],
     words: ServerWords<'_>,
 ) -> Result<Option<BurstAct>, BurstFault>
-    ensures { found result ≡ closes (first_reason (server_judged (reader at.entry) at.entry.routes.now uplink.now words.entry)) }
+    ensures { Comes (server_judged_at at.entry uplink.now words.entry) result }
 {
     let distance = read_number(words.distance)?;
     let token = read_number(words.token)?;
@@ -80,7 +77,7 @@ fn server_told(
     expect_from(at, uplink)?;
     let uplink = read_server(uplink)?;
     let name = read_server(words.name)?;
-    match not_taken(at, words.name) {
+    match not_taken(at.routes, words.name) {
         Some(reason) => Err(BurstFault::Closes(reason)),
         None => Ok(Some(BurstAct::Server {
             uplink,
@@ -115,7 +112,7 @@ fn expect_next_distance(at: Arrival<'_>, uplink: &[u8], distance: u32) -> Result
 
 /// Whether a distance is one more than that of a server; one that is not known is not looked at.
 fn is_one_further(at: Arrival<'_>, uplink: &[u8], distance: u32) -> bool
-    ensures { result ≡ option_map_or (λ links. nat_eq distance (links + 1)) ((reader at.entry).distance uplink.now) true }
+    ensures { result ≡ is_one_further at.entry uplink.now distance }
 {
     match at.routes.distance(uplink) {
         Some(links) => u64::from(distance) == u64::from(links) + 1,
@@ -133,48 +130,6 @@ fn expect_free(at: Arrival<'_>, token: u32) -> Result<(), WireFault>
     }
 }
 
-/// Why a server more is not taken, if it is not.
-fn not_taken(at: Arrival<'_>, name: &[u8]) -> Option<CloseReason>
-    ensures { result ≡ not_taken at.entry.routes.now name.now }
-{
-    if at.routes.is_known(name) {
-        Some(CloseReason::AlreadyKnown)
-    } else if at.routes.is_full() {
-        Some(CloseReason::Full)
-    } else {
-        None
-    }
-}
-
-/// A server names itself, but the link has begun.
-fn greeting_line(at: Arrival<'_>, params: Params<'_>) -> Result<Option<BurstAct>, BurstFault>
-    ensures { found result ≡ closes (first_reason (server_line (reader at.entry) at.entry.routes.now None params.entry)) }
-{
-    if is_greeting(params.rest()) {
-        Err(BurstFault::Closes(CloseReason::Order))
-    } else {
-        Err(BurstFault::Closes(CloseReason::Parameters))
-    }
-}
-
-/// Whether these are the parameters by which a server names itself.
-fn is_greeting(words: &[&[u8]]) -> bool
-    ensures { result ≡ is_greeting (words_now words.now) }
-{
-    match words {
-        [_, distance, token, info] => {
-            is_one(distance) && is_one(token) && Info::read(info).is_some()
-        }
-        _ => false,
-    }
-}
-
-fn is_one(word: &[u8]) -> bool
-    ensures { result ≡ bytes_eq word.now (codes "1") }
-{
-    word == b"1".as_slice()
-}
-
 /// A password comes, but the link has begun.
 pub(crate) fn pass_line(
     prefix: Option<&[u8]>,
@@ -182,20 +137,20 @@ pub(crate) fn pass_line(
 ) -> Result<Option<BurstAct>, BurstFault>
     ensures { found result ≡ closes (first_reason (pass_line (optional_now prefix.entry) params.entry)) }
 {
-    if prefix.is_none() && is_pass(params.rest()) {
-        Err(BurstFault::Closes(CloseReason::Order))
-    } else {
-        Err(BurstFault::Closes(CloseReason::Parameters))
+    match prefix {
+        Some(_) => Err(BurstFault::Closes(CloseReason::Parameters)),
+        None => only_first(read_password(params.rest()).is_some()),
     }
 }
 
-/// Whether these are the parameters of a PASS.
-fn is_pass(words: &[&[u8]]) -> bool
-    ensures { result ≡ is_pass (words_now words.now) }
+/// A line that stands at the beginning of a link alone, with these parameters or with others.
+fn only_first(are_parameters: bool) -> Result<Option<BurstAct>, BurstFault>
+    ensures { found result ≡ closes (first_reason (only_first are_parameters)) }
 {
-    match words {
-        [_, given, agreed] => *given == VERSION && *agreed == AGREEMENT,
-        _ => false,
+    if are_parameters {
+        Err(BurstFault::Closes(CloseReason::Order))
+    } else {
+        Err(BurstFault::Closes(CloseReason::Parameters))
     }
 }
 
@@ -205,7 +160,7 @@ pub(crate) fn squit_line(
     server: &[u8],
     mut params: Params<'_>,
 ) -> Result<Option<BurstAct>, BurstFault>
-    ensures { found result ≡ closes (first_reason (squit_line (reader at.entry) at.entry.routes.now (Some server.now) params.entry)) }
+    ensures { Comes (squit_line_at at.entry server.now params.entry) result }
 {
     let name = params.next()?;
     let text = params.next()?;
@@ -221,7 +176,7 @@ pub(crate) fn squit_line(
 
 /// Refuses a server that is known and not behind the link.
 fn expect_lost(at: Arrival<'_>, name: &[u8]) -> Result<(), WireFault>
-    ensures { result ≡ (if not (is_known at.entry.routes.now name.now) || (reader at.entry).is_far name.now then Ok tt else Err WrongDirection) }
+    ensures { result ≡ (if may_be_lost at.entry name.now then Ok tt else Err WrongDirection) }
 {
     if !at.routes.is_known(name) || is_far(at, name) {
         Ok(())

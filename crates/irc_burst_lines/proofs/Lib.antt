@@ -2,6 +2,6 @@ pub mod Chunks
 pub mod ExamplesProved
 pub mod LimitWritten
 pub mod NjoinPieces
-pub mod OwnName
 pub mod SideTold
 pub mod Told
+pub mod WholeLines

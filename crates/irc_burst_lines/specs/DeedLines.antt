@@ -5,12 +5,9 @@
 --   :a.net NJOIN #c :@al,+bo,@+cy,dee       members of #c: an operator, one who may speak, one who is both, one who is neither
 --   :a.net MODE #c +ntl 5                   modes of #c
 --   :a.net TOPIC #c :hello                  its topic
--- and the two lines with which a link begins:
---   PASS pw 0210010000 TREE|
---   SERVER a.net 1 1 :A
 use Rattle.std.specs.Prelude.{ℕ, Some, None, List, [], ◌∷◌, ◌++◌, codes, decimal, if◌then◌else◌}
 use Rattle.std.specs.List.{flat_map}
-use Rattle.irc_line.specs.Messages.{Written, nobody}
+use Rattle.irc_line.specs.Messages.{Written}
 use Rattle.irc_channels.specs.declared.flags.Flags.{Flags}
 use Rattle.irc_modes.specs.declared.modes.ModeChange.{ModeChange}
 use Rattle.irc_modes.specs.ModeWritten.{changes_written}
@@ -18,31 +15,6 @@ use Rattle.irc_room.specs.Room.{Room}
 use Rattle.irc_routes.specs.Known.{Known}
 use Rattle.irc_merge.specs.Deeds.{Deed, does, gains, loses, kills, brings, sets, tops}
 use Rattle.irc_link_writer.specs.Written.{from, wire, next_distance, written_token}
-
--- ---- the beginning of a link
-
--- The version that PASS tells of (RFC 2813 section 4.1.1): four digits of the protocol, and what else is agreed (our own choice). It stands here alone,
--- and changes with what servers write to each other.
-abbrev pub version : List ℕ
-version = codes "0210010000"
-
--- the name of what the servers agree on, without flags (RFC 2813 section 4.1.1; the name is our own choice)
-abbrev pub agreement : List ℕ
-agreement = codes "TREE|"
-
-abbrev pub pass_parts : List ℕ → Written
-pass_parts password = record { sender = nobody; command = codes "PASS"; middle = password ∷ version ∷ agreement ∷ []; last = None }
-
--- A server names itself, one link away and with number 1 (RFC 2813 section 4.1.2).
-abbrev pub greeting : Known → Written
-greeting known = record {
-  sender = nobody;
-  command = codes "SERVER";
-  middle = known.name ∷ codes "1" ∷ codes "1" ∷ [];
-  last = Some known.info;
-}
-
--- ---- deeds
 
 -- a server more, in the routes that have it already: how far it is from the reader, and our number for it
 abbrev pub server_parts : Known → List ℕ → List ℕ → List ℕ → Written

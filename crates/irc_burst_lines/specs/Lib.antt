@@ -2,3 +2,4 @@ pub mod DeedLines
 pub mod BurstLines
 pub mod Loops
 pub mod Examples
+pub mod WholeLines

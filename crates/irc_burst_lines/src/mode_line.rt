@@ -1,20 +1,16 @@
 //! MODE of a server (RFC 2812 section 3.2.3). As many changes as there may be, it takes no memory.
-ghost use Rattle.std.specs.Prelude.{◌≡◌, ◌≤◌, [], ◌∷◌, ◌++◌, option_to_list};
+ghost use Rattle.std.specs.Prelude.{◌≡◌, ◌≤◌, ◌++◌};
 ghost use Rattle.std.specs.List.{filter_map};
 ghost use Rattle.arrayvec.specs.ArrayVec.{array_vec_len};
 ghost use Rattle.irc_line.specs.Bytes.{cut};
 ghost use Rattle.irc_line.specs.Limits.{max_line};
 ghost use Rattle.irc_line.specs.Messages.{middle_text, text};
 ghost use Rattle.irc_line.specs.MessageViews.{optional_now};
-ghost use Rattle.irc_modes.specs.Letters.{letter_byte};
-ghost use Rattle.irc_modes.specs.ModeWritten.{letters_text};
 ghost use Rattle.irc_modes.specs.declared.modes.ModeChange.{ModeChange};
-ghost use Rattle.irc_link_words.specs.Words.{sign_between};
 ghost use Rattle.irc_burst_lines.specs.DeedLines.{mode_parts};
 
-use crate::pieces::{push_cut, push_head};
 use irc_line::Text;
-use irc_link_words::sign_text;
+use irc_link_writer::{push_cut, push_head, push_letters, push_word};
 use irc_modes::ModeChange;
 use irc_names::{ChannelName, ServerName};
 
@@ -30,30 +26,6 @@ pub fn mode_text(server: &ServerName, channel: &ChannelName, changes: &[ModeChan
     line
 }
 
-/// The letters of changes in order, with a sign before the first and wherever it differs from the one before.
-fn push_letters(line: &mut Text, changes: &[ModeChange])
-    requires { array_vec_len line.old ≤ max_line }
-    ensures pushed { line.new.items ≡ cut (line.old.items ++ letters_text changes.now) }
-    ensures still_cut { array_vec_len line.new ≤ max_line }
-{
-    let mut sign = None;
-    push_cut(line, b"");
-    for change in changes {
-        push_change(line, sign, change);
-        sign = Some(change.plus);
-    }
-}
-
-/// The letter of one change, behind another with this sign if there is one.
-fn push_change(line: &mut Text, sign: Option<bool>, change: &ModeChange)
-    requires { array_vec_len line.old ≤ max_line }
-    ensures pushed { line.new.items ≡ cut (line.old.items ++ (sign_between sign change.now.plus ++ letter_byte change.now.letter ∷ [])) }
-    ensures still_cut { array_vec_len line.new ≤ max_line }
-{
-    push_cut(line, sign_text(sign, change.plus));
-    push_cut(line, &[change.letter.byte()]);
-}
-
 /// The parameters of changes in order, each after a space.
 fn push_words(line: &mut Text, changes: &[ModeChange])
     requires { array_vec_len line.old ≤ max_line }
@@ -63,21 +35,6 @@ fn push_words(line: &mut Text, changes: &[ModeChange])
     push_cut(line, b"");
     for change in changes {
         push_word(line, written_word(change));
-    }
-}
-
-/// The parameter of one change, if it has one.
-fn push_word(line: &mut Text, word: Option<&[u8]>)
-    requires { array_vec_len line.old ≤ max_line }
-    ensures pushed { line.new.items ≡ cut (line.old.items ++ middle_text (option_to_list (optional_now word.entry))) }
-    ensures still_cut { array_vec_len line.new ≤ max_line }
-{
-    match word {
-        Some(word) => {
-            push_cut(line, b" ");
-            push_cut(line, word);
-        }
-        None => push_cut(line, b""),
     }
 }
 

@@ -7,9 +7,9 @@ ghost use Rattle.irc_line.specs.Messages.{text};
 ghost use Rattle.irc_burst_lines.specs.DeedLines.{member_text, members_text, more_text, njoin_parts};
 ghost use Rattle.irc_burst_lines.specs.Loops.Telling.{told_member, told_members};
 
-use crate::pieces::{push_cut, push_head};
 use irc_channels::Flags;
 use irc_line::Text;
+use irc_link_writer::{push_cut, push_head};
 use irc_names::{ChannelName, ServerName};
 
 /// A member of a channel, as NJOIN brings it.

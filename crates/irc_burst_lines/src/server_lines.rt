@@ -1,58 +1,16 @@
 //! Lines that speak of servers, and the other lines of a server (RFC 2813 section 4). Nothing here takes memory.
 ghost use Rattle.std.specs.Prelude.{◌≡◌, Some};
-ghost use Rattle.irc_line.specs.Messages.{nobody, text};
-ghost use Rattle.irc_line.specs.MessageViews.{optional_now};
+ghost use Rattle.irc_line.specs.Messages.{text};
 ghost use Rattle.irc_line.specs.PartViews.{words_now};
-ghost use Rattle.irc_link_writer.specs.Written.{from, next_distance, written_token};
-ghost use Rattle.irc_burst_lines.specs.DeedLines.{greeting, kill_parts, pass_parts, server_parts, squit_parts, topic_parts};
+ghost use Rattle.irc_link_writer.specs.Written.{from};
+ghost use Rattle.irc_burst_lines.specs.DeedLines.{kill_parts, server_parts, squit_parts, topic_parts};
 
-use crate::{AGREEMENT, VERSION};
 use irc_channels::Words;
 use irc_line::{Parts, Prefix, Text, write_message};
+use irc_link_writer::{next_distance, written_token};
 use irc_names::{ChannelName, Nick, ServerName};
 use irc_routes::{Info, Routes};
 use itoa::Buffer;
-
-/// The first line of a link: `PASS pw 0210010000 TREE|` (RFC 2813 section 4.1.1).
-pub fn pass_text(password: &[u8]) -> Text
-    ensures { result.items ≡ text (pass_parts password.now) }
-{
-    plain_line(b"PASS", &[password, VERSION, AGREEMENT], None)
-}
-
-/// The second line of a link, by which a server names itself: `SERVER a.net 1 1 :A` (RFC 2813 section 4.1.2).
-pub fn greeting_text(routes: &Routes) -> Text
-    ensures { result.items ≡ text (greeting routes.now) }
-{
-    plain_line(
-        b"SERVER",
-        &[routes.name().as_bytes(), b"1", b"1"],
-        Some(own_info(routes).as_bytes()),
-    )
-}
-
-/// A line from nobody.
-fn plain_line<'a>(command: &'a [u8], middle: &'a [&'a [u8]], last: Option<&'a [u8]>) -> Text
-    ensures { result.items ≡ text (record { sender = nobody; command = command.now; middle = words_now middle.now; last = optional_now last.entry }) }
-{
-    write_message(&Parts {
-        prefix: Prefix::Nothing,
-        command,
-        middle,
-        last,
-    })
-}
-
-/// How a server describes itself.
-#[tactic(auto, using(crate::proofs::OwnName::own_info_known))]
-fn own_info(routes: &Routes) -> &Info
-    ensures { result.now ≡ routes.now.info }
-{
-    match routes.info(routes.name().as_bytes()) {
-        Some(info) => info,
-        None => unreachable!(),
-    }
-}
 
 /// A server more, in the routes that have it already: `:a.net SERVER b.net 2 3 :B` (RFC 2813 section 4.1.2).
 pub fn server_text(routes: &Routes, uplink: &ServerName, name: &ServerName, info: &Info) -> Text
@@ -103,24 +61,4 @@ fn line(server: &ServerName, command: &[u8], middle: &[&[u8]], last: &[u8]) -> T
         middle,
         last: Some(last),
     })
-}
-
-/// How far away a reader is that is one link further from a server.
-fn next_distance(routes: &Routes, home: &ServerName) -> u64
-    ensures { result ≡ next_distance routes.now home.now }
-{
-    match routes.distance(home.as_bytes()) {
-        Some(distance) => u64::from(distance) + 1,
-        None => 1,
-    }
-}
-
-/// The number that stands for a server, or 0 where it is not known.
-fn written_token(routes: &Routes, home: &ServerName) -> u32
-    ensures { result ≡ written_token routes.now home.now }
-{
-    match routes.token_out(home.as_bytes()) {
-        Some(token) => token,
-        None => 0,
-    }
 }

@@ -1,7 +1,8 @@
 -- What the words of the command line ask for.
-use Rattle.std.specs.Prelude.{◌≡◌, ℕ, ⊤, Option, Some, None, Result, Ok, Err, List, [], ◌∷◌, map, option_map, codes, string_bytes, String, Vec, if◌then◌else◌}
+use Rattle.std.specs.Prelude.{◌≡◌, ℕ, Option, Some, None, Result, Ok, Err, List, [], ◌∷◌, drop, map, option_map, codes, string_bytes, String, Vec, if◌then◌else◌}
 use Rattle.std.specs.Str.{bytes_eq}
 use Rattle.std.specs.IoError.{error_kind}
+use Rattle.std.specs.Vec.Iter.{into_iter_items}
 use Rattle.std.specs.declared.alloc.Global.{Global}
 use Rattle.std.specs.declared.io.Error.{Error}
 use Rattle.std.specs.declared.vec.IntoIter.{IntoIter}
@@ -34,14 +35,18 @@ task_of (word ∷ file ∷ turns ∷ next ∷ words) = None
 abbrev pub texts_of : {Z : Type 0} → List (String Z) → List (List ℕ)
 texts_of words = map string_bytes words
 
--- What comes of the words that the system gives, of which the first is the program's name: those behind it (which a stored run shows), or the program ends.
--- Where memory runs out, it ends as though it had failed.
+-- the words behind the program's name, which is the first
+abbrev pub behind_name : IntoIter (String Global) Global → List (String Global)
+behind_name given = drop 1 (into_iter_items given)
+
+-- What comes of the words that the system gives: those behind the program's name, in order and as they were given, or the program ends. Where memory runs
+-- out, it ends as though it had failed.
 abbrev pub AreWordsOf : Result (IntoIter (String Global) Global) Error → Result (Vec (String Global) Global) Stop → Type 0
-AreWordsOf (Ok given) (Ok words) = ⊤
+AreWordsOf (Ok given) (Ok words) = words.items ≡ behind_name given
 AreWordsOf (Ok given) (Err stop) = stop ≡ Failed
 AreWordsOf (Err error) (Ok words) = ⊥
 AreWordsOf (Err error) (Err stop) = stop ≡ stop_unread (error_kind error)
 
--- What the system gives no clause can tell: it is some words, or an error.
+-- What the system gives no clause can tell: it is some words, or an error. (`words_of` is handed it, and its clause says which words are kept.)
 abbrev pub AreGiven : Result (Vec (String Global) Global) Stop → Type 0
 AreGiven result = (given : Result (IntoIter (String Global) Global) Error) × AreWordsOf given result

@@ -1,8 +1,8 @@
 //! What the words of the command line ask for.
-ghost use Rattle.std.specs.Prelude.{◌≡◌, option_map, IfErr};
+ghost use Rattle.std.specs.Prelude.{◌≡◌, option_map, IfErr, IfOk};
 ghost use Rattle.irc_endings.specs.declared.fault.Stop.TheVariants.{Failed};
 ghost use Rattle.irc_script.specs.Numbers.{number_of};
-ghost use Rattle.irc_endings.specs.Words.{errand, serves, task_of, texts_of, AreGiven, AreWordsOf};
+ghost use Rattle.irc_endings.specs.Words.{behind_name, errand, serves, task_of, texts_of, AreGiven, AreWordsOf};
 ghost use Rattle.irc_endings.specs.Statuses.{stop_unread};
 
 use crate::fault::Stop;
@@ -73,7 +73,8 @@ fn words_of(alloc: Global, given: io::Result<Args>) -> Result<Vec<String>, Stop>
 
 /// The words behind the first.
 fn behind_first(alloc: Global, words: Args) -> Result<Vec<String>, Stop>
-    ensures { IfErr result (λ stop. stop ≡ Failed) }
+    ensures kept { IfOk result (λ kept. kept.items ≡ behind_name words) }
+    ensures failed { IfErr result (λ stop. stop ≡ Failed) }
 {
     match words.skip(1).collect(alloc) {
         Ok(words) => Ok(words),

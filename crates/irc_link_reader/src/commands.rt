@@ -6,6 +6,8 @@ ghost use Rattle.irc_link_reader.specs.Loops.Readings.{row, telling_table};
 ghost use Rattle.irc_link_reader.specs.Means.{Row, row_of};
 ghost use Rattle.irc_link_words.specs.Words.{is_command};
 
+use irc_link_words::is_command;
+
 /// A command of a line that tells of an effect (RFC 2813 section 4).
 #[derive(Clone, Copy)]
 pub(crate) enum Command {
@@ -65,10 +67,4 @@ fn other_command(word: &[u8]) -> Option<Command>
     } else {
         None
     }
-}
-
-fn is_command(command: &[u8], word: &[u8]) -> bool
-    ensures { result ≡ is_command command.now word.now }
-{
-    word.eq_ignore_ascii_case(command)
 }

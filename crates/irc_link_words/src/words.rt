@@ -8,7 +8,7 @@ ghost use Rattle.irc_names.specs.Limits.{max_real_name};
 ghost use Rattle.irc_names.specs.Names.{fits, is_channel, is_host, is_nick, is_server};
 ghost use Rattle.irc_users.specs.Users.{is_user_byte};
 ghost use Rattle.irc_link_words.specs.declared.fault.WireFault.TheVariants.{BadName, Parameters};
-ghost use Rattle.irc_link_words.specs.Words.{are_words, is_come_mode, is_for_channel, is_marked, is_mode_word, is_user_name, line_of, target_or_fault, unmarked, with_i, without_i};
+ghost use Rattle.irc_link_words.specs.Words.{are_words, is_come_mode, is_command, is_for_channel, is_marked, is_mode_word, is_user_name, line_of, target_or_fault, unmarked, with_i, without_i};
 
 use crate::WireFault;
 use irc_channels::Words;
@@ -23,6 +23,13 @@ use irc_users::{RealName, UserName};
 
 /// What stands behind the channel of a JOIN for one that becomes an operator (RFC 2813 section 4.2.1).
 pub const OPERATOR_MARK: &[u8] = b"\x07o";
+
+/// Whether a word is a command, in any case of letters.
+pub fn is_command(command: &[u8], word: &[u8]) -> bool
+    ensures { result ≡ is_command command.now word.now }
+{
+    word.eq_ignore_ascii_case(command)
+}
 
 /// A nickname.
 ///

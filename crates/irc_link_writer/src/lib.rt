@@ -6,4 +6,6 @@ mod cutting;
 mod mode_line;
 mod writing;
 
-pub use writing::write_effect;
+pub use cutting::{push_cut, push_head};
+pub use mode_line::{push_letters, push_word};
+pub use writing::{next_distance, write_effect, written_token};

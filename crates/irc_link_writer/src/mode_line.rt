@@ -13,7 +13,7 @@ ghost use Rattle.irc_link_words.specs.Words.{sign_between};
 ghost use Rattle.irc_link_writer.specs.Written.{from};
 
 use crate::asking::stored_nick;
-use crate::cutting::push_cut;
+use crate::cutting::{push_cut, push_head};
 use irc_line::Text;
 use irc_link_words::sign_text;
 use irc_modes::ModeChange;
@@ -24,28 +24,15 @@ pub(crate) fn mode_line(room: &Room, name: &[u8], channel: &[u8], changes: &[Mod
     ensures { result.items ≡ text (from name.now (codes "MODE") (channel.now ∷ changes_words room.now.room changes.now) None) }
 {
     let mut line = Text::new();
-    push_head(&mut line, name, channel);
+    push_head(&mut line, name, b" MODE ", channel);
     push_letters(&mut line, changes);
     push_words(&mut line, room, changes);
     let _ = line.try_extend_from_slice(b"\r\n");
     line
 }
 
-/// What stands before the letters.
-fn push_head(line: &mut Text, name: &[u8], channel: &[u8])
-    requires { line.old.items ≡ [] }
-    ensures head { line.new.items ≡ cut (codes ":" ++ name.now ++ codes " MODE " ++ channel.now ++ codes " ") }
-    ensures still_cut { array_vec_len line.new ≤ max_line }
-{
-    push_cut(line, b":");
-    push_cut(line, name);
-    push_cut(line, b" MODE ");
-    push_cut(line, channel);
-    push_cut(line, b" ");
-}
-
 /// The letters of changes in order, with a sign before the first and wherever it differs from the one before.
-fn push_letters(line: &mut Text, changes: &[ModeChange])
+pub fn push_letters(line: &mut Text, changes: &[ModeChange])
     requires { array_vec_len line.old ≤ max_line }
     ensures pushed { line.new.items ≡ cut (line.old.items ++ letters_text changes.now) }
     ensures still_cut { array_vec_len line.new ≤ max_line }
@@ -81,7 +68,7 @@ fn push_words(line: &mut Text, room: &Room, changes: &[ModeChange])
 }
 
 /// The parameter of one change, if it has one.
-fn push_word(line: &mut Text, word: Option<&[u8]>)
+pub fn push_word(line: &mut Text, word: Option<&[u8]>)
     requires { array_vec_len line.old ≤ max_line }
     ensures pushed { line.new.items ≡ cut (line.old.items ++ middle_text (option_to_list (optional_now word.entry))) }
     ensures still_cut { array_vec_len line.new ≤ max_line }

@@ -229,7 +229,7 @@ fn introduction(user: &User, distance: &[u8], token: &[u8]) -> Text
 }
 
 /// How far away a reader is that is one link further from a server.
-fn next_distance(routes: &Routes, home: &ServerName) -> u64
+pub fn next_distance(routes: &Routes, home: &ServerName) -> u64
     ensures { result ≡ next_distance routes.now home.now }
 {
     match routes.distance(home.as_bytes()) {
@@ -239,7 +239,7 @@ fn next_distance(routes: &Routes, home: &ServerName) -> u64
 }
 
 /// The number that stands for a server, or 0 where it is not known.
-fn written_token(routes: &Routes, home: &ServerName) -> u32
+pub fn written_token(routes: &Routes, home: &ServerName) -> u32
     ensures { result ≡ written_token routes.now home.now }
 {
     match routes.token_out(home.as_bytes()) {

@@ -1,1 +1,3 @@
 pub mod MemoryLaws
+mod StepLaws
+mod PassingLaws

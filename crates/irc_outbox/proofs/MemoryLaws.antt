@@ -1,6 +1,7 @@
 -- What a wire in memory tells follows the account of its calls.
-use Rattle.std.proofs.Common.{◌≡◌, ℕ, ◌≤◌, Bool, true, false, ◌||◌, cond, nat_eq, is_some, IsSome, Option, Some, None, Result, Ok, Err, OnOk, List, [], ◌∷◌, ◌++◌, length, take, drop, refl, sym, ◌∙◌, ap, subst, append-nil}
+use Rattle.std.proofs.Common.{◌≡◌, ℕ, ◌≤◌, Bool, true, false, ◌||◌, cond, nat_eq, is_some, IsSome, IfSome, Option, Some, None, Result, Ok, Err, OnOk, List, [], ◌∷◌, ◌++◌, length, take, drop, refl, sym, ◌∙◌, ap, subst, append-nil}
 use Rattle.std.specs.List.{list_any}
+use Rattle.std.specs.Option.{option_map}
 use Rattle.std.specs.Ordering.{nat_cmp, is_eq}
 use Rattle.std.specs.Cmp.{nat_cmp_total, eq_by_cmp_equiv, Equal-is}
 use Rattle.std.specs.FinMap.{nat_cmp-IsAntisymmetric}
@@ -13,7 +14,7 @@ use Rattle.irc_outbox.specs.declared.memory.Far.{Far}
 use Rattle.irc_outbox.specs.declared.wire.IoFault.{IoFault}
 use Rattle.irc_outbox.specs.declared.wire.Ready.{Ready}
 use Rattle.irc_outbox.specs.Calls.{Call, asks, reads, writes, closes, taken, taken_by, written, written_by, is_close_of}
-use Rattle.irc_outbox.specs.Memory.{Told, told, same_told, with_taken, with_written, with_close, far_of, IsTold, IsToldAt, AllTold, Changes, at_far, no_far, IsAdded, StillTold, Gives, fresh_told}
+use Rattle.irc_outbox.specs.Memory.{Told, told, same_told, with_taken, with_written, with_close, far_of, told_at, IsTold, IsToldAt, AllFresh, AllTold, Changes, at_far, no_far, IsAdded, StillTold, Gives, fresh_told}
 
 pub on_ok : {E : Type 0} (result : Result (Unit {0}) E) (P Q : Type 0) → (P → Q) → OnOk result P → OnOk result Q
 on_ok (Ok done) P Q so holds = so holds
@@ -23,8 +24,14 @@ pub whenever : {E : Type 0} (result : Result (Unit {0}) E) (P : Type 0) → P �
 whenever (Ok done) P holds = holds
 whenever (Err fault) P holds = tt
 
-abbrev pub tells : List ℕ → List ℕ → Bool → Told
-tells taken written closed = record { taken = taken; written = written; closed = closed }
+-- an account says the same of both
+pub record IsAlike (t u : Told) : Type 0 where
+  pub taken : t.taken ≡ u.taken
+  pub written : t.written ≡ u.written
+  pub closed : t.closed ≡ u.closed
+
+abbrev pub KeepsTold : (Told → Told) → Type 0
+KeepsTold change = (t : Told) → IsAlike (change t) t
 
 one_number : (a b : ℕ) → nat_eq a b ≡ true → a ≡ b
 one_number a b same = eqb-true a b same
@@ -111,10 +118,18 @@ quiet : (q : ℕ) (t : Told) (calls : List Call) (call : Call) → taken_by q ca
 quiet q t calls call none nothing never is =
     grows q t t calls call [] [] false none nothing never (sym (append-nil t.taken)) (sym (append-nil t.written)) (sym (or_false t.closed)) is
 
-pub still_told : (conn : ℕ) (old new : BTreeMap ℕ Far) → Changes conn same_told old new → StillTold old new
-still_told conn old new changes = λ calls all.
-    subst (λ cs. AllTold new cs) (append-nil calls) (told_on conn same_told old new calls []
-    (λ t is. subst (λ cs. IsTold conn t cs) (sym (append-nil calls)) is) (λ q two t is. subst (λ cs. IsTold q t cs) (sym (append-nil calls)) is) changes all)
+pub still_told : (conn : ℕ) (change : Told → Told) (old new : BTreeMap ℕ Far) → KeepsTold change → Changes conn change old new → StillTold old new
+still_told conn change old new keeps changes = λ calls all.
+    subst (λ cs. AllTold new cs) (append-nil calls) (told_on conn change old new calls []
+    (λ t is. subst (λ cs. IsTold conn (change t) cs) (sym (append-nil calls)) (alike calls t is))
+    (λ q two t is. subst (λ cs. IsTold q t cs) (sym (append-nil calls)) is) changes all)
+  where
+    alike : (calls : List Call) (t : Told) → IsTold conn t calls → IsTold conn (change t) calls
+    alike calls t is = record {
+      taken_is = (keeps t).taken ∙ is.taken_is;
+      written_is = (keeps t).written ∙ is.written_is;
+      closed_is = (keeps t).closed ∙ is.closed_is;
+    }
 
 pub still_on : (old mid new : BTreeMap ℕ Far) → StillTold old mid → StillTold mid new → StillTold old new
 still_on old mid new one other = λ calls all. other calls (one calls all)
@@ -163,13 +178,36 @@ closed_told conn old new changes = λ calls all.
     (sym (or_true t.closed)) is)
     (λ q two t is. quiet q t calls (closes conn) refl refl two is) changes all
 
--- a new connection has told nothing
-pub added_told : (old new : BTreeMap ℕ Far) (conn : ℕ) (far : Far) → told far ≡ fresh_told → IsAdded old conn far new → AllTold old [] → AllTold new []
-added_told old new conn far fresh added all = λ q. subst (λ (f : Option Far). IsToldAt q f []) (sym (added q)) (by q (nat_eq conn q))
+unchanged_at : (conn : ℕ) (old new : BTreeMap ℕ Far) → Changes conn same_told old new → (q : ℕ) → told_at new q ≡ told_at old q
+unchanged_at conn old new (at_far far now was set so) q = ap (option_map told) (set q) ∙ by (nat_eq conn q) refl
   where
-    by : (q : ℕ) (t : Bool) → IsToldAt q (cond t (Some far) (far_of old q)) []
-    by q true = record { taken_is = ap (λ (t : Told). t.taken) fresh; written_is = ap (λ (t : Told). t.written) fresh; closed_is = ap (λ (t : Told). t.closed) fresh }
+    by : (b : Bool) → nat_eq conn q ≡ b → option_map told (cond b (Some now) (far_of old q)) ≡ told_at old q
+    by true e = ap Some so ∙ ap (option_map told) (sym was ∙ ap (far_of old) (one_number conn q e))
+    by false e = refl
+unchanged_at conn old new (no_far none same) q = ap (option_map told) (same q)
+
+-- where a connection is the same, it is fresh still
+pub still_fresh : (conn : ℕ) (old new : BTreeMap ℕ Far) → Changes conn same_told old new → AllFresh old → AllFresh new
+still_fresh conn old new changes all = λ q. subst (λ (t : Option Told). IfSome t (λ u. u ≡ fresh_told)) (sym (same q)) (all q)
+  where
+    same : (q : ℕ) → told_at new q ≡ told_at old q
+    same q = unchanged_at conn old new changes q
+
+-- a new connection is fresh
+pub added_fresh : (old new : BTreeMap ℕ Far) (conn : ℕ) (far : Far) → told far ≡ fresh_told → IsAdded old conn far new → AllFresh old → AllFresh new
+added_fresh old new conn far fresh added all = λ q. subst (λ (f : Option Far). IfSome (option_map told f) (λ t. t ≡ fresh_told)) (sym (added q)) (by q (nat_eq conn q))
+  where
+    by : (q : ℕ) (b : Bool) → IfSome (option_map told (cond b (Some far) (far_of old q))) (λ t. t ≡ fresh_told)
+    by q true = fresh
     by q false = all q
 
-pub none_told : (fars : BTreeMap ℕ Far) → ((conn : ℕ) → far_of fars conn ≡ None) → AllTold fars []
-none_told fars none = λ conn. subst (λ (f : Option Far). IsToldAt conn f []) (sym (none conn)) tt
+pub none_fresh : (fars : BTreeMap ℕ Far) → ((conn : ℕ) → far_of fars conn ≡ None) → AllFresh fars
+none_fresh fars none = λ conn. subst (λ (f : Option Far). IfSome (option_map told f) (λ t. t ≡ fresh_told)) (sym (none conn)) tt
+
+-- fresh connections are as no call has been made
+pub fresh_told_so : (fars : BTreeMap ℕ Far) → AllFresh fars → AllTold fars []
+fresh_told_so fars all = λ conn. by conn (far_of fars conn) (all conn)
+  where
+    by : (conn : ℕ) (f : Option Far) → IfSome (option_map told f) (λ t. t ≡ fresh_told) → IsToldAt conn f []
+    by conn None is = tt
+    by conn (Some far) is = record { taken_is = ap (λ (t : Told). t.taken) is; written_is = ap (λ (t : Told). t.written) is; closed_is = ap (λ (t : Told). t.closed) is }

@@ -1,3 +1,5 @@
 pub mod Calls
 pub mod Outboxes
 pub mod Memory
+pub mod Steps
+pub mod Loops

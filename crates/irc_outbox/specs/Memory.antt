@@ -1,5 +1,5 @@
--- What a wire in memory tells of a connection: what it gave and took, and whether it was closed.
-use Rattle.std.specs.Prelude.{◌≡◌, ℕ, ⊤, Bool, true, false, nat_eq, Option, Some, None, Result, List, [], ◌∷◌, ◌++◌, if◌then◌else◌}
+-- What a wire in memory tells of a connection: what it gave and took, whether it was closed, and how it stands.
+use Rattle.std.specs.Prelude.{◌≡◌, ℕ, ◌-◌, ⊤, Bool, true, false, nat_eq, IfSome, Option, Some, None, Result, List, [], ◌∷◌, ◌++◌, length, if◌then◌else◌}
 use Rattle.std.specs.List.{list_any}
 use Rattle.std.specs.Option.{option_map}
 use Rattle.std.specs.Ordering.{nat_cmp}
@@ -9,16 +9,41 @@ use Rattle.irc_outbox.specs.declared.wire.Got.{Got}
 use Rattle.irc_outbox.specs.declared.wire.IoFault.{IoFault}
 use Rattle.irc_outbox.specs.Calls.{Call, reads, taken, written, is_close_of}
 
+-- The bytes that were read from it and those that were written to it; whether it was closed, whether its number was reported, whether it has ended, whether
+-- the next read and the next write fail, and how many bytes it takes.
 pub record Told : Type 0 where
   pub taken : List ℕ
   pub written : List ℕ
   pub closed : Bool
+  pub known : Bool
+  pub ended : Bool
+  pub read_fails : Bool
+  pub write_fails : Bool
+  pub room : ℕ
 
 abbrev pub told : Far → Told
-told far = record { taken = far.taken.items; written = far.written.items; closed = far.closed }
+told far = record {
+  taken = far.taken.items;
+  written = far.written.items;
+  closed = far.closed;
+  known = far.known;
+  ended = far.ended;
+  read_fails = far.read_fails;
+  write_fails = far.write_fails;
+  room = far.room;
+}
 
 abbrev pub fresh_told : Told
-fresh_told = record { taken = []; written = []; closed = false }
+fresh_told = record {
+  taken = [];
+  written = [];
+  closed = false;
+  known = false;
+  ended = false;
+  read_fails = false;
+  write_fails = false;
+  room = 0;
+}
 
 abbrev pub same_told : Told → Told
 same_told t = t
@@ -26,8 +51,9 @@ same_told t = t
 abbrev pub with_taken : List ℕ → Told → Told
 with_taken bytes t = record t { taken = t.taken ++ bytes }
 
+-- so many bytes were written, and there is so much less room
 abbrev pub with_written : List ℕ → Told → Told
-with_written bytes t = record t { written = t.written ++ bytes }
+with_written bytes t = record t { written = t.written ++ bytes; room = t.room - length bytes }
 
 abbrev pub with_close : Told → Told
 with_close t = record t { closed = true }
@@ -57,6 +83,10 @@ IsToldAt conn (Some far) calls = IsTold conn (told far) calls
 -- so of each connection that a step names
 abbrev pub AllTold : BTreeMap ℕ Far → List Call → Type 0
 AllTold fars calls = (conn : ℕ) → IsToldAt conn (far_of fars conn) calls
+
+-- no connection was reported, and none has given or taken anything
+abbrev pub AllFresh : BTreeMap ℕ Far → Type 0
+AllFresh fars = (conn : ℕ) → IfSome (told_at fars conn) (λ t. t ≡ fresh_told)
 
 -- what is told of one connection has changed so, if a step names it
 pub data Changes (conn : ℕ) (change : Told → Told) (old new : BTreeMap ℕ Far) : Type 0 where

@@ -1,12 +1,12 @@
 //! A wire in memory: it serves a list of steps, and keeps what each connection gave and took.
-ghost use Rattle.std.specs.Prelude.{◌≡◌, ◌≤◌, ◌++◌, [], length, take, IfOk, OnOk};
-ghost use Rattle.irc_outbox.specs.Memory.{fresh_told, same_told, told, told_at, told_or_none, with_close, with_taken, with_written, AllTold, Changes, Gives, IsAdded, StillTold};
+ghost use Rattle.std.specs.Prelude.{◌≡◌, ◌≤◌, ◌++◌, [], length, false, take, IfOk, OnOk};
+ghost use Rattle.irc_outbox.specs.Memory.{fresh_told, same_told, told, told_at, told_or_none, with_close, with_taken, with_written, AllFresh, AllTold, Changes, Gives, IsAdded, StillTold};
+ghost use Rattle.irc_outbox.specs.Steps.{bytes_of, conn_of, failed_once, fails, fails_at, giver_of, again_of, is_at_hand, is_reported, is_reported_at, left_of, longest_of, meets, report_of, GivesFirst, Reports, ServesNext};
 
 use crate::wire::{Got, IoFault, Ready, Wire};
 use circular_buffer::HeapCircularBuffer;
 use irc_names::{Host, ServerName, first_bytes};
 use std::alloc::{AllocError, Global};
-use std::cmp::max;
 use std::collections::BTreeMap;
 use std::mem::replace;
 
@@ -66,7 +66,9 @@ pub struct MemoryWire {
 
 impl WireStep {
     /// The connection that it is about.
-    fn conn(&self) -> u64 {
+    fn conn(&self) -> u64
+        ensures { result ≡ conn_of self.now }
+    {
         match self {
             WireStep::Client(conn, _)
             | WireStep::Linked(conn, _)
@@ -78,8 +80,30 @@ impl WireStep {
         }
     }
 
+    /// The bytes that it gives.
+    fn bytes(&self) -> &[u8]
+        ensures { result.now ≡ bytes_of self.now }
+    {
+        match self {
+            WireStep::Bytes(_, bytes) => bytes,
+            _ => &[],
+        }
+    }
+
+    /// The connection that gives them, if it is a step that gives some.
+    fn giver(&self) -> Option<u64>
+        ensures { result ≡ giver_of self.now }
+    {
+        match self {
+            WireStep::Bytes(conn, _) => Some(*conn),
+            _ => None,
+        }
+    }
+
     /// What it is reported as.
-    fn report(&self) -> Ready {
+    fn report(&self) -> Ready
+        ensures { result ≡ report_of self.now }
+    {
         match self {
             WireStep::Client(conn, host) => Ready::Client(*conn, host.copy()),
             WireStep::Linked(conn, Some(name)) => Ready::Linked(*conn, Some(name.copy())),
@@ -148,7 +172,8 @@ impl Far {
 
     /// A step comes. Tells whether it is one to report.
     fn meet(&mut self, step: &WireStep) -> bool
-        ensures { told self.new ≡ told self.old }
+        ensures reported { result ≡ is_reported step.now (told self.old) }
+        ensures met { told self.new ≡ meets step.now (told self.old) }
     {
         if let WireStep::Client(_, _) | WireStep::Linked(_, _) = step {
             return !replace(&mut self.known, true);
@@ -168,7 +193,8 @@ impl Far {
 
     /// Whether it fails now, as a step has said; it does so once.
     fn fails_now(&mut self, way: Way) -> bool
-        ensures { told self.new ≡ told self.old }
+        ensures fails { result ≡ fails way (told self.old) }
+        ensures once { told self.new ≡ failed_once way (told self.old) }
     {
         match way {
             Way::In => replace(&mut self.read_fails, false),
@@ -180,6 +206,7 @@ impl Far {
     fn take(&mut self, bytes: &[u8]) -> usize
         ensures told { told self.new ≡ with_written (take result bytes.now) (told self.old) }
         ensures within { result ≤ length bytes.now }
+        ensures room { result ≤ self.old.room }
     {
         let count = append(&mut self.written, first_bytes(bytes, self.room));
         self.room = self.room.saturating_sub(count);
@@ -193,14 +220,15 @@ impl MemoryWire {
     /// # Errors
     /// Where memory runs out.
     pub fn new(alloc: Global, steps: Vec<WireStep, Global>) -> Result<Self, AllocError>
-        ensures { IfOk result (λ wire. AllTold wire.fars []) }
+        ensures told { IfOk result (λ wire. AllTold wire.fars []) }
+        ensures fresh { IfOk result (λ wire. AllFresh wire.fars) }
+        ensures left { IfOk result (λ wire. left_of wire ≡ steps.items) }
+        ensures room { IfOk result (λ wire. wire.pending.capacity ≡ longest_of wire.steps.items) }
     {
         let mut fars = no_fars(alloc);
-        let mut longest = 0;
+        let mut longest = 0usize;
         for step in &steps {
-            if let WireStep::Bytes(_, bytes) = step {
-                longest = max(longest, bytes.len());
-            }
+            longest = longest.max(step.bytes().len());
             plan(alloc, &mut fars, step)?;
         }
         let pending = HeapCircularBuffer::with_capacity(alloc, longest)?;
@@ -245,27 +273,54 @@ impl MemoryWire {
     }
 
     /// Whether the step at hand is reported once more: it was read since, and bytes of it are left.
-    fn goes_on(&self, conn: u64) -> bool {
+    fn goes_on(&self, conn: u64) -> bool
+        ensures { result ≡ is_at_hand conn self.now }
+    {
         self.was_read && !self.pending.is_empty() && !self.closed(conn)
+    }
+
+    /// Tells what is ready: the step at hand once more, or the next one that is to be reported.
+    fn report(&mut self) -> Ready
+        ensures told { StillTold self.old.fars self.new.fars }
+        ensures reports { Reports self.old self.new result }
+    {
+        match self.again() {
+            Some(conn) => {
+                self.was_read = false;
+                Ready::Readable(conn)
+            }
+            None => self.step_on(),
+        }
+    }
+
+    /// The connection of the step at hand, if that is reported once more.
+    fn again(&self) -> Option<u64>
+        ensures { result ≡ again_of self.now }
+    {
+        match self.hand {
+            Some(conn) if self.goes_on(conn) => Some(conn),
+            _ => None,
+        }
     }
 
     /// Goes on to the next step that is one to report.
     fn step_on(&mut self) -> Ready
-        ensures { StillTold self.old.fars self.new.fars }
+        ensures told { StillTold self.old.fars self.new.fars }
+        ensures serves { ServesNext self.old self.new result }
+        ensures was_read { self.new.was_read ≡ false }
     {
-        self.hand = None;
-        self.pending.clear();
+        self.was_read = false;
         while self.at < self.steps.len() {
             let step = &self.steps[self.at];
             self.at += 1;
             if meet(&mut self.fars, step.conn(), step) {
-                if let WireStep::Bytes(conn, bytes) = step {
-                    self.hand = Some(*conn);
-                    self.pending.fill_from_slice(bytes);
-                }
+                self.hand = step.giver();
+                take_up(&mut self.pending, step.bytes());
                 return step.report();
             }
         }
+        self.hand = None;
+        self.pending.clear();
         Ready::Idle
     }
 
@@ -273,6 +328,7 @@ impl MemoryWire {
     fn give(&mut self, conn: u64, buffer: &mut [u8]) -> usize
         ensures gives { Gives conn (take result buffer.new) self.old.fars self.new.fars }
         ensures within { result ≤ length buffer.old }
+        ensures first { GivesFirst conn (length buffer.old) result self.old self.new buffer.new }
     {
         if self.hand != Some(conn) {
             return 0;
@@ -283,9 +339,18 @@ impl MemoryWire {
     }
 }
 
+/// These bytes are at hand from now on, in place of others.
+fn take_up(pending: &mut HeapCircularBuffer<u8, Global>, bytes: &[u8])
+    ensures bytes { length bytes.now ≤ pending.old.capacity → pending.new.items ≡ bytes.now }
+    ensures same_room { pending.new.capacity ≡ pending.old.capacity }
+{
+    pending.clear();
+    pending.fill_from_slice(bytes);
+}
+
 /// No connections.
 fn no_fars(alloc: Global) -> BTreeMap<u64, Far, Global>
-    ensures { AllTold result [] }
+    ensures { AllFresh result }
 {
     BTreeMap::new(alloc)
 }
@@ -296,7 +361,7 @@ fn plan(
     fars: &mut BTreeMap<u64, Far, Global>,
     step: &WireStep,
 ) -> Result<(), AllocError>
-    ensures { OnOk result (AllTold fars.old [] → AllTold fars.new []) }
+    ensures { OnOk result (AllFresh fars.old → AllFresh fars.new) }
 {
     let conn = step.conn();
     ensure(alloc, fars, conn)?;
@@ -305,7 +370,7 @@ fn plan(
 
 /// A connection is there from now on, if it was not.
 fn ensure(alloc: Global, fars: &mut BTreeMap<u64, Far, Global>, conn: u64) -> Result<(), AllocError>
-    ensures { OnOk result (AllTold fars.old [] → AllTold fars.new []) }
+    ensures { OnOk result (AllFresh fars.old → AllFresh fars.new) }
 {
     if fars.contains_key(&conn) {
         return Ok(());
@@ -339,7 +404,8 @@ fn add(fars: &mut BTreeMap<u64, Far, Global>, conn: u64, far: Far) -> Result<(),
 
 /// A step comes. Tells whether it is one to report.
 fn meet(fars: &mut BTreeMap<u64, Far, Global>, conn: u64, step: &WireStep) -> bool
-    ensures { Changes conn same_told fars.old fars.new }
+    ensures reported { result ≡ is_reported_at step.now (told_at fars.old conn) }
+    ensures met { Changes conn (meets step.now) fars.old fars.new }
 {
     match fars.get_mut(&conn) {
         Some(far) => far.meet(step),
@@ -349,7 +415,8 @@ fn meet(fars: &mut BTreeMap<u64, Far, Global>, conn: u64, step: &WireStep) -> bo
 
 /// Whether a connection fails now, as a step has said; it does so once.
 fn fails_now(fars: &mut BTreeMap<u64, Far, Global>, conn: u64, way: Way) -> bool
-    ensures { Changes conn same_told fars.old fars.new }
+    ensures fails { result ≡ fails_at way (told_at fars.old conn) }
+    ensures once { Changes conn (failed_once way) fars.old fars.new }
 {
     match fars.get_mut(&conn) {
         Some(far) => far.fails_now(way),
@@ -372,6 +439,7 @@ fn keep(fars: &mut BTreeMap<u64, Far, Global>, conn: u64, bytes: &[u8]) -> usize
 fn take(fars: &mut BTreeMap<u64, Far, Global>, conn: u64, bytes: &[u8]) -> usize
     ensures taken { Changes conn (with_written (take result bytes.now)) fars.old fars.new }
     ensures within { result ≤ length bytes.now }
+    ensures room { result ≤ (told_or_none (told_at fars.old conn)).room }
 {
     match fars.get_mut(&conn) {
         Some(far) => far.take(bytes),
@@ -389,7 +457,9 @@ fn shut(fars: &mut BTreeMap<u64, Far, Global>, conn: u64)
 }
 
 /// Whether a connection has ended.
-fn has_ended(fars: &BTreeMap<u64, Far, Global>, conn: u64) -> bool {
+fn has_ended(fars: &BTreeMap<u64, Far, Global>, conn: u64) -> bool
+    ensures { result ≡ (told_or_none (told_at fars.now conn)).ended }
+{
     match fars.get(&conn) {
         Some(far) => far.ended,
         None => false,
@@ -402,14 +472,7 @@ impl Wire for MemoryWire {
     ghost is_after = { λ wire calls. AllTold wire.fars calls };
 
     fn ready(&mut self) -> Result<Ready, IoFault> {
-        if let Some(conn) = self.hand {
-            if self.goes_on(conn) {
-                self.was_read = false;
-                return Ok(Ready::Readable(conn));
-            }
-        }
-        self.was_read = false;
-        Ok(self.step_on())
+        Ok(self.report())
     }
 
     fn read(&mut self, conn: u64, buffer: &mut [u8]) -> Result<Got, IoFault> {

@@ -244,6 +244,35 @@ fn devices_that_fail(rt: HostRuntime) {
     assert!(rt; breaks_unread(rt.alloc()) && all_break(rt.alloc()));
 }
 
+/// Whether a run that a slow writer takes is printed whole, and arrives.
+fn arrives(alloc: Global) -> bool {
+    let mut input: &[u8] = PING;
+    let mut output = Slow {
+        taken: Vec::new(alloc),
+        arrived: 0,
+        was_interrupted: false,
+    };
+    run_sim(alloc, &mut input, &mut output).is_ok()
+        && output.taken.as_slice() == b"1 :a.net PONG a.net :x\n".as_slice()
+        && output.arrived == output.taken.len()
+}
+
+#[test]
+fn a_slow_writer_takes_all(rt: HostRuntime) {
+    assert!(rt; arrives(rt.alloc()));
+}
+
+/// Whether a script without an end is given up, as a device that fails.
+fn is_given_up(alloc: Global) -> bool {
+    let mut output = Vec::new(alloc);
+    run_sim(alloc, &mut Endless, &mut output) == Err(SimFault::Device) && output.is_empty()
+}
+
+#[test]
+fn a_script_without_an_end(rt: HostRuntime) {
+    assert!(rt; is_given_up(rt.alloc()));
+}
+
 /// A reader that gives at most so many bytes at a time, and ends or breaks behind the last.
 #[derive(Drop)]
 struct Pieces<'a> {
@@ -283,5 +312,48 @@ impl Write for Filling {
 
     fn flush(&mut self) -> io::Result<()> {
         Ok(())
+    }
+}
+
+/// A writer that takes one byte at a time, and is interrupted before each. What it took arrives once it is flushed.
+#[derive(Drop)]
+struct Slow {
+    taken: Vec<u8, Global>,
+    arrived: usize,
+    was_interrupted: bool,
+}
+
+impl Write for Slow {
+    fn write(&mut self, buf: &[u8]) -> io::Result<usize> {
+        self.was_interrupted = !self.was_interrupted;
+        if self.was_interrupted {
+            return Err(io::Error::from(ErrorKind::Interrupted));
+        }
+        let Some(byte) = buf.first() else {
+            return Ok(0);
+        };
+        match self.taken.push(*byte) {
+            Ok(()) => Ok(1),
+            Err(_) => Err(io::Error::from(ErrorKind::OutOfMemory)),
+        }
+    }
+
+    fn flush(&mut self) -> io::Result<()> {
+        self.arrived = self.taken.len();
+        Ok(())
+    }
+}
+
+/// A reader that never ends.
+#[derive(Drop)]
+struct Endless;
+
+impl Read for Endless {
+    fn read(&mut self, buf: &mut [u8]) -> io::Result<usize> {
+        if buf.is_empty() {
+            return Ok(0);
+        }
+        buf[0] = b'\n';
+        Ok(1)
     }
 }

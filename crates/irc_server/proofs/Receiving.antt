@@ -10,7 +10,7 @@ use Rattle.irc_stage.specs.Handle.{Happening, handled}
 use Rattle.irc_server.specs.Served.{Occurrence, of_client, served}
 use Rattle.irc_server.specs.Happening.{occurrence_of, Does, IsHandled, takes_it, AreHandled}
 use Rattle.irc_server.proofs.OneMachine.{one_machine, same_out}
-use Rattle.irc_server.specs.Owed.{line_for, lines_to, after_all, owed, AreOfClients, Receives}
+use Rattle.irc_server.specs.Owed.{line_for, lines_to, after_all, owed, AllReceive, AreOfClients, Receives}
 
 receives_more : (view after : View) (event : Event) (happening : Happening) (left : List Happening) (out out_between : List Sent) (new : Option View)
     (out_after : List Sent) → occurrence_of event ≡ of_client happening → Does view event out after out_between → Receives after left out_between new out_after
@@ -68,7 +68,7 @@ receives view (event ∷ events) (happening ∷ left) out new out_after are all 
 
 pub received_by : (result : Result (Unit {0}) ServerFault) (old : Option View) (events : List Event) (out : List Sent) (new : Option View) (out_after : List Sent)
     → AreHandled old events out result new out_after
-    → OnOk result ((view : View) (happenings : List Happening) → old ≡ Some view → AreOfClients events happenings → Receives view happenings out new out_after)
+    → OnOk result (AllReceive old events out new out_after)
 received_by (Ok done) old events out new out_after all =
     λ view happenings is are. receives view events happenings out new out_after are (subst (λ (o : Option View). AreHandled o events out (Ok tt) new out_after) is all)
 received_by (Err fault) old events out new out_after all = tt

@@ -6,6 +6,7 @@ use Rattle.irc_numerics.specs.Replies.{reply_text}
 use Rattle.irc_users.specs.declared.user.User.{User}
 use Rattle.irc_line.specs.Messages.{Parsed}
 use Rattle.irc_room.specs.Room.{Room}
+use Rattle.irc_room.specs.declared.effect.Effect.{Effect}
 use Rattle.irc_routes.specs.Known.{Known, place_of}
 use Rattle.irc_commands.specs.Decide.{decide}
 use Rattle.irc_acts.specs.declared.act.Act.{Act}
@@ -16,7 +17,7 @@ use Rattle.irc_commands.specs.Decisions.{Decided}
 use Rattle.irc_batch.specs.Batches.{Sent, line_to}
 use Rattle.irc_stage.specs.RoomMachine.{RoomMachine}
 use Rattle.irc_stage.specs.Handle.{Handled, stepped, all_stepped, closing, decided}
-use Rattle.irc_stage.specs.Loops.Stage.{behind, AreFit}
+use Rattle.irc_stage.specs.Loops.Stage.{behind, AreInTurn}
 use Rattle.irc_stage.specs.Lemmas.Steps.{carried_behind}
 
 -- steps that only say something put out what they say
@@ -32,11 +33,12 @@ said_first conn name (Raw line ∷ told) rest h none =
     ∙ ap (λ out. all_stepped conn name rest (record h { out = out })) (append_assoc h.out (line_to conn line.items ∷ []) (all_said h.machine.place name conn told))
 said_first conn name (Do effect ∷ told) rest h none = cc none
 
-pub fit_left : (machine : RoomMachine) (told rest : List Act) → effects_among told ≡ [] → AreFit machine (told ++ rest) → AreFit machine rest
-fit_left machine [] rest none fit = fit
-fit_left machine (Answer reply ∷ told) rest none fit = fit_left machine told rest none fit
-fit_left machine (Raw line ∷ told) rest none fit = fit_left machine told rest none fit
-fit_left machine (Do effect ∷ told) rest none fit = cc none
+pub so_left : (IsSo : RoomMachine → Effect → Type 0) (machine : RoomMachine) (told rest : List Act) → effects_among told ≡ [] → AreInTurn IsSo machine (told ++ rest)
+    → AreInTurn IsSo machine rest
+so_left IsSo machine [] rest none are = are
+so_left IsSo machine (Answer reply ∷ told) rest none are = so_left IsSo machine told rest none are
+so_left IsSo machine (Raw line ∷ told) rest none are = so_left IsSo machine told rest none are
+so_left IsSo machine (Do effect ∷ told) rest none are = cc none
 
 pub carried_in_part : (after : Handled) (conn : ℕ) (name known : Option (List ℕ)) (acts : List Act) (machine : RoomMachine) (want left : Decided) (out between : List Sent)
     → acts ≡ left.steps → known ≡ name → IsToldInPart machine.place known conn want out between left

@@ -1,14 +1,13 @@
 -- Which configurations a server is made of.
 use Rattle.std.specs.Prelude.{◌≡◌, ℕ, Bool, false, not, ◌&&◌, ◌||◌, Option, Some, None, Result, Ok, Err, List, [], ◌∷◌, nat_eq, if◌then◌else◌}
 use Rattle.std.specs.List.{list_any, list_all}
-use Rattle.std.specs.Char.{is_ascii_graphic}
 use Rattle.std.specs.Cmp.Lexicographic.{pointwise}
 use Rattle.irc_names.specs.Limits.{max_created}
-use Rattle.irc_names.specs.Names.{is_server, fits, starts_without_colon}
+use Rattle.irc_names.specs.Names.{is_server, fits}
 use Rattle.irc_routes.specs.declared.own.Own.{Own}
 use Rattle.irc_routes.specs.Info.{is_info, is_text_byte}
 use Rattle.irc_routes.specs.Known.{alone_known}
-use Rattle.irc_server.specs.Limits.{max_password}
+use Rattle.irc_handshake.specs.Passwords.{is_password}
 use Rattle.irc_stage.specs.declared.peer.Peer.{Peer}
 use Rattle.irc_server.specs.declared.config.Config.{Config}
 use Rattle.irc_server.specs.declared.config.ConfigFault.{ConfigFault}
@@ -27,10 +26,6 @@ abbrev pub is_own : Own → Bool
 is_own own =
     is_server own.name.items && is_info own.info.items
     && (is_some_text own.created.items && fits max_created own.created.items)
-
--- bytes from 0x21 to 0x7E of which the first is no colon, so that a password can stand as a middle parameter
-abbrev pub is_password : List ℕ → Bool
-is_password bytes = starts_without_colon bytes && list_all is_ascii_graphic bytes && fits max_password bytes
 
 abbrev pub is_peer : Peer → Bool
 is_peer peer = is_server peer.name.items && is_password peer.password.items

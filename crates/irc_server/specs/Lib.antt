@@ -1,4 +1,3 @@
-pub mod Limits
 pub mod Configuring
 pub mod Served
 pub mod Happening

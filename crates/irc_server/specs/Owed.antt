@@ -36,3 +36,8 @@ AreOfClients events happenings = map occurrence_of events ≡ map of_client happ
 pub record Receives (old : View) (happenings : List Happening) (out : List Sent) (new : Option View) (out_after : List Sent) : Type 0 where
   pub view_is : new ≡ Some (after_all old happenings)
   pub received : (conn : ℕ) → lines_to conn out_after ≡ lines_to conn out ++ owed conn (machine_of old) happenings
+
+-- so it is wherever these events are of clients alone
+abbrev pub AllReceive : Option View → List Event → List Sent → Option View → List Sent → Type 0
+AllReceive old events out new out_after =
+    (view : View) (happenings : List Happening) → old ≡ Some view → AreOfClients events happenings → Receives view happenings out new out_after

@@ -3,18 +3,14 @@ ghost use Rattle.std.specs.Prelude.{◌≡◌, ⊤, Some, OnOk, IfOk};
 ghost use Rattle.std.specs.FinMap.{get};
 ghost use Rattle.irc_line.specs.Messages.{Parsed};
 ghost use Rattle.irc_line.specs.MessageViews.{parsed};
-ghost use Rattle.irc_names.specs.Fold.{key};
-ghost use Rattle.irc_names.specs.Tables.{row};
 ghost use Rattle.irc_batch.specs.Growing.{Grew};
-ghost use Rattle.irc_commands.specs.CodeViews.{registered_of};
-ghost use Rattle.irc_stage.specs.Handle.{client_after, fresh, gone, lost_text, pending_decided, said_by, user_decided, user_of};
 ghost use Rattle.irc_stage.specs.Matched.{IsMatched};
-ghost use Rattle.irc_stage.specs.RoomMachine.{client_of, with_client};
-ghost use Rattle.irc_stage.specs.View.{with_end, without_end};
-ghost use Rattle.irc_stage.specs.Loops.Stage.{behind, machine_at, so_far, view_of, AreFit, IsFreeOf, IsNoUser, IsReady, Keeps};
+ghost use Rattle.irc_stage.specs.RoomMachine.{client_of};
+ghost use Rattle.irc_stage.specs.Loops.Speaking.{AreSpoken};
+ghost use Rattle.irc_stage.specs.Loops.Stage.{machine_at, view_of, AreFit, IsFreeOf, IsNoUser, IsReady, Keeps};
 ghost use Rattle.irc_stage.specs.declared.clients.Client.TheVariants.{Registered};
-ghost use Rattle.irc_server.specs.Served.{link_there, no_link, not_there, there};
-ghost use Rattle.irc_server.specs.Loops.Acting.{nick_of, Comes, IsActed, Stands};
+ghost use Rattle.irc_server.specs.Served.{no_link, not_there};
+ghost use Rattle.irc_server.specs.Loops.Acting.{given_client, given_machine, nick_of, user_on, Comes, Decides, IsActed, IsConnected, IsGone, IsLinked, IsSaid, IsUnlinked, Leaves, Registers, Stands};
 
 use crate::event::{Event, ServerFault};
 use irc_batch::Batch;
@@ -32,7 +28,7 @@ const LOST: &[u8] = b"Connection closed";
 /// A client connects, and has given nothing.
 fn on_connect(stage: &mut Stage, conn: u64, host: Host) -> Result<(), ServerFault>
     requires ready { IsReady stage.old }
-    ensures acted { Comes (there (client_of (machine_at stage.old) conn)) (machine_at stage.new ≡ with_client (machine_at stage.old) conn (fresh host)) (stage.new ≡ stage.old) result }
+    ensures acted { IsConnected conn host stage.old result stage.new }
     ensures ready { Stands result (IsReady stage.new) }
     ensures keeps { Keeps stage.old stage.new }
 {
@@ -49,7 +45,7 @@ fn on_connect(stage: &mut Stage, conn: u64, host: Host) -> Result<(), ServerFaul
 /// # Errors
 /// Where memory runs out.
 fn client_after(alloc: Global, given: &Registration) -> Result<Client, AllocError>
-    ensures { IfOk result (λ client. client ≡ client_after (registered_of given.now) given.now.pending.nick) }
+    ensures { IfOk result (λ client. client ≡ given_client given.now) }
 {
     match &given.pending.nick {
         Some(nick) if given.registered => Ok(Client::Registered(nick.copy())),
@@ -69,9 +65,10 @@ fn on_registration(
 ) -> Result<(), AllocError>
     requires ready { IsReady stage.old }
     requires no_user { IsNoUser (client_of (machine_at stage.old) conn) }
-    requires free { IsFreeOf (client_after (registered_of given.now) given.now.pending.nick) (machine_at stage.old).clients }
-    requires fit { AreFit (with_client (machine_at stage.old) conn (client_after (registered_of given.now) given.now.pending.nick)) given.now.steps.items }
-    ensures ok { OnOk result (so_far stage.new out.new.outs ≡ behind out.old.outs (pending_decided (machine_at stage.old) conn (registered_of given.now))) }
+    requires free { IsFreeOf (given_client given.now) (machine_at stage.old).clients }
+    requires fit { AreFit (given_machine stage.old conn given.now) given.now.steps.items }
+    requires spoken { AreSpoken conn (given_machine stage.old conn given.now) given.now.steps.items }
+    ensures ok { OnOk result (Registers conn given.now stage.old out.old stage.new out.new) }
     ensures ready { OnOk result (IsReady stage.new) }
     ensures keeps { Keeps stage.old stage.new }
     ensures grew { Grew out.old.outs out.new.outs }
@@ -93,12 +90,14 @@ fn on_user_message(
     requires ready { IsReady stage.old }
     requires matched { IsMatched (machine_at stage.old) }
     requires speaks { client_of (machine_at stage.old) conn ≡ Some (Registered nick.now) }
-    ensures ok { OnOk result (so_far stage.new out.new.outs ≡ behind out.old.outs (user_decided (machine_at stage.old) conn (row (machine_at stage.old).room.users (key nick.now)) (parsed message.now))) }
+    ensures ok { OnOk result
+        (Decides conn nick.now (parsed message.now) stage.old out.old stage.new out.new) }
     ensures ready { OnOk result (IsReady stage.new) }
     ensures keeps { Keeps stage.old stage.new }
     ensures grew { Grew out.old.outs out.new.outs }
 {
     laws::decided_is_possible();
+    laws::decided_by_itself();
     laws::who_stays_is_user();
     laws::who_is_closed_quits();
     let decision = decide(
@@ -126,7 +125,7 @@ fn on_message(
 ) -> Result<(), ServerFault>
     requires ready { IsReady stage.old }
     requires matched { IsMatched (machine_at stage.old) }
-    ensures acted { Comes (not_there (client_of (machine_at stage.old) conn)) (so_far stage.new out.new.outs ≡ behind out.old.outs (said_by (machine_at stage.old) conn (client_of (machine_at stage.old) conn) (parsed message.now))) (so_far stage.new out.new.outs ≡ so_far stage.old out.old.outs) result }
+    ensures acted { IsSaid conn (parsed message.now) stage.old out.old result stage.new out.new }
     ensures ready { Stands result (IsReady stage.new) }
     ensures keeps { Keeps stage.old stage.new }
     ensures grew { Grew out.old.outs out.new.outs }
@@ -186,8 +185,8 @@ fn leave(
 ) -> Result<(), AllocError>
     requires ready { IsReady stage.old }
     requires matched { IsMatched (machine_at stage.old) }
-    requires user { user ≡ user_of (machine_at stage.old).room (client_of (machine_at stage.old) conn) }
-    ensures ok { OnOk result (so_far stage.new out.new.outs ≡ behind out.old.outs (gone (machine_at stage.old) conn (client_of (machine_at stage.old) conn))) }
+    requires user { user ≡ user_on conn stage.old }
+    ensures ok { OnOk result (Leaves conn stage.old out.old stage.new out.new) }
     ensures ready { OnOk result (IsReady stage.new) }
     ensures keeps { Keeps stage.old stage.new }
     ensures grew { Grew out.old.outs out.new.outs }
@@ -205,7 +204,7 @@ fn leave(
 fn on_gone(stage: &mut Stage, conn: u64, out: &mut Batch) -> Result<(), ServerFault>
     requires ready { IsReady stage.old }
     requires matched { IsMatched (machine_at stage.old) }
-    ensures acted { Comes (not_there (client_of (machine_at stage.old) conn)) (so_far stage.new out.new.outs ≡ behind out.old.outs (gone (machine_at stage.old) conn (client_of (machine_at stage.old) conn))) (so_far stage.new out.new.outs ≡ so_far stage.old out.old.outs) result }
+    ensures acted { IsGone conn stage.old out.old result stage.new out.new }
     ensures ready { Stands result (IsReady stage.new) }
     ensures keeps { Keeps stage.old stage.new }
     ensures grew { Grew out.old.outs out.new.outs }
@@ -221,7 +220,7 @@ fn on_gone(stage: &mut Stage, conn: u64, out: &mut Batch) -> Result<(), ServerFa
 /// A link is open. Which of the two ends calls is kept; nothing is said on it yet.
 fn on_link_up(stage: &mut Stage, link: u64, starts: Option<ServerName>) -> Result<(), ServerFault>
     requires ready { IsReady stage.old }
-    ensures acted { Comes (link_there (get (view_of stage.old).ends link)) (view_of stage.new ≡ with_end link starts (view_of stage.old)) (view_of stage.new ≡ view_of stage.old) result }
+    ensures acted { IsLinked link starts (view_of stage.old) result (view_of stage.new) }
     ensures ready { Stands result (IsReady stage.new) }
 {
     if stage.has_link(link) {
@@ -245,7 +244,7 @@ fn on_link_line(stage: &Stage, link: u64) -> Result<(), ServerFault>
 /// A link is lost.
 fn on_link_down(stage: &mut Stage, link: u64) -> Result<(), ServerFault>
     requires ready { IsReady stage.old }
-    ensures acted { Comes (no_link (get (view_of stage.old).ends link)) (view_of stage.new ≡ without_end link (view_of stage.old)) (view_of stage.new ≡ view_of stage.old) result }
+    ensures acted { IsUnlinked link (view_of stage.old) result (view_of stage.new) }
     ensures ready { Stands result (IsReady stage.new) }
 {
     if !stage.has_link(link) {

@@ -1,26 +1,21 @@
 //! What a server is configured to be.
 ghost use Rattle.std.specs.Prelude.{◌≡◌};
 ghost use Rattle.std.specs.List.{list_all};
-ghost use Rattle.std.specs.Char.{is_ascii_graphic};
 ghost use Rattle.irc_routes.specs.Info.{is_text_byte};
-ghost use Rattle.irc_server.specs.Configuring.{config_fault, has_double, is_among, is_own, is_password, is_peer};
+ghost use Rattle.irc_server.specs.Configuring.{config_fault, has_double, is_among, is_own, is_peer};
 
+use irc_handshake::is_password;
 use irc_names::{MAX_CREATED, MAX_INFO, is_server};
 use irc_routes::Own;
 use irc_stage::Peer;
 use std::alloc::Global;
 use thiserror::Error;
 
-/// The most bytes of a password (our own choice).
-pub const MAX_PASSWORD: usize = 20;
-
 const NUL: u8 = 0;
 
 const CR: u8 = b'\r';
 
 const LF: u8 = b'\n';
-
-const COLON: u8 = b':';
 
 /// What a server is configured to be.
 #[derive(Drop)]
@@ -69,25 +64,6 @@ fn is_own(own: &Own) -> bool
         && is_text(&own.created)
         && !own.created.is_empty()
         && own.created.len() <= MAX_CREATED
-}
-
-/// Whether all bytes may stand in a password.
-fn are_password_bytes(bytes: &[u8]) -> bool
-    ensures { result ≡ list_all is_ascii_graphic bytes.now }
-{
-    bytes.iter().all(|byte| byte.is_ascii_graphic())
-}
-
-/// Whether bytes are a password (our own choice: so it can stand as a middle parameter).
-fn is_password(bytes: &[u8]) -> bool
-    ensures { result ≡ is_password bytes.now }
-{
-    match bytes.first() {
-        None => false,
-        Some(first) => {
-            *first != COLON && are_password_bytes(bytes) && bytes.len() <= MAX_PASSWORD
-        }
-    }
 }
 
 /// Whether a peer keeps its limits.

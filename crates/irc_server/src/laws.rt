@@ -1,12 +1,19 @@
 //! What holds of a server, whatever happens. Each law is a function that does nothing, and its contract is the law: the check proves it,
 //! and a crate above may cite it.
+ghost use Rattle.irc_commands.specs.Comings.{RegisteredIsAdded, RegisteredStays, UnregisteredChangesNothing, WhoIsClosedQuits, WhoStaysIsUser};
+ghost use Rattle.irc_commands.specs.Possible.{DecidedIsPossible, RegisteringIsPossible};
 ghost use Rattle.irc_stage.specs.Matched.{StaysMatched};
 ghost use Rattle.irc_server.specs.Served.{LoneServerIsOneRoom, ServedStaysMatched};
 
-/// Whatever happens, each registered client is a user of the room whose home is this server, and no two clients are one user.
-pub fn stays_matched()
-    ensures machine { StaysMatched }
-    ensures server { ServedStaysMatched }
+/// By what is decided a user is one from when it registers to when it quits, on a line of its own; nobody else becomes a user or ceases to be one.
+pub fn users_come_and_go()
+    ensures possible { DecidedIsPossible }
+    ensures stays { WhoStaysIsUser }
+    ensures closes { WhoIsClosedQuits }
+    ensures registering { RegisteringIsPossible }
+    ensures added { RegisteredIsAdded }
+    ensures unregistered { UnregisteredChangesNothing }
+    ensures registered { RegisteredStays }
 {
     irc_commands::laws::decided_is_possible();
     irc_commands::laws::who_stays_is_user();
@@ -15,6 +22,14 @@ pub fn stays_matched()
     irc_commands::laws::registered_is_added();
     irc_commands::laws::unregistered_changes_nothing();
     irc_commands::laws::registered_stays();
+}
+
+/// Whatever happens, each registered client is a user of the room whose home is this server, and no two clients are one user.
+pub fn stays_matched()
+    ensures machine { StaysMatched }
+    ensures server { ServedStaysMatched }
+{
+    users_come_and_go();
 }
 
 /// A server without links and the room machine that it is to its clients say the same: put back, what the machine has after a happening is

@@ -1,13 +1,11 @@
 //! One server.
-ghost use Rattle.std.specs.Prelude.{◌≡◌, false, is_some, Some, List, OnOk};
+ghost use Rattle.std.specs.Prelude.{◌≡◌, false, is_some, OnOk};
 ghost use Rattle.std.specs.FinMap.{get};
 ghost use Rattle.std.specs.Option.{option_and_then, option_copied, option_map, option_map_or};
-ghost use Rattle.irc_room.specs.Applying.{Kept};
 ghost use Rattle.irc_server.specs.Configuring.{IsMade};
 ghost use Rattle.irc_server.specs.Happening.{AreHandled, IsHandled};
-ghost use Rattle.irc_server.specs.Owed.{AreOfClients, Receives};
-ghost use Rattle.irc_stage.specs.Handle.{Happening};
-ghost use Rattle.irc_server.specs.Loops.Acting.{is_want_of_memory};
+ghost use Rattle.irc_server.specs.Owed.{AllReceive};
+ghost use Rattle.irc_server.specs.Loops.Acting.{is_want_of_memory, room_kept, room_of};
 ghost use Rattle.irc_stage.specs.View.{password_for, View};
 
 use crate::acting::act;
@@ -72,7 +70,7 @@ impl Server {
 
     /// Its room; none once memory ran out.
     pub fn room(&self) -> Option<&Room>
-        ensures { option_map (λ (kept : Kept). kept.room) (option_copied result) ≡ option_map (λ (view : View). view.room) self.now }
+        ensures { option_map room_kept (option_copied result) ≡ option_map room_of self.now }
     {
         if self.failed {
             None
@@ -146,7 +144,7 @@ impl Server {
         out: &mut Batch,
     ) -> Result<(), ServerFault>
         ensures handled { AreHandled self.old events.items out.old.outs result self.new out.new.outs }
-        ensures owed { OnOk result ((view : View) (happenings : List Happening) → self.old ≡ Some view → AreOfClients events.items happenings → Receives view happenings out.old.outs self.new out.new.outs) }
+        ensures owed { OnOk result (AllReceive self.old events.items out.old.outs self.new out.new.outs) }
     {
         let mut rest = events.into_iter();
         while let Some(event) = rest.next() {

@@ -12,7 +12,7 @@ use Rattle.irc_stage.specs.RoomMachine.{Clients, each_client}
 use Rattle.irc_stage.specs.Handle.{renamed_in}
 use Rattle.irc_stage.specs.Loops.Stage.{entered, departed, IsIndex, IsNamed, IsNoUser, IsFreeFor, IsFreeOf}
 use Rattle.irc_stage.specs.Lemmas.Numbers.{same_number, one_number, same_number-refl, same_clients, get-with, get-without, get-each}
-use Rattle.irc_stage.specs.Lemmas.Matching.{nick_in, never_registered, same_by_key, key_by_same, left_client, new_client}
+use Rattle.irc_stage.specs.Lemmas.Matching.{named_is, nick_in, never_registered, same_by_key, key_by_same, left_client, new_client}
 
 pub at_it : (clients : Clients) (conn q : ℕ) (client : Client) → q ≡ conn → get (insert clients conn client) q ≡ Some client
 at_it clients conn q client is =
@@ -28,13 +28,6 @@ never_named : {A : Type 0} (fold : List ℕ) (client : Option Client) → IsName
 never_named fold None named none = absurd named
 never_named fold (Some (Registering pending)) named none = absurd named
 never_named fold (Some (Registered nick)) named none = absurd none
-
--- who is named is registered
-pub named_is : {A : Type 0} (fold : List ℕ) (client : Option Client) → IsNamed fold client
-    → ((nick : List ℕ) → client ≡ Some (Registered nick) → key nick ≡ fold → A) → A
-named_is fold None named so = absurd named
-named_is fold (Some (Registering pending)) named so = absurd named
-named_is fold (Some (Registered nick)) named so = so nick refl named
 
 -- another number than that of one who is no user
 apart_from : {A : Type 0} (clients : Clients) (conn q : ℕ) (fold : List ℕ) → IsNamed fold (get clients q) → IsNoUser (get clients conn)

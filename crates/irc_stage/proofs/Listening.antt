@@ -19,13 +19,15 @@ use Rattle.irc_channels.specs.Channels.{has_member}
 use Rattle.irc_batch.specs.Batches.{Batch, Sent, is_number, line_to, to_others}
 use Rattle.irc_stage.specs.declared.clients.Client.TheVariants.{Registered}
 use Rattle.irc_stage.specs.declared.listeners.Listeners.{Listeners}
+use Rattle.irc_stage.specs.declared.origin.Origin.{Origin}
 use Rattle.irc_stage.specs.RoomMachine.{Clients, RoomMachine}
 use Rattle.irc_stage.specs.Handle.{to_viewer, with_effect}
-use Rattle.irc_stage.specs.Lemmas.Matching.{key_by_same, same_by_key}
-use Rattle.irc_stage.specs.Loops.Listening.{conns_of, heard_by, is_at, is_for, AreSo, IsSaidBy}
+use Rattle.irc_stage.specs.Lemmas.Matching.{key_by_same, named_is, same_by_key}
+use Rattle.irc_stage.specs.Loops.Listening.{conns_of, heard_by, is_at, is_for, AreSo, IsSaidIn}
+use Rattle.irc_stage.specs.Loops.Speaking.{conn_of, IsSpoken}
 use Rattle.irc_stage.specs.Loops.Stage.{IsFit, IsIndex}
 use Rattle.irc_stage.proofs.HomeRoom.{each_entry}
-use Rattle.irc_stage.proofs.Index.{named_is}
+use Rattle.irc_stage.proofs.PassedOver.{is_its_conn}
 use Rattle.irc_stage.proofs.Showings.{indexed, not_indexed}
 
 -- the line, if there is one, to these connections but for one
@@ -155,28 +157,28 @@ module _ (room : Room) (clients : Clients) (by_nick : Table ℕ) (index : IsInde
       ap (row room.users) (well.users_named q user at) ∙ at))
 
 -- what is said is passed on: nothing else changes
-pub passed_on : (machine : RoomMachine) (by_nick : Table ℕ) → IsIndex machine.clients by_nick → (effect : Effect) (by channel : List ℕ) → IsSaidBy by channel effect
-    → IsFit machine effect → IsWellFormed machine.room → (line : Option (List ℕ))
+pub passed_on : (machine : RoomMachine) (by_nick : Table ℕ) → IsIndex machine.clients by_nick → (origin : Origin) (effect : Effect) (channel : List ℕ) → IsSaidIn channel effect
+    → IsSpoken origin machine effect → IsFit machine effect → IsWellFormed machine.room → (line : Option (List ℕ))
     → ((viewer : Person) → viewer.home ≡ machine.place.name → shown_line machine.room effect viewer ≡ line) → (out : List Sent)
-    → record { machine = machine; out = out ++ sent line (row by_nick (key by)) (heard_by machine.room by_nick channel) }
+    → record { machine = machine; out = out ++ sent line (conn_of origin) (heard_by machine.room by_nick channel) }
     ≡ with_effect effect (record { machine = machine; out = out })
 unfolding after
-passed_on machine by_nick index (Say who notice (Channel where_to) words) by channel is_said fit well line shows out =
+passed_on machine by_nick index origin (Say who notice (Channel where_to) words) channel is_said spoken fit well line shows out =
     ap (λ l. record { machine = machine; out = out ++ l })
-    (ap (λ n. sent line (row by_nick (key n)) (heard_by machine.room by_nick channel)) (sym is_said.0)
-    ∙ ap (λ n. sent line (row by_nick (key who)) (heard_by machine.room by_nick n)) (sym is_said.1)
+    (ap (λ n. sent line n (heard_by machine.room by_nick channel)) (is_its_conn origin machine by_nick index who notice (Channel where_to) words spoken)
+    ∙ ap (λ n. sent line (row by_nick (key who)) (heard_by machine.room by_nick n)) (sym is_said)
     ∙ sym (said_out machine.room machine.clients by_nick index who where_to machine.place.name notice words line shows fit.at_home well))
-passed_on machine by_nick index (Say who notice (User nick) words) by channel is_said fit well line shows out = absurd is_said
-passed_on machine by_nick index (AddUser user) by channel is_said fit well line shows out = absurd is_said
-passed_on machine by_nick index (Rename nick new) by channel is_said fit well line shows out = absurd is_said
-passed_on machine by_nick index (Quit nick text) by channel is_said fit well line shows out = absurd is_said
-passed_on machine by_nick index (Join nick place op) by channel is_said fit well line shows out = absurd is_said
-passed_on machine by_nick index (Part nick place text) by channel is_said fit well line shows out = absurd is_said
-passed_on machine by_nick index (Kick doer place nick text) by channel is_said fit well line shows out = absurd is_said
-passed_on machine by_nick index (ChangeModes doer place changes) by channel is_said fit well line shows out = absurd is_said
-passed_on machine by_nick index (SetTopic doer place text) by channel is_said fit well line shows out = absurd is_said
-passed_on machine by_nick index (Invite doer nick place) by channel is_said fit well line shows out = absurd is_said
-passed_on machine by_nick index (UserMode nick invisible) by channel is_said fit well line shows out = absurd is_said
+passed_on machine by_nick index origin (Say who notice (User nick) words) channel is_said spoken fit well line shows out = absurd is_said
+passed_on machine by_nick index origin (AddUser user) channel is_said spoken fit well line shows out = absurd is_said
+passed_on machine by_nick index origin (Rename nick new) channel is_said spoken fit well line shows out = absurd is_said
+passed_on machine by_nick index origin (Quit nick text) channel is_said spoken fit well line shows out = absurd is_said
+passed_on machine by_nick index origin (Join nick place op) channel is_said spoken fit well line shows out = absurd is_said
+passed_on machine by_nick index origin (Part nick place text) channel is_said spoken fit well line shows out = absurd is_said
+passed_on machine by_nick index origin (Kick doer place nick text) channel is_said spoken fit well line shows out = absurd is_said
+passed_on machine by_nick index origin (ChangeModes doer place changes) channel is_said spoken fit well line shows out = absurd is_said
+passed_on machine by_nick index origin (SetTopic doer place text) channel is_said spoken fit well line shows out = absurd is_said
+passed_on machine by_nick index origin (Invite doer nick place) channel is_said spoken fit well line shows out = absurd is_said
+passed_on machine by_nick index origin (UserMode nick invisible) channel is_said spoken fit well line shows out = absurd is_said
 
 -- what is kept of a channel is that of each name of it
 pub known : (listeners : Listeners) (room : Room) (by_nick : Table ℕ) (channel : List ℕ) → AreSo listeners room by_nick → is_for listeners channel ≡ true

@@ -16,8 +16,8 @@ use Rattle.irc_stage.specs.RoomMachine.{Clients}
 use Rattle.irc_stage.specs.Handle.{is_client, to_viewer}
 use Rattle.irc_stage.specs.Loops.Stage.{IsIndex}
 use Rattle.irc_stage.specs.Lemmas.Numbers.{here, later, none_behind, same_number}
-use Rattle.irc_stage.specs.Lemmas.Matching.{same_by_key, key_by_same}
-use Rattle.irc_stage.proofs.Index.{differs, named_is}
+use Rattle.irc_stage.specs.Lemmas.Matching.{same_by_key, key_by_same, named_is}
+use Rattle.irc_stage.proofs.Index.{differs}
 
 abbrev Entry : Type 0
 Entry = ℕ × Client

@@ -19,10 +19,9 @@ use Rattle.irc_batch.specs.Batches.{Batch, Sent, batch_of, line_to}
 use Rattle.irc_stage.specs.declared.clients.Client.TheVariants.{Registered}
 use Rattle.irc_stage.specs.RoomMachine.{Clients, RoomMachine}
 use Rattle.irc_stage.specs.Handle.{to_viewer, with_effect}
-use Rattle.irc_stage.specs.Lemmas.Matching.{same_by_key, key_by_same}
+use Rattle.irc_stage.specs.Lemmas.Matching.{same_by_key, key_by_same, named_is}
 use Rattle.irc_stage.specs.Loops.Listening.{IsSaidTo}
 use Rattle.irc_stage.specs.Loops.Stage.{IsFit, IsIndex}
-use Rattle.irc_stage.proofs.Index.{named_is}
 use Rattle.irc_stage.proofs.Showings.{indexed, not_indexed}
 
 -- the line, if there is one, to the connection, if there is one

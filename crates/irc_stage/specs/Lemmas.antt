@@ -3,4 +3,5 @@ pub mod MatchedEvents
 pub mod Matching
 pub mod Numbers
 pub mod Outcomes
+pub mod SpokenSteps
 pub mod Steps

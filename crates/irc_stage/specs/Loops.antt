@@ -1,3 +1,4 @@
 pub mod Codes
 pub mod Listening
 pub mod Stage
+pub mod Speaking

@@ -9,6 +9,7 @@ use Rattle.irc_room.specs.Room.{Room}
 use Rattle.irc_room.specs.Laws.{no_room}
 use Rattle.irc_stage.specs.declared.peer.Peer.{Peer}
 use Rattle.irc_stage.specs.RoomMachine.{Clients, RoomMachine}
+pub use Rattle.irc_links.specs.Ends.{End, Ends, fresh_end}
 
 -- a server that may be linked to, and the password that both give each other
 pub record KnownPeer : Type 0 where
@@ -17,21 +18,6 @@ pub record KnownPeer : Type 0 where
 
 abbrev pub known_peer : Peer → KnownPeer
 known_peer peer = record { name = peer.name.items; password = peer.password.items }
-
--- the end of an open link: the peer that is called, where it is the end that calls; the password that it was given; the name of the server at
--- the other end, once that has told it (RFC 2813 section 4.1)
-pub record End : Type 0 where
-  pub starts : Option (List ℕ)
-  pub password : Option (List ℕ)
-  pub far : Option (List ℕ)
-
--- an end at which nothing has come yet
-abbrev pub fresh_end : Option (List ℕ) → End
-fresh_end starts = record { starts = starts; password = None; far = None }
-
--- the ends of the open links, each under the number of its link
-abbrev pub Ends : Type 0
-Ends = FinMap nat_cmp End
 
 pub record View : Type 0 where
   pub routes : Known

@@ -4,10 +4,7 @@ ghost use Rattle.std.specs.FinMap.{empty, get, insert, remove};
 ghost use Rattle.std.specs.Option.{option_copied};
 ghost use Rattle.irc_names.specs.Fold.{key};
 ghost use Rattle.irc_names.specs.Tables.{row};
-ghost use Rattle.irc_room.specs.Applying.{pairs_of};
-ghost use Rattle.irc_stage.specs.RoomMachine.{each_client};
-ghost use Rattle.irc_stage.specs.Handle.{renamed_in, to_viewer};
-ghost use Rattle.irc_stage.specs.Loops.Stage.{all_shown, clients_of, departed, entered, numbered, IsFreeFor, IsFreeOf, IsIndexed, IsNoUser};
+ghost use Rattle.irc_stage.specs.Loops.Stage.{all_renamed, clients_of, departed, entered, held_shown_to, lines_shown, numbered, IsFreeFor, IsFreeOf, IsIndexed, IsNoUser};
 ghost use Rattle.irc_batch.specs.Growing.{Grew};
 
 use irc_batch::Batch;
@@ -149,7 +146,7 @@ fn depart(by_nick: &mut NickMap<u64>, client: &Option<Client>)
 pub(crate) fn rename(clients: &mut ClientTable, old: &Nick, new: &Nick) -> Result<(), AllocError>
     requires indexed { IsIndexed clients.old }
     requires free { IsFreeFor old.now new.now (clients_of clients.old) }
-    ensures ok { OnOk result (clients_of clients.new ≡ each_client (renamed_in old.now new.now) (clients_of clients.old)) }
+    ensures ok { OnOk result (clients_of clients.new ≡ all_renamed old.now new.now (clients_of clients.old)) }
     ensures indexed { OnOk result (IsIndexed clients.new) }
 {
     let Some(conn) = number_of(clients, old) else {
@@ -173,7 +170,7 @@ pub(crate) fn number_of(clients: &ClientTable, nick: &Nick) -> Option<u64>
 /// The line at hand, to the user with a nickname, where it is a client.
 fn show(clients: &ClientTable, nick: &Nick, out: &mut Batch) -> Result<(), AllocError>
     requires indexed { IsIndexed clients.now }
-    ensures ok { OnOk result (out.new ≡ record out.old { outs = out.old.outs ++ to_viewer (clients_of clients.now) (record { viewer = nick.now; line = out.old.held }) }) }
+    ensures ok { OnOk result (out.new ≡ held_shown_to nick.now (clients_of clients.now) out.old) }
     ensures grew { Grew out.old.outs out.new.outs }
 {
     if let Some(conn) = number_of(clients, nick) {
@@ -189,7 +186,7 @@ pub(crate) fn show_all(
     out: &mut Batch,
 ) -> Result<(), AllocError>
     requires indexed { IsIndexed clients.now }
-    ensures ok { OnOk result (out.new.outs ≡ out.old.outs ++ all_shown (clients_of clients.now) (pairs_of shown.now)) }
+    ensures ok { OnOk result (out.new.outs ≡ out.old.outs ++ lines_shown clients.now shown.now) }
     ensures grew { Grew out.old.outs out.new.outs }
 {
     out.hold(&shown.line)?;

@@ -3,14 +3,12 @@
 #![tactic(auto)]
 
 mod clients;
-mod link_end;
 mod listeners;
 mod origin;
 mod peer;
 mod stage;
 
 pub use clients::{Client, Waiting};
-pub use link_end::LinkEnd;
 pub use origin::{Origin, Speaker};
 pub use peer::Peer;
 pub use stage::Stage;

@@ -1,4 +1,7 @@
 //! Who acts.
+ghost use Rattle.std.specs.Prelude.{◌≡◌};
+ghost use Rattle.irc_stage.specs.Loops.Speaking.{conn_of};
+
 use irc_names::Nick;
 
 /// A client that acts: it is looked up once, and named by this from then on.
@@ -17,4 +20,16 @@ pub enum Origin<'a> {
     Client(Speaker<'a>),
     /// The server at the other end of a link.
     Link(u64),
+}
+
+impl Origin<'_> {
+    /// The connection of who acts, where it is a client: what it says in a channel is not passed on to it.
+    pub(crate) fn conn(self) -> Option<u64>
+        ensures { result ≡ conn_of self.entry }
+    {
+        match self {
+            Origin::Client(speaker) => Some(speaker.conn),
+            Origin::Link(_) => None,
+        }
+    }
 }

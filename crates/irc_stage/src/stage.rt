@@ -2,26 +2,26 @@
 ghost use Rattle.std.specs.Prelude.{◌≡◌, None, [], ◌∷◌, find, is_some, OnOk, IfOk};
 ghost use Rattle.std.specs.FinMap.{get};
 ghost use Rattle.std.specs.Option.{option_copied};
-ghost use Rattle.irc_line.specs.MessageViews.{optional_now};
 ghost use Rattle.irc_room.specs.After.{after};
 ghost use Rattle.irc_room.specs.Applying.{pairs_of, shown_here};
 ghost use Rattle.irc_room.specs.Effects.{IsPossible};
 ghost use Rattle.irc_room.specs.Laws.{no_room};
 ghost use Rattle.irc_batch.specs.Growing.{Grew};
 ghost use Rattle.irc_stage.specs.RoomMachine.{client_of, with_client, without_client};
-ghost use Rattle.irc_stage.specs.Handle.{all_stepped, clients_after, closing, stepped, with_effect};
+ghost use Rattle.irc_stage.specs.Handle.{clients_after};
 ghost use Rattle.irc_stage.specs.View.{is_peer_named, new_view, password_for, with_end, without_end};
-ghost use Rattle.irc_stage.specs.Loops.Listening.{IsSaidBy, IsSaidTo};
+ghost use Rattle.irc_stage.specs.Loops.Listening.{IsSaidIn, IsSaidTo};
+ghost use Rattle.irc_stage.specs.Loops.Speaking.{AreSpoken, IsSpoken};
 ghost use Rattle.std.specs.FinMap.{insert};
-ghost use Rattle.irc_stage.specs.Loops.Stage.{clients_of, machine_at, numbered, so_far, view_of, AreFit, IsFit, IsFreeOf, IsIndexed, IsNoUser, IsReady, IsSound, Keeps, LeavesApart};
+ghost use Rattle.irc_stage.specs.Loops.Stage.{clients_of, machine_at, numbered, view_of, Applies, AreFit, CarriesOut, IsFit, IsFreeOf, IsIndexed, IsNoUser, IsReady, IsSound, Keeps, LeavesApart, Takes, TakesAll};
 
 use crate::clients::{self, Client, ClientTable, number_of, show_all};
-use crate::link_end::LinkEnd;
 use crate::listeners::Listeners;
 use crate::origin::{Origin, Speaker};
 use crate::peer::Peer;
 use irc_acts::Act;
 use irc_batch::Batch;
+use irc_links::LinkEnd;
 use irc_names::{ChannelName, Nick, ServerName};
 use irc_numerics::reply_line;
 use irc_room::{Effect, Room, RoomFault, ShownLine, Target, laws};
@@ -216,17 +216,17 @@ impl Stage {
     ) -> Result<(), AllocError>
         requires ready { IsReady self.old }
         requires fit { IsFit (machine_at self.old) effect.now }
-        ensures ok { OnOk result (so_far self.new out.new.outs ≡ with_effect effect.now (so_far self.old out.old.outs)) }
+        requires spoken { IsSpoken origin (machine_at self.old) effect.now }
+        ensures ok { OnOk result (Applies effect.now self.old out.old self.new out.new) }
         ensures ready { OnOk result (IsReady self.new) }
         ensures keeps { Keeps self.old self.new }
         ensures grew { Grew out.old.outs out.new.outs }
     {
         match effect {
             Effect::Say {
-                by,
                 target: Target::Channel(channel),
                 ..
-            } => self.pass_on(effect, by, channel, out),
+            } => self.pass_on(origin, effect, channel, out),
             Effect::Say {
                 target: Target::User(nick),
                 ..
@@ -235,18 +235,19 @@ impl Stage {
         }
     }
 
-    /// What a user says in a channel is passed on to those who hear it there.
+    /// What is said in a channel is passed on to those who hear it there, but not to who says it.
     fn pass_on(
         &mut self,
+        origin: Origin<'_>,
         effect: &Effect,
-        by: &Nick,
         channel: &ChannelName,
         out: &mut Batch,
     ) -> Result<(), AllocError>
         requires ready { IsReady self.old }
         requires fit { IsFit (machine_at self.old) effect.now }
-        requires said { IsSaidBy by.now channel.now effect.now }
-        ensures ok { OnOk result (so_far self.new out.new.outs ≡ with_effect effect.now (so_far self.old out.old.outs)) }
+        requires spoken { IsSpoken origin (machine_at self.old) effect.now }
+        requires said { IsSaidIn channel.now effect.now }
+        ensures ok { OnOk result (Applies effect.now self.old out.old self.new out.new) }
         ensures ready { OnOk result (IsReady self.new) }
         ensures keeps { Keeps self.old self.new }
         ensures grew { Grew out.old.outs out.new.outs }
@@ -254,7 +255,7 @@ impl Stage {
         self.listeners.refresh(&self.room, &self.clients, channel)?;
         if self.room.write_line(effect, &mut self.shown.line)? {
             out.hold(&self.shown.line)?;
-            let own = number_of(&self.clients, by);
+            let own = origin.conn();
             return out.send_to_others(self.listeners.conns.as_slice(), own);
         }
         Ok(())
@@ -265,7 +266,7 @@ impl Stage {
         requires ready { IsReady self.old }
         requires fit { IsFit (machine_at self.old) effect.now }
         requires said { IsSaidTo nick.now effect.now }
-        ensures ok { OnOk result (so_far self.new out.new.outs ≡ with_effect effect.now (so_far self.old out.old.outs)) }
+        ensures ok { OnOk result (Applies effect.now self.old out.old self.new out.new) }
         ensures ready { OnOk result (IsReady self.new) }
         ensures keeps { Keeps self.old self.new }
         ensures grew { Grew out.old.outs out.new.outs }
@@ -283,7 +284,7 @@ impl Stage {
     fn change(&mut self, effect: &Effect, out: &mut Batch) -> Result<(), AllocError>
         requires ready { IsReady self.old }
         requires fit { IsFit (machine_at self.old) effect.now }
-        ensures ok { OnOk result (so_far self.new out.new.outs ≡ with_effect effect.now (so_far self.old out.old.outs)) }
+        ensures ok { OnOk result (Applies effect.now self.old out.old self.new out.new) }
         ensures ready { OnOk result (IsReady self.new) }
         ensures keeps { Keeps self.old self.new }
         ensures grew { Grew out.old.outs out.new.outs }
@@ -297,7 +298,8 @@ impl Stage {
     fn step(&mut self, speaker: Speaker<'_>, act: &Act, out: &mut Batch) -> Result<(), AllocError>
         requires ready { IsReady self.old }
         requires fit { AreFit (machine_at self.old) (act.now ∷ []) }
-        ensures ok { OnOk result (so_far self.new out.new.outs ≡ stepped speaker.entry.conn (optional_now speaker.entry.nick) act.now (so_far self.old out.old.outs)) }
+        requires spoken { AreSpoken speaker.conn (machine_at self.old) (act.now ∷ []) }
+        ensures ok { OnOk result (Takes speaker.entry act.now self.old out.old self.new out.new) }
         ensures ready { OnOk result (IsReady self.new) }
         ensures keeps { Keeps self.old self.new }
         ensures grew { Grew out.old.outs out.new.outs }
@@ -321,7 +323,8 @@ impl Stage {
     ) -> Result<(), AllocError>
         requires ready { IsReady self.old }
         requires fit { AreFit (machine_at self.old) steps.now }
-        ensures ok { OnOk result (so_far self.new out.new.outs ≡ all_stepped speaker.entry.conn (optional_now speaker.entry.nick) steps.now (so_far self.old out.old.outs)) }
+        requires spoken { AreSpoken speaker.conn (machine_at self.old) steps.now }
+        ensures ok { OnOk result (TakesAll speaker.entry steps.now self.old out.old self.new out.new) }
         ensures ready { OnOk result (IsReady self.new) }
         ensures keeps { Keeps self.old self.new }
         ensures grew { Grew out.old.outs out.new.outs }
@@ -345,7 +348,9 @@ impl Stage {
     ) -> Result<(), AllocError>
         requires ready { IsReady self.old }
         requires fit { AreFit (machine_at self.old) steps.now }
-        ensures ok { OnOk result (so_far self.new out.new.outs ≡ closing close speaker.entry.conn (all_stepped speaker.entry.conn (optional_now speaker.entry.nick) steps.now (so_far self.old out.old.outs))) }
+        requires spoken { AreSpoken speaker.conn (machine_at self.old) steps.now }
+        ensures ok { OnOk result
+            (CarriesOut speaker.entry steps.now close self.old out.old self.new out.new) }
         ensures ready { OnOk result (IsReady self.new) }
         ensures keeps { Keeps self.old self.new }
         ensures grew { Grew out.old.outs out.new.outs }

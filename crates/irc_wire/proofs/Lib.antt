@@ -9,3 +9,4 @@ pub mod ModeWords
 pub mod ModesRead
 pub mod WholeLines
 pub mod EachBack
+pub mod LinesAlike

@@ -3,3 +3,4 @@ pub mod Introductions
 pub mod ModesTaken
 pub mod WholeLines
 pub mod EachReadBack
+pub mod OtherInvitations

@@ -3,6 +3,7 @@
 ghost use Rattle.irc_wire.specs.EachReadBack.{EachIsReadBack};
 ghost use Rattle.irc_wire.specs.Introductions.{IntroducedIsRead};
 ghost use Rattle.irc_wire.specs.ModesTaken.{OtherwiseWrittenIsRefused, TakenCanBeSentOn, TakenIsReadAgain, TakenIsReadByTheNext, TakenIsWrittenSo, WrittenChangesAreRead};
+ghost use Rattle.irc_wire.specs.OtherInvitations.{AlikeMeanAlike, AlikeWriteAlike, ReadAtHome, WrittenAtHome};
 ghost use Rattle.irc_wire.specs.ReadBack.{WrittenIsReadBack};
 ghost use Rattle.irc_wire.specs.WholeLines.{ToldFitsItsLine, ToldIsWhole};
 
@@ -75,4 +76,19 @@ pub fn each_is_read_back()
     introduced_is_read();
     written_changes_are_read();
     told_is_whole();
+}
+
+/// In two rooms that are alike but for who is invited, an effect is written as the same line, and a line is read alike.
+pub fn lines_look_at_no_invitation()
+    ensures written { AlikeWriteAlike }
+    ensures read { AlikeMeanAlike }
+{}
+
+/// So a server, which has the invitations of its own users alone, writes and reads by what it has of a room what it would by all of the room.
+pub fn lines_at_home()
+    ensures written { WrittenAtHome }
+    ensures read { ReadAtHome }
+{
+    irc_room::invitation_laws::home_is_alike();
+    lines_look_at_no_invitation();
 }

@@ -1,8 +1,6 @@
 //! The program: its words, statuses and texts. What a script prints stands in `irc_script`.
 use crate::program::run;
 use std::alloc::{AllocError, Global};
-use std::io;
-use std::io::Read;
 
 /// What the program is given, and what comes of it.
 struct Run {
@@ -113,34 +111,4 @@ fn end_so(rt: &HostRuntime) -> bool {
 #[test]
 fn statuses_and_their_texts(rt: HostRuntime) {
     assert!(rt; end_so(&rt));
-}
-
-/// Whether a script without an end ends the program.
-fn endless_fails(rt: &HostRuntime) -> bool {
-    let mut words = Vec::new(rt.alloc());
-    let mut output = Vec::new(rt.alloc());
-    let mut errors = Vec::new(rt.alloc());
-    add_words(rt.alloc(), &["sim"], &mut words).is_ok()
-        && run(rt, &words, &mut Endless, &mut output, &mut errors) == 4
-        && output.is_empty()
-        && errors.as_slice() == b"ircd: failed\n".as_slice()
-}
-
-#[test]
-fn a_script_without_an_end(rt: HostRuntime) {
-    assert!(rt; endless_fails(&rt));
-}
-
-/// A reader that never ends.
-#[derive(Drop)]
-struct Endless;
-
-impl Read for Endless {
-    fn read(&mut self, buf: &mut [u8]) -> io::Result<usize> {
-        if buf.is_empty() {
-            return Ok(0);
-        }
-        buf[0] = b'\n';
-        Ok(1)
-    }
 }

@@ -1,8 +1,9 @@
 //! `ircd serve` on files: its words, its statuses, and what it says. What it does over sockets stands in `tests_sockets` and `tests/`.
 use crate::program::run;
 use crate::program_tests::add_words;
-use std::fs;
-use std::io::empty;
+use std::alloc::Global;
+use std::io::{ErrorKind, Write, empty};
+use std::{fs, io};
 
 /// The first lines of a configuration.
 const MOST: &str = "\
@@ -271,4 +272,45 @@ fn end_so(rt: &HostRuntime) -> bool {
 #[test]
 fn files_and_words_of_serving(rt: HostRuntime) {
     assert!(rt; end_so(&rt));
+}
+
+/// Whether `ready` arrives: it is flushed behind the write, and nothing else is.
+fn arrives(rt: &HostRuntime) -> bool {
+    let mut words = Vec::new(rt.alloc());
+    let mut output = Buffered {
+        taken: Vec::new(rt.alloc()),
+        arrived: 0,
+    };
+    let mut errors = Vec::new(rt.alloc());
+    is_written(rt, &ROWS[0])
+        && add_words(rt.alloc(), ROWS[0].words, &mut words).is_ok()
+        && run(rt, &words, &mut empty(), &mut output, &mut errors) == 0
+        && output.taken.as_slice() == READY
+        && output.arrived == READY.len()
+}
+
+#[test]
+fn ready_is_flushed(rt: HostRuntime) {
+    assert!(rt; arrives(&rt));
+}
+
+/// A writer that keeps what it takes until it is flushed.
+#[derive(Drop)]
+struct Buffered {
+    taken: Vec<u8, Global>,
+    arrived: usize,
+}
+
+impl Write for Buffered {
+    fn write(&mut self, buf: &[u8]) -> io::Result<usize> {
+        match self.taken.extend_from_slice(buf) {
+            Ok(()) => Ok(buf.len()),
+            Err(_) => Err(io::Error::from(ErrorKind::OutOfMemory)),
+        }
+    }
+
+    fn flush(&mut self) -> io::Result<()> {
+        self.arrived = self.taken.len();
+        Ok(())
+    }
 }

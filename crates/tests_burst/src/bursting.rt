@@ -1,9 +1,13 @@
 //! Bursts, line by line, and the other lines of servers (RFC 2813 sections 4 and 5.2).
-use crate::stage::{add_neighbour, come, join, nick, routes, server, set, set_topic};
+use crate::stage::{add_neighbour, channel, come, join, nick, routes, server, set, set_topic};
 use arrayvec::ArrayVec;
-use irc_burst_lines::{burst, greeting_text, kill_text, pass_text, server_text, squit_text};
-use irc_channels::Words;
+use irc_burst_lines::{
+    Member, burst, kill_text, mode_text, njoin_text, server_text, squit_text, topic_text,
+};
+use irc_channels::{Flags, Words};
+use irc_handshake::{greeting_text, pass_text};
 use irc_line::Text;
+use irc_link_words::read_changes;
 use irc_room::Room;
 use irc_routes::{Info, Routes};
 use itoa::Buffer;
@@ -40,12 +44,49 @@ static LAST_TWO: [&[u8]; 2] = [
 ];
 
 /// The lines of servers, as they are written.
-static WRITTEN: [&[u8]; 5] = [
+static WRITTEN: [&[u8]; 6] = [
     b"PASS pw 0210010000 TREE|\r\n",
     b"SERVER a.net 1 1 :Test server\r\n",
     b":a.net SERVER b.net 2 2 :B\r\n",
     b":a.net SQUIT b.net :a.net b.net\r\n",
     b":a.net KILL al :Nick collision\r\n",
+    b":a.net NJOIN #c :@al,+bo,@+cy,dee\r\n",
+];
+
+/// A server's name, a channel's, a mask of a ban, a text and a description, each as long as one may be.
+static LONG_SERVER: &[u8] = b"sssssssssssssssssssssssssssssssssssssssssssssssssssssssssss.net";
+
+static LONG_CHANNEL: &[u8] = b"#ccccccccccccccccccccccccccccccccccccccccccccccccc";
+
+static LONG_MASK: &[u8] =
+    b"bbbbbbbbbbbbbbbbbbbbbbbbbbbbbbbbbbbbbbbbbbbbbbbbbbbbbbbbbbbbbbbbbbbbbbbbbbbbbbbbbbbbbb!*@*";
+
+static LONG_TEXT: &[u8] =
+    b"wwwwwwwwwwwwwwwwwwwwwwwwwwwwwwwwwwwwwwwwwwwwwwwwwwwwwwwwwwwwwwwwwwwwwwwwwwwwwwwwwwwwwwwwwwwwwwwwwwwwwwwwwwwwwwwwwwwwwwwwwwwwwwwwwwwwwwwwwwwwwwwwwwwwwwwwwwwwwwww";
+
+static LONG_INFO: &[u8] = b"iiiiiiiiiiiiiiiiiiiiiiiiiiiiiiiiiiiiiiiiiiiiiiiiiiiiiiiiiiiiiii";
+
+/// How long the longest line of each kind is with its CR LF, and how it ends: none is cut.
+static LONGEST: [(usize, &[u8]); 7] = [
+    (44, b" 0210010000 TREE|\r\n"),
+    (
+        206,
+        b".net 1 0 :iiiiiiiiiiiiiiiiiiiiiiiiiiiiiiiiiiiiiiiiiiiiiiiiiiiiiiiiiiiiiii\r\n",
+    ),
+    (
+        298,
+        b" :wwwwwwwwwwwwwwwwwwwwwwwwwwwwwwwwwwwwwwwwwwwwwwwwwwwwwwwwwwwwwwwwwwwwwwwwwwwwwwwwwwwwwwwwwwwwwwwwwwwwwwwwwwwwwwwwwwwwwwwwwwwwwwwwwwwwwwwwwwwwwwwwwwwwwwwwwwwwwwww\r\n",
+    ),
+    (97, b" nnnnnnnnn :Nick collision\r\n"),
+    (484, b",@+nnnnnnnnn,@+nnnnnnnnn\r\n"),
+    (
+        400,
+        b" +bbb bbbbbbbbbbbbbbbbbbbbbbbbbbbbbbbbbbbbbbbbbbbbbbbbbbbbbbbbbbbbbbbbbbbbbbbbbbbbbbbbbbbbbb!*@* bbbbbbbbbbbbbbbbbbbbbbbbbbbbbbbbbbbbbbbbbbbbbbbbbbbbbbbbbbbbbbbbbbbbbbbbbbbbbbbbbbbbbb!*@* bbbbbbbbbbbbbbbbbbbbbbbbbbbbbbbbbbbbbbbbbbbbbbbbbbbbbbbbbbbbbbbbbbbbbbbbbbbbbbbbbbbbbb!*@*\r\n",
+    ),
+    (
+        285,
+        b" :wwwwwwwwwwwwwwwwwwwwwwwwwwwwwwwwwwwwwwwwwwwwwwwwwwwwwwwwwwwwwwwwwwwwwwwwwwwwwwwwwwwwwwwwwwwwwwwwwwwwwwwwwwwwwwwwwwwwwwwwwwwwwwwwwwwwwwwwwwwwwwwwwwwwwwwwwwwwwwww\r\n",
+    ),
 ];
 
 /// Whether lines are these, from one of them on.
@@ -69,6 +110,34 @@ fn is_told(room: &Room, routes: &Routes, link: u64, first: usize, rows: &[&[u8]]
     match burst(room, routes, link) {
         Ok(lines) => are_from(&lines, first, rows),
         Err(_) => false,
+    }
+}
+
+/// Whether lines are as long as these rows say, and end so.
+fn are_long(lines: &[Text], rows: &[(usize, &[u8])]) -> bool {
+    let mut all = lines.len() == rows.len();
+    for (place, (length, end)) in rows.iter().enumerate() {
+        all &= match lines.get(place) {
+            Some(line) => line.len() == *length && line.ends_with(end),
+            None => false,
+        };
+    }
+    all
+}
+
+/// A member with these flags.
+fn member(nick: &[u8], op: bool, voice: bool) -> Member<'_> {
+    let flags = Flags { op, voice };
+    Member { nick, flags }
+}
+
+/// The line of a MODE with three bans of this mask.
+fn three_bans(rt: &impl Abort, alloc: Global, mask: &[u8]) -> Text {
+    let by = server(rt, LONG_SERVER);
+    let to = channel(rt, LONG_CHANNEL);
+    match read_changes(alloc, &[b"+bbb", mask, mask, mask]) {
+        Ok(Some(changes)) => mode_text(&by, &to, changes.as_slice()),
+        _ => Text::new(),
     }
 }
 
@@ -163,7 +232,37 @@ fn lines_of_servers_are_written(rt: HostRuntime) -> Result<(), Fail> {
         server_text(&routes, &own, &other, &info),
         squit_text(&own, &other, &Words::cut(b"a.net b.net")),
         kill_text(&own, &nick(&rt, b"al")),
+        njoin_text(
+            &own,
+            &channel(&rt, b"#c"),
+            &[
+                member(b"al", true, false),
+                member(b"bo", false, true),
+                member(b"cy", true, true),
+                member(b"dee", false, false),
+            ],
+        ),
     ];
     assert!(rt; are_from(&lines, 0, &WRITTEN));
+    Ok(())
+}
+
+#[test]
+fn the_longest_lines_are_whole(rt: HostRuntime) -> Result<(), Fail> {
+    let alloc = rt.alloc();
+    let routes = routes(&rt, alloc)?;
+    let by = server(&rt, LONG_SERVER);
+    let to = channel(&rt, LONG_CHANNEL);
+    let info = Info::read(LONG_INFO).expect(&rt, "a description");
+    let lines = [
+        pass_text(b"pppppppppppppppppppp"),
+        server_text(&routes, &by, &by, &info),
+        squit_text(&by, &by, &Words::cut(LONG_TEXT)),
+        kill_text(&by, &nick(&rt, b"nnnnnnnnn")),
+        njoin_text(&by, &to, &[member(b"nnnnnnnnn", true, true); 30]),
+        three_bans(&rt, alloc, LONG_MASK),
+        topic_text(&by, &to, &Words::cut(LONG_TEXT)),
+    ];
+    assert!(rt; are_long(&lines, &LONGEST));
     Ok(())
 }

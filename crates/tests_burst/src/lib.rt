@@ -4,6 +4,10 @@
 #[cfg(test)]
 mod bursting;
 #[cfg(test)]
+mod handshake;
+#[cfg(test)]
 mod reading;
+#[cfg(test)]
+mod shown;
 #[cfg(test)]
 mod stage;

@@ -2,12 +2,14 @@
 ghost use Rattle.std.specs.Prelude.{◌≡◌};
 ghost use Rattle.irc_room.specs.Effects.{brings_free};
 
+use arrayvec::ArrayVec;
 use irc_channels::Words;
 use irc_link_words::read_changes;
 use irc_names::{ChannelName, Host, Nick, ServerName, is_server};
 use irc_room::{By, Effect, Room, ShownLine};
 use irc_routes::{Info, Own, Routes};
 use irc_users::{RealName, User, UserName};
+use itoa::Buffer;
 use std::alloc::Global;
 use std::process::Abort;
 use std::test::Fail;
@@ -47,6 +49,21 @@ pub fn add_neighbour(rt: &impl Abort, routes: &mut Routes) {
     let info = Info::read(b"B").expect(rt, "a description");
     if routes.token_in(1, 1).is_none() {
         let _ = routes.add_server(1, &home, b"b.net", 1, 1, &info);
+    }
+}
+
+/// All servers that there is room for, behind link 1, each with a number of its own there.
+pub fn fill(rt: &impl Abort, routes: &mut Routes) {
+    let home = server(rt, b"b.net");
+    let info = Info::read(b"N").expect(rt, "a description");
+    for number in 2..256_u32 {
+        let mut name: ArrayVec<u8, 9> = ArrayVec::new();
+        let _ = name.try_extend_from_slice(b"n");
+        let _ = name.try_extend_from_slice(Buffer::new().format(number).as_bytes());
+        let _ = name.try_extend_from_slice(b".net");
+        if routes.token_in(1, number).is_none() {
+            let _ = routes.add_server(1, &home, &name, 2, number, &info);
+        }
     }
 }
 

@@ -1,5 +1,6 @@
 //! Members, invitations and modes of channels (RFC 2811, sections 2 to 4).
-use crate::script::room_holds;
+use crate::script::{channel, nick, room_holds};
+use irc_channels::Channels;
 
 const MEMBERS: &str = "\
 user [x a.net h X =
@@ -12,8 +13,12 @@ join Al #{ = Al zed :Al!u@h JOIN #[
 channels AL = #b #[
 invite zed [x #{ = [x :zed!u@h INVITE [x #[
 state #{ = #[ + : Al @zed ?[x
+invited {X #{ = yes
+invited zed #[ = no
+invited [x #b = no
 join [x #[ = Al zed [x :[x!u@h JOIN #[
 state #[ = #[ + : Al @zed [x
+invited [x #[ = no
 nick Al {y = Al zed [x :Al!u@h NICK {y
 state #[ = #[ + : @zed [x {y
 topic zed #[ hello = zed [x {y :zed!u@h TOPIC #[ :hello
@@ -84,4 +89,18 @@ fn members_come_and_go(rt: HostRuntime) {
 fn modes_are_read_and_changed(rt: HostRuntime) {
     assert!(rt; room_holds(&rt, rt.alloc(), MODES));
     assert!(rt; room_holds(&rt, rt.alloc(), READING));
+}
+
+#[test]
+fn an_invitation_is_taken_back(rt: HostRuntime) {
+    let mut channels = Channels::new(rt.alloc());
+    let name = channel(&rt, "#c");
+    assert!(rt; channels.join(&nick(&rt, "al"), &name, true).is_ok());
+    assert!(rt; channels.invite(&nick(&rt, "bo"), &name).is_ok());
+    assert!(rt; channels.invite(&nick(&rt, "cy"), &name).is_ok());
+    assert!(rt; channels.uninvite(&nick(&rt, "BO"), &name).is_ok());
+    let found = channels.find(b"#C").expect(&rt, "the channel");
+    assert!(rt; found.invited.get(b"bo").is_none());
+    assert!(rt; found.invited.get(b"cy").is_some());
+    assert!(rt; found.members.len() == 1);
 }

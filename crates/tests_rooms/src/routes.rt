@@ -10,8 +10,8 @@ use std::test::Fail;
 
 /// `add LINK UPLINK NAME NUMBER` adds a server that is so many links away and has that number on its link, and `fill LINK COUNT` as
 /// many more; `lose LINK` loses those behind a link. `out` shows our own number for a server, `in LINK NUMBER` the server of a number,
-/// `away` how far away a server is, `behind` the servers behind a link, `told` those of which its neighbour is
-/// told, `all` all.
+/// `away` how far away a server is, `via` the server that it is linked to on this side, `behind` the servers behind a link, `told`
+/// those of which its neighbour is told, `all` all.
 const SERVERS: &str = "\
 add 1 a.net b.net 1 =
 add 1 b.net c.net 2 =
@@ -19,6 +19,9 @@ out b.net = 2
 out c.net = 3
 in 1 2 = c.net
 away c.net = 2
+via c.net = b.net
+via b.net = a.net
+via a.net =
 behind 1 = b.net c.net
 add 1 a.net b.net 3 = known
 add 1 a.net nodot 3 = no name
@@ -127,6 +130,7 @@ impl Stage for Routes {
         let link = u64::from(number_of(row.first));
         match row.verb {
             "out" => show_number(self.token_out(row.first.as_bytes()), shown),
+            "via" => show_name(self.uplink(row.first.as_bytes()), shown),
             "away" => show_number(self.distance(row.first.as_bytes()), shown),
             "in" => show_name(self.token_in(link, number_of(row.second)), shown),
             "behind" => show_names(&self.behind(link).unwrap_or(Vec::new(alloc)), shown),

@@ -1,7 +1,7 @@
 //! A language of small scripts on one room, that of the server a.net.
 //!
 //! A line is a verb and its words, then ` =`, and what comes of it. What comes of an effect is who sees it, those of other
-//! servers in brackets, and the line that they are shown; or why it is refused.
+//! servers in brackets, and the line that they are shown; that it is idle, as it does nothing; or why it is refused.
 //!
 //! - `user NICK HOME HOST REAL`, `nick NICK NEW`, `quit NICK TEXT`, `make NICK CHANNEL`, `join NICK CHANNEL`,
 //!   `part NICK CHANNEL TEXT`, `kick BY CHANNEL NICK`, `mode BY CHANNEL MODES`, `topic BY CHANNEL TEXT`, `say BY TARGET TEXT`,
@@ -9,7 +9,8 @@
 //!   operator. A `*` that changes modes or a topic is a server.
 //! - `state CHANNEL` shows its modes, key, limit and bans, its topic behind a `:`, its members with their marks, and who is
 //!   invited behind a `?`.
-//! - `users` and `channels NICK` show all users, and the channels of one.
+//! - `users`, `home SERVER` and `channels NICK` show all users, those of a server, and the channels of one. `invited NICK CHANNEL` tells
+//!   whether a user is invited to a channel.
 ghost use Rattle.std.specs.Prelude.{◌≡◌};
 ghost use Rattle.irc_room.specs.Effects.{brings_free};
 
@@ -57,11 +58,11 @@ pub fn append_word(shown: &mut Shown, mark: &[u8], word: &[u8]) {
     append(shown, word);
 }
 
-fn nick(rt: &impl Abort, word: &str) -> Nick {
+pub fn nick(rt: &impl Abort, word: &str) -> Nick {
     Nick::read(word.as_bytes()).expect(rt, "a nickname")
 }
 
-fn channel(rt: &impl Abort, word: &str) -> ChannelName {
+pub fn channel(rt: &impl Abort, word: &str) -> ChannelName {
     ChannelName::read(word.as_bytes()).expect(rt, "a channel's name")
 }
 
@@ -217,7 +218,9 @@ fn apply(alloc: Global, room: &mut Room, effect: &Effect, shown: &mut Shown) {
         append(shown, b" taken");
         return;
     }
+    let does = room.does(effect);
     match room.apply(effect, &mut told) {
+        Ok(()) if !does => append(shown, b" idle"),
         Ok(()) => show_viewers(&viewers, &told, shown),
         Err(RoomFault::NoSuchUser) => append(shown, b" no user"),
         Err(RoomFault::NoSuchChannel) => append(shown, b" no channel"),
@@ -279,6 +282,18 @@ fn show_channels_of(alloc: Global, room: &Room, nick: &str, shown: &mut Shown) {
     }
 }
 
+/// Shows the users of a server.
+fn show_home(rt: &impl Abort, alloc: Global, room: &Room, home: &str, shown: &mut Shown) {
+    let found = room.users_at(&server(rt, home));
+    show_users(&found.unwrap_or(Vec::new(alloc)), shown);
+}
+
+/// Shows whether a user is invited to a channel.
+fn show_invited(room: &Room, row: Row<'_>, shown: &mut Shown) {
+    let invited = room.invited(row.first.as_bytes(), row.second.as_bytes());
+    append_word(shown, b"", if invited { b"yes" } else { b"no" });
+}
+
 /// What scripts are run on.
 pub trait Stage {
     /// Does what a row says, and shows what comes of it.
@@ -293,6 +308,8 @@ impl Stage for Room {
                 None => append(shown, b" none"),
             },
             "users" => show_users(&self.users().unwrap_or(Vec::new(alloc)), shown),
+            "home" => show_home(rt, alloc, self, row.first, shown),
+            "invited" => show_invited(self, row, shown),
             "channels" => show_channels_of(alloc, self, row.first, shown),
             _ => apply(alloc, self, &effect_of(rt, alloc, row), shown),
         }

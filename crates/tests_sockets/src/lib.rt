@@ -2,6 +2,8 @@
 #![tactic(auto)]
 
 #[cfg(test)]
+mod calls;
+#[cfg(test)]
 mod lent;
 #[cfg(test)]
 mod memory;
@@ -9,3 +11,5 @@ mod memory;
 mod server;
 #[cfg(test)]
 mod sockets;
+#[cfg(test)]
+mod steps;

@@ -1,41 +1,10 @@
 //! An engine over a wire in memory.
 use crate::lent::Lent;
 use crate::server::server;
+use crate::steps::{Step, wire};
 use irc_engine::Engine;
-use irc_names::Host;
-use irc_outbox::{MemoryWire, WireStep};
-use std::alloc::{AllocError, Global};
-
-/// One thing that happens, as [`WireStep`]. Each client comes from host `h`.
-enum Step {
-    Client(u64),
-    Room(u64, usize),
-    Bytes(u64, &'static [u8]),
-}
-
-fn wire_step(alloc: Global, step: &Step) -> Option<WireStep> {
-    match step {
-        Step::Client(conn) => Some(WireStep::Client(*conn, Host::read(b"h")?)),
-        Step::Room(conn, bytes) => Some(WireStep::Room(*conn, *bytes)),
-        Step::Bytes(conn, bytes) => {
-            Some(WireStep::Bytes(*conn, Vec::from_slice(alloc, *bytes).ok()?))
-        }
-    }
-}
-
-fn add(steps: &mut Vec<WireStep, Global>, step: WireStep) -> Result<(), AllocError> {
-    steps.push(step)?;
-    Ok(())
-}
-
-/// A wire on which this happens.
-fn wire(alloc: Global, happens: &[Step]) -> Option<MemoryWire> {
-    let mut steps = Vec::new(alloc);
-    for step in happens {
-        add(&mut steps, wire_step(alloc, step)?).ok()?;
-    }
-    MemoryWire::new(alloc, steps).ok()
-}
+use irc_outbox::MemoryWire;
+use std::alloc::Global;
 
 /// Whether so many turns are taken over a wire.
 fn runs(alloc: Global, wire: &mut MemoryWire, client_room: usize, turns: u64) -> bool {
@@ -118,4 +87,78 @@ fn is_told_once(alloc: Global) -> bool {
 #[test]
 fn who_reads_nothing_is_lost(rt: HostRuntime) {
     assert!(rt; is_told_once(rt.alloc()));
+}
+
+/// al, cy and dd, whose sockets take nothing, share a channel with bo. Then one ends, a read of one fails, and a write to one for whom bytes wait.
+static LOSSES: [Step; 12] = [
+    Step::Client(1),
+    Step::Bytes(1, b"NICK al\r\nUSER u 0 * :Al\r\nJOIN #c\r\n"),
+    Step::Client(3),
+    Step::Bytes(3, b"NICK cy\r\nUSER u 0 * :Cy\r\nJOIN #c\r\n"),
+    Step::Client(4),
+    Step::Bytes(4, b"NICK dd\r\nUSER u 0 * :Dd\r\nJOIN #c\r\n"),
+    Step::Client(2),
+    Step::Room(2, 65536),
+    Step::Bytes(2, b"NICK bo\r\nUSER u 0 * :Bo\r\nJOIN #c\r\n"),
+    Step::End(1),
+    Step::ReadFails(3),
+    Step::WriteFails(4),
+];
+
+/// Whether bo is told once of each.
+fn are_told_once(heard: &[u8]) -> bool {
+    times(b":al!u@h QUIT :Connection closed\r", heard) == 1
+        && times(b":cy!u@h QUIT :Connection closed\r", heard) == 1
+        && times(b":dd!u@h QUIT :Connection closed\r", heard) == 1
+}
+
+fn are_lost(alloc: Global) -> bool {
+    match wire(alloc, &LOSSES) {
+        Some(mut wire) => {
+            runs(alloc, &mut wire, 4096, 20)
+                && wire.closed(1)
+                && wire.closed(3)
+                && wire.closed(4)
+                && !wire.closed(2)
+                && are_told_once(wire.written(2))
+        }
+        None => false,
+    }
+}
+
+#[test]
+fn who_ends_or_fails_is_lost(rt: HostRuntime) {
+    assert!(rt; are_lost(rt.alloc()));
+}
+
+/// The server closes al, whose socket takes nothing yet; what comes then is reported, and not read. bo and a server connect behind that.
+static SHUT: [Step; 7] = [
+    Step::Client(1),
+    Step::Bytes(1, b"NICK al\r\nQUIT :bye\r\n"),
+    Step::Bytes(1, b"x\r\n"),
+    Step::Room(1, 100),
+    Step::Bytes(1, b"PING x\r\n"),
+    Step::Client(2),
+    Step::Called(3),
+];
+
+/// Whether al is read and written up to that, and closed, and the server too, which cannot be linked. One turn is taken for each step, but for that
+/// of al when al is closed.
+fn is_shut(alloc: Global) -> bool {
+    match wire(alloc, &SHUT) {
+        Some(mut wire) => {
+            runs(alloc, &mut wire, 4096, 6)
+                && wire.taken(1) == b"NICK al\r\nQUIT :bye\r\n".as_slice()
+                && wire.written(1) == b"ERROR :Closing link (bye)\r\n".as_slice()
+                && wire.closed(1)
+                && !wire.closed(2)
+                && wire.closed(3)
+        }
+        None => false,
+    }
+}
+
+#[test]
+fn who_is_closed_is_read_no_more(rt: HostRuntime) {
+    assert!(rt; is_shut(rt.alloc()));
 }

@@ -1,6 +1,8 @@
 //! The server of the tests.
+use irc_batch::{Batch, Out};
+use irc_names::{Host, copied};
 use irc_routes::Own;
-use irc_server::{Config, Server};
+use irc_server::{Config, Event, Server};
 use std::alloc::{AllocError, Global};
 
 /// A server a.net that nobody is connected to.
@@ -20,4 +22,32 @@ fn config(alloc: Global) -> Result<Config, AllocError> {
         },
         peers: Vec::new(alloc),
     })
+}
+
+/// Client 1 connects, and becomes the user al.
+fn coming(alloc: Global) -> Option<Vec<Event, Global>> {
+    let mut events = Vec::new(alloc);
+    events.push(Event::Connect(1, Host::read(b"h")?)).ok()?;
+    events.push(Event::Line(1, copied(b"NICK al"))).ok()?;
+    events.push(Event::Line(1, copied(b"USER u 0 * :Al"))).ok()?;
+    Some(events)
+}
+
+/// Whether something is a line to client 1 that begins so.
+fn begins(out: Option<Out<'_>>, words: &[u8]) -> bool {
+    match out {
+        Some(Out::Line(1, line)) => line.starts_with(words),
+        _ => false,
+    }
+}
+
+#[test]
+fn events_are_handled_in_turn(rt: HostRuntime) {
+    let mut server = server(rt.alloc()).expect(&rt, "a server");
+    let events = coming(rt.alloc()).expect(&rt, "three events");
+    let mut out = Batch::new(rt.alloc());
+    assert!(rt; server.handle_all(events, &mut out).is_ok());
+    assert!(rt; begins(out.get(0), b":a.net 001 al "));
+    assert!(rt; server.has_client(1));
+    assert!(rt; !server.has_client(2));
 }

@@ -2,8 +2,9 @@
 use Rattle.std.specs.Global.{Vec}
 use Rattle.irc_line.specs.Messages.{Parsed}
 use Rattle.irc_link_reader.specs.Means.{is_mode_line}
-use Rattle.std.specs.Prelude.{◌≡◌, ◌⊎◌, ⊤, true, ℕ, Bool, not, ◌&&◌, ◌++◌, IsOk, if◌then◌else◌, Option, Result, Ok, Err, List, [], ◌∷◌, map, option_to_list}
+use Rattle.std.specs.Prelude.{◌≡◌, ◌⊎◌, ⊤, true, ℕ, Bool, not, ◌&&◌, ◌++◌, IsOk, if◌then◌else◌, Option, Result, Ok, Err, List, [], ◌∷◌, map, option_to_list, Some, ◌||◌, ◌+◌, nat_eq}
 use Rattle.std.specs.List.{list_any}
+use Rattle.std.specs.Option.{option_map_or}
 use Rattle.irc_batch.specs.declared.close_reason.CloseReason.{CloseReason}
 use Rattle.irc_batch.specs.declared.close_reason.CloseReason.TheVariants as reason
 use Rattle.irc_channels.specs.declared.flags.Flags.{Flags}
@@ -20,9 +21,11 @@ use Rattle.irc_burst.specs.declared.njoin_line.MemberWords.{MemberWords}
 use Rattle.irc_merge.specs.BurstRead.{is_new_member, new_members, brought}
 use Rattle.irc_names.specs.Fold.{same}
 use Rattle.irc_room.specs.Room.{Room}
-use Rattle.irc_burst.specs.DeedsMeant.{Told, a_deed, a_server, Judged, later_server, as_stored, members_of}
+use Rattle.irc_burst.specs.DeedsMeant.{Told, a_deed, a_server, Judged, first_reason, later_server, server_line, squit_line, njoin_line, as_stored, members_of}
 use Rattle.irc_link_reader.specs.Reader.{Reader}
-use Rattle.irc_routes.specs.Known.{Known}
+use Rattle.irc_link_reader.specs.declared.arrival.Arrival.{Arrival}
+use Rattle.irc_link_reader.specs.Loops.Readings.{reader}
+use Rattle.irc_routes.specs.Known.{Known, is_known}
 
 abbrev pub member_told : NewMember → List ℕ × Flags
 member_told member = (member.nick, member.flags)
@@ -62,9 +65,33 @@ fault_of fault.WrongDirection = Closes reason.WrongDirection
 fault_of fault.BadName = Closes reason.BadName
 fault_of fault.Memory = Memory
 
+-- what is looked at in lines that came so: a SERVER, a SQUIT and an NJOIN of these words
+abbrev pub server_line_at : Arrival → Option (List ℕ) → List (List ℕ) → Judged
+server_line_at at prefix words = server_line (reader at) at.routes.now prefix words
+
+abbrev pub squit_line_at : Arrival → List ℕ → List (List ℕ) → Judged
+squit_line_at at server words = squit_line (reader at) at.routes.now (Some server) words
+
+abbrev pub njoin_line_at : Arrival → List ℕ → List (List ℕ) → Judged
+njoin_line_at at server words = njoin_line (reader at) at.room.now.room (Some server) words
+
+-- what is read is what such a line comes to
+abbrev pub Comes : Judged → Result (Option BurstAct) BurstFault → Type 0
+Comes judged result = found result ≡ closes (first_reason judged)
+
 -- what is looked at in the words of a later SERVER
 abbrev pub server_judged : Reader → Known → List ℕ → ServerWords → Judged
 server_judged reader known uplink words = later_server reader known uplink words.name.now words.distance.now words.token.now words.info.now
+
+abbrev pub server_judged_at : Arrival → List ℕ → ServerWords → Judged
+server_judged_at at uplink words = server_judged (reader at) at.routes.now uplink words
+
+-- how far a server is that is linked to this one, where that one is known; and whether a server that is lost is behind the link, or unknown
+abbrev pub is_one_further : Arrival → List ℕ → ℕ → Bool
+is_one_further at uplink distance = option_map_or (λ links. nat_eq distance (links + 1)) ((reader at).distance uplink) true
+
+abbrev pub may_be_lost : Arrival → List ℕ → Bool
+may_be_lost at name = not (is_known at.routes.now name) || (reader at).is_far name
 
 -- ---- NJOIN
 

@@ -1,14 +1,33 @@
 -- What comes of one event, as the code of each kind of event says it.
 use Rattle.std.specs.Prelude.{◌≡◌, ℕ, ⊤, Bool, true, false, Option, Some, None, Result, Ok, Err, List}
-use Rattle.irc_batch.specs.Batches.{Sent}
+use Rattle.std.specs.FinMap.{get}
+use Rattle.irc_names.specs.Fold.{key}
+use Rattle.irc_names.specs.Tables.{row}
+use Rattle.irc_line.specs.Messages.{Parsed}
+use Rattle.irc_room.specs.Room.{Room}
+use Rattle.irc_room.specs.Applying.{Kept}
+use Rattle.irc_batch.specs.Batches.{Batch, Sent}
+use Rattle.irc_commands.specs.declared.pending.Registration.{Registration}
+use Rattle.irc_commands.specs.CodeViews.{registered_of}
 use Rattle.irc_server.specs.declared.event.Event.{Event}
 use Rattle.irc_server.specs.declared.event.ServerFault.{ServerFault}
 use Rattle.irc_server.specs.declared.event.ServerFault.TheVariants.{Memory}
 use Rattle.irc_stage.specs.declared.clients.Client.{Client}
 use Rattle.irc_stage.specs.declared.clients.Client.TheVariants.{Registering, Registered}
-use Rattle.irc_stage.specs.View.{View}
-use Rattle.irc_server.specs.Served.{fault_of}
+use Rattle.irc_stage.specs.declared.stage.Stage.{Stage}
+use Rattle.irc_stage.specs.RoomMachine.{RoomMachine, client_of, with_client}
+use Rattle.irc_stage.specs.Handle.{client_after, fresh, gone, pending_decided, said_by, user_decided, user_of}
+use Rattle.irc_stage.specs.View.{View, with_end, without_end}
+use Rattle.irc_stage.specs.Loops.Stage.{behind, machine_at, so_far}
+use Rattle.irc_server.specs.Served.{fault_of, link_there, no_link, not_there, there}
 use Rattle.irc_server.specs.Happening.{Does}
+
+-- the room, as its code keeps it, and of a server
+abbrev pub room_kept : Kept → Room
+room_kept kept = kept.room
+
+abbrev pub room_of : View → Room
+room_of view = view.room
 
 -- the nickname by which a client is a user
 abbrev pub nick_of : Client → Option (List ℕ)
@@ -39,5 +58,60 @@ pub record IsSame (old : View) (out : List Sent) (new : View) (out_after : List 
   pub view_is : new ≡ old
   pub out_is : out_after ≡ out
 
+-- What a client does, from one moment of a server and of what it has put out to a later one: what it puts out goes behind what was put out before.
+
+-- what a line before registration has given makes its connection this client
+abbrev pub given_client : Registration → Client
+given_client given = client_after (registered_of given) given.pending.nick
+
+abbrev pub given_machine : Stage → ℕ → Registration → RoomMachine
+given_machine stage conn given = with_client (machine_at stage) conn (given_client given)
+
+-- a line before registration has this effect
+abbrev pub Registers : ℕ → Registration → Stage → Batch → Stage → Batch → Type 0
+Registers conn given old out new out_after = so_far new out_after.outs ≡ behind out.outs (pending_decided (machine_at old) conn (registered_of given))
+
+-- a message of the user with this nickname has
+abbrev pub Decides : ℕ → List ℕ → Parsed → Stage → Batch → Stage → Batch → Type 0
+Decides conn nick message old out new out_after =
+    so_far new out_after.outs ≡ behind out.outs (user_decided (machine_at old) conn (row (machine_at old).room.users (key nick)) message)
+
+-- a message of whoever is on this connection has
+abbrev pub Says : ℕ → Parsed → Stage → Batch → Stage → Batch → Type 0
+Says conn message old out new out_after =
+    so_far new out_after.outs ≡ behind out.outs (said_by (machine_at old) conn (client_of (machine_at old) conn) message)
+
+-- whoever is on this connection leaves, and with it the user that it is
+abbrev pub user_on : ℕ → Stage → Option (List ℕ)
+user_on conn stage = user_of (machine_at stage).room (client_of (machine_at stage) conn)
+
+abbrev pub Leaves : ℕ → Stage → Batch → Stage → Batch → Type 0
+Leaves conn old out new out_after = so_far new out_after.outs ≡ behind out.outs (gone (machine_at old) conn (client_of (machine_at old) conn))
+
+-- What comes of each event: it is done, or it is refused and nothing has changed. A client connects, says something, is gone.
+abbrev pub IsConnected : ℕ → List ℕ → Stage → Result (Unit {0}) ServerFault → Stage → Type 0
+IsConnected conn host old result new =
+    Comes (there (client_of (machine_at old) conn)) (machine_at new ≡ with_client (machine_at old) conn (fresh host)) (new ≡ old) result
+
+-- nothing has changed, nor been put out
+abbrev pub AsBefore : Stage → Batch → Stage → Batch → Type 0
+AsBefore old out new out_after = so_far new out_after.outs ≡ so_far old out.outs
+
+abbrev pub IsSaid : ℕ → Parsed → Stage → Batch → Result (Unit {0}) ServerFault → Stage → Batch → Type 0
+IsSaid conn message old out result new out_after =
+    Comes (not_there (client_of (machine_at old) conn)) (Says conn message old out new out_after) (AsBefore old out new out_after) result
+
+abbrev pub IsGone : ℕ → Stage → Batch → Result (Unit {0}) ServerFault → Stage → Batch → Type 0
+IsGone conn old out result new out_after =
+    Comes (not_there (client_of (machine_at old) conn)) (Leaves conn old out new out_after) (AsBefore old out new out_after) result
+
+-- A link is open, or lost.
+abbrev pub IsLinked : ℕ → Option (List ℕ) → View → Result (Unit {0}) ServerFault → View → Type 0
+IsLinked link starts old result new = Comes (link_there (get old.ends link)) (new ≡ with_end link starts old) (new ≡ old) result
+
+abbrev pub IsUnlinked : ℕ → View → Result (Unit {0}) ServerFault → View → Type 0
+IsUnlinked link old result new = Comes (no_link (get old.ends link)) (new ≡ without_end link old) (new ≡ old) result
+
+-- any event
 abbrev pub IsActed : View → Event → List Sent → Result (Unit {0}) ServerFault → View → List Sent → Type 0
 IsActed old event out result new out_after = Comes (fault_of old event) (Does old event out new out_after) (IsSame old out new out_after) result

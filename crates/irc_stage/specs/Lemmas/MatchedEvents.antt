@@ -28,7 +28,7 @@ use Rattle.irc_stage.specs.Handle.{connects, says, goes, handled, client_after, 
 use Rattle.irc_stage.specs.Matched.{IsMatched, StaysMatched}
 use Rattle.irc_stage.specs.Loops.Stage.{AreFit, IsFit, IsFreeOf, IsNoUser}
 use Rattle.irc_stage.specs.Lemmas.Numbers.{get-with, same_number-refl}
-use Rattle.irc_stage.specs.Lemmas.Matching.{fit_by, quiet_fit, quiet_steps, still_fit, still_steps, pending_matched, left_matched, free_of, added_fit, added_matched, quit_matched, quit_fit}
+use Rattle.irc_stage.specs.Lemmas.Matching.{fit_by, quiet_fit, quiet_steps, still_so, still_steps, pending_matched, left_matched, free_of, added_fit, added_matched, quit_matched, quit_fit}
 
 -- a line of a user
 
@@ -46,7 +46,7 @@ decided_fit possible stays closes machine matched well who message acts are =
         let all = subst (ArePossible machine.room) quits.steps_are steps_possible in
         subst (AreFit machine) (sym quits.steps_are) (record {
           now = fit_by machine (Quit quits.me.nick quits.reason) matched all.now;
-          later = still_fit (machine_after machine (Quit quits.me.nick quits.reason)) quits.behind quits.no_more;
+          later = still_so IsFit (machine_after machine (Quit quits.me.nick quits.reason)) quits.behind quits.no_more;
         })
 
     by : (b : Bool) → (decide machine.room machine.place who message).close ≡ b → AreFit machine (decide machine.room machine.place who message).steps
@@ -112,7 +112,7 @@ module _ (machine : RoomMachine) (conn : ℕ) (given : Given) (matched : IsMatch
         (subst (λ client. AreFit (with_client machine conn client) (Do (AddUser first.user) ∷ first.behind)) (sym client_is)
         (record {
           now = added_fit machine conn first.user matched add_possible first.is_home;
-          later = still_fit (machine_after (with_client machine conn (Registered (first.user.nick))) (AddUser first.user)) first.behind first.no_more;
+          later = still_so IsFit (machine_after (with_client machine conn (Registered (first.user.nick))) (AddUser first.user)) first.behind first.no_more;
         }))
 
     new_free : IsFreeOf (client_after given given.pending.nick) machine.clients
@@ -156,7 +156,7 @@ module _ (machine : RoomMachine) (conn : ℕ) (given : Given) (matched : IsMatch
     where
       by : (b : Bool) → given.registered ≡ b → AreFit given_machine given.steps
       by true is = new_fit is
-      by false is = still_fit given_machine given.steps (still is)
+      by false is = still_so IsFit given_machine given.steps (still is)
 
   pub given_free : IsFreeOf (client_after given given.pending.nick) machine.clients
   given_free = by given.registered refl

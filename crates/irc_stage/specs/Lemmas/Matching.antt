@@ -25,7 +25,7 @@ use Rattle.irc_stage.specs.declared.clients.Client.TheVariants.{Registering, Reg
 use Rattle.irc_stage.specs.RoomMachine.{Clients, RoomMachine, client_of, with_client, without_client}
 use Rattle.irc_stage.specs.Handle.{Handled, renamed_in, machine_after, clients_after, stepped, all_stepped}
 use Rattle.irc_stage.specs.Matched.{has_client, is_user_here, is_user_of, IsMatched}
-use Rattle.irc_stage.specs.Loops.Stage.{IsFit, AreFit, LeavesApart, IsFreeFor, IsFreeOf, IsNoUser}
+use Rattle.irc_stage.specs.Loops.Stage.{IsFit, AreFit, AreInTurn, LeavesApart, IsFreeFor, IsFreeOf, IsNamed, IsNoUser}
 use Rattle.irc_stage.specs.Lemmas.Numbers.{here, later, same_number, one_number, same_number-refl, same_number-is, get-with, get-without, get-each}
 
 -- a nickname in a client
@@ -36,6 +36,13 @@ pub never_registered : {A : Type 0} (client : Option Client) (name : List ℕ) �
 never_registered None name none is = cc is
 never_registered (Some (Registering pending)) name none is = cc is
 never_registered (Some (Registered nick)) name none is = absurd none
+
+-- who is named is registered
+pub named_is : {A : Type 0} (fold : List ℕ) (client : Option Client) → IsNamed fold client
+    → ((nick : List ℕ) → client ≡ Some (Registered nick) → key nick ≡ fold → A) → A
+named_is fold None named so = absurd named
+named_is fold (Some (Registering pending)) named so = absurd named
+named_is fold (Some (Registered nick)) named so = so nick refl named
 
 -- whether two names are the same, by their folds
 pub same_by_key : (a b : List ℕ) → key a ≡ key b → same a b ≡ true
@@ -401,11 +408,11 @@ quiet_steps conn name (Do effect ∷ acts) h matched possible quiet =
     quiet_steps conn name acts (stepped conn name (Do effect) h) (quiet_matched h.machine effect matched possible.now parts.0) possible.later parts.1
 
 -- steps that change nothing
-pub still_fit : (machine : RoomMachine) (acts : List Act) → list_any is_effect acts ≡ false → AreFit machine acts
-still_fit machine [] still = tt
-still_fit machine (Answer reply ∷ acts) still = still_fit machine acts still
-still_fit machine (Raw line ∷ acts) still = still_fit machine acts still
-still_fit machine (Do effect ∷ acts) still = absurd (cc still)
+pub still_so : (IsSo : RoomMachine → Effect → Type 0) (machine : RoomMachine) (acts : List Act) → list_any is_effect acts ≡ false → AreInTurn IsSo machine acts
+still_so IsSo machine [] still = tt
+still_so IsSo machine (Answer reply ∷ acts) still = still_so IsSo machine acts still
+still_so IsSo machine (Raw line ∷ acts) still = still_so IsSo machine acts still
+still_so IsSo machine (Do effect ∷ acts) still = absurd (cc still)
 
 pub still_steps : (conn : ℕ) (name : Option (List ℕ)) (acts : List Act) (h : Handled) → list_any is_effect acts ≡ false
     → (all_stepped conn name acts h).machine ≡ h.machine

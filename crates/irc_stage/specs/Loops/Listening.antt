@@ -30,10 +30,10 @@ is_for listeners channel = is_at listeners.channel channel
 abbrev pub AreSo : Listeners → Room → Table ℕ → Type 0
 AreSo listeners room by_nick = (channel : List ℕ) → listeners.channel ≡ Some channel → listeners.conns.items ≡ heard_by room by_nick channel
 
--- this user says something in this channel
-abbrev pub IsSaidBy : List ℕ → List ℕ → Effect → Type 0
-IsSaidBy by channel (Say who notice (Channel where_to) words) = (who ≡ by) × (where_to ≡ channel)
-IsSaidBy by channel effect = ⊥
+-- somebody says something in this channel
+abbrev pub IsSaidIn : List ℕ → Effect → Type 0
+IsSaidIn channel (Say who notice (Channel where_to) words) = where_to ≡ channel
+IsSaidIn channel effect = ⊥
 
 -- somebody says something to this user
 abbrev pub IsSaidTo : List ℕ → Effect → Type 0

@@ -1,10 +1,11 @@
 -- A server as its code has it while an event is handled.
-use Rattle.std.specs.Prelude.{◌≡◌, ℕ, ⊤, false, Option, Some, None, List, [], ◌∷◌, ◌++◌, map}
+use Rattle.std.specs.Prelude.{◌≡◌, ℕ, ⊤, Bool, false, Option, Some, None, List, [], ◌∷◌, ◌++◌, map}
 use Rattle.std.specs.List.{flat_map}
 use Rattle.std.specs.Ordering.{nat_cmp}
 use Rattle.std.specs.FinMap.{FinMap, get, from_entries}
 use Rattle.std.specs.BTreeMap.{BTreeMap}
 use Rattle.arrayvec.specs.ArrayVec.{ArrayVec}
+use Rattle.irc_line.specs.MessageViews.{optional_now}
 use Rattle.irc_names.specs.Fold.{key}
 use Rattle.irc_names.specs.Tables.{Table, row, alter}
 use Rattle.irc_users.specs.declared.user.User.{User}
@@ -12,7 +13,8 @@ use Rattle.irc_room.specs.declared.effect.Effect.{Effect}
 use Rattle.irc_room.specs.declared.effect.Effect.TheVariants.{Rename}
 use Rattle.irc_room.specs.Room.{IsWellFormed}
 use Rattle.irc_room.specs.Effects.{IsPossible}
-use Rattle.irc_room.specs.Applying.{Kept}
+use Rattle.irc_room.specs.declared.shown_line.ShownLine.{ShownLine}
+use Rattle.irc_room.specs.Applying.{Kept, pairs_of}
 use Rattle.irc_room.specs.InTurn.{IsSoFirst}
 use Rattle.irc_room.specs.Seen.{Showing}
 use Rattle.irc_acts.specs.declared.act.Act.{Act}
@@ -20,11 +22,12 @@ use Rattle.irc_acts.specs.declared.act.Act.TheVariants.{Do}
 use Rattle.irc_stage.specs.declared.clients.Client.{Client}
 use Rattle.irc_stage.specs.declared.clients.Client.TheVariants.{Registered}
 use Rattle.irc_stage.specs.declared.clients.ClientTable.{ClientTable}
-use Rattle.irc_batch.specs.Batches.{Sent}
+use Rattle.irc_batch.specs.Batches.{Batch, Sent}
+use Rattle.irc_stage.specs.declared.origin.Speaker.{Speaker}
 use Rattle.irc_stage.specs.declared.stage.Stage.{Stage}
-use Rattle.irc_stage.specs.RoomMachine.{Clients, RoomMachine, client_of}
+use Rattle.irc_stage.specs.RoomMachine.{Clients, RoomMachine, client_of, each_client}
 use Rattle.irc_stage.specs.View.{View, known_peer, machine_of}
-use Rattle.irc_stage.specs.Handle.{Handled, to_viewer, machine_after}
+use Rattle.irc_stage.specs.Handle.{Handled, to_viewer, renamed_in, machine_after, with_effect, stepped, all_stepped, closing}
 use Rattle.irc_stage.specs.Loops.Listening.{AreSo}
 
 -- what a room hands out, as it is shown
@@ -40,6 +43,18 @@ numbered m = from_entries m.entries
 
 abbrev pub clients_of : ClientTable → Clients
 clients_of table = numbered table.by_number
+
+-- each line that an effect shows, to the clients among its viewers
+abbrev pub lines_shown : ClientTable → ShownLine → List Sent
+lines_shown clients shown = all_shown (clients_of clients) (pairs_of shown)
+
+-- the line at hand, put out to this viewer where it is a client
+abbrev pub held_shown_to : List ℕ → Clients → Batch → Batch
+held_shown_to nick clients out = record out { outs = out.outs ++ to_viewer clients (record { viewer = nick; line = out.held }) }
+
+-- the client that is the user of the first nickname has the second
+abbrev pub all_renamed : List ℕ → List ℕ → Clients → Clients
+all_renamed old new clients = each_client (renamed_in old new) clients
 
 -- whether a client is registered by a nickname with this fold
 abbrev pub IsNamed : List ℕ → Option Client → Type 0
@@ -86,6 +101,23 @@ pub record Keeps (old new : Stage) : Type 0 where
 abbrev pub so_far : Stage → List Sent → Handled
 so_far stage out = record { machine = machine_at stage; out = out }
 
+-- From one moment of a server, and of what it has put out, to a later one: an effect is applied.
+abbrev pub Applies : Effect → Stage → Batch → Stage → Batch → Type 0
+Applies effect old out new out_after = so_far new out_after.outs ≡ with_effect effect (so_far old out.outs)
+
+-- A step of a client is taken, or steps one after another.
+abbrev pub Takes : Speaker → Act → Stage → Batch → Stage → Batch → Type 0
+Takes speaker act old out new out_after = so_far new out_after.outs ≡ stepped speaker.conn (optional_now speaker.nick) act (so_far old out.outs)
+
+abbrev pub TakesAll : Speaker → List Act → Stage → Batch → Stage → Batch → Type 0
+TakesAll speaker acts old out new out_after =
+    so_far new out_after.outs ≡ all_stepped speaker.conn (optional_now speaker.nick) acts (so_far old out.outs)
+
+-- The steps of a decision of a client are taken, and then the client is closed if it is to be.
+abbrev pub CarriesOut : Speaker → List Act → Bool → Stage → Batch → Stage → Batch → Type 0
+CarriesOut speaker acts close old out new out_after =
+    so_far new out_after.outs ≡ closing close speaker.conn (all_stepped speaker.conn (optional_now speaker.nick) acts (so_far old out.outs))
+
 -- what was put out before stands in front
 abbrev pub behind : List Sent → Handled → Handled
 behind out h = record { machine = h.machine; out = out ++ h.out }
@@ -129,7 +161,10 @@ pub record IsFit (machine : RoomMachine) (effect : Effect) : Type 0 where
   pub apart : LeavesApart effect machine.clients
 
 -- each effect of these steps is so in its turn
+abbrev pub AreInTurn : (RoomMachine → Effect → Type 0) → RoomMachine → List Act → Type 0
+AreInTurn IsSo machine [] = ⊤
+AreInTurn IsSo machine (Do effect ∷ acts) = IsSoFirst (IsSo machine effect) (AreInTurn IsSo (machine_after machine effect) acts)
+AreInTurn IsSo machine (act ∷ acts) = AreInTurn IsSo machine acts
+
 abbrev pub AreFit : RoomMachine → List Act → Type 0
-AreFit machine [] = ⊤
-AreFit machine (Do effect ∷ acts) = IsSoFirst (IsFit machine effect) (AreFit (machine_after machine effect) acts)
-AreFit machine (act ∷ acts) = AreFit machine acts
+AreFit machine acts = AreInTurn IsFit machine acts

@@ -5,6 +5,7 @@ use Rattle.irc_routes.specs.Known.{Known, place_of}
 use Rattle.irc_commands.specs.Register.{register}
 use Rattle.irc_stage.specs.Loops.Stage.{machine_at}
 use Rattle.irc_stage.specs.Lemmas.MatchedEvents.{registering_fit, registering_free}
+use Rattle.irc_stage.specs.Lemmas.SpokenSteps.{registering_spoken}
 use Rattle.irc_server.proofs.acting.on_message.Goals as goal
 
 pub on_registration-requires-clause-free : goal.on_registration-requires-clause-free
@@ -30,3 +31,14 @@ on_registration-requires-clause-fit c =
     ∙ ap (λ (r : Room). register r (place_of c.routes.result.now) pending message) c.room.ensures
     ∙ ap (λ (k : Known). register machine.room (place_of k) pending message) c.routes.ensures)
     c.requires.matched c.requires.ready.sound.well_formed
+
+pub on_registration-requires-clause-spoken : goal.on_registration-requires-clause-spoken
+on_registration-requires-clause-spoken c =
+    let machine = machine_at c.args.stage.now in
+    let message = parsed c.args.message.now in
+    let pending = c.pending-pending.result.now in
+    registering_spoken c.registered_is_added.ensures c.unregistered_changes_nothing.ensures machine.room machine.place pending message _
+    (c.in_ok-given-in-Some-Registering.ensures
+    ∙ ap (λ (r : Room). register r (place_of c.routes.result.now) pending message) c.room.ensures
+    ∙ ap (λ (k : Known). register machine.room (place_of k) pending message) c.routes.ensures)
+    c.args.conn _

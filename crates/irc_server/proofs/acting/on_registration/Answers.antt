@@ -1,5 +1,6 @@
 use Rattle.std.proofs.Common.{ap, ◌∙◌, refl, sym, subst}
 use Rattle.irc_stage.specs.RoomMachine.{with_client}
+use Rattle.irc_stage.specs.Loops.Speaking.{AreSpoken}
 use Rattle.irc_stage.specs.Loops.Stage.{machine_at, AreFit, IsFreeOf}
 use Rattle.irc_stage.specs.Lemmas.Outcomes.{on_ok}
 use Rattle.irc_server.proofs.WhatEventsDo.{carried, copied_now}
@@ -20,3 +21,9 @@ carry_out-requires-clause-fit c =
     subst (AreFit _) (sym c.deref.ensures.value)
     (subst (λ m. AreFit m c.args.given.now.steps.items)
     (sym (c.in_ok-seat.ensures.ok ∙ ap (with_client (machine_at c.args.stage.now) c.args.conn) c.in_ok-client.ensures)) c.requires.fit)
+
+pub carry_out-requires-clause-spoken : goal.carry_out-requires-clause-spoken
+carry_out-requires-clause-spoken c =
+    subst (AreSpoken c.args.conn _) (sym c.deref.ensures.value)
+    (subst (λ m. AreSpoken c.args.conn m c.args.given.now.steps.items)
+    (sym (c.in_ok-seat.ensures.ok ∙ ap (with_client (machine_at c.args.stage.now) c.args.conn) c.in_ok-client.ensures)) c.requires.spoken)

@@ -1,4 +1,4 @@
-use Rattle.std.proofs.Common.{Some, List, ◌++◌, ap, ◌∙◌, sym, refl}
+use Rattle.std.proofs.Common.{Some, List, ◌++◌, ap, ◌∙◌, sym}
 use Rattle.irc_line.specs.MessageViews.{parsed}
 use Rattle.irc_names.specs.Fold.{key}
 use Rattle.irc_names.specs.Tables.{row}
@@ -6,11 +6,13 @@ use Rattle.irc_acts.specs.declared.act.Act.{Act}
 use Rattle.irc_commands.specs.CodeViews.{decided_of}
 use Rattle.irc_commands.specs.Decide.{decide}
 use Rattle.irc_commands.specs.Decisions.{Decided}
-use Rattle.irc_stage.specs.Loops.Stage.{behind, machine_at}
+use Rattle.irc_stage.specs.Loops.Stage.{behind, machine_at, IsFit}
+use Rattle.irc_stage.specs.Loops.Speaking.{IsSaidByClient}
 use Rattle.irc_stage.specs.Lemmas.MatchedEvents.{decided_fit}
 use Rattle.irc_stage.specs.Lemmas.Matching.{spelled_row}
 use Rattle.irc_stage.specs.Lemmas.Outcomes.{on_ok}
-use Rattle.irc_server.proofs.ToldInPart.{carried_in_part, fit_left, told_there}
+use Rattle.irc_stage.specs.Lemmas.SpokenSteps.{decided_spoken}
+use Rattle.irc_server.proofs.ToldInPart.{carried_in_part, so_left, told_there}
 use Rattle.irc_server.proofs.WhatEventsDo.{decided_by_name}
 use Rattle.irc_server.proofs.acting.on_user_message.Goals as goal
 
@@ -18,10 +20,21 @@ pub carry_out-requires-clause-fit : goal.carry_out-requires-clause-fit
 carry_out-requires-clause-fit c =
     let machine = machine_at c.args.stage.now in
     let part = told_there _ machine.room _ _ c.args.nick.now c.args.conn (parsed c.args.message.now) _ _ _ c.room.ensures c.routes.ensures c.in_ok-decision.ensures.told in
-    fit_left machine part.told _ part.is_only_said
+    so_left IsFit machine part.told _ part.is_only_said
     (decided_fit c.decided_is_possible.ensures c.who_stays_is_user.ensures c.who_is_closed_quits.ensures machine c.requires.matched
     c.requires.ready.sound.well_formed c.args.nick.now (parsed c.args.message.now) _
     (ap (λ (acts : List Act). part.told ++ acts) c.deref.ensures.value ∙ sym (ap (λ (d : Decided). d.steps) part.want_is)))
+
+pub carry_out-requires-clause-spoken : goal.carry_out-requires-clause-spoken
+carry_out-requires-clause-spoken c =
+    let machine = machine_at c.args.stage.now in
+    let message = parsed c.args.message.now in
+    let part = told_there _ machine.room _ _ c.args.nick.now c.args.conn message _ _ _ c.room.ensures c.routes.ensures c.in_ok-decision.ensures.told in
+    let whole = ap (λ (acts : List Act). part.told ++ acts) c.deref.ensures.value ∙ sym (ap (λ (d : Decided). d.steps) part.want_is) in
+    so_left (IsSaidByClient c.args.conn) machine part.told _ part.is_only_said
+    (decided_spoken c.decided_by_itself.ensures machine c.requires.matched c.args.conn c.args.nick.now c.requires.speaks message _ whole
+    (decided_fit c.decided_is_possible.ensures c.who_stays_is_user.ensures c.who_is_closed_quits.ensures machine c.requires.matched
+    c.requires.ready.sound.well_formed c.args.nick.now message _ whole))
 
 pub returns-clause-ok : goal.returns-clause-ok
 returns-clause-ok c =

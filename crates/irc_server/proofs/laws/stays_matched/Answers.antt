@@ -4,10 +4,10 @@ use Rattle.irc_server.proofs.laws.stays_matched.Goals as goal
 
 pub returns-clause-machine : goal.returns-clause-machine
 returns-clause-machine c =
-    stays_matched c.decided_is_possible.ensures c.who_stays_is_user.ensures c.who_is_closed_quits.ensures c.registering_is_possible.ensures
-    c.registered_is_added.ensures c.unregistered_changes_nothing.ensures c.registered_stays.ensures
+    let users = c.users_come_and_go.ensures in
+    stays_matched users.possible users.stays users.closes users.registering users.added users.unregistered users.registered
 
 pub returns-clause-server : goal.returns-clause-server
 returns-clause-server c =
-    served_stays_matched (stays_matched c.decided_is_possible.ensures c.who_stays_is_user.ensures c.who_is_closed_quits.ensures c.registering_is_possible.ensures
-    c.registered_is_added.ensures c.unregistered_changes_nothing.ensures c.registered_stays.ensures)
+    let users = c.users_come_and_go.ensures in
+    served_stays_matched (stays_matched users.possible users.stays users.closes users.registering users.added users.unregistered users.registered)

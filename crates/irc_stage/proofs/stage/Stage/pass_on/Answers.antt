@@ -10,10 +10,10 @@ returns-then-branch-clause-ok c =
     let line = c.write_line.new.line.items in
     on_ok c.send_to_others.result _ _
     (λ is. ap (λ o. record { machine = machine; out = o })
-    (put_to_others c.args.out.now c.hold.new.self c.send_to_others.new.self _ line _ _ _ _ c.in_ok-hold.ensures.ok c.deref.ensures.0 c.number_of-own.ensures
+    (put_to_others c.args.out.now c.hold.new.self c.send_to_others.new.self _ line _ _ _ _ c.in_ok-hold.ensures.ok c.deref.ensures.0 c.conn-own.ensures
     (c.as_slice.ensures.value ∙ c.in_ok-refresh.ensures.found) is)
-    ∙ passed_on machine c.args.self.now.clients.by_nick c.requires.ready.indexed c.args.effect.now c.args.by.now c.args.channel.now c.requires.said c.requires.fit
-    c.requires.ready.sound.well_formed (Some line)
+    ∙ passed_on machine c.args.self.now.clients.by_nick c.requires.ready.indexed c.args.origin c.args.effect.now c.args.channel.now c.requires.said c.requires.spoken
+    c.requires.fit c.requires.ready.sound.well_formed (Some line)
     (λ viewer home. c.in_ok-write_line.ensures viewer (home ∙ sym c.requires.ready.own_is) ∙ ap (λ b. if b then Some line else None) c.if-branch.true)
     c.args.out.now.outs)
     c.send_to_others.ensures.ok
@@ -23,7 +23,7 @@ returns-clause-ok c =
     let machine = machine_at c.args.self.now in
     let line = c.write_line.new.line.items in
     ap (λ o. record { machine = machine; out = o }) (sym (append-nil c.args.out.now.outs))
-    ∙ passed_on machine c.args.self.now.clients.by_nick c.requires.ready.indexed c.args.effect.now c.args.by.now c.args.channel.now c.requires.said c.requires.fit
-    c.requires.ready.sound.well_formed None
+    ∙ passed_on machine c.args.self.now.clients.by_nick c.requires.ready.indexed c.args.origin c.args.effect.now c.args.channel.now c.requires.said c.requires.spoken
+    c.requires.fit c.requires.ready.sound.well_formed None
     (λ viewer home. c.in_ok-write_line.ensures viewer (home ∙ sym c.requires.ready.own_is) ∙ ap (λ b. if b then Some line else None) c.if-branch.false)
     c.args.out.now.outs

@@ -1,0 +1,2 @@
+pub mod MetHeard
+pub mod NeverBack

@@ -1,0 +1,5 @@
+pub mod DeedTold
+pub mod Heard
+pub mod LinkServed
+pub mod Laws
+pub mod Loops

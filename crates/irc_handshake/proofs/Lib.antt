@@ -1,0 +1,2 @@
+pub mod OwnName
+pub mod WholeLines

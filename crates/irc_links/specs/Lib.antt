@@ -1,0 +1,4 @@
+pub mod Ends
+pub mod Ways
+pub mod Loops
+pub mod Lemmas

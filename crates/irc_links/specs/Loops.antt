@@ -1,0 +1,3 @@
+-- Words of this crate's code alone. No rule stands here.
+pub mod Numbered
+pub mod Branching

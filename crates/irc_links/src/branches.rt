@@ -1,0 +1,114 @@
+//! The links behind which a channel has members, kept for as long as nothing changes.
+ghost use Rattle.std.specs.Prelude.{◌≡◌, ◌++◌, None, option_to_list, IfOk, OnOk};
+ghost use Rattle.std.specs.List.{filter_map};
+ghost use Rattle.std.specs.Option.{option_and_then};
+ghost use Rattle.irc_names.specs.Fold.{key};
+ghost use Rattle.irc_room.specs.Readers.{home_under};
+ghost use Rattle.irc_routes.specs.Known.{next_hop};
+ghost use Rattle.irc_links.specs.Ways.{homes_in, homes_of, links_toward};
+ghost use Rattle.irc_links.specs.Loops.Branching.{AreBranches, hops_of, is_of, link_toward};
+
+use irc_names::{ChannelName, Nick};
+use irc_room::Room;
+use irc_routes::Routes;
+use std::alloc::{AllocError, Global};
+
+/// The links behind which a member is of the channel that something was said in last: so a text does not walk the servers of the members.
+#[derive(Drop)]
+pub(crate) struct Branches {
+    /// The channel; none once a user, a channel or a server has changed.
+    pub channel: Option<ChannelName>,
+    /// The links, by number, each once.
+    pub links: Vec<u64, Global>,
+}
+
+impl Branches {
+    /// Those of no channel.
+    pub(crate) fn new(alloc: Global) -> Self
+        ensures { result.channel ≡ None }
+    {
+        Branches {
+            channel: None,
+            links: Vec::new(alloc),
+        }
+    }
+
+    /// Something has changed: they are to be found anew.
+    pub(crate) fn clear(&mut self)
+        ensures { self.new.channel ≡ None }
+    {
+        self.channel = None;
+    }
+
+    /// Whether they are those of this channel.
+    fn are_of(&self, channel: &ChannelName) -> bool
+        ensures { result ≡ is_of self.now channel.now }
+    {
+        match &self.channel {
+            Some(name) => *name == *channel,
+            None => false,
+        }
+    }
+
+    /// Those of this channel, which are found anew unless they are known.
+    ///
+    /// # Errors
+    /// Where memory runs out.
+    pub(crate) fn refresh(
+        &mut self,
+        room: &Room,
+        routes: &Routes,
+        channel: &ChannelName,
+    ) -> Result<(), AllocError>
+        requires { AreBranches self.old room.now.room routes.now }
+        ensures found { OnOk result (self.new.links.items ≡ links_toward routes.now (homes_in room.now.room channel.now)) }
+        ensures so { OnOk result (AreBranches self.new room.now.room routes.now) }
+    {
+        if self.are_of(channel) {
+            return Ok(());
+        }
+        self.clear();
+        self.links.clear();
+        let nicks = room.member_nicks(channel)?;
+        add_hops(room, routes, nicks.as_slice(), &mut self.links)?;
+        self.links.sort_unstable();
+        self.links.dedup();
+        self.channel = Some(channel.copy());
+        Ok(())
+    }
+}
+
+/// Adds the link toward each of these users that is one of another server.
+fn add_hops(
+    room: &Room,
+    routes: &Routes,
+    nicks: &[Nick],
+    links: &mut Vec<u64, Global>,
+) -> Result<(), AllocError>
+    ensures { OnOk result (links.new.items ≡ links.old.items ++ hops_of room.now.room routes.now nicks.now) }
+{
+    for nick in nicks {
+        add_link(links, toward(room, routes, nick))?;
+    }
+    Ok(())
+}
+
+/// Adds a link, if there is one.
+pub(crate) fn add_link(links: &mut Vec<u64, Global>, link: Option<u64>) -> Result<(), AllocError>
+    ensures { OnOk result (links.new.items ≡ links.old.items ++ option_to_list link) }
+{
+    if let Some(link) = link {
+        links.push(link)?;
+    }
+    Ok(())
+}
+
+/// The link toward a user, where there is such a user, and it is one of another server.
+pub(crate) fn toward(room: &Room, routes: &Routes, nick: &Nick) -> Option<u64>
+    ensures { result ≡ link_toward room.now.room routes.now nick.now }
+{
+    match room.user(nick.as_bytes()) {
+        Some(user) => routes.next_hop(user.home.as_bytes()),
+        None => None,
+    }
+}

@@ -1,0 +1,157 @@
+//! On which links a line goes.
+ghost use Rattle.std.specs.Prelude.{◌≡◌, ◌++◌, option_to_list, OnOk};
+ghost use Rattle.irc_links.specs.Ways.{but, met_links};
+ghost use Rattle.irc_links.specs.Loops.Branching.{IsRight, KnowsNothing, toward_members, toward_user, ways_around};
+ghost use Rattle.irc_links.specs.Loops.Numbered.{numbered};
+
+use crate::branches::{Branches, toward};
+use crate::link_end::LinkEnd;
+use irc_names::{ChannelName, Nick};
+use irc_room::{Effect, Room, Target};
+use irc_routes::Routes;
+use std::alloc::{AllocError, Global};
+use std::collections::BTreeMap;
+
+/// What decides on which links a line goes.
+#[derive(Clone, Copy)]
+pub struct Around<'a> {
+    /// The room.
+    pub room: &'a Room,
+    /// The servers that are known.
+    pub routes: &'a Routes,
+    /// The ends of the open links, each by the number of its link.
+    pub ends: &'a BTreeMap<u64, LinkEnd, Global>,
+}
+
+/// The links on which a line goes.
+#[derive(Drop)]
+pub struct Ways {
+    /// Those of the line at hand, by number.
+    pub links: Vec<u64, Global>,
+    /// The links behind which the channel has members that something was said in last.
+    branches: Branches,
+}
+
+impl Ways {
+    /// No line is at hand.
+    pub fn new(alloc: Global) -> Self
+        ensures { KnowsNothing result }
+    {
+        Ways {
+            links: Vec::new(alloc),
+            branches: Branches::new(alloc),
+        }
+    }
+
+    /// Something has changed: where a channel has members is to be found anew.
+    pub fn forget(&mut self)
+        ensures { KnowsNothing self.new }
+    {
+        self.branches.clear();
+    }
+
+    /// Finds the links on which an effect is told, but for the one by which it came.
+    ///
+    /// # Errors
+    /// Where memory runs out.
+    pub fn find(
+        &mut self,
+        around: Around<'_>,
+        arrival: Option<u64>,
+        effect: &Effect,
+    ) -> Result<(), AllocError>
+        requires { IsRight self.old around }
+        ensures found { OnOk result (self.new.links.items ≡ ways_around around.entry arrival effect.now) }
+        ensures so { OnOk result (IsRight self.new around.entry) }
+    {
+        self.links.clear();
+        match effect {
+            Effect::Say {
+                target: Target::Channel(channel),
+                ..
+            } => self.add_branches(around, arrival, channel),
+            Effect::Say {
+                target: Target::User(nick),
+                ..
+            } => add_toward(&mut self.links, around, arrival, nick),
+            Effect::Invite { nick, .. } => add_toward(&mut self.links, around, arrival, nick),
+            _ => add_met(&mut self.links, arrival, around.ends),
+        }
+    }
+
+    /// Adds the links behind which a channel has members.
+    fn add_branches(
+        &mut self,
+        around: Around<'_>,
+        arrival: Option<u64>,
+        channel: &ChannelName,
+    ) -> Result<(), AllocError>
+        requires { IsRight self.old around }
+        ensures found { OnOk result
+            (self.new.links.items ≡ self.old.links.items ++ but arrival (toward_members around.entry channel.now)) }
+        ensures so { OnOk result (IsRight self.new around.entry) }
+    {
+        self.branches.refresh(around.room, around.routes, channel)?;
+        add_others(&mut self.links, arrival, self.branches.links.as_slice())
+    }
+}
+
+/// Adds these links, but for the one by which the line came.
+fn add_others(
+    links: &mut Vec<u64, Global>,
+    arrival: Option<u64>,
+    more: &[u64],
+) -> Result<(), AllocError>
+    ensures { OnOk result (links.new.items ≡ links.old.items ++ but arrival more.now) }
+{
+    for link in more {
+        add_unless(links, arrival, Some(*link))?;
+    }
+    Ok(())
+}
+
+/// Adds the link toward the server of a user, where that is another server.
+#[tactic(auto, using(crate::specs::Lemmas::Listed::toward_one))]
+fn add_toward(
+    links: &mut Vec<u64, Global>,
+    around: Around<'_>,
+    arrival: Option<u64>,
+    nick: &Nick,
+) -> Result<(), AllocError>
+    ensures { OnOk result (links.new.items ≡ links.old.items ++ but arrival (toward_user around.entry nick.now)) }
+{
+    add_unless(links, arrival, toward(around.room, around.routes, nick))
+}
+
+/// Adds the links that count.
+fn add_met(
+    links: &mut Vec<u64, Global>,
+    arrival: Option<u64>,
+    ends: &BTreeMap<u64, LinkEnd, Global>,
+) -> Result<(), AllocError>
+    ensures { OnOk result (links.new.items ≡ links.old.items ++ but arrival (met_links (numbered ends.now))) }
+{
+    for (link, end) in ends.iter() {
+        if end.is_met() {
+            add_unless(links, arrival, Some(*link))?;
+        }
+    }
+    Ok(())
+}
+
+/// Adds a link, unless it is the one by which the line came.
+fn add_unless(
+    links: &mut Vec<u64, Global>,
+    arrival: Option<u64>,
+    link: Option<u64>,
+) -> Result<(), AllocError>
+    ensures { OnOk result (links.new.items ≡ links.old.items ++ but arrival (option_to_list link)) }
+{
+    match link {
+        Some(link) if arrival != Some(link) => {
+            links.push(link)?;
+            Ok(())
+        }
+        _ => Ok(()),
+    }
+}

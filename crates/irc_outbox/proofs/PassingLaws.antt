@@ -1,0 +1,68 @@
+-- Steps are passed over, one after another, up to the one that is served.
+use Rattle.std.proofs.Common.{◌≡◌, ℕ, ◌+◌, ◌<◌, ◌≤◌, suc, Bool, true, false, None, List, [], ◌∷◌, ◌++◌, length, drop, get_or, refl, sym, ◌∙◌, ap, subst, append-nil, drop-cons, add-one}
+use Rattle.std.specs.List.{list_any}
+use Rattle.std.proofs.lemmas.List.{append_assoc}
+use Rattle.irc_outbox.specs.declared.memory.MemoryWire.{MemoryWire}
+use Rattle.irc_outbox.specs.declared.memory.WireStep.{WireStep}
+use Rattle.irc_outbox.specs.declared.wire.Ready.{Ready}
+use Rattle.irc_outbox.specs.declared.wire.Ready.TheVariants as ready
+use Rattle.irc_outbox.specs.Memory.{told_at, Changes}
+use Rattle.irc_outbox.specs.Steps.{bytes_of, conn_of, giver_of, is_served, left_of, meets, report_of, ServesNext, serves_step, serves_none}
+use Rattle.irc_outbox.specs.Loops.Passing.{HasPassed}
+use Rattle.irc_outbox.proofs.MemoryLaws.{still_told, still_on}
+use Rattle.irc_outbox.proofs.StepLaws.{meets_keeps, none_more, passed_over, served_alike, stood}
+
+-- the step at a place stands before those behind it
+pub step_at : (steps : List WireStep) (at : ℕ) (step : WireStep) → at < length steps → step ≡ get_or steps at step
+    → drop at steps ≡ step ∷ drop (at + 1) steps
+step_at steps at step within is =
+    drop-cons steps at step within ∙ ap (λ s. s ∷ drop (suc at) steps) (sym is) ∙ ap (λ n. step ∷ drop n steps) (sym (add-one at))
+
+pub none_passed : (wire : MemoryWire) → HasPassed wire (record wire { was_read = false })
+none_passed wire = record { passed = []; left = refl; none = refl; stands = λ q. refl; told = λ calls all. all; unread = refl; same = refl }
+
+-- one more is passed over
+pub passes_on : (old mid now : MemoryWire) (step : WireStep) → HasPassed old mid → left_of mid ≡ step ∷ left_of now
+    → Changes (conn_of step) (meets step) mid.fars now.fars → is_served mid.fars step ≡ false → now ≡ record mid { at = now.at; fars = now.fars }
+    → HasPassed old now
+passes_on old mid now step so left changes unserved same = record {
+  passed = so.passed ++ step ∷ [];
+  left = so.left ∙ ap (λ xs. so.passed ++ xs) left ∙ sym (append_assoc so.passed (step ∷ []) (left_of now));
+  none = none_more (is_served old.fars) so.passed step so.none (served_alike step old.fars mid.fars so.stands ∙ unserved);
+  stands = λ q. passed_over step mid.fars now.fars changes unserved q ∙ so.stands q;
+  told = still_on old.fars mid.fars now.fars so.told (still_told (conn_of step) (meets step) mid.fars now.fars (meets_keeps step) changes);
+  unread = ap (λ (w : MemoryWire). w.was_read) same ∙ so.unread;
+  same = same ∙ ap (λ (w : MemoryWire). record w { at = now.at; fars = now.fars }) so.same
+      ∙ ap (λ (b : Bool). record old { at = now.at; fars = now.fars; was_read = b }) (sym (ap (λ (w : MemoryWire). w.was_read) same));
+}
+
+same_capacity : (old mid : MemoryWire) → HasPassed old mid → mid.pending.capacity ≡ old.pending.capacity
+same_capacity old mid so = ap (λ (w : MemoryWire). w.pending.capacity) so.same
+
+-- the next one is served
+pub serves_this : (old mid new : MemoryWire) (step : WireStep) (report : Ready) → HasPassed old mid → left_of mid ≡ step ∷ left_of new
+    → Changes (conn_of step) (meets step) mid.fars new.fars → is_served mid.fars step ≡ true → new.hand ≡ giver_of step
+    → (length (bytes_of step) ≤ mid.pending.capacity → new.pending.items ≡ bytes_of step) → new.pending.capacity ≡ mid.pending.capacity
+    → report ≡ report_of step → ServesNext old new report
+serves_this old mid new step report so left changes served giver bytes same_room is =
+    serves_step so.passed step (so.left ∙ ap (λ xs. so.passed ++ xs) left) so.none (served_alike step old.fars mid.fars so.stands ∙ served)
+    (record {
+      stands = stood step old.fars mid.fars new.fars so.stands changes served;
+      giver = giver;
+      bytes = λ fits. bytes (subst (λ (n : ℕ). length (bytes_of step) ≤ n) (sym (same_capacity old mid so)) fits);
+      same_room = same_room ∙ same_capacity old mid so;
+    })
+    is
+
+-- there is none to serve
+pub serves_nobody : (old mid new : MemoryWire) (report : Ready) → HasPassed old mid → left_of mid ≡ [] → left_of new ≡ left_of mid → new.fars ≡ mid.fars
+    → new.hand ≡ None → new.pending.capacity ≡ mid.pending.capacity → report ≡ ready.Idle → ServesNext old new report
+serves_nobody old mid new report so none same_left same_fars giver same_room is =
+    serves_none (ap (list_any (is_served old.fars)) (so.left ∙ ap (λ xs. so.passed ++ xs) none ∙ append-nil so.passed) ∙ so.none)
+    (record {
+      none_left = same_left ∙ none;
+      stands = λ q. ap (λ fars. told_at fars q) same_fars ∙ so.stands q;
+      giver = giver;
+      same_room = same_room ∙ same_capacity old mid so;
+    })
+    is

@@ -1,0 +1,7 @@
+//! Tests of what a line of a link is to a server.
+#![tactic(auto)]
+
+#[cfg(test)]
+mod hearing;
+#[cfg(test)]
+mod stage;

@@ -1,0 +1,45 @@
+//! What happens on a wire in memory, as tests write it down.
+use irc_names::{Host, ServerName};
+use irc_outbox::{MemoryWire, WireStep};
+use std::alloc::{AllocError, Global};
+
+/// One thing that happens, as [`WireStep`]. Each client comes from host `h`, and the server that was called is `b.net`.
+pub(crate) enum Step {
+    Client(u64),
+    Linked(u64),
+    Called(u64),
+    Bytes(u64, &'static [u8]),
+    End(u64),
+    ReadFails(u64),
+    Room(u64, usize),
+    WriteFails(u64),
+}
+
+fn wire_step(alloc: Global, step: &Step) -> Option<WireStep> {
+    match step {
+        Step::Client(conn) => Some(WireStep::Client(*conn, Host::read(b"h")?)),
+        Step::Linked(conn) => Some(WireStep::Linked(*conn, None)),
+        Step::Called(conn) => { Some(WireStep::Linked(*conn, Some(ServerName::read(b"b.net")?))) }
+        Step::Bytes(conn, bytes) => {
+            Some(WireStep::Bytes(*conn, Vec::from_slice(alloc, *bytes).ok()?))
+        }
+        Step::End(conn) => Some(WireStep::End(*conn)),
+        Step::ReadFails(conn) => Some(WireStep::ReadFails(*conn)),
+        Step::Room(conn, bytes) => Some(WireStep::Room(*conn, *bytes)),
+        Step::WriteFails(conn) => Some(WireStep::WriteFails(*conn)),
+    }
+}
+
+fn add(steps: &mut Vec<WireStep, Global>, step: WireStep) -> Result<(), AllocError> {
+    steps.push(step)?;
+    Ok(())
+}
+
+/// A wire on which one thing happens after another.
+pub(crate) fn wire(alloc: Global, happens: &[Step]) -> Option<MemoryWire> {
+    let mut steps = Vec::new(alloc);
+    for step in happens {
+        add(&mut steps, wire_step(alloc, step)?).ok()?;
+    }
+    MemoryWire::new(alloc, steps).ok()
+}
