@@ -48,13 +48,7 @@ fn hear_message(
         link,
     };
     if end.is_met() {
-        return told(read_burst_line(
-            stage.alloc(),
-            message,
-            at.room,
-            at.routes,
-            link,
-        ));
+        return told(read_burst_line(stage.alloc(), message, at.room, at.routes, link));
     }
     match read_handshake_line(stage.alloc(), message, at, end.password().is_some()) {
         Ok(opening) => Ok(open(stage, end, opening)),

@@ -6,5 +6,4 @@ ghost use Rattle.irc_deeds.specs.Laws.{NeverBack, NeverBackOfAll};
 pub fn never_back()
     ensures one { NeverBack }
     ensures all { NeverBackOfAll }
-{
-}
+{}

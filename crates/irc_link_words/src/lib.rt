@@ -15,9 +15,9 @@ pub use mode_parameters::expect_members;
 pub use numbers::read_number;
 pub use params::Params;
 pub use words::{
-    OPERATOR_MARK, is_come_mode, is_command, is_for_channel, is_marked, is_real_name, is_user_name, is_with_i,
-    is_without_i, read_channel, read_host, read_line, read_nick, read_server, read_target,
-    read_words, real_name, unmarked, user_name,
+    OPERATOR_MARK, is_come_mode, is_command, is_for_channel, is_marked, is_real_name, is_user_name,
+    is_with_i, is_without_i, read_channel, read_host, read_line, read_nick, read_server,
+    read_target, read_words, real_name, unmarked, user_name,
 };
 
 /// The greatest number in a line of a link (our own choice).

@@ -12,6 +12,7 @@ use std::test::Fail;
 type Row = (&'static [&'static [u8]], &'static [u8]);
 
 const PASS: &[u8] = b"PASS pw 0210010000 TREE|";
+
 const SERVER: &[u8] = b"SERVER b.net 1 1 :B";
 
 static ROWS: [Row; 21] = [

@@ -14,7 +14,7 @@ returns-then-is_met c =
     let message = parsed c.args.message.now in
     subst (IsHeard c.told.result)
     (sym (ap (λ b. if b then of_met (deeds_meant view.room view.routes c.args.link message)
-        else opened view c.args.end.now (handshake_meant (is_some (c.args.end.now).password) view.room view.routes c.args.link message))
+    else opened view c.args.end.now (handshake_meant (is_some (c.args.end.now).password) view.room view.routes c.args.link message))
     (sym c.is_met.ensures ∙ c.if-is_met.true)))
     (subst (λ meant. IsHeard c.told.result (of_met meant))
     (ap (λ room. deeds_meant room (c.routes.result).now c.args.link message) c.room.ensures
