@@ -1,4 +1,4 @@
--- What a line of a linked server means: the deeds that it tells of, or why the link is closed (RFC 2813 sections 4 and 5.7). Lines of users are read as
+-- What a line of a linked server means: the deeds that it tells of, or why the link is closed (RFC 2813 section 4, RFC 2812 section 3.7.1). Lines of users are read as
 -- irc_link_reader has it; here are the lines of servers, and what becomes of a nickname that two users have.
 --
 -- Lines by the link to b.net, as a.net reads them; bo is a user of b.net, al one of a.net, and c.net is unknown.
@@ -125,7 +125,7 @@ squit_line reader known (Some server) (name ∷ text ∷ []) =
     of_server reader server (are_words text) (not (is_known known name) || reader.is_far name) (is_server name && is_known known name) (loses server name text ∷ [])
 squit_line reader known _ _ = malformed
 
--- ---- a nickname that two users have (RFC 2813 section 5.7)
+-- ---- a nickname that two users have (RFC 2812 section 3.7.1)
 
 -- the holder of a nickname is killed
 abbrev pub killed : List ℕ → Room → List ℕ → List Deed

@@ -41,7 +41,7 @@ pub enum BurstAct {
         /// The text with which its users quit.
         text: Words,
     },
-    /// The user of a nickname quits, because another has it too (RFC 2813 section 5.7).
+    /// The user of a nickname quits, because another has it too (RFC 2812 section 3.7.1).
     Kill {
         /// Whose line it is; this server's own where two users met here.
         server: ServerName,

@@ -1,4 +1,4 @@
-//! What an effect comes to, of which a line of a link tells: where two users would have one nickname, they quit (RFC 2813 section 5.7).
+//! What an effect comes to, of which a line of a link tells: where two users would have one nickname, they quit (RFC 2812 section 3.7.1).
 ghost use Rattle.std.specs.Prelude.{◌≡◌, ◌∷◌, ◌++◌, [], Some, map, IfOk, OnOk};
 ghost use Rattle.std.specs.List.{flat_map};
 ghost use Rattle.std.specs.Option.{option_copied};

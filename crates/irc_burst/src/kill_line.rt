@@ -1,4 +1,4 @@
-//! KILL: a nickname that two users have (RFC 2813 section 5.7).
+//! KILL: a nickname that two users have (RFC 2812 section 3.7.1).
 ghost use Rattle.std.specs.Prelude.{◌≡◌, Ok, Err, Some, codes, map, option_to_list, if◌then◌else◌};
 ghost use Rattle.std.specs.Str.{bytes_eq};
 ghost use Rattle.irc_link_words.specs.declared.fault.WireFault.TheVariants.{Parameters};

@@ -1,4 +1,4 @@
-//! Lines of servers, read as what they mean (RFC 2813 sections 4 and 5.7).
+//! Lines of servers, read as what they mean (RFC 2813 section 4, RFC 2812 section 3.7.1).
 ghost use Rattle.std.specs.Prelude.{◌≡◌, Some};
 ghost use Rattle.irc_line.specs.MessageViews.{optional_now, parsed};
 ghost use Rattle.irc_link_reader.specs.Loops.Readings.{reader};

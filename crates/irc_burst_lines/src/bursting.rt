@@ -1,4 +1,4 @@
-//! The burst: what a server writes to a neighbour that is new (RFC 2813 section 5.2).
+//! The burst: what a server writes to a neighbour that is new (RFC 2813 section 5.3.2).
 //!
 //! The neighbour has to know a server before what is linked to it and before its users, and users before the channels that they are in. So the order is:
 //! the servers that are not behind the link, the nearer first; their users; channel by channel the members, the modes, the bans and the topic.

@@ -1,4 +1,4 @@
--- What the lines of a burst do at a server that reads them (RFC 2813 sections 5.2.2 and 5.7). They crossed the lines of its own burst, so nicknames may
+-- What the lines of a burst do at a server that reads them (RFC 2813 section 5.3.2, RFC 2812 section 3.7.1). They crossed the lines of its own burst, so nicknames may
 -- be on both sides, and so may channels.
 use Rattle.std.specs.Prelude.{ℕ, Bool, false, not, ◌&&◌, List, [], ◌∷◌, ◌++◌, if◌then◌else◌}
 use Rattle.std.specs.List.{list_all}
@@ -16,7 +16,7 @@ use Rattle.irc_room.specs.InTurn.{after_all}
 use Rattle.irc_merge.specs.Deeds.{Deed, does, kills, brings, sets, tops, member_comes, after_deeds}
 use Rattle.irc_merge.specs.Bursts.{home_passes}
 
--- A user is introduced. Where its nickname is held, the holder is killed, and the new user is not taken (RFC 2813 section 5.7).
+-- A user is introduced. Where its nickname is held, the holder is killed, and the new user is not taken (RFC 2812 section 3.7.1).
 abbrev pub introduced : List ℕ → Room → User → List Deed
 introduced own room user = option_map_or (λ (holder : User). kills own holder.nick ∷ []) (row room.users (key user.nick)) (does (AddUser user) ∷ [])
 

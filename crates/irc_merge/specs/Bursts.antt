@@ -1,4 +1,4 @@
--- What a server tells of its side of the network to a neighbour that is new (RFC 2813 section 5.2.2; that topics are told is our own choice).
+-- What a server tells of its side of the network to a neighbour that is new (RFC 2813 section 5.3.2; that topics are told is our own choice).
 use Rattle.std.specs.Prelude.{ℕ, Bool, Some, None, List, [], ◌∷◌, ◌++◌, Option, length, map, false, if◌then◌else◌}
 use Rattle.std.specs.Int.{div_ceil}
 use Rattle.std.specs.List.{filter_map, flat_map}

@@ -1,4 +1,4 @@
--- Two halves of a network become one (RFC 2813 sections 5.2 and 5.7). This says what is then there, and nothing of the lines by which the halves
+-- Two halves of a network become one (RFC 2813 section 5.3.2, RFC 2812 section 3.7.1). This says what is then there, and nothing of the lines by which the halves
 -- tell it to each other.
 use Rattle.std.specs.Prelude.{◌≡◌, ℕ, Option, Some, None, List, is_some, filter}
 use Rattle.std.specs.FinMap.{values, empty}

@@ -1,4 +1,4 @@
--- What the users of one half are shown when two halves of a network become one (RFC 2813 section 5.2.2).
+-- What the users of one half are shown when two halves of a network become one (RFC 2813 section 5.3.2).
 use Rattle.std.specs.Prelude.{ℕ, Bool, None, List, [], ◌∷◌, ◌++◌, codes, if◌then◌else◌}
 use Rattle.std.specs.List.{flat_map}
 use Rattle.std.specs.Option.{option_map_or}

@@ -59,13 +59,13 @@ pub fn squits_split()
 {}
 
 /// A burst that is read makes a room just what both halves become: who clashes is gone, everybody else is there, and so are all channels, members,
-/// modes, bans and topics (RFC 2813 section 5.2). Invitations alone are not told.
+/// modes, bans and topics (RFC 2813 section 5.3.2). Invitations alone are not told.
 pub fn burst_read_is_merge()
     ensures { BurstReadIsMerge }
 {}
 
 /// A burst that is read shows to each user of this side just what the merge shows: those who clash quit, in order, and then, channel by channel, each
-/// of the other side's members comes, with its flags (RFC 2813 section 5.2.2). The lines are the same, and so is their order.
+/// of the other side's members comes, with its flags (RFC 2813 section 5.3.2). The lines are the same, and so is their order.
 pub fn shown_is_merge_shown()
     ensures { ShownIsMergeShown }
 {}

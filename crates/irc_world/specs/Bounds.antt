@@ -56,7 +56,7 @@ most_of_client settings world (Some home) happening =
 
 -- ---- links that are made and lost
 
--- what a server tells of its side: each other server of it, and all that its room has (RFC 2813 section 5.2)
+-- what a server tells of its side: each other server of it, and all that its room has (RFC 2813 section 5.3.2)
 abbrev pub burst_lines : List Setting → World → Name → ℕ
 burst_lines settings world server = (part_size settings world.links server - 1) + length (burst server (world.hall server).room)
 

@@ -1,4 +1,4 @@
-//! Bursts, line by line, and the other lines of servers (RFC 2813 sections 4 and 5.2).
+//! Bursts, line by line, and the other lines of servers (RFC 2813 sections 4 and 5.3.2).
 use crate::stage::{add_neighbour, channel, come, join, nick, routes, server, set, set_topic};
 use arrayvec::ArrayVec;
 use irc_burst_lines::{
