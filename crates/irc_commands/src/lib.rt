@@ -1,7 +1,7 @@
 //! What a client's line does: the command table, registration, and the commands of users on the server.
 #![tactic(auto)]
 
-mod closing;
+pub mod closing;
 mod deciding;
 mod decision;
 pub mod laws;

@@ -6,62 +6,24 @@
 --   a KILL of a.net's own, by a collision   likewise, and line_on 2 as well: it goes back by the link that the other came by
 --   `:b.net NJOIN #c :@bo`                  line_to 1 `:bo!u@h JOIN #c`, line_to 1 `:a.net MODE #c +o bo`, then line_on 3 the same NJOIN
 --   link 2 is lost                          as if each server behind it were lost, b.net and then c.net: `:a.net SQUIT b.net :a.net b.net` on link 3, ..
-use Rattle.std.specs.Prelude.{◌≡◌, ℕ, Bool, true, false, Option, Some, None, List, [], ◌∷◌, ◌++◌, codes, if◌then◌else◌}
-use Rattle.std.specs.List.{flat_map}
+use Rattle.std.specs.Prelude.{ℕ, Bool, true, false, Option, Some, None, List, [], ◌∷◌, ◌++◌, codes, if◌then◌else◌}
 use Rattle.std.specs.Option.{option_map_or}
-use Rattle.std.specs.FinMap.{entries, get, retain_keys}
-use Rattle.irc_line.specs.Messages.{Written}
+use Rattle.std.specs.FinMap.{get}
 use Rattle.irc_merge.specs.Deeds.{Deed, does, gains, loses, kills, brings, sets, tops, effects_of}
 use Rattle.irc_merge.specs.Quits.{collision_text}
 use Rattle.irc_names.specs.Spellings.{exactly_same}
-use Rattle.irc_room.specs.declared.effect.Effect.TheVariants.{Quit}
-use Rattle.irc_routes.specs.Known.{Known, added, behind, without_server}
-use Rattle.irc_commands.specs.Quit.{error_line}
-use Rattle.irc_batch.specs.Batches.{Sent, end_of, line_to}
+use Rattle.irc_routes.specs.Known.{behind}
 use Rattle.irc_burst_lines.specs.DeedLines.{deed_parts}
 use Rattle.irc_burst.specs.DeedsMeant.{Told, a_deed, a_server}
-use Rattle.irc_stage.specs.declared.clients.Client.{Client}
-use Rattle.irc_stage.specs.RoomMachine.{Clients}
-use Rattle.irc_stage.specs.View.{End, View, without_end}
-use Rattle.irc_stage.specs.Handle.{is_client}
-use Rattle.irc_links.specs.Ways.{but, met_links}
-use Rattle.irc_stage.specs.EffectTold.{Served, all_changed, changed_if, effect_came, on_links, with_sent}
-
--- ---- what is told on to all
-
--- a line on every link that counts, but for the one by which it came
-abbrev pub told_on_all : Option ℕ → Written → Served → Served
-told_on_all arrival parts s = with_sent (on_links (but arrival (met_links s.view.ends)) parts) s
-
--- ---- servers come and go
-
-abbrev pub without_row : List ℕ → Served → Served
-without_row name s = record s { view = record s.view { routes = without_server name s.view.routes } }
-
--- a server more, behind a link: that link's number for it is kept, and it gets one of our own
-abbrev pub with_row : ℕ → List ℕ → List ℕ → ℕ → ℕ → List ℕ → Served → Served
-with_row link uplink name distance token info s =
-    record s { view = record s.view { routes = added link uplink name distance token info s.view.routes } }
-
--- ---- a client is ended
-
--- its ERROR, and its end
-abbrev pub ending : List ℕ → ℕ × Client → List Sent
-ending nick client =
-    if is_client nick client.1 then line_to client.0 (error_line collision_text) ∷ end_of client.0 ∷ [] else []
-
--- the clients of a server but for the one that is this user
-abbrev pub is_another : Clients → List ℕ → ℕ → Bool
-is_another clients nick conn = option_map_or (λ client. if is_client nick client then false else true) (get clients conn) true
-
--- the client that is this user, if it is one of the server's, is told and closed
-abbrev pub client_ended : List ℕ → Served → Served
-client_ended nick s = record {
-  view = record s.view { clients = retain_keys s.view.clients (is_another s.view.clients nick) };
-  out = s.out ++ flat_map (ending nick) (entries s.view.clients);
-}
+use Rattle.irc_stage.specs.View.{End, View}
+use Rattle.irc_stage.specs.EffectTold.{Served, all_changed, effect_came, taken_out}
+use Rattle.irc_stage.specs.Linked.{is_taken, told_on_all, unlinked, with_row, without_row}
 
 -- ---- deeds
+
+-- a server that is known no more
+abbrev pub forgotten : List ℕ → Served → Served
+forgotten name s = record s { view = without_row name s.view }
 
 -- What a deed does that came by a link, or is the server's own. Its line is what it is in the view before.
 unfoldable pub deed_told : Option ℕ → Deed → Served → Served
@@ -69,10 +31,9 @@ deed_told arrival (does effect) s = effect_came arrival effect s
 deed_told arrival (gains uplink name info) s = s
 deed_told arrival (loses server name text) s =
     told_on_all arrival (deed_parts s.view.room s.view.routes (loses server name text))
-    (without_row name (all_changed (effects_of s.view.room (loses server name text)) s))
+    (forgotten name (all_changed (effects_of s.view.room (loses server name text)) s))
 deed_told arrival (kills server nick) s =
-    told_on_all arrival (deed_parts s.view.room s.view.routes (kills server nick))
-    (client_ended nick (changed_if (Quit nick collision_text) s))
+    told_on_all arrival (deed_parts s.view.room s.view.routes (kills server nick)) (taken_out nick collision_text s)
 deed_told arrival deed s =
     told_on_all arrival (deed_parts s.view.room s.view.routes deed) (all_changed (effects_of s.view.room deed) s)
 
@@ -85,12 +46,17 @@ abbrev pub arrival_of : List ℕ → ℕ → Deed → Option ℕ
 arrival_of own link (kills server nick) = if exactly_same server own then None else Some link
 arrival_of own link deed = Some link
 
--- what a line of a link tells, with the numbers of a SERVER line; of a server more it is written in the routes that have it already
+-- a server more is told of in the routes that have it already
+abbrev pub gain_told : ℕ → (uplink name info : List ℕ) → Served → Served
+gain_told link uplink name info s = told_on_all (Some link) (deed_parts s.view.room s.view.routes (gains uplink name info)) s
+
+-- what a line of a link tells, with the numbers of a SERVER line
 unfoldable pub told_by : ℕ → Told → Served → Served
 told_by link (a_deed deed) s = deed_told (arrival_of s.view.routes.name link deed) deed s
 told_by link (a_server uplink name distance token info) s =
-    let more = with_row link uplink name distance token info s in
-    told_on_all (Some link) (deed_parts more.view.room more.view.routes (gains uplink name info)) more
+    if is_taken s.view.routes link name token
+    then gain_told link uplink name info (record s { view = with_row link uplink name distance token info s.view })
+    else s
 
 abbrev pub all_told : ℕ → List Told → Served → Served
 all_told link [] s = s
@@ -111,9 +77,7 @@ abbrev pub lost_behind : View → ℕ → Option End → List Deed
 lost_behind view link None = []
 lost_behind view link (Some end) = option_map_or (λ far. losses view.routes.name far (behind view.routes link)) end.far []
 
-abbrev pub without_link_end : ℕ → Served → Served
-without_link_end link s = record s { view = without_end link s.view }
-
 -- a link that is lost, or is closed: each server behind it is lost, of which the others are told, and then it is open no more
 abbrev pub link_lost : ℕ → Served → Served
-link_lost link s = without_link_end link (deeds_told (Some link) (lost_behind s.view link (get s.view.ends link)) s)
+link_lost link s =
+    let left = deeds_told (Some link) (lost_behind s.view link (get s.view.ends link)) s in record left { view = unlinked link left.view }

@@ -6,10 +6,11 @@
 --   PASS and SERVER of b.net       line_on 1 the burst of a.net
 --   PASS and SERVER of c.net       line_on 2 PASS, SERVER and the burst of a.net, b.net in it; then line_on 1 `:a.net SERVER c.net 2 3 :C`
 --   a line that closes link 1      end_of_link 1 with the reason, and then all that the loss of the link does
-use Rattle.std.specs.Prelude.{ℕ, is_none, Option, Some, None, List, [], ◌∷◌, ◌++◌, map, unwrap_or, if◌then◌else◌}
+use Rattle.std.specs.Prelude.{ℕ, is_none, Option, Some, None, Result, List, [], ◌∷◌, ◌++◌, map, unwrap_or, if◌then◌else◌}
 use Rattle.std.specs.Option.{option_map, option_map_or}
-use Rattle.std.specs.FinMap.{get, insert}
-use Rattle.irc_line.specs.Messages.{Written, text}
+use Rattle.std.specs.FinMap.{get}
+use Rattle.irc_line.specs.declared.reading.LineFault.{LineFault}
+use Rattle.irc_line.specs.Messages.{Parsed, Written, text}
 use Rattle.irc_batch.specs.Batches.{Sent, end_of_link, line_on}
 use Rattle.irc_batch.specs.declared.close_reason.CloseReason.TheVariants as reason
 use Rattle.irc_handshake.specs.GreetingLines.{greeting, pass_parts}
@@ -17,18 +18,9 @@ use Rattle.irc_burst_lines.specs.BurstLines.{burst_parts}
 use Rattle.irc_burst.specs.DeedsMeant.{a_server}
 use Rattle.irc_stage.specs.View.{End, View, password_for, with_end}
 use Rattle.irc_stage.specs.EffectTold.{Served, in_silence, with_sent}
+use Rattle.irc_stage.specs.Linked.{with_far, with_password}
 use Rattle.irc_deeds.specs.DeedTold.{all_told, link_lost, told_by}
-use Rattle.irc_deeds.specs.Heard.{Heard, ignored, closes, password, meets, tells}
-
--- ---- what an end keeps
-
-abbrev pub with_password : ℕ → List ℕ → View → View
-with_password link word view =
-    option_map_or (λ (end : End). record view { ends = insert view.ends link (record end { password = Some word }) }) (get view.ends link) view
-
-abbrev pub with_far : ℕ → List ℕ → View → View
-with_far link name view =
-    option_map_or (λ (end : End). record view { ends = insert view.ends link (record end { far = Some name }) }) (get view.ends link) view
+use Rattle.irc_deeds.specs.Heard.{Heard, ignored, closes, password, meets, tells, heard}
 
 -- ---- the handshake
 
@@ -68,3 +60,8 @@ after_heard view link (closes why) = link_lost link (with_sent (end_of_link link
 after_heard view link (password word) = in_silence (with_password link word view)
 after_heard view link (meets name info) = met_by link name info view
 after_heard view link (tells told) = all_told link told (in_silence view)
+
+-- a line that comes by a link; by one that is not open none comes
+abbrev pub line_served : View → ℕ → Result Parsed LineFault → Option End → Served
+line_served view link read None = in_silence view
+line_served view link read (Some end) = after_heard view link (heard view link end read)

@@ -1,2 +1,4 @@
 -- Words of this crate's code alone. No rule stands here.
 pub mod Hearing
+pub mod Telling
+pub mod Serving

@@ -50,6 +50,22 @@ impl Ways {
         self.branches.clear();
     }
 
+    /// Finds the links that count, but for the one by which a line came.
+    ///
+    /// # Errors
+    /// Where memory runs out.
+    pub fn find_met(
+        &mut self,
+        arrival: Option<u64>,
+        ends: &BTreeMap<u64, LinkEnd, Global>,
+    ) -> Result<(), AllocError>
+        ensures found { OnOk result (self.new.links.items ≡ but arrival (met_links (numbered ends.now))) }
+        ensures same { self.new.branches ≡ self.old.branches }
+    {
+        self.links.clear();
+        add_met(&mut self.links, arrival, ends)
+    }
+
     /// Finds the links on which an effect is told, but for the one by which it came.
     ///
     /// # Errors

@@ -16,6 +16,7 @@ use crate::event::{Event, ServerFault};
 use irc_batch::Batch;
 use irc_channels::Words;
 use irc_commands::{Pending, Registration, decide, laws, register};
+use irc_deeds::{hear_line, lose_link, open_link};
 use irc_line::{Message, parse};
 use irc_names::{Host, Nick, ServerName};
 use irc_room::Effect;
@@ -217,40 +218,55 @@ fn on_gone(stage: &mut Stage, conn: u64, out: &mut Batch) -> Result<(), ServerFa
     Ok(())
 }
 
-/// A link is open. Which of the two ends calls is kept; nothing is said on it yet.
-fn on_link_up(stage: &mut Stage, link: u64, starts: Option<ServerName>) -> Result<(), ServerFault>
-    requires ready { IsReady stage.old }
-    ensures acted { IsLinked link starts (view_of stage.old) result (view_of stage.new) }
+/// A link is open.
+fn on_link_up(
+    stage: &mut Stage,
+    link: u64,
+    starts: Option<ServerName>,
+    out: &mut Batch,
+) -> Result<(), ServerFault>
+    requires serving { IsServing stage.old }
+    ensures acted { IsLinked link starts stage.old out.old result stage.new out.new }
     ensures ready { Stands result (IsReady stage.new) }
+    ensures grew { Grew out.old.outs out.new.outs }
 {
-    if stage.has_link(link) {
+    if stage.end(link).is_some() {
         return Err(ServerFault::LinkThere);
     }
-    stage.open_link(link, starts)?;
+    open_link(stage, link, starts, out)?;
     Ok(())
 }
 
-/// A line of a link. Lines of links are not taken yet.
-fn on_link_line(stage: &Stage, link: u64) -> Result<(), ServerFault>
-    ensures acted { Comes (no_link (get (view_of stage.now).ends link)) ⊤ ⊤ result }
+/// A line comes by a link.
+fn on_link_line(
+    stage: &mut Stage,
+    link: u64,
+    line: &[u8],
+    out: &mut Batch,
+) -> Result<(), ServerFault>
+    requires serving { IsServing stage.old }
+    ensures acted { IsHeard link (read_of line.now) stage.old out.old result stage.new out.new }
+    ensures ready { Stands result (IsReady stage.new) }
+    ensures grew { Grew out.old.outs out.new.outs }
 {
-    if stage.has_link(link) {
-        Ok(())
-    } else {
-        Err(ServerFault::NoSuchLink)
+    if stage.end(link).is_none() {
+        return Err(ServerFault::NoSuchLink);
     }
+    hear_line(stage, link, line, out)?;
+    Ok(())
 }
 
 /// A link is lost.
-fn on_link_down(stage: &mut Stage, link: u64) -> Result<(), ServerFault>
-    requires ready { IsReady stage.old }
-    ensures acted { IsUnlinked link (view_of stage.old) result (view_of stage.new) }
+fn on_link_down(stage: &mut Stage, link: u64, out: &mut Batch) -> Result<(), ServerFault>
+    requires serving { IsServing stage.old }
+    ensures acted { IsUnlinked link stage.old out.old result stage.new out.new }
     ensures ready { Stands result (IsReady stage.new) }
+    ensures grew { Grew out.old.outs out.new.outs }
 {
-    if !stage.has_link(link) {
+    if stage.end(link).is_none() {
         return Err(ServerFault::NoSuchLink);
     }
-    stage.drop_link(link);
+    lose_link(stage, link, out)?;
     Ok(())
 }
 
@@ -282,8 +298,8 @@ pub(crate) fn act(stage: &mut Stage, event: &Event, out: &mut Batch) -> Result<(
             Err(_) => on_no_message(stage, *conn),
         },
         Event::Gone(conn) => on_gone(stage, *conn, out),
-        Event::LinkUp(link, starts) => on_link_up(stage, *link, copied(starts)),
-        Event::LinkLine(link, _) => on_link_line(stage, *link),
-        Event::LinkDown(link) => on_link_down(stage, *link),
+        Event::LinkUp(link, starts) => on_link_up(stage, *link, copied(starts), out),
+        Event::LinkLine(link, line) => on_link_line(stage, *link, line, out),
+        Event::LinkDown(link) => on_link_down(stage, *link, out),
     }
 }

@@ -5,3 +5,4 @@ pub mod PassedOver
 pub mod Listening
 pub mod Telling
 pub mod Peers
+pub mod ToldOnLinks

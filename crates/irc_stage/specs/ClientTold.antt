@@ -1,6 +1,7 @@
 -- What happens by a client of a server that has links. It is what it does to the room machine that the server is to its clients (in `Handle`), but that each
 -- effect also goes on the links, and invitations of other servers' users are not kept.
 use Rattle.std.specs.Prelude.{◌≡◌, ℕ, Bool, true, false, Option, Some, None, Result, Ok, Err, List, [], ◌∷◌}
+use Rattle.std.specs.FinMap.{insert, remove}
 use Rattle.irc_names.specs.Fold.{key}
 use Rattle.irc_names.specs.Tables.{row}
 use Rattle.irc_line.specs.declared.reading.LineFault.{LineFault}
@@ -18,10 +19,10 @@ use Rattle.irc_commands.specs.Register.{register}
 use Rattle.irc_batch.specs.Batches.{end_of, line_to}
 use Rattle.irc_stage.specs.declared.clients.Client.{Client}
 use Rattle.irc_stage.specs.declared.clients.Client.TheVariants.{Registering, Registered}
-use Rattle.irc_stage.specs.RoomMachine.{client_of, with_client, without_client}
+use Rattle.irc_stage.specs.RoomMachine.{client_of}
 use Rattle.irc_stage.specs.View.{View, machine_of}
-use Rattle.irc_stage.specs.Handle.{Happening, connects, says, goes, client_after, fresh, lost_text, unchanged, user_of}
-use Rattle.irc_stage.specs.EffectTold.{Served, effect_told, in_silence, put_back, with_sent}
+use Rattle.irc_stage.specs.Handle.{Happening, connects, says, goes, client_after, fresh, lost_text, user_of}
+use Rattle.irc_stage.specs.EffectTold.{Served, effect_told, in_silence, with_sent}
 
 -- One step: an answer and a line go to the client itself. Replies are sent to this name.
 abbrev pub step_told : ℕ → Option (List ℕ) → Act → Served → Served
@@ -36,10 +37,10 @@ steps_told conn name (act ∷ acts) s = steps_told conn name acts (step_told con
 
 -- a connection is this client from now on, or is none
 abbrev pub seated : ℕ → Client → View → View
-seated conn client view = (put_back view (unchanged (with_client (machine_of view) conn client))).view
+seated conn client view = record view { clients = insert view.clients conn client }
 
 abbrev pub unseated : ℕ → View → View
-unseated conn view = (put_back view (unchanged (without_client (machine_of view) conn))).view
+unseated conn view = record view { clients = remove view.clients conn }
 
 -- a client that is closed is one no more
 abbrev pub closed_told : Bool → ℕ → Served → Served

@@ -5,19 +5,30 @@
 --   bo says hi in #c (by link 2)    line_to 1 `:bo!u@h PRIVMSG #c :hi`; on link 3 nothing, where nobody is in #c
 --   al leaves #c                    line_to 1 `:al!u@h PART #c :`, then line_on 2 and line_on 3 `:al PART #c :`
 --   bo is invited by al             line_on 2 `:al INVITE bo #c`; b.net keeps that, a.net does not
-use Rattle.std.specs.Prelude.{◌≡◌, ℕ, Bool, false, is_some, Option, None, List, [], ◌∷◌, ◌++◌, map, if◌then◌else◌}
-use Rattle.std.specs.Option.{option_and_then}
+use Rattle.std.specs.Prelude.{ℕ, Bool, true, false, not, ◌&&◌, is_some, Option, Some, None, List, [], ◌∷◌, ◌++◌, map, filter_map, if◌then◌else◌}
+use Rattle.std.specs.List.{flat_map}
+use Rattle.std.specs.Option.{option_and_then, option_map_or}
+use Rattle.std.specs.FinMap.{entries, get, retain_keys}
 use Rattle.irc_line.specs.Messages.{Written, text}
 use Rattle.irc_names.specs.Fold.{key}
-use Rattle.irc_batch.specs.Batches.{Sent, line_on}
+use Rattle.irc_users.specs.UserTable.{is_home}
+use Rattle.irc_batch.specs.Batches.{Sent, end_of, line_on}
 use Rattle.irc_room.specs.declared.effect.Effect.{Effect}
-use Rattle.irc_room.specs.declared.effect.Effect.TheVariants.{Invite}
+use Rattle.irc_room.specs.declared.effect.Effect.TheVariants.{AddUser, Quit, Say, Invite}
+use Rattle.irc_room.specs.Room.{Room}
+use Rattle.irc_room.specs.After.{after}
+use Rattle.irc_room.specs.Effects.{brings_free, has_user}
 use Rattle.irc_room.specs.Readers.{home_under}
 use Rattle.irc_room.specs.Applying.{does}
+use Rattle.irc_room.specs.Seen.{seen}
 use Rattle.irc_routes.specs.Known.{next_hop}
+use Rattle.irc_commands.specs.Quit.{error_line}
 use Rattle.irc_link_writer.specs.Written.{wire}
+use Rattle.irc_stage.specs.declared.clients.Client.{Client}
+use Rattle.irc_stage.specs.RoomMachine.{Clients}
 use Rattle.irc_stage.specs.View.{View, machine_of}
-use Rattle.irc_stage.specs.Handle.{Handled, with_effect}
+use Rattle.irc_stage.specs.Handle.{Handled, clients_after, is_client, to_viewer}
+use Rattle.irc_stage.specs.Matched.{is_user_here}
 use Rattle.irc_links.specs.Ways.{ways}
 
 -- a server, and what it has put out, in order
@@ -32,10 +43,6 @@ in_silence view = record { view = view; out = [] }
 -- a view whose clients and room are those that its machine has then
 abbrev pub put_back : View → Handled → Served
 put_back view h = record { view = record view { clients = h.machine.clients; room = h.machine.room }; out = h.out }
-
--- without its links, it is a room machine
-abbrev pub as_handled : Served → Handled
-as_handled s = record { machine = machine_of s.view; out = s.out }
 
 -- the links on which a server tells an effect
 abbrev pub ways_at : View → Option ℕ → Effect → List ℕ
@@ -54,22 +61,70 @@ abbrev pub is_elsewhere : View → Effect → Bool
 is_elsewhere view (Invite by nick channel) = is_some (option_and_then (next_hop view.routes) (home_under view.room (key nick)))
 is_elsewhere view effect = false
 
--- An effect changes the room and the clients, and is shown to the viewers that are clients.
+-- what it makes of the room
+abbrev pub room_after : View → Effect → Room
+room_after view effect = if is_elsewhere view effect then view.room else after view.room effect
+
+-- An effect changes the room and the clients, ..
+abbrev pub view_after : View → Effect → View
+view_after view effect = record view { clients = clients_after effect view.clients; room = room_after view effect }
+
+-- .. and is shown to the viewers that are clients.
+abbrev pub shown_at : View → Effect → List Sent
+shown_at view effect = if is_elsewhere view effect then [] else flat_map (to_viewer view.clients) (seen view.room effect)
+
 abbrev pub changed : Effect → Served → Served
-changed effect s = if is_elsewhere s.view effect then s else put_back s.view (with_effect effect (as_handled s))
+changed effect s = record { view = view_after s.view effect; out = s.out ++ shown_at s.view effect }
 
 -- An effect that came by a link, or from a client of the server: it changes the room and is shown, and then goes on, as it is written in the room before.
 abbrev pub effect_told : Option ℕ → Effect → Served → Served
 effect_told arrival effect s = with_sent (on_links (ways_at s.view arrival effect) (wire s.view.room s.view.routes effect)) (changed effect s)
 
--- An effect of which a line of a link tells is left out, and not passed on, where it does nothing.
-abbrev pub effect_came : Option ℕ → Effect → Served → Served
-effect_came arrival effect s = if does s.view.room effect then effect_told arrival effect s else s
+-- ---- what links tell
 
--- effects that are not passed on one by one, each left out where it does nothing in the room as those before it have left it
+-- whether a user of the server's own comes, leaves or speaks by it: no link tells of that
+abbrev pub is_of_here : View → Effect → Bool
+is_of_here view (AddUser user) = is_home view.routes.name user
+is_of_here view (Quit nick text) = is_user_here (machine_of view) nick
+is_of_here view (Say by notice target text) = is_user_here (machine_of view) by
+is_of_here view effect = false
+
+-- Whether an effect counts of which a link tells: whom and what it names is there, it does something, and the nickname that it brings is free.
+abbrev pub counts : View → Effect → Bool
+counts view effect = does view.room effect && (brings_free view.room effect && not (is_of_here view effect))
+
+-- it is left out, and not passed on, where it does not count
+abbrev pub effect_came : Option ℕ → Effect → Served → Served
+effect_came arrival effect s = if counts s.view effect then effect_told arrival effect s else s
+
+-- effects that are not passed on one by one, each left out where it does not count in the room as those before it have left it
 abbrev pub changed_if : Effect → Served → Served
-changed_if effect s = if does s.view.room effect then changed effect s else s
+changed_if effect s = if counts s.view effect then changed effect s else s
 
 abbrev pub all_changed : List Effect → Served → Served
 all_changed [] s = s
 all_changed (effect ∷ effects) s = all_changed effects (changed_if effect s)
+
+-- ---- a user is taken out
+
+-- the user of a nickname quits, if there is one
+abbrev pub quit_by : List ℕ → List ℕ → Served → Served
+quit_by nick text s = if has_user s.view.room nick then changed (Quit nick text) s else s
+
+-- the end of each client that is this user
+abbrev pub ends_of : List ℕ → Clients → List Sent
+ends_of nick clients = filter_map (λ (c : ℕ × Client). if is_client nick c.1 then Some (end_of c.0) else None) (entries clients)
+
+-- whether a connection is that of another
+abbrev pub is_another : Clients → List ℕ → ℕ → Bool
+is_another clients nick conn = option_map_or (λ client. not (is_client nick client)) (get clients conn) true
+
+-- the client that is this user, if it is one of the server's, is told why, and closed
+abbrev pub client_ended : List ℕ → List ℕ → Served → Served
+client_ended nick text s = record {
+  view = record s.view { clients = retain_keys s.view.clients (is_another s.view.clients nick) };
+  out = s.out ++ (to_viewer s.view.clients (record { viewer = nick; line = error_line text }) ++ ends_of nick s.view.clients);
+}
+
+abbrev pub taken_out : List ℕ → List ℕ → Served → Served
+taken_out nick text s = client_ended nick text (quit_by nick text s)

@@ -5,3 +5,4 @@ pub mod Numbers
 pub mod Outcomes
 pub mod SpokenSteps
 pub mod Steps
+pub mod Twins

@@ -3,6 +3,7 @@ pub mod View
 pub mod Handle
 pub mod Matched
 pub mod EffectTold
+pub mod Linked
 pub mod ClientTold
 pub mod Loops
 pub mod Lemmas

@@ -2,3 +2,4 @@ pub mod Codes
 pub mod Listening
 pub mod Stage
 pub mod Speaking
+pub mod Linking

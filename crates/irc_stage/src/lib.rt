@@ -3,12 +3,14 @@
 #![tactic(auto)]
 
 mod clients;
+mod linked;
 mod listeners;
 mod origin;
 mod peer;
 mod stage;
 
 pub use clients::{Client, Waiting};
+pub use linked::Newcomer;
 pub use origin::{Origin, Speaker};
 pub use peer::Peer;
 pub use stage::Stage;

@@ -1,6 +1,6 @@
 //! Who acts.
 ghost use Rattle.std.specs.Prelude.{◌≡◌};
-ghost use Rattle.irc_stage.specs.Loops.Speaking.{conn_of};
+ghost use Rattle.irc_stage.specs.Loops.Speaking.{arrival_of, conn_of};
 
 use irc_names::Nick;
 
@@ -30,6 +30,16 @@ impl Origin<'_> {
         match self {
             Origin::Client(speaker) => Some(speaker.conn),
             Origin::Link(_) => None,
+        }
+    }
+
+    /// The link by which an effect came, where it came by one.
+    pub(crate) fn arrival(self) -> Option<u64>
+        ensures { result ≡ arrival_of self.entry }
+    {
+        match self {
+            Origin::Client(_) => None,
+            Origin::Link(link) => Some(link),
         }
     }
 }

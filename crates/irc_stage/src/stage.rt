@@ -1,19 +1,20 @@
 //! One server while an event is handled: what each step of a decision does to it, and what it puts out.
-ghost use Rattle.std.specs.Prelude.{◌≡◌, None, [], ◌∷◌, find, is_some, OnOk, IfOk};
-ghost use Rattle.std.specs.FinMap.{get};
+ghost use Rattle.std.specs.Prelude.{◌≡◌, None, [], ◌∷◌, ◌++◌, find, OnOk, IfOk};
 ghost use Rattle.std.specs.Option.{option_copied};
 ghost use Rattle.irc_room.specs.After.{after};
 ghost use Rattle.irc_room.specs.Applying.{pairs_of, shown_here};
 ghost use Rattle.irc_room.specs.Effects.{IsPossible};
 ghost use Rattle.irc_room.specs.Laws.{no_room};
+ghost use Rattle.irc_routes.specs.Known.{others};
 ghost use Rattle.irc_batch.specs.Growing.{Grew};
-ghost use Rattle.irc_stage.specs.RoomMachine.{client_of, with_client, without_client};
+ghost use Rattle.irc_links.specs.Loops.Branching.{KnowsNothing};
+ghost use Rattle.irc_stage.specs.EffectTold.{is_elsewhere};
 ghost use Rattle.irc_stage.specs.Handle.{clients_after};
-ghost use Rattle.irc_stage.specs.View.{is_peer_named, new_view, password_for, with_end, without_end};
+ghost use Rattle.irc_stage.specs.RoomMachine.{client_of, with_client, without_client};
+ghost use Rattle.irc_stage.specs.View.{is_peer_named, new_view, password_for};
 ghost use Rattle.irc_stage.specs.Loops.Listening.{IsSaidIn, IsSaidTo};
-ghost use Rattle.irc_stage.specs.Loops.Speaking.{AreSpoken, IsSpoken};
-ghost use Rattle.std.specs.FinMap.{insert};
-ghost use Rattle.irc_stage.specs.Loops.Stage.{clients_of, machine_at, numbered, view_of, Applies, AreFit, CarriesOut, IsFit, IsFreeOf, IsIndexed, IsNoUser, IsReady, IsSound, Keeps, LeavesApart, Takes, TakesAll};
+ghost use Rattle.irc_stage.specs.Loops.Speaking.{arrival_of, AreSpokenAt, IsSpoken};
+ghost use Rattle.irc_stage.specs.Loops.Stage.{clients_of, lines_on, machine_at, view_of, Applies, AreFitAt, CarriesOut, Changes, IsFit, IsFreeOf, IsIndexed, IsNoUser, IsReady, IsSound, Keeps, LeavesApart, Shows, Takes, TakesAll};
 
 use crate::clients::{self, Client, ClientTable, number_of, show_all};
 use crate::listeners::Listeners;
@@ -21,39 +22,47 @@ use crate::origin::{Origin, Speaker};
 use crate::peer::Peer;
 use irc_acts::Act;
 use irc_batch::Batch;
-use irc_links::LinkEnd;
-use irc_names::{ChannelName, Nick, ServerName};
+use irc_line::Text;
+use irc_link_writer::write_effect;
+use irc_links::{Around, LinkEnd, Ways};
+use irc_names::{ChannelName, Nick};
 use irc_numerics::reply_line;
 use irc_room::{Effect, Room, RoomFault, ShownLine, Target, laws};
 use irc_routes::Routes;
 use std::alloc::{AllocError, Global};
 use std::collections::BTreeMap;
 
+/// A line tells of an effect alike on every link.
+const EVERY_LINK: u64 = 0;
+
 /// What a server is made of.
 #[derive(Drop)]
 pub struct Stage {
     /// Its own row, and the servers that it knows.
-    routes: Routes,
+    pub(crate) routes: Routes,
     /// The servers that it may be linked to.
-    peers: Vec<Peer, Global>,
+    pub(crate) peers: Vec<Peer, Global>,
     /// The ends of its open links, each by the number of its link.
-    ends: BTreeMap<u64, LinkEnd, Global>,
+    pub(crate) ends: BTreeMap<u64, LinkEnd, Global>,
     /// Its clients.
-    clients: ClientTable,
+    pub(crate) clients: ClientTable,
     /// Its room.
-    room: Room,
+    pub(crate) room: Room,
     /// Who hears what is said in the channel that something was said in last.
-    listeners: Listeners,
+    pub(crate) listeners: Listeners,
+    /// The links on which the line at hand goes.
+    pub(crate) ways: Ways,
     /// What the effect at hand shows.
-    shown: ShownLine,
+    pub(crate) shown: ShownLine,
     /// Where it takes memory from.
-    alloc: Global,
+    pub(crate) alloc: Global,
 }
 
-/// Applies an effect to a room in which it is possible; `shown` is what it shows, and who listens there is `stale` by it.
+/// Applies an effect to a room in which it is possible; `shown` is what it shows. Who listens there, and behind which links, is to be found anew.
 fn happen(
     room: &mut Room,
-    stale: &mut Listeners,
+    listeners: &mut Listeners,
+    ways: &mut Ways,
     effect: &Effect,
     shown: &mut ShownLine,
 ) -> Result<(), AllocError>
@@ -62,9 +71,11 @@ fn happen(
     ensures after { OnOk result (room.new ≡ record room.old { room = after room.old.room effect.now }) }
     ensures shown { OnOk result (pairs_of shown.new ≡ shown_here room.old effect.now) }
     ensures sound { OnOk result (IsSound room.new) }
-    ensures forgotten { OnOk result (stale.new.channel ≡ None) }
+    ensures forgotten { OnOk result (listeners.new.channel ≡ None) }
+    ensures nothing { OnOk result (KnowsNothing ways.new) }
 {
-    stale.clear();
+    listeners.clear();
+    ways.forget();
     laws::after_is_well_formed();
     match room.apply(effect, shown) {
         Ok(()) => Ok(()),
@@ -89,6 +100,7 @@ fn follow(clients: &mut ClientTable, effect: &Effect) -> Result<(), AllocError>
 impl Stage {
     /// A server without clients, linked to none, in an empty room.
     pub fn new(alloc: Global, routes: Routes, peers: Vec<Peer, Global>) -> Self
+        requires alone { others routes ≡ [] }
         ensures made { view_of result ≡ new_view routes peers.items }
         ensures ready { IsReady result }
     {
@@ -100,6 +112,7 @@ impl Stage {
             clients: clients::no_clients(alloc),
             room,
             listeners: Listeners::new(alloc),
+            ways: Ways::new(alloc),
             shown: ShownLine::new(alloc),
             alloc,
         }
@@ -148,13 +161,6 @@ impl Stage {
         clients::client_of(&self.clients, conn)
     }
 
-    /// Whether a link is open.
-    pub fn has_link(&self, link: u64) -> bool
-        ensures { result ≡ is_some (get (view_of self.now).ends link) }
-    {
-        self.ends.contains_key(&link)
-    }
-
     /// A connection that is no user is this client from now on.
     ///
     /// # Errors
@@ -182,29 +188,8 @@ impl Stage {
         clients::take_out(&mut self.clients, conn);
     }
 
-    /// A link is open from now on: this end calls the server of this name, or is called.
-    ///
-    /// # Errors
-    /// Where memory runs out.
-    pub fn open_link(&mut self, link: u64, starts: Option<ServerName>) -> Result<(), AllocError>
-        requires ready { IsReady self.old }
-        ensures ok { OnOk result (view_of self.new ≡ with_end link starts (view_of self.old)) }
-        ensures ready { OnOk result (IsReady self.new) }
-    {
-        put_end(&mut self.ends, link, LinkEnd::new(starts))
-    }
-
-    /// A link is open no more.
-    pub fn drop_link(&mut self, link: u64)
-        requires ready { IsReady self.old }
-        ensures out { view_of self.new ≡ without_end link (view_of self.old) }
-        ensures ready { IsReady self.new }
-    {
-        self.ends.remove(&link);
-    }
-
-    /// An effect changes the room, and is shown to its viewers: the one door by which a server's room changes and what is said in it goes out. What is
-    /// said changes nothing, and there is the most of it: so it has ways of its own.
+    /// An effect changes the room, is shown to its viewers, and is told on links: the one door by which a server's room changes and what is said in
+    /// it goes out. On links it is told as it is written in the room before. Where no link is open, none is looked for.
     ///
     /// # Errors
     /// Where memory runs out.
@@ -217,9 +202,74 @@ impl Stage {
         requires ready { IsReady self.old }
         requires fit { IsFit (machine_at self.old) effect.now }
         requires spoken { IsSpoken origin (machine_at self.old) effect.now }
-        ensures ok { OnOk result (Applies effect.now self.old out.old self.new out.new) }
+        ensures ok { OnOk result (Applies (arrival_of origin.entry) effect.now self.old out.old self.new out.new) }
         ensures ready { OnOk result (IsReady self.new) }
         ensures keeps { Keeps self.old self.new }
+        ensures grew { Grew out.old.outs out.new.outs }
+    {
+        if self.ends.is_empty() {
+            return self.show(origin, effect, out);
+        }
+        let around = Around {
+            room: &self.room,
+            routes: &self.routes,
+            ends: &self.ends,
+        };
+        self.ways.find(around, origin.arrival(), effect)?;
+        let line = write_effect(effect, &self.room, &self.routes, EVERY_LINK);
+        self.change(origin, effect, out)?;
+        send_on_all(&line, self.ways.links.as_slice(), out)
+    }
+
+    /// An effect changes the room, and is shown to its viewers. An invitation of another server's user is that server's to keep.
+    pub(crate) fn change(
+        &mut self,
+        origin: Origin<'_>,
+        effect: &Effect,
+        out: &mut Batch,
+    ) -> Result<(), AllocError>
+        requires ready { IsReady self.old }
+        requires fit { IsFit (machine_at self.old) effect.now }
+        requires spoken { IsSpoken origin (machine_at self.old) effect.now }
+        ensures ok { OnOk result (Changes effect.now self.old out.old self.new out.new) }
+        ensures ready { OnOk result (IsReady self.new) }
+        ensures keeps { Keeps self.old self.new }
+        ensures ways { OnOk result (self.new.ways.links ≡ self.old.ways.links) }
+        ensures grew { Grew out.old.outs out.new.outs }
+    {
+        if self.is_elsewhere(effect) {
+            return Ok(());
+        }
+        self.show(origin, effect, out)
+    }
+
+    /// Whether an effect is an invitation of a user who is behind a link.
+    fn is_elsewhere(&self, effect: &Effect) -> bool
+        ensures { result ≡ is_elsewhere (view_of self.now) effect.now }
+    {
+        match effect {
+            Effect::Invite { nick, .. } => match self.room.user(nick.as_bytes()) {
+                Some(user) => self.routes.next_hop(user.home.as_bytes()).is_some(),
+                None => false,
+            },
+            _ => false,
+        }
+    }
+
+    /// An effect changes the room, and is shown to its viewers. What is said changes nothing, and there is the most of it: so it has ways of its own.
+    fn show(
+        &mut self,
+        origin: Origin<'_>,
+        effect: &Effect,
+        out: &mut Batch,
+    ) -> Result<(), AllocError>
+        requires ready { IsReady self.old }
+        requires fit { IsFit (machine_at self.old) effect.now }
+        requires spoken { IsSpoken origin (machine_at self.old) effect.now }
+        ensures ok { OnOk result (Shows effect.now self.old out.old self.new out.new) }
+        ensures ready { OnOk result (IsReady self.new) }
+        ensures keeps { Keeps self.old self.new }
+        ensures ways { OnOk result (self.new.ways.links ≡ self.old.ways.links) }
         ensures grew { Grew out.old.outs out.new.outs }
     {
         match effect {
@@ -231,7 +281,7 @@ impl Stage {
                 target: Target::User(nick),
                 ..
             } => self.tell(effect, nick, out),
-            _ => self.change(effect, out),
+            _ => self.change_room(effect, out),
         }
     }
 
@@ -247,9 +297,10 @@ impl Stage {
         requires fit { IsFit (machine_at self.old) effect.now }
         requires spoken { IsSpoken origin (machine_at self.old) effect.now }
         requires said { IsSaidIn channel.now effect.now }
-        ensures ok { OnOk result (Applies effect.now self.old out.old self.new out.new) }
+        ensures ok { OnOk result (Shows effect.now self.old out.old self.new out.new) }
         ensures ready { OnOk result (IsReady self.new) }
         ensures keeps { Keeps self.old self.new }
+        ensures ways { OnOk result (self.new.ways.links ≡ self.old.ways.links) }
         ensures grew { Grew out.old.outs out.new.outs }
     {
         self.listeners.refresh(&self.room, &self.clients, channel)?;
@@ -266,9 +317,10 @@ impl Stage {
         requires ready { IsReady self.old }
         requires fit { IsFit (machine_at self.old) effect.now }
         requires said { IsSaidTo nick.now effect.now }
-        ensures ok { OnOk result (Applies effect.now self.old out.old self.new out.new) }
+        ensures ok { OnOk result (Shows effect.now self.old out.old self.new out.new) }
         ensures ready { OnOk result (IsReady self.new) }
         ensures keeps { Keeps self.old self.new }
+        ensures ways { OnOk result (self.new.ways.links ≡ self.old.ways.links) }
         ensures grew { Grew out.old.outs out.new.outs }
     {
         let Some(conn) = number_of(&self.clients, nick) else {
@@ -281,15 +333,22 @@ impl Stage {
     }
 
     /// An effect changes the room, and is shown to its viewers.
-    fn change(&mut self, effect: &Effect, out: &mut Batch) -> Result<(), AllocError>
+    fn change_room(&mut self, effect: &Effect, out: &mut Batch) -> Result<(), AllocError>
         requires ready { IsReady self.old }
         requires fit { IsFit (machine_at self.old) effect.now }
-        ensures ok { OnOk result (Applies effect.now self.old out.old self.new out.new) }
+        ensures ok { OnOk result (Shows effect.now self.old out.old self.new out.new) }
         ensures ready { OnOk result (IsReady self.new) }
         ensures keeps { Keeps self.old self.new }
+        ensures ways { OnOk result (self.new.ways.links ≡ self.old.ways.links) }
         ensures grew { Grew out.old.outs out.new.outs }
     {
-        happen(&mut self.room, &mut self.listeners, effect, &mut self.shown)?;
+        happen(
+            &mut self.room,
+            &mut self.listeners,
+            &mut self.ways,
+            effect,
+            &mut self.shown,
+        )?;
         show_all(&self.clients, &self.shown, out)?;
         follow(&mut self.clients, effect)
     }
@@ -297,8 +356,8 @@ impl Stage {
     /// One step of a decision of a client.
     fn step(&mut self, speaker: Speaker<'_>, act: &Act, out: &mut Batch) -> Result<(), AllocError>
         requires ready { IsReady self.old }
-        requires fit { AreFit (machine_at self.old) (act.now ∷ []) }
-        requires spoken { AreSpoken speaker.conn (machine_at self.old) (act.now ∷ []) }
+        requires fit { AreFitAt (view_of self.old) (act.now ∷ []) }
+        requires spoken { AreSpokenAt speaker.conn (view_of self.old) (act.now ∷ []) }
         ensures ok { OnOk result (Takes speaker.entry act.now self.old out.old self.new out.new) }
         ensures ready { OnOk result (IsReady self.new) }
         ensures keeps { Keeps self.old self.new }
@@ -322,8 +381,8 @@ impl Stage {
         out: &mut Batch,
     ) -> Result<(), AllocError>
         requires ready { IsReady self.old }
-        requires fit { AreFit (machine_at self.old) steps.now }
-        requires spoken { AreSpoken speaker.conn (machine_at self.old) steps.now }
+        requires fit { AreFitAt (view_of self.old) steps.now }
+        requires spoken { AreSpokenAt speaker.conn (view_of self.old) steps.now }
         ensures ok { OnOk result (TakesAll speaker.entry steps.now self.old out.old self.new out.new) }
         ensures ready { OnOk result (IsReady self.new) }
         ensures keeps { Keeps self.old self.new }
@@ -347,8 +406,8 @@ impl Stage {
         out: &mut Batch,
     ) -> Result<(), AllocError>
         requires ready { IsReady self.old }
-        requires fit { AreFit (machine_at self.old) steps.now }
-        requires spoken { AreSpoken speaker.conn (machine_at self.old) steps.now }
+        requires fit { AreFitAt (view_of self.old) steps.now }
+        requires spoken { AreSpokenAt speaker.conn (view_of self.old) steps.now }
         ensures ok { OnOk result
             (CarriesOut speaker.entry steps.now close self.old out.old self.new out.new) }
         ensures ready { OnOk result (IsReady self.new) }
@@ -364,16 +423,14 @@ impl Stage {
     }
 }
 
-/// A link has this end from now on.
-fn put_end(
-    ends: &mut BTreeMap<u64, LinkEnd, Global>,
-    link: u64,
-    end: LinkEnd,
-) -> Result<(), AllocError>
-    ensures { OnOk result (numbered ends.new ≡ insert (numbered ends.old) link end) }
+/// A line on each of these links.
+pub(crate) fn send_on_all(line: &Text, links: &[u64], out: &mut Batch) -> Result<(), AllocError>
+    ensures ok { OnOk result (out.new.outs ≡ out.old.outs ++ lines_on links.now line.now.items) }
+    ensures grew { Grew out.old.outs out.new.outs }
 {
-    match ends.insert(link, end) {
-        Ok(_) => Ok(()),
-        Err(_) => Err(AllocError),
+    out.hold(line)?;
+    for link in links {
+        out.send_on(*link)?;
     }
+    Ok(())
 }

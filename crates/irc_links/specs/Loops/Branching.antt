@@ -43,8 +43,11 @@ ways_around around arrival effect = ways (numbered around.ends.now) around.route
 abbrev pub KnowsNothing : Ways → Type 0
 KnowsNothing found = found.branches.channel ≡ None
 
+abbrev pub IsRightIn : Ways → Room → Known → Type 0
+IsRightIn found room known = AreBranches found.branches room known
+
 abbrev pub IsRight : Ways → Around → Type 0
-IsRight found around = AreBranches found.branches around.room.now.room around.routes.now
+IsRight found around = IsRightIn found around.room.now.room around.routes.now
 
 -- the links toward the servers of the members of a channel, and toward that of a user
 abbrev pub toward_members : Around → List ℕ → List ℕ

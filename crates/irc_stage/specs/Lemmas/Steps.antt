@@ -1,43 +1,50 @@
--- The steps of a decision, one after another.
-use Rattle.std.proofs.Common.{◌≡◌, ℕ, Bool, true, false, Option, List, [], ◌∷◌, ◌++◌, refl, sym, ◌∙◌, ap, append-nil, append_assoc}
-use Rattle.std.specs.List.{flat_map}
+-- The steps of a decision, one after another: what was put out before stays in front.
+use Rattle.std.proofs.Common.{◌≡◌, ℕ, Bool, true, false, Option, None, List, [], ◌∷◌, ◌++◌, refl, sym, ◌∙◌, ap, append-nil, append_assoc}
 use Rattle.irc_numerics.specs.Replies.{reply_text}
-use Rattle.irc_room.specs.Seen.{seen}
+use Rattle.irc_room.specs.declared.effect.Effect.{Effect}
 use Rattle.irc_acts.specs.declared.act.Act.{Act}
 use Rattle.irc_acts.specs.declared.act.Act.TheVariants.{Answer, Raw, Do}
 use Rattle.irc_batch.specs.Batches.{Sent, end_of, line_to}
-use Rattle.irc_stage.specs.RoomMachine.{RoomMachine}
-use Rattle.irc_stage.specs.Handle.{Handled, stepped, all_stepped, closing, unchanged, with_effect, to_viewer}
+use Rattle.irc_link_writer.specs.Written.{wire}
+use Rattle.irc_stage.specs.View.{View}
+use Rattle.irc_stage.specs.EffectTold.{Served, changed, effect_told, in_silence, on_links, shown_at, view_after, ways_at, with_sent}
+use Rattle.irc_stage.specs.ClientTold.{closed_told, step_told, steps_told, unseated}
 use Rattle.irc_stage.specs.Loops.Stage.{behind}
 
--- the first step, and those behind it
+-- what a server does, whatever it put out before
+abbrev pub LeavesInFront : (Served → Served) → Type 0
+LeavesInFront serve = (out : List Sent) (s : Served) → serve (behind out s) ≡ behind out (serve s)
 
--- What was put out before stays in front.
+pub sent_behind : (sent : List Sent) → LeavesInFront (with_sent sent)
+sent_behind sent out s = ap (λ o. record { view = s.view; out = o }) (append_assoc out s.out sent)
 
-put_behind : (machine : RoomMachine) (out before more : List Sent) → record { machine = machine; out = (out ++ before) ++ more } ≡ behind out (record { machine = machine; out = before ++ more })
-put_behind machine out before more = ap (λ o. record { machine = machine; out = o }) (append_assoc out before more)
+pub changed_behind : (effect : Effect) → LeavesInFront (changed effect)
+changed_behind effect out s = ap (λ o. record { view = view_after s.view effect; out = o }) (append_assoc out s.out (shown_at s.view effect))
 
-step_behind : (out : List Sent) (conn : ℕ) (name : Option (List ℕ)) (act : Act) (h : Handled) → stepped conn name act (behind out h) ≡ behind out (stepped conn name act h)
-step_behind out conn name (Answer reply) h = put_behind h.machine out h.out (line_to conn (reply_text h.machine.place.name name reply) ∷ [])
-step_behind out conn name (Raw line) h = put_behind h.machine out h.out (line_to conn line.items ∷ [])
-step_behind out conn name (Do effect) h =
-    put_behind (with_effect effect h).machine out h.out (flat_map (to_viewer h.machine.clients) (seen h.machine.room effect))
+pub told_behind : (arrival : Option ℕ) (effect : Effect) → LeavesInFront (effect_told arrival effect)
+told_behind arrival effect out s =
+    let lines = on_links (ways_at s.view arrival effect) (wire s.view.room s.view.routes effect) in
+    ap (with_sent lines) (changed_behind effect out s) ∙ sent_behind lines out (changed effect s)
 
-steps_behind : (out : List Sent) (conn : ℕ) (name : Option (List ℕ)) (acts : List Act) (h : Handled) → all_stepped conn name acts (behind out h) ≡ behind out (all_stepped conn name acts h)
-steps_behind out conn name [] h = refl
-steps_behind out conn name (act ∷ acts) h =
-    ap (all_stepped conn name acts) (step_behind out conn name act h) ∙ steps_behind out conn name acts (stepped conn name act h)
+step_behind : (conn : ℕ) (name : Option (List ℕ)) (act : Act) → LeavesInFront (step_told conn name act)
+step_behind conn name (Answer reply) out s = sent_behind (line_to conn (reply_text s.view.routes.name name reply) ∷ []) out s
+step_behind conn name (Raw line) out s = sent_behind (line_to conn line.items ∷ []) out s
+step_behind conn name (Do effect) out s = told_behind None effect out s
 
-close_behind : (out : List Sent) (conn : ℕ) (close : Bool) (h : Handled) → closing close conn (behind out h) ≡ behind out (closing close conn h)
-close_behind out conn true h = put_behind (closing true conn h).machine out h.out (end_of conn ∷ [])
-close_behind out conn false h = refl
+steps_behind : (conn : ℕ) (name : Option (List ℕ)) (acts : List Act) → LeavesInFront (steps_told conn name acts)
+steps_behind conn name [] out s = refl
+steps_behind conn name (act ∷ acts) out s = ap (steps_told conn name acts) (step_behind conn name act out s) ∙ steps_behind conn name acts out (step_told conn name act s)
 
-pub nothing_behind : (machine : RoomMachine) (out : List Sent) → record { machine = machine; out = out } ≡ behind out (unchanged machine)
-nothing_behind machine out = ap (λ o. record { machine = machine; out = o }) (sym (append-nil out))
+close_behind : (close : Bool) (conn : ℕ) → LeavesInFront (closed_told close conn)
+close_behind true conn out s = sent_behind (end_of conn ∷ []) out (record s { view = unseated conn s.view })
+close_behind false conn out s = refl
 
-pub carried_behind : (out : List Sent) (conn : ℕ) (name : Option (List ℕ)) (acts : List Act) (close : Bool) (machine : RoomMachine)
-    → closing close conn (all_stepped conn name acts (record { machine = machine; out = out })) ≡ behind out (closing close conn (all_stepped conn name acts (unchanged machine)))
-carried_behind out conn name acts close machine =
-    ap (λ h. closing close conn (all_stepped conn name acts h)) (nothing_behind machine out)
-    ∙ ap (closing close conn) (steps_behind out conn name acts (unchanged machine))
-    ∙ close_behind out conn close (all_stepped conn name acts (unchanged machine))
+pub nothing_behind : (view : View) (out : List Sent) → record { view = view; out = out } ≡ behind out (in_silence view)
+nothing_behind view out = ap (λ o. record { view = view; out = o }) (sym (append-nil out))
+
+pub carried_behind : (out : List Sent) (conn : ℕ) (name : Option (List ℕ)) (acts : List Act) (close : Bool) (view : View)
+    → closed_told close conn (steps_told conn name acts (record { view = view; out = out })) ≡ behind out (closed_told close conn (steps_told conn name acts (in_silence view)))
+carried_behind out conn name acts close view =
+    ap (λ s. closed_told close conn (steps_told conn name acts s)) (nothing_behind view out)
+    ∙ ap (closed_told close conn) (steps_behind conn name acts out (in_silence view))
+    ∙ close_behind close conn out (steps_told conn name acts (in_silence view))

@@ -7,12 +7,18 @@ use Rattle.irc_acts.specs.declared.act.Act.{Act}
 use Rattle.irc_stage.specs.declared.origin.Origin.{Origin}
 use Rattle.irc_stage.specs.declared.origin.Origin.TheVariants.{Client, Link}
 use Rattle.irc_stage.specs.RoomMachine.{RoomMachine, client_of}
-use Rattle.irc_stage.specs.Loops.Stage.{AreInTurn, IsNamed}
+use Rattle.irc_stage.specs.View.{View}
+use Rattle.irc_stage.specs.Loops.Stage.{AreInTurn, AreInTurnAt, IsNamed}
 
 -- the connection of who acts, where it is a client
 abbrev pub conn_of : Origin → Option ℕ
 conn_of (Client speaker) = Some (speaker.conn)
 conn_of (Link link) = None
+
+-- the link by which it came, where it came by one
+abbrev pub arrival_of : Origin → Option ℕ
+arrival_of (Client speaker) = None
+arrival_of (Link link) = Some link
 
 -- what is said, if this says something, the user of this connection says
 abbrev pub IsSaidByClient : ℕ → RoomMachine → Effect → Type 0
@@ -32,3 +38,6 @@ IsSpoken (Link link) machine effect = IsSaidElsewhere machine effect
 -- the same of each of these steps of a client, in its turn
 abbrev pub AreSpoken : ℕ → RoomMachine → List Act → Type 0
 AreSpoken conn machine acts = AreInTurn (IsSaidByClient conn) machine acts
+
+abbrev pub AreSpokenAt : ℕ → View → List Act → Type 0
+AreSpokenAt conn view acts = AreInTurnAt (IsSaidByClient conn) view acts

@@ -22,12 +22,18 @@ use Rattle.irc_acts.specs.declared.act.Act.TheVariants.{Do}
 use Rattle.irc_stage.specs.declared.clients.Client.{Client}
 use Rattle.irc_stage.specs.declared.clients.Client.TheVariants.{Registered}
 use Rattle.irc_stage.specs.declared.clients.ClientTable.{ClientTable}
-use Rattle.irc_batch.specs.Batches.{Batch, Sent}
+use Rattle.irc_batch.specs.Batches.{Batch, Sent, line_on}
 use Rattle.irc_stage.specs.declared.origin.Speaker.{Speaker}
 use Rattle.irc_stage.specs.declared.stage.Stage.{Stage}
 use Rattle.irc_stage.specs.RoomMachine.{Clients, RoomMachine, client_of, each_client}
 use Rattle.irc_stage.specs.View.{View, known_peer, machine_of}
-use Rattle.irc_stage.specs.Handle.{Handled, to_viewer, renamed_in, machine_after, with_effect, stepped, all_stepped, closing}
+use Rattle.irc_links.specs.Ways.{AreEnds}
+use Rattle.irc_links.specs.Loops.Branching.{IsRightIn}
+pub use Rattle.irc_links.specs.Loops.Numbered.{numbered}
+use Rattle.irc_stage.specs.Handle.{Handled, to_viewer, renamed_in, machine_after, with_effect}
+use Rattle.irc_stage.specs.Matched.{IsMatched}
+use Rattle.irc_stage.specs.EffectTold.{Served, changed, changed_if, client_ended, effect_came, effect_told, quit_by, taken_out, view_after}
+use Rattle.irc_stage.specs.ClientTold.{closed_told, step_told, steps_told}
 use Rattle.irc_stage.specs.Loops.Listening.{AreSo}
 
 -- what a room hands out, as it is shown
@@ -36,10 +42,6 @@ shown_of pair = record { viewer = pair.0; line = pair.1.items }
 
 abbrev pub all_shown : Clients → List (List ℕ × ArrayVec ℕ) → List Sent
 all_shown clients pairs = flat_map (to_viewer clients) (map shown_of pairs)
-
--- what stands under numbers: clients under those of their connections, ends under those of their links
-abbrev pub numbered : {X : Type 0} → BTreeMap ℕ X → FinMap nat_cmp X
-numbered m = from_entries m.entries
 
 abbrev pub clients_of : ClientTable → Clients
 clients_of table = numbered table.by_number
@@ -97,42 +99,82 @@ pub record Keeps (old new : Stage) : Type 0 where
   pub peers : new.peers ≡ old.peers
   pub ends : new.ends ≡ old.ends
 
--- the server now, and what has been put out
+-- the server now, and what has been put out: to its clients a room machine, with its links all of it
 abbrev pub so_far : Stage → List Sent → Handled
 so_far stage out = record { machine = machine_at stage; out = out }
 
--- From one moment of a server, and of what it has put out, to a later one: an effect is applied.
-abbrev pub Applies : Effect → Stage → Batch → Stage → Batch → Type 0
-Applies effect old out new out_after = so_far new out_after.outs ≡ with_effect effect (so_far old out.outs)
+abbrev pub served_at : Stage → List Sent → Served
+served_at stage out = record { view = view_of stage; out = out }
+
+-- a line on each of these links
+abbrev pub lines_on : List ℕ → List ℕ → List Sent
+lines_on links line = map (λ link. line_on link line) links
+
+-- From one moment of a server, and of what it has put out, to a later one: an effect changes the room and is shown.
+abbrev pub Shows : Effect → Stage → Batch → Stage → Batch → Type 0
+Shows effect old out new out_after = so_far new out_after.outs ≡ with_effect effect (so_far old out.outs)
+
+-- the same, but that an invitation of another server's user is not kept
+abbrev pub Changes : Effect → Stage → Batch → Stage → Batch → Type 0
+Changes effect old out new out_after = served_at new out_after.outs ≡ changed effect (served_at old out.outs)
+
+-- An effect is applied, and told on links.
+abbrev pub Applies : Option ℕ → Effect → Stage → Batch → Stage → Batch → Type 0
+Applies arrival effect old out new out_after = served_at new out_after.outs ≡ effect_told arrival effect (served_at old out.outs)
+
+-- An effect comes by a link, to be told on or not.
+abbrev pub Comes : Option ℕ → Effect → Stage → Batch → Stage → Batch → Type 0
+Comes arrival effect old out new out_after = served_at new out_after.outs ≡ effect_came arrival effect (served_at old out.outs)
+
+abbrev pub ChangesIf : Effect → Stage → Batch → Stage → Batch → Type 0
+ChangesIf effect old out new out_after = served_at new out_after.outs ≡ changed_if effect (served_at old out.outs)
+
+-- The user of a nickname quits with this text, and the client that it is is closed.
+abbrev pub TakesOut : List ℕ → List ℕ → Stage → Batch → Stage → Batch → Type 0
+TakesOut nick text old out new out_after = served_at new out_after.outs ≡ taken_out nick text (served_at old out.outs)
+
+abbrev pub Quits : List ℕ → List ℕ → Stage → Batch → Stage → Batch → Type 0
+Quits nick text old out new out_after = served_at new out_after.outs ≡ quit_by nick text (served_at old out.outs)
+
+abbrev pub EndsClient : List ℕ → List ℕ → Stage → Batch → Stage → Batch → Type 0
+EndsClient nick text old out new out_after = served_at new out_after.outs ≡ client_ended nick text (served_at old out.outs)
 
 -- A step of a client is taken, or steps one after another.
 abbrev pub Takes : Speaker → Act → Stage → Batch → Stage → Batch → Type 0
-Takes speaker act old out new out_after = so_far new out_after.outs ≡ stepped speaker.conn (optional_now speaker.nick) act (so_far old out.outs)
+Takes speaker act old out new out_after = served_at new out_after.outs ≡ step_told speaker.conn (optional_now speaker.nick) act (served_at old out.outs)
 
 abbrev pub TakesAll : Speaker → List Act → Stage → Batch → Stage → Batch → Type 0
 TakesAll speaker acts old out new out_after =
-    so_far new out_after.outs ≡ all_stepped speaker.conn (optional_now speaker.nick) acts (so_far old out.outs)
+    served_at new out_after.outs ≡ steps_told speaker.conn (optional_now speaker.nick) acts (served_at old out.outs)
 
 -- The steps of a decision of a client are taken, and then the client is closed if it is to be.
 abbrev pub CarriesOut : Speaker → List Act → Bool → Stage → Batch → Stage → Batch → Type 0
 CarriesOut speaker acts close old out new out_after =
-    so_far new out_after.outs ≡ closing close speaker.conn (all_stepped speaker.conn (optional_now speaker.nick) acts (so_far old out.outs))
+    served_at new out_after.outs ≡ closed_told close speaker.conn (steps_told speaker.conn (optional_now speaker.nick) acts (served_at old out.outs))
 
 -- what was put out before stands in front
-abbrev pub behind : List Sent → Handled → Handled
-behind out h = record { machine = h.machine; out = out ++ h.out }
+abbrev pub behind : List Sent → Served → Served
+behind out s = record { view = s.view; out = out ++ s.out }
 
 -- a room that serves
 pub record IsSound (kept : Kept) : Type 0 where
   pub serves : kept.failed ≡ false
   pub well_formed : IsWellFormed kept.room
 
--- the room is the server's own, and serves; who hears what is said, where it is kept, is so
+-- the room is the server's own, and serves; who hears what is said, and behind which links, is so where it is kept; each known server is behind a link
+-- that counts
 pub record IsReady (stage : Stage) : Type 0 where
   pub own_is : stage.room.own ≡ stage.routes.name
   pub sound : IsSound stage.room
   pub indexed : IsIndexed stage.clients
   pub heard : AreSo stage.listeners stage.room.room stage.clients.by_nick
+  pub branches : IsRightIn stage.ways stage.room.room stage.routes
+  pub met : AreEnds (numbered stage.ends) stage.routes
+
+-- and clients and users are matched
+pub record IsServing (stage : Stage) : Type 0 where
+  pub ready : IsReady stage
+  pub matched : IsMatched (machine_at stage)
 
 -- a connection that is no client, or one that has not registered
 abbrev pub IsNoUser : Option Client → Type 0
@@ -168,3 +210,12 @@ AreInTurn IsSo machine (act ∷ acts) = AreInTurn IsSo machine acts
 
 abbrev pub AreFit : RoomMachine → List Act → Type 0
 AreFit machine acts = AreInTurn IsFit machine acts
+
+-- The same at a server with links, where invitations of other servers' users are not kept.
+abbrev pub AreInTurnAt : (RoomMachine → Effect → Type 0) → View → List Act → Type 0
+AreInTurnAt IsSo view [] = ⊤
+AreInTurnAt IsSo view (Do effect ∷ acts) = IsSoFirst (IsSo (machine_of view) effect) (AreInTurnAt IsSo (view_after view effect) acts)
+AreInTurnAt IsSo view (act ∷ acts) = AreInTurnAt IsSo view acts
+
+abbrev pub AreFitAt : View → List Act → Type 0
+AreFitAt view acts = AreInTurnAt IsFit view acts

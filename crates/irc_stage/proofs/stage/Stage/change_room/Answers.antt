@@ -3,7 +3,7 @@ use Rattle.irc_room.specs.Applying.{pairs_of}
 use Rattle.irc_stage.specs.Loops.Stage.{clients_of, machine_at}
 use Rattle.irc_stage.proofs.HomeRoom.{effect_applied}
 use Rattle.irc_stage.specs.Lemmas.Outcomes.{on_ok}
-use Rattle.irc_stage.proofs.stage.Stage.change.Goals as goal
+use Rattle.irc_stage.proofs.stage.Stage.change_room.Goals as goal
 
 pub returns-clause-ok : goal.returns-clause-ok
 returns-clause-ok c =

@@ -1,0 +1,59 @@
+-- What the code does of what a line of a link tells, from one moment of a server and of what it has put out to a later one.
+use Rattle.std.specs.Prelude.{◌≡◌, ℕ, Bool, true, Option, Some, List, [], ◌∷◌}
+use Rattle.irc_batch.specs.Batches.{Batch}
+use Rattle.irc_burst.specs.DeedsMeant.{Told, a_deed, a_server}
+use Rattle.irc_burst.specs.Loops.Acts.{members_told}
+use Rattle.irc_merge.specs.Deeds.{Deed, brings, kills, loses, sets, tops}
+use Rattle.irc_modes.specs.declared.modes.ModeLetter.{ModeLetter}
+use Rattle.irc_room.specs.declared.effect.By.TheVariants as by
+use Rattle.irc_room.specs.declared.effect.Effect.{Effect}
+use Rattle.irc_room.specs.declared.effect.Effect.TheVariants.{ChangeModes}
+use Rattle.irc_stage.specs.declared.linked.Newcomer.{Newcomer}
+use Rattle.irc_stage.specs.declared.stage.Stage.{Stage}
+use Rattle.irc_stage.specs.EffectTold.{all_changed}
+use Rattle.irc_stage.specs.Loops.Stage.{served_at}
+use Rattle.irc_deeds.specs.declared.members.Arrivals.{Arrivals}
+use Rattle.irc_deeds.specs.declared.telling.Loss.{Loss}
+use Rattle.irc_deeds.specs.declared.telling.Setting.{Setting}
+use Rattle.irc_deeds.specs.declared.telling.Topic.{Topic}
+use Rattle.irc_deeds.specs.DeedTold.{all_told, deed_told, told_by}
+
+-- the deeds that these tell of
+abbrev pub loses_of : Loss → Deed
+loses_of loss = loses loss.server.now loss.name.now loss.text.now
+
+abbrev pub brings_of : Arrivals → Deed
+brings_of arrivals = brings arrivals.server.now arrivals.channel.now (members_told arrivals.members.now)
+
+abbrev pub sets_of : Setting → Deed
+sets_of setting = sets setting.server.now setting.channel.now setting.changes.now
+
+abbrev pub tops_of : Topic → Deed
+tops_of topic = tops topic.server.now topic.channel.now topic.text.now
+
+-- what gives a member a flag
+abbrev pub flag_of : ModeLetter → List ℕ → List ℕ → Effect
+flag_of letter channel nick = ChangeModes by.Home channel (record { plus = true; letter = letter; word = Some nick } ∷ [])
+
+-- effects are taken that come by a link, one after another
+abbrev pub ChangesAll : List Effect → Stage → Batch → Stage → Batch → Type 0
+ChangesAll effects old out new out_after = served_at new out_after.outs ≡ all_changed effects (served_at old out.outs)
+
+-- a deed is done
+abbrev pub DoesDeed : Option ℕ → Deed → Stage → Batch → Stage → Batch → Type 0
+DoesDeed arrival deed old out new out_after = served_at new out_after.outs ≡ deed_told arrival deed (served_at old out.outs)
+
+-- what a line tells is done, alone or one after another
+abbrev pub Tells : ℕ → Told → Stage → Batch → Stage → Batch → Type 0
+Tells link told old out new out_after = served_at new out_after.outs ≡ told_by link told (served_at old out.outs)
+
+abbrev pub TellsAll : ℕ → List Told → Stage → Batch → Stage → Batch → Type 0
+TellsAll link told old out new out_after = served_at new out_after.outs ≡ all_told link told (served_at old out.outs)
+
+abbrev pub Kills : ℕ → List ℕ → List ℕ → Stage → Batch → Stage → Batch → Type 0
+Kills link server nick old out new out_after = Tells link (a_deed (kills server nick)) old out new out_after
+
+-- a server more is told of
+abbrev pub Gains : Newcomer → Stage → Batch → Stage → Batch → Type 0
+Gains newcomer old out new out_after =
+    Tells newcomer.link (a_server newcomer.uplink.now newcomer.name.now newcomer.distance newcomer.token newcomer.info.now) old out new out_after

@@ -1,0 +1,272 @@
+//! What a line of a link tells is done, and told on to the others (RFC 2813 sections 4 and 5).
+ghost use Rattle.std.specs.Prelude.{◌≡◌, Some, IfOk, OnOk};
+ghost use Rattle.irc_batch.specs.Growing.{Grew};
+ghost use Rattle.irc_burst.specs.Loops.Acts.{act_told, acts_told};
+ghost use Rattle.irc_stage.specs.Loops.Linking.{IsMetAt};
+ghost use Rattle.irc_stage.specs.Loops.Stage.{IsServing};
+ghost use Rattle.irc_deeds.specs.Loops.Telling.{loses_of, sets_of, tops_of, DoesDeed, Gains, Kills, Tells, TellsAll};
+
+use crate::members::{Arrivals, bring_all};
+use crate::quitting::quit_all;
+use irc_batch::Batch;
+use irc_burst::BurstAct;
+use irc_burst_lines::{kill_text, mode_text, server_text, squit_text, topic_text};
+use irc_channels::Words;
+use irc_modes::ModeChange;
+use irc_names::{ChannelName, Nick, ServerName};
+use irc_room::{By, Effect, ModeChanges};
+use irc_stage::{Newcomer, Stage};
+use std::alloc::{AllocError, Global};
+
+/// The text with which a user quits whose nickname another has too (our own).
+const COLLISION: &[u8] = b"Killed (Nick collision)";
+
+/// A server that is lost, as a line tells of it.
+#[derive(Clone, Copy)]
+pub(crate) struct Loss<'a> {
+    /// Whose line it is.
+    pub server: &'a ServerName,
+    /// The server that is lost.
+    pub name: &'a ServerName,
+    /// The text with which its users quit.
+    pub text: &'a Words,
+}
+
+/// All that a line of a link tells is done, one after another.
+///
+/// # Errors
+/// Where memory runs out.
+pub(crate) fn tell_all(
+    stage: &mut Stage,
+    link: u64,
+    acts: &[BurstAct],
+    out: &mut Batch,
+) -> Result<(), AllocError>
+    requires serving { IsServing stage.old }
+    requires met { IsMetAt link stage.old }
+    ensures ok { OnOk result (TellsAll link (acts_told acts.now) stage.old out.old stage.new out.new) }
+    ensures serving { OnOk result (IsServing stage.new) }
+    ensures grew { Grew out.old.outs out.new.outs }
+{
+    for act in acts {
+        tell(stage, link, act, out)?;
+    }
+    Ok(())
+}
+
+/// What an act tells is done.
+fn tell(stage: &mut Stage, link: u64, act: &BurstAct, out: &mut Batch) -> Result<(), AllocError>
+    requires serving { IsServing stage.old }
+    requires met { IsMetAt link stage.old }
+    ensures ok { OnOk result (Tells link (act_told act.now) stage.old out.old stage.new out.new) }
+    ensures serving { OnOk result (IsServing stage.new) }
+    ensures met { OnOk result (IsMetAt link stage.new) }
+    ensures grew { Grew out.old.outs out.new.outs }
+{
+    match act {
+        BurstAct::Does(effect) => stage.come(link, effect, out),
+        BurstAct::Server {
+            uplink,
+            name,
+            distance,
+            token,
+            info,
+        } => gain(
+            stage,
+            Newcomer {
+                link,
+                uplink,
+                name,
+                distance: *distance,
+                token: *token,
+                info,
+            },
+            out,
+        ),
+        BurstAct::Lost { server, name, text } => {
+            lose(stage, link, Loss { server, name, text }, out)
+        }
+        BurstAct::Kill { server, nick } => kill(stage, link, server, nick, out),
+        BurstAct::Members {
+            server,
+            channel,
+            members,
+        } => bring_all(
+            stage,
+            link,
+            Arrivals {
+                server,
+                channel,
+                members: members.as_slice(),
+            },
+            out,
+        ),
+        BurstAct::Modes {
+            server,
+            channel,
+            changes,
+        } => set(
+            stage,
+            link,
+            Setting {
+                server,
+                channel,
+                changes,
+            },
+            out,
+        ),
+        BurstAct::Topic {
+            server,
+            channel,
+            text,
+        } => top(
+            stage,
+            link,
+            Topic {
+                server,
+                channel,
+                text,
+            },
+            out,
+        ),
+    }
+}
+
+/// A server more is known from now on, and told of to the others.
+pub(crate) fn gain(
+    stage: &mut Stage,
+    newcomer: Newcomer<'_>,
+    out: &mut Batch,
+) -> Result<(), AllocError>
+    requires serving { IsServing stage.old }
+    requires met { IsMetAt newcomer.link stage.old }
+    ensures ok { OnOk result (Gains newcomer.entry stage.old out.old stage.new out.new) }
+    ensures serving { OnOk result (IsServing stage.new) }
+    ensures met { OnOk result (IsMetAt newcomer.entry.link stage.new) }
+    ensures grew { Grew out.old.outs out.new.outs }
+{
+    if stage.add_server(newcomer)? {
+        let line = server_text(
+            stage.routes(),
+            newcomer.uplink,
+            newcomer.name,
+            newcomer.info,
+        );
+        return stage.tell_all(Some(newcomer.link), &line, out);
+    }
+    Ok(())
+}
+
+/// A server is lost: its users quit, and the others are told.
+pub(crate) fn lose(
+    stage: &mut Stage,
+    link: u64,
+    loss: Loss<'_>,
+    out: &mut Batch,
+) -> Result<(), AllocError>
+    requires serving { IsServing stage.old }
+    requires met { IsMetAt link stage.old }
+    ensures ok { OnOk result (DoesDeed (Some link) (loses_of loss.entry) stage.old out.old stage.new out.new) }
+    ensures serving { OnOk result (IsServing stage.new) }
+    ensures met { OnOk result (IsMetAt link stage.new) }
+    ensures grew { Grew out.old.outs out.new.outs }
+{
+    let line = squit_text(loss.server, loss.name, loss.text);
+    quit_all(stage, link, loss, out)?;
+    stage.remove_server(loss.name);
+    stage.tell_all(Some(link), &line, out)
+}
+
+/// The user of a nickname is taken out that another has too. The KILL goes on to the others; one of our own goes back as well, for the server there has
+/// the other user.
+fn kill(
+    stage: &mut Stage,
+    link: u64,
+    server: &ServerName,
+    nick: &Nick,
+    out: &mut Batch,
+) -> Result<(), AllocError>
+    requires serving { IsServing stage.old }
+    requires met { IsMetAt link stage.old }
+    ensures ok { OnOk result (Kills link server.now nick.now stage.old out.old stage.new out.new) }
+    ensures serving { OnOk result (IsServing stage.new) }
+    ensures met { OnOk result (IsMetAt link stage.new) }
+    ensures grew { Grew out.old.outs out.new.outs }
+{
+    let line = kill_text(server, nick);
+    let is_own = server.as_bytes() == stage.routes().name().as_bytes();
+    let arrival = if is_own { None } else { Some(link) };
+    stage.remove_user(nick, &Words::cut(COLLISION), out)?;
+    stage.tell_all(arrival, &line, out)
+}
+
+/// Modes of a channel, as a server sets them.
+#[derive(Clone, Copy)]
+pub(crate) struct Setting<'a> {
+    server: &'a ServerName,
+    channel: &'a ChannelName,
+    changes: &'a ModeChanges,
+}
+
+/// A server sets modes of a channel.
+fn set(
+    stage: &mut Stage,
+    link: u64,
+    setting: Setting<'_>,
+    out: &mut Batch,
+) -> Result<(), AllocError>
+    requires serving { IsServing stage.old }
+    requires met { IsMetAt link stage.old }
+    ensures ok { OnOk result (DoesDeed (Some link) (sets_of setting.entry) stage.old out.old stage.new out.new) }
+    ensures serving { OnOk result (IsServing stage.new) }
+    ensures met { OnOk result (IsMetAt link stage.new) }
+    ensures grew { Grew out.old.outs out.new.outs }
+{
+    let changes = setting.changes.as_slice();
+    let line = mode_text(setting.server, setting.channel, changes);
+    let effect = Effect::ChangeModes {
+        by: By::Home,
+        channel: setting.channel.copy(),
+        changes: copied(stage.alloc(), changes)?,
+    };
+    stage.take(link, &effect, out)?;
+    stage.tell_all(Some(link), &line, out)
+}
+
+/// These changes once more.
+fn copied(alloc: Global, changes: &[ModeChange]) -> Result<ModeChanges, AllocError>
+    ensures { IfOk result (λ copy. copy ≡ changes.now) }
+{
+    let mut copy = Vec::new(alloc);
+    for change in changes {
+        copy.push(change.copy())?;
+    }
+    Ok(ModeChanges::new(copy))
+}
+
+/// A channel's topic, as a server sets it.
+#[derive(Clone, Copy)]
+pub(crate) struct Topic<'a> {
+    server: &'a ServerName,
+    channel: &'a ChannelName,
+    text: &'a Words,
+}
+
+/// A server sets a channel's topic.
+fn top(stage: &mut Stage, link: u64, topic: Topic<'_>, out: &mut Batch) -> Result<(), AllocError>
+    requires serving { IsServing stage.old }
+    requires met { IsMetAt link stage.old }
+    ensures ok { OnOk result (DoesDeed (Some link) (tops_of topic.entry) stage.old out.old stage.new out.new) }
+    ensures serving { OnOk result (IsServing stage.new) }
+    ensures met { OnOk result (IsMetAt link stage.new) }
+    ensures grew { Grew out.old.outs out.new.outs }
+{
+    let line = topic_text(topic.server, topic.channel, topic.text);
+    let effect = Effect::SetTopic {
+        by: By::Home,
+        channel: topic.channel.copy(),
+        text: topic.text.copy(),
+    };
+    stage.take(link, &effect, out)?;
+    stage.tell_all(Some(link), &line, out)
+}

@@ -1,0 +1,25 @@
+-- What comes and goes by links, as the code has it.
+use Rattle.std.specs.Prelude.{◌≡◌, ℕ, Bool, Option, List, ◌++◌, if◌then◌else◌}
+use Rattle.std.specs.FinMap.{get}
+use Rattle.irc_batch.specs.Batches.{Batch}
+use Rattle.irc_links.specs.Ways.{but, met_links, IsMetEnd}
+use Rattle.irc_stage.specs.declared.linked.Newcomer.{Newcomer}
+use Rattle.irc_stage.specs.declared.stage.Stage.{Stage}
+use Rattle.irc_stage.specs.View.{View}
+use Rattle.irc_stage.specs.EffectTold.{Served, with_sent}
+use Rattle.irc_stage.specs.Linked.{with_row}
+use Rattle.irc_stage.specs.Loops.Stage.{lines_on, served_at, view_of}
+
+-- a link is open, and counts
+abbrev pub IsMetAt : ℕ → Stage → Type 0
+IsMetAt link stage = IsMetEnd (get (view_of stage).ends link)
+
+-- a server more, where it is taken
+abbrev pub view_with : Bool → Newcomer → View → View
+view_with taken newcomer view =
+    if taken then with_row newcomer.link newcomer.uplink.now newcomer.name.now newcomer.distance newcomer.token newcomer.info.now view else view
+
+-- a line goes on every link that counts, but for one
+abbrev pub IsToldToAll : Option ℕ → List ℕ → Stage → Batch → Stage → Batch → Type 0
+IsToldToAll arrival line old out new out_after =
+    served_at new out_after.outs ≡ with_sent (lines_on (but arrival (met_links (view_of old).ends)) line) (served_at old out.outs)
