@@ -1,7 +1,7 @@
 //! A server a.net without clients, which knows c.net behind link 9 and may be linked to b.net and c.net.
 use irc_names::{ServerName, is_server};
 use irc_routes::{Info, Own, Routes};
-use irc_stage::{Peer, Stage};
+use irc_stage::{Newcomer, Peer, Stage};
 use std::alloc::Global;
 use std::process::Abort;
 use std::test::Fail;
@@ -26,14 +26,22 @@ fn peer(alloc: Global, name: &[u8], password: &[u8]) -> Result<Peer, Fail> {
 
 /// b.net gives the password pw, c.net pq.
 pub fn stage(rt: &impl Abort, alloc: Global) -> Result<Stage, Fail> {
-    let mut routes = routes(rt, alloc)?;
     let home = ServerName::read(b"a.net").expect(rt, "a server's name");
+    let far = ServerName::read(b"c.net").expect(rt, "a server's name");
     let info = Info::read(b"C").expect(rt, "a description");
-    if routes.token_in(9, 1).is_none() {
-        let _ = routes.add_server(9, &home, b"c.net", 1, 1, &info);
-    }
     let mut peers = Vec::new(alloc);
     peers.push(peer(alloc, b"b.net", b"pw")?)?;
     peers.push(peer(alloc, b"c.net", b"pq")?)?;
-    Ok(Stage::new(alloc, routes, peers))
+    let mut stage = Stage::new(alloc, routes(rt, alloc)?, peers);
+    stage.open_link(9, None)?;
+    stage.meet(9, far.copy());
+    let _ = stage.add_server(Newcomer {
+        link: 9,
+        uplink: &home,
+        name: &far,
+        distance: 1,
+        token: 1,
+        info: &info,
+    })?;
+    Ok(stage)
 }
