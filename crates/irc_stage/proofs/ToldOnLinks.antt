@@ -90,9 +90,9 @@ module _ (s : Served) (effect : Effect) (is : is_elsewhere s.view effect ≡ tru
       ap (λ o. record { view = s.view; out = o }) (sym (append-nil s.out))
       ∙ ap (λ cs. record { view = record s.view { clients = cs }; out = s.out ++ [] }) (sym (same_clients_elsewhere s.view effect is))
       ∙ ap (λ b. record {
-          view = record s.view { clients = clients_after effect s.view.clients; room = if b then s.view.room else after s.view.room effect };
-          out = s.out ++ (if b then [] else flat_map (to_viewer s.view.clients) (seen s.view.room effect));
-        }) (sym is)
+        view = record s.view { clients = clients_after effect s.view.clients; room = if b then s.view.room else after s.view.room effect };
+        out = s.out ++ (if b then [] else flat_map (to_viewer s.view.clients) (seen s.view.room effect));
+      }) (sym is)
 
 -- what the room machine does, the server does
 pub shown_served : (old new : Stage) (effect : Effect) (out out_after : List Sent) → Keeps old new → so_far new out_after ≡ with_effect effect (so_far old out)
@@ -104,12 +104,12 @@ shown_served old new effect out out_after keeps is here =
     keeps.ends
     ∙ ap (λ (h : Handled). record { view = record (view_of old) { clients = h.machine.clients; room = h.machine.room }; out = h.out }) is
     ∙ ap (λ b. record {
-        view = record (view_of old) {
-          clients = clients_after effect (view_of old).clients;
-          room = if b then (view_of old).room else after (view_of old).room effect;
-        };
-        out = out ++ (if b then [] else flat_map (to_viewer (view_of old).clients) (seen (view_of old).room effect));
-      }) (sym here)
+      view = record (view_of old) {
+        clients = clients_after effect (view_of old).clients;
+        room = if b then (view_of old).room else after (view_of old).room effect;
+      };
+      out = out ++ (if b then [] else flat_map (to_viewer (view_of old).clients) (seen (view_of old).room effect));
+    }) (sym here)
 
 -- and tells it on these links
 pub sent_on_links : (new : Stage) (s : Served) (arrival : Option ℕ) (effect : Effect) (out out_after : List Sent) (links : List ℕ) (line : List ℕ)

@@ -54,7 +54,7 @@ nothing_missing false known is = cc is
 pub possible_by : (room : Room) (effect : Effect) → does room effect ≡ true → brings_free room effect ≡ true → IsPossible room effect
 possible_by room effect doing free =
     let there = nothing_missing (list_all (has_user room) (needs_users effect)) (option_map_or (has_channel room) (needs_channel effect) true)
-        (both (is_none (missing_fault room effect)) (not (is_idle room effect)) doing).0 in
+    (both (is_none (missing_fault room effect)) (not (is_idle room effect)) doing).0 in
     record { users_there = there.0; channel_there = there.1; nick_free = free }
 
 pub counted : (view : View) (effect : Effect) → counts view effect ≡ true → IsPossible view.room effect × (is_of_here view effect ≡ false)
