@@ -1,6 +1,7 @@
 -- Lemmas, with their proofs, that the crates above cite too. No rule stands here.
 pub mod Alone
 pub mod MatchedEvents
+pub mod Counting
 pub mod Matching
 pub mod Numbers
 pub mod Outcomes
