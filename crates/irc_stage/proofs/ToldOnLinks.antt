@@ -19,7 +19,7 @@ use Rattle.irc_stage.specs.declared.stage.Stage.{Stage}
 use Rattle.irc_stage.specs.EffectTold.{Served, changed, effect_told, is_elsewhere, on_links, shown_at, view_after, ways_at, with_sent}
 use Rattle.irc_stage.specs.Handle.{Handled, clients_after, to_viewer, with_effect}
 use Rattle.irc_stage.specs.View.{End, Ends, View, known_peer}
-use Rattle.irc_stage.specs.Lemmas.Alone.{no_ways, none_elsewhere}
+use Rattle.irc_stage.specs.Lemmas.Alone.{no_ways, none_elsewhere, none_met}
 use Rattle.irc_stage.specs.Lemmas.Counting.{same_clients_elsewhere}
 use Rattle.irc_stage.specs.Loops.Stage.{lines_on, numbered, served_at, so_far, view_of, Keeps}
 
@@ -36,9 +36,6 @@ module _ (view : View) (met : AreEnds view.ends view.routes) (no_ends : view.end
   nowhere : (name : List ℕ) → next_hop view.routes name ≡ None
   nowhere = nowhere_known view.ends view.routes met no_ends
 
-  none_met : met_links view.ends ≡ []
-  none_met = ap met_links no_ends
-
   pub stays_here : (effect : Effect) → is_elsewhere view effect ≡ false
   stays_here effect = none_elsewhere view nowhere effect
 
@@ -49,7 +46,7 @@ module _ (view : View) (met : AreEnds view.ends view.routes) (no_ends : view.end
       ap (λ o. record { view = view_after view effect; out = o })
       (sym (append-nil (out ++ shown_at view effect))
       ∙ ap (λ links. (out ++ shown_at view effect) ++ on_links links (wire view.room view.routes effect))
-      (sym (no_ways view.ends view.routes arrival none_met nowhere (told_homes view.room effect))))
+      (sym (no_ways view.ends view.routes arrival (none_met view.ends no_ends) nowhere (told_homes view.room effect))))
 
 -- an invitation of another server's user changes nothing here
 module _ (s : Served) (effect : Effect) (is : is_elsewhere s.view effect ≡ true) where

@@ -1,6 +1,6 @@
 -- A server that knows no other, and has no link: nothing it does is told on links, and its users are its own. It is the room machine that it is to its clients.
-use Rattle.std.proofs.Common.{◌≡◌, ℕ, Bool, true, false, Option, Some, None, Ok, Err, List, [], ◌∷◌, ◌++◌, refl, sym, ◌∙◌, ap, append-nil, filter_map, is_some, map, if◌then◌else◌}
-use Rattle.std.specs.FinMap.{from_entries, keys}
+use Rattle.std.proofs.Common.{◌≡◌, ℕ, Bool, true, false, Option, Some, None, Ok, Err, List, [], ◌∷◌, ◌++◌, refl, sym, ◌∙◌, ap, append-nil, filter, filter_map, is_some, map, if◌then◌else◌}
+use Rattle.std.specs.FinMap.{empty, from_entries, keys}
 use Rattle.std.specs.List.{cons_option, flat_map, list_any}
 use Rattle.std.specs.Option.{option_and_then, option_map}
 use Rattle.std.specs.Ordering.{nat_cmp}
@@ -10,6 +10,8 @@ use Rattle.irc_names.specs.Tables.{row}
 use Rattle.irc_users.specs.declared.user.User.{User}
 use Rattle.irc_batch.specs.Batches.{line_to}
 use Rattle.irc_link_writer.specs.Written.{wire}
+use Rattle.irc_links.specs.Ends.{End, Ends, is_met}
+use Rattle.irc_links.specs.Lemmas.Listed.{listed}
 use Rattle.irc_links.specs.Ways.{but, met_links, told_homes, ways_toward}
 use Rattle.irc_numerics.specs.Replies.{reply_text}
 use Rattle.irc_room.specs.declared.effect.Effect.{Effect}
@@ -17,7 +19,8 @@ use Rattle.irc_room.specs.declared.effect.Effect.TheVariants.{AddUser, Rename, Q
 use Rattle.irc_room.specs.After.{after}
 use Rattle.irc_room.specs.Readers.{home_under}
 use Rattle.irc_room.specs.Seen.{seen}
-use Rattle.irc_routes.specs.Known.{Known, ServerRow, link_key, next_hop, others, place_of}
+use Rattle.irc_routes.specs.declared.server_row.ServerRow.{ServerRow}
+use Rattle.irc_routes.specs.Known.{Known, link_key, next_hop, others, place_of}
 use Rattle.irc_routes.specs.Lemmas.TableRows.{row_passes}
 use Rattle.irc_routes.specs.Place.{Place}
 use Rattle.irc_acts.specs.declared.act.Act.{Act}
@@ -27,7 +30,7 @@ use Rattle.irc_commands.specs.Register.{register}
 use Rattle.irc_stage.specs.declared.clients.Client.{Client}
 use Rattle.irc_stage.specs.declared.clients.Client.TheVariants.{Registering, Registered}
 use Rattle.irc_stage.specs.RoomMachine.{RoomMachine, client_of, with_client, without_client}
-use Rattle.irc_stage.specs.View.{Ends, View, machine_of, IsAlone}
+use Rattle.irc_stage.specs.View.{View, machine_of, IsAlone}
 use Rattle.irc_stage.specs.Handle.{Handled, Happening, connects, says, goes, all_stepped, clients_after, client_after, closing, handled, lost_text, quits, said_by, stepped, to_viewer, unchanged, user_decided, user_of, with_effect}
 use Rattle.irc_stage.specs.EffectTold.{changed, effect_told, in_silence, is_elsewhere, on_links, put_back, with_sent}
 use Rattle.irc_stage.specs.ClientTold.{client_told, closed_told, message_told, quit_told, step_told, steps_told, unseated, user_told}
@@ -44,9 +47,15 @@ pub no_ways : (ends : Ends) (known : Known) (arrival : Option ℕ) → met_links
 no_ways ends known arrival none nowhere None = ap (but arrival) none
 no_ways ends known arrival none nowhere (Some homes) =
     ap (λ links. but arrival (keys (from_entries {R = nat_cmp} (map link_key links)))) (none_toward known nowhere homes)
+    ∙ ap (λ (es : List (ℕ × Unit {0})). but arrival (map (λ (e : ℕ × Unit {0}). e.0) es)) (listed {X = Unit {0}} [] tt)
+
+-- where there is no end, no link counts
+pub none_met : (ends : Ends) → ends ≡ empty → met_links ends ≡ []
+none_met ends none =
+    ap met_links none ∙ ap (λ (es : List (ℕ × End)). map (λ (e : ℕ × End). e.0) (filter (λ (e : ℕ × End). is_met e.1) es)) (listed {X = End} [] tt)
 
 pub none_elsewhere : (view : View) → ((name : List ℕ) → next_hop view.routes name ≡ None) → (effect : Effect) → is_elsewhere view effect ≡ false
-none_elsewhere view nowhere (Invite by nick channel) = by (home_under view.room (key nick))
+none_elsewhere view nowhere (Invite who nick channel) = by (home_under view.room (key nick))
   where
     by : (o : Option (List ℕ)) → is_some (option_and_then (next_hop view.routes) o) ≡ false
     by None = refl
@@ -125,9 +134,6 @@ module _ (view : View) (alone : IsAlone view) where
   nowhere : (name : List ℕ) → next_hop view.routes name ≡ None
   nowhere = no_next_hop view.routes alone.no_others
 
-  none_met : met_links view.ends ≡ []
-  none_met = ap met_links alone.no_ends
-
   effect_back : (effect : Effect) (h : Handled) → effect_told None effect (put_back view h) ≡ put_back view (with_effect effect h)
   effect_back effect h = told_nowhere ∙ kept_here
     where
@@ -138,7 +144,7 @@ module _ (view : View) (alone : IsAlone view) where
       told_nowhere : effect_told None effect (put_back view h) ≡ changed effect (put_back view h)
       told_nowhere =
           ap (λ links. with_sent (on_links links (wire h.machine.room view.routes effect)) (changed effect (put_back view h)))
-          (no_ways view.ends view.routes None none_met nowhere (told_homes h.machine.room effect))
+          (no_ways view.ends view.routes None (none_met view.ends alone.no_ends) nowhere (told_homes h.machine.room effect))
           ∙ ap (λ out. record { view = (changed effect (put_back view h)).view; out = out }) (append-nil (changed effect (put_back view h)).out)
 
       -- .. and no user is another server's
