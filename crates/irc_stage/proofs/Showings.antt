@@ -1,8 +1,9 @@
 -- Lines to viewers: to the one client that is the viewer, where there is one.
-use Rattle.std.proofs.Common.{◌≡◌, ℕ, Bool, true, false, cond, T, Option, Some, None, List, [], ◌∷◌, refl, sym, ◌∙◌, ap, filter_map, if◌then◌else◌}
+use Rattle.std.proofs.Common.{◌≡◌, ℕ, Bool, true, false, cond, not, T, Option, Some, None, List, [], ◌∷◌, refl, sym, ◌∙◌, ap, filter_map, if◌then◌else◌}
 use Rattle.std.specs.List.{cons_option}
 use Rattle.std.specs.Ordering.{nat_cmp}
-use Rattle.std.specs.FinMap.{get, entries, entries_sorted, find, is_sorted, get-entries}
+use Rattle.std.specs.Option.{option_map_or}
+use Rattle.std.specs.FinMap.{get, remove, retain_keys, entries, entries_sorted, find, is_sorted, get-entries}
 use Rattle.std.specs.FinMap.Entries.{below_all}
 use Rattle.irc_names.specs.Fold.{key, same}
 use Rattle.irc_names.specs.Tables.{Table, row}
@@ -11,11 +12,13 @@ use Rattle.irc_room.specs.Lemmas.Rows.{same_some}
 use Rattle.irc_room.specs.Lemmas.ViewerLaws.{both_true}
 use Rattle.irc_stage.specs.declared.clients.Client.{Client}
 use Rattle.irc_stage.specs.declared.clients.Client.TheVariants.{Registering, Registered}
-use Rattle.irc_batch.specs.Batches.{Sent, line_to}
+use Rattle.irc_batch.specs.Batches.{Sent, end_of, line_to}
 use Rattle.irc_stage.specs.RoomMachine.{Clients}
 use Rattle.irc_stage.specs.Handle.{is_client, to_viewer}
 use Rattle.irc_stage.specs.Loops.Stage.{IsIndex}
-use Rattle.irc_stage.specs.Lemmas.Numbers.{here, later, none_behind, same_number}
+use Rattle.irc_stage.specs.EffectTold.{ends_of, is_another}
+use Rattle.irc_stage.specs.Lemmas.Counting.{get-kept}
+use Rattle.irc_stage.specs.Lemmas.Numbers.{get-without, here, later, none_behind, one_number, same_clients, same_number, same_number-is}
 use Rattle.irc_stage.specs.Lemmas.Matching.{same_by_key, key_by_same, named_is}
 use Rattle.irc_stage.proofs.Index.{differs}
 
@@ -93,5 +96,63 @@ module _ (clients : Clients) (by_nick : Table ℕ) (index : IsIndex clients by_n
       by q (Registering pending) is passes = cc passes
       by q (Registered name) is passes =
           same_some q conn (sym (index.found q name is) ∙ ap (row by_nick) (key_by_same name showing.viewer passes) ∙ is_conn)
+
+-- the ends of those who are this user
+module _ (clients : Clients) (by_nick : Table ℕ) (index : IsIndex clients by_nick) (nick : List ℕ) where
+  pub no_ends : row by_nick (key nick) ≡ None → ends_of nick clients ≡ []
+  no_ends none = none_chosen (is_client nick) end_of (entries clients) (entries_sorted clients) (λ q c is. by q c (get-entries clients q ∙ is))
+    where
+      by : (q : ℕ) (c : Client) → get clients q ≡ Some c → is_client nick c ≡ false
+      by q (Registering pending) is = refl
+      by q (Registered name) is = differs name nick (λ one. let found = index.found q name is in let folds = ap (row by_nick) one in cc)
+
+  pub one_end : (conn : ℕ) → row by_nick (key nick) ≡ Some conn → ends_of nick clients ≡ end_of conn ∷ []
+  one_end conn is_conn =
+      named_is (key nick) (get clients conn) (index.there (key nick) conn is_conn) (λ mine mine_is named.
+      one_chosen (is_client nick) end_of (entries clients) (entries_sorted clients) conn (Registered mine)
+      (sym (get-entries clients conn) ∙ mine_is) (same_by_key mine nick named)
+      (λ q c is passes. is_its q c (get-entries clients q ∙ is) passes))
+    where
+      is_its : (q : ℕ) (c : Client) → get clients q ≡ Some c → is_client nick c ≡ true → q ≡ conn
+      is_its q (Registering pending) is passes = cc passes
+      is_its q (Registered name) is passes =
+          same_some q conn (sym (index.found q name is) ∙ ap (row by_nick) (key_by_same name nick passes) ∙ is_conn)
+
+  -- all clients but those
+  pub all_kept : row by_nick (key nick) ≡ None → retain_keys clients (is_another clients nick) ≡ clients
+  all_kept none = same_clients (retain_keys clients (is_another clients nick)) clients (λ q. get-kept clients (is_another clients nick) q ∙ by q (get clients q) refl)
+    where
+      by : (q : ℕ) (o : Option Client) → get clients q ≡ o → cond (option_map_or (λ client. not (is_client nick client)) o true) o None ≡ o
+      by q None is = refl
+      by q (Some (Registering pending)) is = refl
+      by q (Some (Registered name)) is =
+          ap (λ b. cond (not b) (Some (Registered name)) None)
+          (differs name nick (λ one. let found = index.found q name is in let folds = ap (row by_nick) one in cc))
+
+  pub one_left : (conn : ℕ) → row by_nick (key nick) ≡ Some conn → remove clients conn ≡ retain_keys clients (is_another clients nick)
+  one_left conn is_conn =
+      same_clients (remove clients conn) (retain_keys clients (is_another clients nick))
+      (λ q. get-without clients conn q ∙ by q (same_number q conn) refl ∙ sym (get-kept clients (is_another clients nick) q))
+    where
+      is_mine : (q : ℕ) (name : List ℕ) → get clients q ≡ Some (Registered name) → same name nick ≡ true → q ≡ conn
+      is_mine q name is passes = same_some q conn (sym (index.found q name is) ∙ ap (row by_nick) (key_by_same name nick passes) ∙ is_conn)
+
+      others : (q : ℕ) (o : Option Client) → get clients q ≡ o → same_number q conn ≡ false
+          → o ≡ cond (option_map_or (λ client. not (is_client nick client)) o true) o None
+      others q None is two = refl
+      others q (Some (Registering pending)) is two = refl
+      others q (Some (Registered name)) is two = by_name (same name nick) refl
+        where
+          by_name : (b : Bool) → same name nick ≡ b → Some (Registered name) ≡ cond (not b) (Some (Registered name)) None
+          by_name true one = let number = same_number-is q conn (is_mine q name is one) in absurd (cc (sym number ∙ two))
+          by_name false other = refl
+
+      by : (q : ℕ) (b : Bool) → same_number q conn ≡ b
+          → cond b None (get clients q) ≡ cond (option_map_or (λ client. not (is_client nick client)) (get clients q) true) (get clients q) None
+      by q true one =
+          named_is (key nick) (get clients conn) (index.there (key nick) conn is_conn) (λ mine mine_is named.
+          sym (ap (λ o. cond (option_map_or (λ client. not (is_client nick client)) o true) o None) (ap (get clients) (one_number q conn one) ∙ mine_is)
+          ∙ ap (λ b. cond (not b) (Some (Registered mine)) None) (same_by_key mine nick named)))
+      by q false two = others q (get clients q) refl two
 
 -- one showing after another

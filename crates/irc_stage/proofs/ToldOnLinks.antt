@@ -22,6 +22,7 @@ use Rattle.irc_stage.specs.declared.stage.Stage.{Stage}
 use Rattle.irc_stage.specs.EffectTold.{Served, changed, effect_told, is_elsewhere, on_links, shown_at, view_after, ways_at, with_sent}
 use Rattle.irc_stage.specs.Handle.{Handled, clients_after, to_viewer, with_effect}
 use Rattle.irc_stage.specs.View.{End, Ends, View, known_peer}
+use Rattle.irc_stage.specs.Lemmas.Counting.{same_clients_elsewhere}
 use Rattle.irc_stage.specs.Loops.Stage.{lines_on, numbered, served_at, so_far, view_of, Keeps}
 
 -- toward servers that are behind no link there is none
@@ -84,27 +85,14 @@ module _ (view : View) (met : AreEnds view.ends view.routes) (no_ends : view.end
 
 -- an invitation of another server's user changes nothing here
 module _ (s : Served) (effect : Effect) (is : is_elsewhere s.view effect ≡ true) where
-  same_clients : (effect : Effect) → is_elsewhere s.view effect ≡ true → clients_after effect s.view.clients ≡ s.view.clients
-  same_clients (Invite by nick channel) is = refl
-  same_clients (AddUser user) is = refl
-  same_clients (Rename nick new) is = cc is
-  same_clients (Quit nick text) is = refl
-  same_clients (Join nick channel op) is = refl
-  same_clients (Part nick channel text) is = refl
-  same_clients (Kick by channel nick text) is = refl
-  same_clients (ChangeModes by channel changes) is = refl
-  same_clients (SetTopic by channel text) is = refl
-  same_clients (Say by notice target text) is = refl
-  same_clients (UserMode nick invisible) is = refl
-
   pub kept_elsewhere : s ≡ changed effect s
   kept_elsewhere =
       ap (λ o. record { view = s.view; out = o }) (sym (append-nil s.out))
-      ∙ ap (λ cs. record { view = record s.view { clients = cs }; out = s.out ++ [] }) (sym (same_clients effect is))
+      ∙ ap (λ cs. record { view = record s.view { clients = cs }; out = s.out ++ [] }) (sym (same_clients_elsewhere s.view effect is))
       ∙ ap (λ b. record {
-          view = record s.view { clients = clients_after effect s.view.clients; room = if b then s.view.room else after s.view.room effect };
-          out = s.out ++ (if b then [] else flat_map (to_viewer s.view.clients) (seen s.view.room effect));
-        }) (sym is)
+        view = record s.view { clients = clients_after effect s.view.clients; room = if b then s.view.room else after s.view.room effect };
+        out = s.out ++ (if b then [] else flat_map (to_viewer s.view.clients) (seen s.view.room effect));
+      }) (sym is)
 
 -- what the room machine does, the server does
 pub shown_served : (old new : Stage) (effect : Effect) (out out_after : List Sent) → Keeps old new → so_far new out_after ≡ with_effect effect (so_far old out)
@@ -116,12 +104,12 @@ shown_served old new effect out out_after keeps is here =
     keeps.ends
     ∙ ap (λ (h : Handled). record { view = record (view_of old) { clients = h.machine.clients; room = h.machine.room }; out = h.out }) is
     ∙ ap (λ b. record {
-        view = record (view_of old) {
-          clients = clients_after effect (view_of old).clients;
-          room = if b then (view_of old).room else after (view_of old).room effect;
-        };
-        out = out ++ (if b then [] else flat_map (to_viewer (view_of old).clients) (seen (view_of old).room effect));
-      }) (sym here)
+      view = record (view_of old) {
+        clients = clients_after effect (view_of old).clients;
+        room = if b then (view_of old).room else after (view_of old).room effect;
+      };
+      out = out ++ (if b then [] else flat_map (to_viewer (view_of old).clients) (seen (view_of old).room effect));
+    }) (sym here)
 
 -- and tells it on these links
 pub sent_on_links : (new : Stage) (s : Served) (arrival : Option ℕ) (effect : Effect) (out out_after : List Sent) (links : List ℕ) (line : List ℕ)

@@ -1,5 +1,6 @@
 -- Lemmas, with their proofs, that the crates above cite too. No rule stands here.
 pub mod MatchedEvents
+pub mod Counting
 pub mod Matching
 pub mod Numbers
 pub mod Outcomes

@@ -61,7 +61,7 @@ pub struct Stage {
 /// Applies an effect to a room in which it is possible; `shown` is what it shows. Who listens there, and behind which links, is to be found anew.
 fn happen(
     room: &mut Room,
-    listeners: &mut Listeners,
+    stale: &mut Listeners,
     ways: &mut Ways,
     effect: &Effect,
     shown: &mut ShownLine,
@@ -71,10 +71,10 @@ fn happen(
     ensures after { OnOk result (room.new ≡ record room.old { room = after room.old.room effect.now }) }
     ensures shown { OnOk result (pairs_of shown.new ≡ shown_here room.old effect.now) }
     ensures sound { OnOk result (IsSound room.new) }
-    ensures forgotten { OnOk result (listeners.new.channel ≡ None) }
+    ensures forgotten { OnOk result (stale.new.channel ≡ None) }
     ensures nothing { OnOk result (KnowsNothing ways.new) }
 {
-    listeners.clear();
+    stale.clear();
     ways.forget();
     laws::after_is_well_formed();
     match room.apply(effect, shown) {
