@@ -1,2 +1,4 @@
+pub mod DeedsDone
+pub mod LinesServed
 pub mod MetHeard
 pub mod NeverBack
