@@ -1,5 +1,6 @@
 -- A server is a room machine to its clients, but for who is invited; without links it is that machine.
 use Rattle.std.proofs.Common.{◌≡◌, ℕ, Option, Some, List, [], ◌∷◌, ◌++◌, refl, sym, ◌∙◌, ap}
+use Rattle.std.specs.FinMap.{get}
 use Rattle.irc_batch.specs.Batches.{Sent}
 use Rattle.irc_room.specs.OtherInvitations.{AlikeStayAlike}
 use Rattle.irc_routes.specs.Known.{others}
@@ -11,6 +12,7 @@ use Rattle.irc_stage.specs.Handle.{Happening, handled}
 use Rattle.irc_stage.specs.Matched.{StaysMatched}
 use Rattle.irc_stage.specs.Lemmas.Alone.{place_is_kept, told_back}
 use Rattle.irc_stage.specs.Lemmas.Twins.{matched_there, told_twins}
+use Rattle.irc_deeds.specs.Lemmas.Matched.{line_served_matched, link_lost_matched, link_opened_matched}
 use Rattle.irc_server.specs.Owed.{lines_to, owed, owed_by_machine, LoneServerOwesTheSame}
 use Rattle.irc_server.specs.Served.{of_client, link_up, link_says, link_down, served, LoneServerIsOneRoom, ServedStaysMatched}
 
@@ -48,6 +50,7 @@ unfolding served
 served_stays_matched stay stays view matched well (of_client happening) due =
     matched_there (handled (machine_of view) happening).machine (machine_of (client_told view happening).view) (told_twins stay view happening)
     (stays (machine_of view) matched well happening due)
-served_stays_matched stay stays view matched well (link_up link starts) due = _
-served_stays_matched stay stays view matched well (link_says link read) due = _
-served_stays_matched stay stays view matched well (link_down link) due = _
+served_stays_matched stay stays view matched well (link_up link starts) due = link_opened_matched view link starts matched well
+served_stays_matched stay stays view matched well (link_says link read) due =
+    line_served_matched view link read (get view.ends link) matched well
+served_stays_matched stay stays view matched well (link_down link) due = link_lost_matched view link matched well

@@ -115,7 +115,8 @@ does old new event occurrence out out_after event_is is = record {
 }
 
 -- nothing has changed
-pub same_by : (old new : View) (out out_after : List Sent) → record { view = new; out = out_after } ≡ record { view = old; out = out } → IsSame old out new out_after
+pub same_by : (old new : View) (out out_after : List Sent) → ◌≡◌ {A = Served} (record { view = new; out = out_after }) (record { view = old; out = out })
+    → IsSame old out new out_after
 same_by old new out out_after is = record { view_is = ap (λ (s : Served). s.view) is; out_is = ap (λ (s : Served). s.out) is }
 
 -- who a connection is

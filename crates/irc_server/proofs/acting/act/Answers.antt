@@ -85,7 +85,7 @@ returns-in-LinkLine-clause-acted c =
     comes_as _ _ _ _ _ _ c.on_link_line.result (ap (fault_of old) (sym c.in-LinkLine.is))
     (λ done. does old new c.args.event.now (link_says link (read_of bytes)) out c.on_link_line.new.out.outs (ap occurrence_of c.in-LinkLine.is)
     (done
-    ∙ ap (λ line. behind out (line_served old link (read_of line) (get old.ends link))) c.deref.ensures.0
+    ∙ ap (λ line. behind out (line_served old link (read_of line) (get old.ends link))) c.deref-in-LinkLine.ensures.0
     ∙ ap (behind out) (heard_is old link (read_of bytes))))
     (λ same. same_by old new out c.on_link_line.new.out.outs same)
     c.on_link_line.ensures.acted

@@ -21,7 +21,7 @@ pub carry_out-requires-clause-fit : goal.carry_out-requires-clause-fit
 carry_out-requires-clause-fit c =
     let machine = machine_at c.args.stage.now in
     let part = told_there _ machine.room _ _ c.args.nick.now c.args.conn (parsed c.args.message.now) _ _ _ c.room.ensures c.routes.ensures c.in_ok-decision.ensures.told in
-    fit_along c.alike_stay_alike.ensures c.alike_take_alike.ensures (view_of c.args.stage.now) _
+    fit_along c.alike_stay_alike.ensures c.alike_take_alike.ensures (view_of c.args.stage.now) c.deref.result.now
     (so_left IsFit machine part.told _ part.is_only_said
     (decided_fit c.decided_is_possible.ensures c.who_stays_is_user.ensures c.who_is_closed_quits.ensures machine c.requires.matched
     c.requires.ready.sound.well_formed c.args.nick.now (parsed c.args.message.now) _
@@ -33,7 +33,7 @@ carry_out-requires-clause-spoken c =
     let message = parsed c.args.message.now in
     let part = told_there _ machine.room _ _ c.args.nick.now c.args.conn message _ _ _ c.room.ensures c.routes.ensures c.in_ok-decision.ensures.told in
     let whole = ap (λ (acts : List Act). part.told ++ acts) c.deref.ensures.value ∙ sym (ap (λ (d : Decided). d.steps) part.want_is) in
-    spoken_along c.alike_stay_alike.ensures c.args.conn (view_of c.args.stage.now) _
+    spoken_along c.alike_stay_alike.ensures c.args.conn (view_of c.args.stage.now) c.deref.result.now
     (so_left (IsSaidByClient c.args.conn) machine part.told _ part.is_only_said
     (decided_spoken c.decided_by_itself.ensures machine c.requires.matched c.args.conn c.args.nick.now c.requires.speaks message _ whole
     (decided_fit c.decided_is_possible.ensures c.who_stays_is_user.ensures c.who_is_closed_quits.ensures machine c.requires.matched
