@@ -8,9 +8,8 @@ use Rattle.std.specs.Ordering.{nat_cmp}
 use Rattle.irc_line.specs.Messages.{text}
 use Rattle.irc_batch.specs.Batches.{Sent}
 use Rattle.irc_link_writer.specs.Written.{wire}
-use Rattle.irc_links.specs.Ways.{met_links, told_homes, AreEnds, IsMetEnd}
+use Rattle.irc_links.specs.Ways.{told_homes, AreEnds, IsMetEnd}
 use Rattle.irc_room.specs.declared.effect.Effect.{Effect}
-use Rattle.irc_room.specs.declared.effect.Effect.TheVariants.{AddUser, Rename, Quit, Join, Part, Kick, ChangeModes, SetTopic, Say, Invite, UserMode}
 use Rattle.irc_room.specs.After.{after}
 use Rattle.irc_room.specs.Seen.{seen}
 use Rattle.irc_routes.specs.Known.{Known, next_hop}
