@@ -20,7 +20,7 @@ returns-clause-ok c =
     ∙ ap (λ bytes. exactly_same bytes c.as_bytes-2.result.now) c.as_bytes.ensures.value
     ∙ ap (exactly_same c.args.server.now) (c.as_bytes-2.ensures.value ∙ c.name.ensures ∙ ap (λ (known : Known). known.name) c.routes.ensures))
     (elim c.if-is_own.branch [
-      then-is_own w ↦ w.arrival-is ∙ sym (ap (λ b. if b then None else Some c.args.link) w.if-is_own.true)
-    | else-is_own w ↦ w.arrival-is ∙ sym (ap (λ b. if b then None else Some c.args.link) w.if-is_own.false)
+      | then-is_own w ↦ w.arrival-is ∙ sym (ap (λ b. if b then None else Some c.args.link) w.if-is_own.true)
+      | else-is_own w ↦ w.arrival-is ∙ sym (ap (λ b. if b then None else Some c.args.link) w.if-is_own.false)
     ]))
     c.tell_all.ensures.ok
