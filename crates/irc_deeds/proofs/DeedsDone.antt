@@ -2,6 +2,7 @@
 use Rattle.std.proofs.Common.{◌≡◌, ℕ, Bool, true, false, Option, Some, None, List, [], ◌∷◌, ◌++◌, refl, sym, ◌∙◌, ap, map, if◌then◌else◌}
 use Rattle.irc_line.specs.Messages.{Written, text}
 use Rattle.irc_names.specs.Spellings.{exactly_same}
+use Rattle.irc_channels.specs.Texts.{cut_words}
 use Rattle.irc_channels.specs.declared.flags.Flags.{Flags}
 use Rattle.irc_modes.specs.declared.modes.ModeChange.{ModeChange}
 use Rattle.irc_room.specs.declared.effect.By.TheVariants as by
@@ -110,3 +111,13 @@ pub gains_none : (link : ℕ) (uplink name : List ℕ) (distance token : ℕ) (i
 unfolding told_by
 gains_none link uplink name distance token info old taken =
     sym (ap (λ b. if b then gain_told link uplink name info (record old { view = with_row link uplink name distance token info old.view }) else old) taken)
+
+pub collision_is_whole : cut_words collision_text ≡ collision_text
+unfolding cut_words
+collision_is_whole = refl
+
+-- a KILL of the server's own goes back as well
+pub kills_told : (link : ℕ) (server nick : List ℕ) (s : Served) (own : Bool) (arrival : Option ℕ) → own ≡ exactly_same server s.view.routes.name
+    → arrival ≡ (if own then None else Some link) → deed_told arrival (kills server nick) s ≡ told_by link (a_deed (kills server nick)) s
+kills_told link server nick s own arrival is from =
+    ap (λ a. deed_told a (kills server nick) s) (from ∙ ap (λ b. if b then None else Some link) is) ∙ tells_kills link server nick s

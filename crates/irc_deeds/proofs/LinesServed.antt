@@ -1,5 +1,8 @@
 -- What the code does of what happens by a link is what it does to the server.
-use Rattle.std.proofs.Common.{◌≡◌, ⊤, ⊥, ℕ, Bool, true, false, cond, is_none, is_some, Option, Some, None, Result, Ok, Err, List, [], ◌∷◌, ◌++◌, refl, sym, ◌∙◌, ap, subst, append-nil, append_assoc, map, if◌then◌else◌}
+use Rattle.std.proofs.Common.{◌≡◌, ℕ, Bool, true, false, cond, is_none, is_some, Option, Some, None, Result, Ok, Err, List, [], ◌∷◌, ◌++◌, refl, sym, ◌∙◌, ap, subst, append-nil, append_assoc, map, if◌then◌else◌}
+use Rattle.std.proofs.lemmas.List.{map-append}
+use Rattle.std.proofs.lemmas.Simd.{map-map}
+use Rattle.std.specs.Bool.{⊤}
 use Rattle.std.specs.Cmp.{nat_cmp_total}
 use Rattle.std.specs.FinMap.{get, insert, get-insert}
 use Rattle.std.specs.Option.{option_map_or}
@@ -21,10 +24,12 @@ use Rattle.irc_stage.specs.EffectTold.{Served, in_silence, with_sent}
 use Rattle.irc_stage.specs.Linked.{with_far}
 use Rattle.irc_stage.specs.Lemmas.Numbers.{same_number-refl}
 use Rattle.irc_stage.specs.Lemmas.Steps.{nothing_behind}
-use Rattle.irc_stage.specs.Loops.Stage.{behind}
+use Rattle.irc_stage.specs.declared.stage.Stage.{Stage}
+use Rattle.irc_stage.specs.Loops.Stage.{behind, view_of}
 use Rattle.irc_deeds.specs.DeedTold.{link_lost, told_by}
 use Rattle.irc_deeds.specs.Heard.{Heard, ignored, closes, password, meets, tells, heard, message_heard, met_unless, of_met, opened}
 use Rattle.irc_deeds.specs.LinkServed.{met_by, on_link, opening_parts, owed_by, owes}
+use Rattle.irc_deeds.specs.Loops.Serving.{greeting_of, IsHearable}
 use Rattle.irc_deeds.specs.Lemmas.Fronts.{lost_link_behind, told_by_behind}
 
 -- what is heard at an end can be done there
@@ -66,8 +71,8 @@ met_now view link name = by (get view.ends link)
   where
     by : (o : Option End) → is_some o ≡ true
         → IsMetEnd (get (option_map_or (λ (end : End). record view { ends = insert view.ends link (record end { far = Some name }) }) o view).ends link)
-    by None open = cc open
-    by (Some end) open =
+    by None there = cc there
+    by (Some end) there =
         let named = record end { far = Some name } in
         subst IsMetEnd
         (sym (get-insert nat_cmp_total view.ends link named link ∙ ap (λ b. cond b (Some named) (get view.ends link)) (same_number-refl link))) refl
@@ -96,3 +101,24 @@ served_silently view seen out is = nothing_behind view out ∙ ap (λ v. behind 
 pub served_with : (view seen : View) (out more sent : List Sent) → view ≡ seen → more ≡ out ++ sent
     → record { view = view; out = more } ≡ behind out (with_sent sent (in_silence seen))
 served_with view seen out more sent is put = ap (λ v. record { view = v; out = more }) is ∙ ap (λ o. record { view = seen; out = o }) put
+
+pub at_stage : (link : ℕ) (what : Heard) (stage : Stage) → IsHearableAt (get (view_of stage).ends link) what → IsHearable link what stage
+at_stage link ignored stage so = tt
+at_stage link (closes why) stage so = tt
+at_stage link (password word) stage so = tt
+at_stage link (meets name info) stage so = so
+at_stage link (tells told) stage so = so
+
+-- an end says what it owes: first, if it was called, that it is there, and then the burst
+pub answered : (view : View) (link : ℕ) (name : List ℕ) (end : End) (out greeted new : List Sent) (lines : List (List ℕ)) → get view.ends link ≡ Some end
+    → greeted ≡ out ++ on_link link (greeting_of view end name) → lines ≡ map text (burst_parts view.room view.routes link)
+    → new ≡ greeted ++ map (line_on link) lines → new ≡ out ++ on_link link (owes view link name)
+answered view link name end out greeted new lines there hello written put =
+    let burst = burst_parts view.room view.routes link in
+    let first = greeting_of view end name in
+    put ∙ ap (λ ls. greeted ++ map (line_on link) ls) written
+    ∙ ap (λ sent. greeted ++ sent) (map-map (line_on link) text burst)
+    ∙ ap (λ o. o ++ on_link link burst) hello
+    ∙ append_assoc out (on_link link first) (on_link link burst)
+    ∙ ap (λ sent. out ++ sent) (sym (map-append (λ parts. line_on link (text parts)) first burst))
+    ∙ ap (λ (o : Option End). out ++ on_link link (option_map_or (owed_by view link name) o [])) (sym there)
