@@ -8,14 +8,12 @@ use Rattle.std.specs.FinMap.{get, empty, values, get-empty, get-from_entries}
 use Rattle.irc_names.specs.Tables.{fold_cmp, put, tabulate}
 use Rattle.irc_names.specs.TableLaws.{same_fold, same_table, row-put}
 use Rattle.irc_tables.specs.FoldedRows.{table_of, IsInFoldedOrder}
-use Rattle.irc_tables.specs.Lemmas.RowsAsTable.{nothing-table, nothing-sorted}
 use Rattle.irc_line.specs.Reading.{read_of}
 use Rattle.irc_relay.specs.Links.{Name, Link, part, distance, AreLinked, IsForest}
 use Rattle.irc_relay.specs.Links.{linked as are_linked}
 use Rattle.irc_relay.specs.Lemmas.TellingNames.{alike, unlike, tell, same_when}
 use Rattle.irc_room.specs.Room.{Room}
-use Rattle.irc_routes.specs.declared.server_row.ServerRow.{ServerRow}
-use Rattle.irc_routes.specs.Known.{others, alone_known, by_name, place_of}
+use Rattle.irc_routes.specs.Known.{others, by_name, place_of}
 use Rattle.irc_routes.specs.Laws.{AloneIsAlone}
 use Rattle.irc_routes.specs.Place.{KnownServer, Place, alone}
 use Rattle.irc_routes.specs.Lemmas.TableRows.{values-table_of}
@@ -23,6 +21,7 @@ use Rattle.irc_stage.specs.declared.clients.Client.{Client}
 use Rattle.irc_stage.specs.RoomMachine.{Clients, RoomMachine, client_of}
 use Rattle.irc_stage.specs.View.{View, machine_of}
 use Rattle.irc_stage.specs.Handle.{Happening, connects, says, goes, handled}
+use Rattle.irc_stage.specs.Lemmas.Alone.{knows_no_other}
 use Rattle.irc_server.specs.Served.{Served, of_client, served, LoneServerIsOneRoom, SaysTheSame}
 use Rattle.irc_server.specs.Owed.{lines_to}
 use Rattle.irc_server.specs.Owed.{owed as owed_by_server}
@@ -80,11 +79,6 @@ place_alone setting =
     ap (λ o. option_map_or (place_in (setting ∷ []) []) o (alone setting.name [] [])) (found setting)
     ∙ ap (λ ss. record { name = setting.name; info = setting.info; created = setting.created; links = 0; servers = ss }) (servers_alone setting)
 
-no_others : (name info created : List ℕ) → others (alone_known name info created) ≡ []
-no_others name info created =
-    ap values (sym (nothing-table (λ (r : ServerRow). (r.name, r))))
-    ∙ values-table_of (λ (r : ServerRow). r.name) [] (nothing-sorted (λ (r : ServerRow). (r.name, r)))
-
 -- the ends of a link would be two servers
 pub one_server_has_no_link : OneServerHasNoLink
 one_server_has_no_link setting world sound = by world.links sound.forest sound.ends_known
@@ -141,7 +135,7 @@ module _ (alone_is : AloneIsAlone) (one_room : LoneServerIsOneRoom) (setting : S
       same : SaysTheSame view happening
       same = one_room view happening (record {
         no_ends = is.no_ends;
-        no_others = ap others is.routes ∙ no_others setting.name setting.info setting.created;
+        no_others = ap others is.routes ∙ knows_no_other setting.name setting.info setting.created;
       })
 
       hall : Hall

@@ -1,6 +1,6 @@
 -- A server that knows no other, and has no link: nothing it does is told on links, and its users are its own. It is the room machine that it is to its clients.
 use Rattle.std.proofs.Common.{◌≡◌, ℕ, Bool, true, false, Option, Some, None, Ok, Err, List, [], ◌∷◌, ◌++◌, refl, sym, ◌∙◌, ap, append-nil, filter, filter_map, is_some, map, if◌then◌else◌}
-use Rattle.std.specs.FinMap.{empty, from_entries, keys}
+use Rattle.std.specs.FinMap.{empty, from_entries, keys, values}
 use Rattle.std.specs.List.{cons_option, flat_map, list_any}
 use Rattle.std.specs.Option.{option_and_then, option_map}
 use Rattle.std.specs.Ordering.{nat_cmp}
@@ -20,9 +20,10 @@ use Rattle.irc_room.specs.After.{after}
 use Rattle.irc_room.specs.Readers.{home_under}
 use Rattle.irc_room.specs.Seen.{seen}
 use Rattle.irc_routes.specs.declared.server_row.ServerRow.{ServerRow}
-use Rattle.irc_routes.specs.Known.{Known, link_key, next_hop, others, place_of}
-use Rattle.irc_routes.specs.Lemmas.TableRows.{row_passes}
+use Rattle.irc_routes.specs.Known.{Known, alone_known, link_key, next_hop, others, place_of}
+use Rattle.irc_routes.specs.Lemmas.TableRows.{row_passes, values-table_of}
 use Rattle.irc_routes.specs.Place.{Place}
+use Rattle.irc_tables.specs.Lemmas.RowsAsTable.{nothing-sorted, nothing-table}
 use Rattle.irc_acts.specs.declared.act.Act.{Act}
 use Rattle.irc_acts.specs.declared.act.Act.TheVariants.{Answer, Raw, Do}
 use Rattle.irc_commands.specs.Decide.{decide}
@@ -71,7 +72,13 @@ none_elsewhere view nowhere (SetTopic by channel text) = refl
 none_elsewhere view nowhere (Say by notice target text) = refl
 none_elsewhere view nowhere (UserMode nick invisible) = refl
 
--- no row is there of a server that is known
+-- a server that was not linked yet knows no other
+pub knows_no_other : (name info created : List ℕ) → others (alone_known name info created) ≡ []
+knows_no_other name info created =
+    ap values (sym (nothing-table (λ (r : ServerRow). (r.name, r))))
+    ∙ values-table_of (λ (r : ServerRow). r.name) [] (nothing-sorted (λ (r : ServerRow). (r.name, r)))
+
+-- where no other is known, there is no way to any
 no_next_hop : (known : Known) → others known ≡ [] → (name : List ℕ) → next_hop known name ≡ None
 no_next_hop known none name = by (row known.rows name) refl
   where
