@@ -131,3 +131,11 @@ sent_on_links new s arrival effect out out_after links line is links_are line_is
     ∙ ap (λ (t : Served). with_sent (lines_on links line) t) is
     ∙ ap (λ l. with_sent (lines_on links l) (changed effect s)) line_is
     ∙ ap (λ ls. with_sent (on_links ls (wire s.view.room s.view.routes effect)) (changed effect s)) links_are
+
+-- a map without entries has nothing under any number
+pub empty_by : (m : BTreeMap ℕ End) → length m.entries ≡ 0 → numbered m ≡ empty
+empty_by m none = by m.entries none
+  where
+    by : (es : List (ℕ × End)) → length es ≡ 0 → from_entries {R = nat_cmp} es ≡ empty
+    by [] is = refl
+    by (e ∷ es) is = cc is
