@@ -6,20 +6,21 @@ use Rattle.std.specs.FinMap.{entries}
 use Rattle.irc_line.specs.Messages.{Written}
 use Rattle.irc_batch.specs.Batches.{Sent, end_of, line_to}
 use Rattle.irc_commands.specs.Quit.{error_line}
-use Rattle.irc_room.specs.Applying.{does}
 use Rattle.irc_room.specs.declared.effect.Effect.{Effect}
 use Rattle.irc_room.specs.declared.effect.Effect.TheVariants.{Quit}
+use Rattle.irc_room.specs.Effects.{has_user}
 use Rattle.irc_room.specs.Seen.{Showing, seen}
 use Rattle.irc_merge.specs.Deeds.{Deed, does as done, gains, loses, kills, brings, sets, tops, effects_of}
 use Rattle.irc_merge.specs.Quits.{collision_text}
 use Rattle.irc_stage.specs.declared.clients.Client.{Client}
 use Rattle.irc_stage.specs.RoomMachine.{Clients}
-use Rattle.irc_stage.specs.Handle.{is_client, to_viewer, with_effect}
+use Rattle.irc_stage.specs.Handle.{is_client, to_viewer}
 use Rattle.irc_burst_lines.specs.DeedLines.{deed_parts}
 use Rattle.irc_link_writer.specs.Written.{wire}
 use Rattle.irc_links.specs.Ways.{but, met_links, told_homes, ways_toward}
-use Rattle.irc_stage.specs.EffectTold.{Served, all_changed, as_handled, changed, changed_if, effect_came, effect_told, is_elsewhere, on_links, put_back, with_sent}
-use Rattle.irc_deeds.specs.DeedTold.{client_ended, deed_told, deeds_told, ending, told_on_all, without_row}
+use Rattle.irc_stage.specs.EffectTold.{Served, all_changed, changed, changed_if, client_ended, counts, effect_came, effect_told, ends_of, is_elsewhere, on_links, quit_by, shown_at, taken_out, with_sent}
+use Rattle.irc_stage.specs.Linked.{told_on_all}
+use Rattle.irc_deeds.specs.DeedTold.{deed_told, deeds_told, forgotten}
 use Rattle.irc_deeds.specs.Laws.{NeverBack, NeverBackOfAll, PutsOutElsewhere, goes_on}
 
 -- ---- lists of what is put out
@@ -84,26 +85,28 @@ to_clients link clients [] = refl
 to_clients link clients (showing ∷ showings) =
     any-append link (to_viewer clients showing) (flat_map (to_viewer clients) showings) (to_client link showing (entries clients)) (to_clients link clients showings)
 
-of_ended : (link : ℕ) (nick : List ℕ) (cs : List (ℕ × Client)) → list_any (goes_on link) (flat_map (ending nick) cs) ≡ false
+of_ended : (link : ℕ) (nick : List ℕ) (cs : List (ℕ × Client))
+    → list_any (goes_on link) (filter_map (λ (c : ℕ × Client). if is_client nick c.1 then Some (end_of c.0) else None) cs) ≡ false
 of_ended link nick [] = refl
 of_ended link nick (c ∷ cs) = by (is_client nick c.1) (of_ended link nick cs)
   where
-    by : (b : Bool) → list_any (goes_on link) (flat_map (ending nick) cs) ≡ false
-        → list_any (goes_on link) ((if b then line_to c.0 (error_line collision_text) ∷ end_of c.0 ∷ [] else []) ++ flat_map (ending nick) cs) ≡ false
+    by : (b : Bool) → list_any (goes_on link) (filter_map (λ (d : ℕ × Client). if is_client nick d.1 then Some (end_of d.0) else None) cs) ≡ false
+        → list_any (goes_on link) (cons_option (if b then Some (end_of c.0) else None)
+        (filter_map (λ (d : ℕ × Client). if is_client nick d.1 then Some (end_of d.0) else None) cs)) ≡ false
     by true rest = rest
     by false rest = rest
 
 -- ---- effects and deeds
 
 by_change : (link : ℕ) (effect : Effect) (s : Served) → PutsOutElsewhere link s.out (changed effect s).out
-by_change link effect s = by (is_elsewhere s.view effect)
+by_change link effect s = more_out link s.out (shown_at s.view effect) (by (is_elsewhere s.view effect))
   where
-    by : (b : Bool) → PutsOutElsewhere link s.out (if b then s else put_back s.view (with_effect effect (as_handled s))).out
-    by true = same_out link s.out
-    by false = more_out link s.out _ (to_clients link s.view.clients (seen s.view.room effect))
+    by : (b : Bool) → list_any (goes_on link) (if b then [] else flat_map (to_viewer s.view.clients) (seen s.view.room effect)) ≡ false
+    by true = refl
+    by false = to_clients link s.view.clients (seen s.view.room effect)
 
 by_change_if : (link : ℕ) (effect : Effect) (s : Served) → PutsOutElsewhere link s.out (changed_if effect s).out
-by_change_if link effect s = by (does s.view.room effect)
+by_change_if link effect s = by (counts s.view effect)
   where
     by : (b : Bool) → PutsOutElsewhere link s.out (if b then changed effect s else s).out
     by true = by_change link effect s
@@ -118,14 +121,28 @@ then_told : (link : ℕ) (links : List ℕ) (parts : Written) (before : List Sen
 then_told link links parts before s so = then_out link _ _ _ so (more_out link s.out _ (others_alone link links parts))
 
 by_effect : (link : ℕ) (effect : Effect) (s : Served) → PutsOutElsewhere link s.out (effect_came (Some link) effect s).out
-by_effect link effect s = by (does s.view.room effect)
+by_effect link effect s = by (counts s.view effect)
   where
     by : (b : Bool) → PutsOutElsewhere link s.out (if b then effect_told (Some link) effect s else s).out
     by true = then_told link (ways_toward s.view.ends s.view.routes (told_homes s.view.room effect)) (wire s.view.room s.view.routes effect) s.out (changed effect s) (by_change link effect s)
     by false = same_out link s.out
 
-by_end : (link : ℕ) (nick : List ℕ) (before : List Sent) (s : Served) → PutsOutElsewhere link before s.out → PutsOutElsewhere link before (client_ended nick s).out
-by_end link nick before s so = then_out link _ _ _ so (more_out link s.out _ (of_ended link nick (entries s.view.clients)))
+by_end : (link : ℕ) (nick text : List ℕ) (s : Served) → PutsOutElsewhere link s.out (client_ended nick text s).out
+by_end link nick text s =
+    let told = to_viewer s.view.clients (record { viewer = nick; line = error_line text }) in
+    more_out link s.out (told ++ ends_of nick s.view.clients)
+    (any-append link told (ends_of nick s.view.clients) (to_client link (record { viewer = nick; line = error_line text }) (entries s.view.clients))
+    (of_ended link nick (entries s.view.clients)))
+
+by_quit : (link : ℕ) (nick text : List ℕ) (s : Served) → PutsOutElsewhere link s.out (quit_by nick text s).out
+by_quit link nick text s = by (has_user s.view.room nick)
+  where
+    by : (b : Bool) → PutsOutElsewhere link s.out (if b then changed (Quit nick text) s else s).out
+    by true = by_change link (Quit nick text) s
+    by false = same_out link s.out
+
+by_taken_out : (link : ℕ) (nick text : List ℕ) (s : Served) → PutsOutElsewhere link s.out (taken_out nick text s).out
+by_taken_out link nick text s = then_out link _ _ _ (by_quit link nick text s) (by_end link nick text (quit_by nick text s))
 
 -- a deed's line on all links but that one, behind what its effects put out
 then_all : (link : ℕ) (parts : Written) (before : List Sent) (s : Served) → PutsOutElsewhere link before s.out
@@ -143,11 +160,9 @@ never_back link (done effect) s = by_effect link effect s
 never_back link (gains uplink name info) s = same_out link s.out
 never_back link (loses server name words) s =
     let effects = effects_of s.view.room (loses server name words) in
-    then_all link (deed_parts s.view.room s.view.routes (loses server name words)) s.out (without_row name (all_changed effects s)) (by_all link effects s)
+    then_all link (deed_parts s.view.room s.view.routes (loses server name words)) s.out (forgotten name (all_changed effects s)) (by_all link effects s)
 never_back link (kills server nick) s =
-    let quit = Quit nick collision_text in
-    then_all link (deed_parts s.view.room s.view.routes (kills server nick)) s.out (client_ended nick (changed_if quit s))
-    (by_end link nick s.out (changed_if quit s) (by_change_if link quit s))
+    then_all link (deed_parts s.view.room s.view.routes (kills server nick)) s.out (taken_out nick collision_text s) (by_taken_out link nick collision_text s)
 never_back link (brings server channel members) s = by_effects link (brings server channel members) s
 never_back link (sets server channel changes) s = by_effects link (sets server channel changes) s
 never_back link (tops server channel topic) s = by_effects link (tops server channel topic) s

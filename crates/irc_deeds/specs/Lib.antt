@@ -3,3 +3,4 @@ pub mod Heard
 pub mod LinkServed
 pub mod Laws
 pub mod Loops
+pub mod Lemmas

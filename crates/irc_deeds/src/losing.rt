@@ -6,7 +6,7 @@ ghost use Rattle.irc_routes.specs.Known.{behind};
 ghost use Rattle.irc_stage.specs.Loops.Stage.{view_of, IsServing};
 ghost use Rattle.irc_stage.specs.Loops.Linking.{IsMetAt};
 ghost use Rattle.irc_deeds.specs.DeedTold.{split_text};
-ghost use Rattle.irc_deeds.specs.Loops.Serving.{far_of, Loses, LosesAll};
+ghost use Rattle.irc_deeds.specs.Loops.Serving.{far_of, Loses, LosesAll, LosesBehind};
 
 use crate::telling::{Loss, lose};
 use arrayvec::ArrayVec;
@@ -29,11 +29,22 @@ pub fn lose_link(stage: &mut Stage, link: u64, out: &mut Batch) -> Result<(), Al
     ensures serving { OnOk result (IsServing stage.new) }
     ensures grew { Grew out.old.outs out.new.outs }
 {
-    if let Some(far) = far_of(stage, link) {
-        lose_all(stage, link, &far, out)?;
-    }
+    lose_behind(stage, link, out)?;
     stage.unlink(link);
     Ok(())
+}
+
+/// Each server behind a link is lost, if the link counts.
+fn lose_behind(stage: &mut Stage, link: u64, out: &mut Batch) -> Result<(), AllocError>
+    requires serving { IsServing stage.old }
+    ensures ok { OnOk result (LosesBehind link stage.old out.old stage.new out.new) }
+    ensures serving { OnOk result (IsServing stage.new) }
+    ensures grew { Grew out.old.outs out.new.outs }
+{
+    match far_of(stage, link) {
+        Some(far) => lose_all(stage, link, &far, out),
+        None => Ok(()),
+    }
 }
 
 /// The server at the other end of a link, if it has named itself.

@@ -7,7 +7,7 @@ ghost use Rattle.irc_burst_lines.specs.Loops.Telling.{told_members};
 ghost use Rattle.irc_merge.specs.Deeds.{member_comes};
 ghost use Rattle.irc_stage.specs.Loops.Linking.{IsMetAt};
 ghost use Rattle.irc_stage.specs.Loops.Stage.{IsServing, Keeps};
-ghost use Rattle.irc_deeds.specs.Loops.Telling.{brings_of, flag_of, ChangesAll, DoesDeed};
+ghost use Rattle.irc_deeds.specs.Loops.Telling.{brings_of, flag_of, given_by, ChangesAll, DoesDeed};
 
 use irc_batch::Batch;
 use irc_burst::NewMember;
@@ -109,15 +109,44 @@ fn come(
         op: false,
     };
     stage.take(link, &join, out)?;
-    if member.flags.op {
-        let flag = flag(stage.alloc(), channel, ModeLetter::Operator, &member.nick)?;
-        stage.take(link, &flag, out)?;
+    let op = Gift {
+        channel,
+        nick: &member.nick,
+        letter: ModeLetter::Operator,
+        given: member.flags.op,
+    };
+    give(stage, link, op, out)?;
+    let voice = Gift {
+        channel,
+        nick: &member.nick,
+        letter: ModeLetter::Voice,
+        given: member.flags.voice,
+    };
+    give(stage, link, voice, out)
+}
+
+/// A flag that a member comes with or without.
+#[derive(Clone, Copy)]
+pub(crate) struct Gift<'a> {
+    channel: &'a ChannelName,
+    nick: &'a Nick,
+    letter: ModeLetter,
+    given: bool,
+}
+
+/// A member is given a flag, if it has it.
+fn give(stage: &mut Stage, link: u64, gift: Gift<'_>, out: &mut Batch) -> Result<(), AllocError>
+    requires serving { IsServing stage.old }
+    ensures ok { OnOk result (ChangesAll (given_by gift.entry) stage.old out.old stage.new out.new) }
+    ensures serving { OnOk result (IsServing stage.new) }
+    ensures keeps { Keeps stage.old stage.new }
+    ensures grew { Grew out.old.outs out.new.outs }
+{
+    if !gift.given {
+        return Ok(());
     }
-    if member.flags.voice {
-        let flag = flag(stage.alloc(), channel, ModeLetter::Voice, &member.nick)?;
-        stage.take(link, &flag, out)?;
-    }
-    Ok(())
+    let flag = flag(stage.alloc(), gift.channel, gift.letter, gift.nick)?;
+    stage.take(link, &flag, out)
 }
 
 /// What gives a member a flag.

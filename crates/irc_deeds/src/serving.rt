@@ -7,7 +7,7 @@ ghost use Rattle.irc_burst_lines.specs.Loops.Telling.{lines_now};
 ghost use Rattle.irc_stage.specs.Loops.Stage.{view_of, IsServing};
 ghost use Rattle.irc_deeds.specs.LinkServed.{opening_parts, owes};
 ghost use Rattle.irc_deeds.specs.Loops.Hearing.{heard_of};
-ghost use Rattle.irc_deeds.specs.Loops.Serving.{Follows, Hears, IsHearable, IsOpenAt, Meets, Opens, PutsLines, PutsOn};
+ghost use Rattle.irc_deeds.specs.Loops.Serving.{greeting_of, Follows, Hears, IsHearable, IsOpenAt, Meets, Opens, PutsLines, PutsOn};
 
 use crate::heard::Heard;
 use crate::hearing::hear;
@@ -17,6 +17,7 @@ use irc_batch::{Batch, CloseReason};
 use irc_burst_lines::burst;
 use irc_handshake::{greeting_text, pass_text};
 use irc_line::Text;
+use irc_links::LinkEnd;
 use irc_names::ServerName;
 use irc_routes::Info;
 use irc_stage::{Newcomer, Stage};
@@ -142,11 +143,26 @@ fn answer(stage: &Stage, link: u64, name: &ServerName, out: &mut Batch) -> Resul
     let Some(end) = stage.end(link) else {
         return Ok(());
     };
-    if end.starts().is_none() {
-        begin(stage, link, name, out)?;
-    }
+    greet(stage, link, end, name, out)?;
     let lines = burst(stage.room(), stage.routes(), link)?;
     put_all(link, lines.as_slice(), out)
+}
+
+/// The end that is called has said nothing yet, and begins now.
+fn greet(
+    stage: &Stage,
+    link: u64,
+    end: &LinkEnd,
+    name: &ServerName,
+    out: &mut Batch,
+) -> Result<(), AllocError>
+    ensures ok { OnOk result (PutsOn link (greeting_of (view_of stage.now) end.now name.now) out.old out.new) }
+    ensures grew { Grew out.old.outs out.new.outs }
+{
+    if end.starts().is_some() {
+        return Ok(());
+    }
+    begin(stage, link, name, out)
 }
 
 /// These lines on a link, in order.

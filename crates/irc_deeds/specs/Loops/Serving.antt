@@ -1,5 +1,5 @@
 -- What the code does of what happens by a link, from one moment of a server and of what it has put out to a later one.
-use Rattle.std.specs.Prelude.{◌≡◌, ℕ, ⊤, Option, Some, None, Result, List, ◌++◌, is_some, true, map}
+use Rattle.std.specs.Prelude.{◌≡◌, ℕ, ⊤, Option, Some, None, Result, List, [], ◌++◌, is_none, is_some, true, map, if◌then◌else◌}
 use Rattle.std.specs.FinMap.{get}
 use Rattle.std.specs.Option.{option_and_then}
 use Rattle.irc_batch.specs.Batches.{Batch, Sent, line_on}
@@ -11,9 +11,9 @@ use Rattle.irc_stage.specs.EffectTold.{Served}
 use Rattle.irc_stage.specs.View.{End, View}
 use Rattle.irc_stage.specs.Loops.Linking.{IsMetAt}
 use Rattle.irc_stage.specs.Loops.Stage.{behind, served_at, view_of}
-use Rattle.irc_deeds.specs.DeedTold.{deeds_told, link_lost, losses}
+use Rattle.irc_deeds.specs.DeedTold.{deeds_told, link_lost, losses, lost_behind}
 use Rattle.irc_deeds.specs.Heard.{Heard, meets, tells}
-use Rattle.irc_deeds.specs.LinkServed.{after_heard, line_served, link_opened, met_by, on_link}
+use Rattle.irc_deeds.specs.LinkServed.{after_heard, line_served, link_opened, met_by, on_link, opening_parts}
 
 -- a link is open
 abbrev pub IsOpenAt : ℕ → Stage → Type 0
@@ -29,6 +29,10 @@ PutsOn link lines out out_after = out_after.outs ≡ out.outs ++ on_link link li
 
 abbrev pub PutsLines : ℕ → List (List ℕ) → Batch → Batch → Type 0
 PutsLines link lines out out_after = out_after.outs ≡ out.outs ++ map (line_on link) lines
+
+-- what an end says first, where it was called
+abbrev pub greeting_of : View → End → List ℕ → List Written
+greeting_of view end name = if is_none end.starts then opening_parts view name else []
 
 -- what it does goes behind what was put out before
 abbrev pub Serves : Served → Batch → Stage → Batch → Type 0
@@ -57,6 +61,10 @@ Meets link name info old out new out_after = Serves (met_by link name info (view
 -- a link is lost
 abbrev pub Loses : ℕ → Stage → Batch → Stage → Batch → Type 0
 Loses link old out new out_after = served_at new out_after.outs ≡ link_lost link (served_at old out.outs)
+
+abbrev pub LosesBehind : ℕ → Stage → Batch → Stage → Batch → Type 0
+LosesBehind link old out new out_after =
+    served_at new out_after.outs ≡ deeds_told (Some link) (lost_behind (view_of old) link (get (view_of old).ends link)) (served_at old out.outs)
 
 abbrev pub LosesAll : ℕ → List ℕ → Stage → Batch → Stage → Batch → Type 0
 LosesAll link far old out new out_after =

@@ -1,18 +1,19 @@
 -- What the code does of what a line of a link tells, from one moment of a server and of what it has put out to a later one.
-use Rattle.std.specs.Prelude.{◌≡◌, ℕ, Bool, true, Option, Some, List, [], ◌∷◌}
+use Rattle.std.specs.Prelude.{◌≡◌, ℕ, Bool, true, Option, Some, List, [], ◌∷◌, map}
 use Rattle.irc_batch.specs.Batches.{Batch}
 use Rattle.irc_burst.specs.DeedsMeant.{Told, a_deed, a_server}
 use Rattle.irc_burst.specs.Loops.Acts.{members_told}
-use Rattle.irc_merge.specs.Deeds.{Deed, brings, kills, loses, sets, tops}
+use Rattle.irc_merge.specs.Deeds.{Deed, brings, flag_given, kills, loses, sets, tops}
 use Rattle.irc_modes.specs.declared.modes.ModeLetter.{ModeLetter}
 use Rattle.irc_room.specs.declared.effect.By.TheVariants as by
 use Rattle.irc_room.specs.declared.effect.Effect.{Effect}
-use Rattle.irc_room.specs.declared.effect.Effect.TheVariants.{ChangeModes}
+use Rattle.irc_room.specs.declared.effect.Effect.TheVariants.{ChangeModes, Quit}
 use Rattle.irc_stage.specs.declared.linked.Newcomer.{Newcomer}
 use Rattle.irc_stage.specs.declared.stage.Stage.{Stage}
 use Rattle.irc_stage.specs.EffectTold.{all_changed}
 use Rattle.irc_stage.specs.Loops.Stage.{served_at}
 use Rattle.irc_deeds.specs.declared.members.Arrivals.{Arrivals}
+use Rattle.irc_deeds.specs.declared.members.Gift.{Gift}
 use Rattle.irc_deeds.specs.declared.telling.Loss.{Loss}
 use Rattle.irc_deeds.specs.declared.telling.Setting.{Setting}
 use Rattle.irc_deeds.specs.declared.telling.Topic.{Topic}
@@ -34,6 +35,14 @@ tops_of topic = tops topic.server.now topic.channel.now topic.text.now
 -- what gives a member a flag
 abbrev pub flag_of : ModeLetter → List ℕ → List ℕ → Effect
 flag_of letter channel nick = ChangeModes by.Home channel (record { plus = true; letter = letter; word = Some nick } ∷ [])
+
+-- a flag that a member has, or has not
+abbrev pub given_by : Gift → List Effect
+given_by gift = flag_given gift.given gift.letter gift.channel.now gift.nick.now
+
+-- the users of these nicknames quit with one text
+abbrev pub quits_by_nick : List ℕ → List (List ℕ) → List Effect
+quits_by_nick text nicks = map (λ nick. Quit nick text) nicks
 
 -- effects are taken that come by a link, one after another
 abbrev pub ChangesAll : List Effect → Stage → Batch → Stage → Batch → Type 0
