@@ -73,7 +73,11 @@ static IN_HANDSHAKE: [Closing; 16] = [
         CloseReason::Order,
     ),
     (
-        &[b"   ", b"PASS pw 0210010000 TREE|", b"NICK bo 1 u h 1 + :Bo"],
+        &[
+            b"   ",
+            b"PASS pw 0210010000 TREE|",
+            b"NICK bo 1 u h 1 + :Bo",
+        ],
         CloseReason::Order,
     ),
     (&[b":cy QUIT :x"], CloseReason::Order),
@@ -100,7 +104,10 @@ static BEHIND_HANDSHAKE: [Closing; 31] = [
     (&[b":zz.net SQUIT b.net :x"], CloseReason::WrongDirection),
     (&[b":b.net SQUIT c.net :x"], CloseReason::WrongDirection),
     (&[b":b.net SQUIT a.net :x"], CloseReason::WrongDirection),
-    (&[b":c.net KILL al :Nick collision"], CloseReason::WrongDirection),
+    (
+        &[b":c.net KILL al :Nick collision"],
+        CloseReason::WrongDirection,
+    ),
     (&[b"NICK 9d 1 u h 1 + :D"], CloseReason::BadName),
     (&[b":b.net SQUIT zz.net :x"], CloseReason::BadName),
     (&[b":b.net SERVER nodot 2 2 :E"], CloseReason::BadName),

@@ -32,7 +32,10 @@ static SCENE: [Step; 21] = [
 static RENAMES: [Row; 7] = [
     // Of a client of the server: it is told why, and closed; both KILLs go on every link.
     (
-        &[Step::Hears(7, b":zed NICK al"), Step::Says(2, b"ISON al zed")],
+        &[
+            Step::Hears(7, b":zed NICK al"),
+            Step::Says(2, b"ISON al zed"),
+        ],
         &[
             Out::Line(2, b":al!u@h QUIT :Killed (Nick collision)"),
             Out::Line(1, b"ERROR :Closing link (Killed (Nick collision))"),
@@ -84,7 +87,10 @@ static RENAMES: [Row; 7] = [
     ),
     // One that nobody has, and its own in another spelling.
     (
-        &[Step::Hears(7, b":bo NICK ben"), Step::Hears(7, b":ben NICK BEN")],
+        &[
+            Step::Hears(7, b":bo NICK ben"),
+            Step::Hears(7, b":ben NICK BEN"),
+        ],
         &[
             Out::Line(1, b":bo!u@h NICK ben"),
             Out::Line(2, b":bo!u@h NICK ben"),

@@ -70,10 +70,7 @@ static OF_NOBODY: [Row; 9] = [
     ),
     // A server that is no peer is not called, and its link is open no more.
     (
-        &[
-            Step::Calls(7, b"x.net"),
-            Step::IsCalled(7),
-        ],
+        &[Step::Calls(7, b"x.net"), Step::IsCalled(7)],
         &[Out::LinkClose(7, CloseReason::UnknownPeer)],
     ),
     // Who connects before the link is up is told in the burst; who comes afterwards by a line.

@@ -190,13 +190,22 @@ static INVITATIONS: [Row; 6] = [
 /// Everything else goes to all links but the one by which it came, and to none that is not up yet.
 static OTHERS: [Row; 12] = [
     (
-        &[Step::Says(3, b"NICK new"), Step::Says(3, b"USER u 0 * :New")],
+        &[
+            Step::Says(3, b"NICK new"),
+            Step::Says(3, b"USER u 0 * :New"),
+        ],
         &[
             Out::LinkLine(7, b"NICK new 1 u h 1 + :New"),
             Out::LinkLine(8, b"NICK new 1 u h 1 + :New"),
             Out::LinkLine(9, b"NICK new 1 u h 1 + :New"),
-            Out::Line(3, b":a.net 001 new :Welcome to the Internet Relay Network new!u@h"),
-            Out::Line(3, b":a.net 002 new :Your host is a.net, running version treeircd-1"),
+            Out::Line(
+                3,
+                b":a.net 001 new :Welcome to the Internet Relay Network new!u@h",
+            ),
+            Out::Line(
+                3,
+                b":a.net 002 new :Your host is a.net, running version treeircd-1",
+            ),
             Out::Line(3, b":a.net 003 new :This server was created 2024-01-01"),
             Out::Line(3, b":a.net 004 new a.net treeircd-1 i biklmnopstv"),
             Out::Line(3, b":a.net 422 new :MOTD File is missing"),
@@ -299,7 +308,10 @@ static OTHERS: [Row; 12] = [
     ),
     // Names are passed on as they are stored.
     (
-        &[Step::Hears(7, b":BO PART #C :x"), Step::Hears(7, b":bo JOIN #C")],
+        &[
+            Step::Hears(7, b":BO PART #C :x"),
+            Step::Hears(7, b":bo JOIN #C"),
+        ],
         &[
             Out::Line(1, b":bo!u@h PART #c :x"),
             Out::Line(2, b":bo!u@h PART #c :x"),
