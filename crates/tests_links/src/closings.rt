@@ -1,8 +1,8 @@
 //! Why a link is closed, each reason in a handshake or behind it; and that no other link is.
-use crate::happening::{Row, Step, are_put, happens, line_of, rows_hold, server, takes};
+use crate::happening::{Row, Step, are_put, event_of, happens, line_of, rows_hold, server, takes};
 use irc_batch::{Batch, Out};
 use irc_line::Line;
-use irc_server::{CloseReason, Event, Server};
+use irc_server::{CloseReason, Event, Server, ServerFault};
 use itoa::Buffer;
 use std::alloc::Global;
 use std::test::Fail;
@@ -132,27 +132,68 @@ static FULL_BEHIND: [Closing; 2] = [
     (&[b":b.net SERVER c.net 2 2 :C"], CloseReason::AlreadyKnown),
 ];
 
-/// A number that b.net has given stands for no second server.
-static GIVEN_TWICE: [Row; 1] = [(
-    &[
-        Step::Hears(7, b"PASS pw 0210010000 TREE|"),
-        Step::Hears(7, b"SERVER b.net 1 1 :B"),
-        Step::Hears(7, b":b.net SERVER d.net 2 2 :D"),
-        Step::Hears(7, b":b.net SERVER e.net 2 2 :E"),
-    ],
-    &[
-        Out::LinkLine(7, b"PASS pw 0210010000 TREE|"),
-        Out::LinkLine(7, b"SERVER a.net 1 1 :A"),
-        Out::LinkLine(7, b":a.net SERVER c.net 2 2 :C"),
-        Out::LinkLine(7, b"NICK al 1 u h 1 + :Al"),
-        Out::LinkLine(7, b"NICK cy 2 u h 2 + :Cy"),
-        Out::LinkLine(8, b":a.net SERVER b.net 2 3 :B"),
-        Out::LinkLine(8, b":b.net SERVER d.net 3 4 :D"),
-        Out::LinkClose(7, CloseReason::BadToken),
-        Out::LinkLine(8, b":a.net SQUIT b.net :a.net b.net"),
-        Out::LinkLine(8, b":a.net SQUIT d.net :a.net b.net"),
-    ],
-)];
+/// What is there already comes no second time.
+static TWICE: [Row; 2] = [
+    // A number that b.net has given to a server.
+    (
+        &[
+            Step::Hears(7, b"PASS pw 0210010000 TREE|"),
+            Step::Hears(7, b"SERVER b.net 1 1 :B"),
+            Step::Hears(7, b":b.net SERVER d.net 2 2 :D"),
+            Step::Hears(7, b":b.net SERVER e.net 2 2 :E"),
+        ],
+        &[
+            Out::LinkLine(7, b"PASS pw 0210010000 TREE|"),
+            Out::LinkLine(7, b"SERVER a.net 1 1 :A"),
+            Out::LinkLine(7, b":a.net SERVER c.net 2 2 :C"),
+            Out::LinkLine(7, b"NICK al 1 u h 1 + :Al"),
+            Out::LinkLine(7, b"NICK cy 2 u h 2 + :Cy"),
+            Out::LinkLine(8, b":a.net SERVER b.net 2 3 :B"),
+            Out::LinkLine(8, b":b.net SERVER d.net 3 4 :D"),
+            Out::LinkClose(7, CloseReason::BadToken),
+            Out::LinkLine(8, b":a.net SQUIT b.net :a.net b.net"),
+            Out::LinkLine(8, b":a.net SQUIT d.net :a.net b.net"),
+        ],
+    ),
+    // A server by a second link, which is closed; its first one stays.
+    (
+        &[
+            Step::Hears(7, b"PASS pw 0210010000 TREE|"),
+            Step::Calls(6, b"b.net"),
+            Step::Hears(6, b"PASS pw 0210010000 TREE|"),
+            Step::Hears(7, b"SERVER b.net 1 1 :B"),
+            Step::Hears(6, b"SERVER b.net 1 1 :B"),
+            Step::Hears(7, b"NICK bo 1 u h 1 + :Bo"),
+        ],
+        &[
+            Out::LinkLine(6, b"PASS pw 0210010000 TREE|"),
+            Out::LinkLine(6, b"SERVER a.net 1 1 :A"),
+            Out::LinkLine(7, b"PASS pw 0210010000 TREE|"),
+            Out::LinkLine(7, b"SERVER a.net 1 1 :A"),
+            Out::LinkLine(7, b":a.net SERVER c.net 2 2 :C"),
+            Out::LinkLine(7, b"NICK al 1 u h 1 + :Al"),
+            Out::LinkLine(7, b"NICK cy 2 u h 2 + :Cy"),
+            Out::LinkLine(8, b":a.net SERVER b.net 2 3 :B"),
+            Out::LinkClose(6, CloseReason::AlreadyKnown),
+            Out::LinkLine(8, b"NICK bo 2 u h 3 + :Bo"),
+        ],
+    ),
+];
+
+/// What is refused behind the handshake of c.net, and why.
+static REFUSED: [(Step, ServerFault); 8] = [
+    (Step::IsCalled(8), ServerFault::LinkThere),
+    (Step::Calls(8, b"b.net"), ServerFault::LinkThere),
+    (Step::Calls(7, b"x.net"), ServerFault::LinkThere),
+    (
+        Step::Hears(9, b"PASS pw 0210010000 TREE|"),
+        ServerFault::NoSuchLink,
+    ),
+    (Step::Loses(1), ServerFault::NoSuchLink),
+    (Step::Connects(1), ServerFault::ConnectionThere),
+    (Step::Says(8, b"PING x"), ServerFault::NoSuchConnection),
+    (Step::Leaves(8), ServerFault::NoSuchConnection),
+];
 
 /// A name for each number.
 fn server_line(number: u32) -> Line {
@@ -166,10 +207,10 @@ fn server_line(number: u32) -> Line {
     line
 }
 
-/// Whether a server takes servers behind c.net, one for each number from 2 to this.
-fn fills(server: &mut Server, last: u32, out: &mut Batch) -> bool {
+/// Whether a server takes servers behind c.net, one for each number from 2 up to this.
+fn fills(server: &mut Server, end: u32, out: &mut Batch) -> bool {
     let mut all = true;
-    for number in 2..=last {
+    for number in 2..end {
         all &= takes(server, &Event::LinkLine(8, server_line(number)), out);
     }
     all
@@ -196,8 +237,8 @@ fn takes_lines(alloc: Global, server: &mut Server, lines: &[&[u8]], out: &mut Ba
     all && happens(alloc, server, &AFTERWARDS, out)
 }
 
-/// Whether a link is closed as a row says, behind a handshake or in it, where c.net has told of servers up to this number.
-fn closes(alloc: Global, met: bool, last: u32, closing: &Closing) -> bool {
+/// Whether a link is closed as a row says, behind a handshake or in it, where c.net has told of servers with numbers below this.
+fn closes(alloc: Global, met: bool, end: u32, closing: &Closing) -> bool {
     let Some(mut server) = server(alloc) else {
         return false;
     };
@@ -205,42 +246,74 @@ fn closes(alloc: Global, met: bool, last: u32, closing: &Closing) -> bool {
     let mut out = Batch::new(alloc);
     let stands = happens(alloc, &mut server, &BEFORE, &mut out)
         && happens(alloc, &mut server, greeting, &mut out)
-        && fills(&mut server, last, &mut out);
+        && fills(&mut server, end, &mut out);
     out.clear();
     let (lines, reason) = closing;
     stands && takes_lines(alloc, &mut server, lines, &mut out) && is_put_for(&out, met, *reason)
 }
 
 /// Whether a link is closed as each row says.
-fn all_close(alloc: Global, met: bool, last: u32, closings: &[Closing]) -> bool {
+fn all_close(alloc: Global, met: bool, end: u32, closings: &[Closing]) -> bool {
     let mut all = true;
     for closing in closings {
-        all &= closes(alloc, met, last, closing);
+        all &= closes(alloc, met, end, closing);
     }
     all
 }
 
+/// Whether a server refuses a step for this, and puts nothing out.
+fn is_refused(server: &mut Server, step: &Step, wanted: ServerFault, out: &mut Batch) -> bool {
+    let Some(event) = event_of(step) else {
+        return false;
+    };
+    match server.handle(&event, out) {
+        Ok(()) => false,
+        Err(fault) => fault == wanted && out.len() == 0,
+    }
+}
+
+/// Whether a server refuses each of these steps, and goes on.
+fn all_are_refused(alloc: Global) -> bool {
+    let Some(mut server) = server(alloc) else {
+        return false;
+    };
+    let mut out = Batch::new(alloc);
+    let mut all = happens(alloc, &mut server, &BEFORE, &mut out);
+    out.clear();
+    for (step, fault) in &REFUSED {
+        all &= is_refused(&mut server, step, *fault, &mut out);
+    }
+    all && takes_lines(alloc, &mut server, &[b"FOO"], &mut out)
+        && is_put_for(&out, false, CloseReason::UnknownCommand)
+}
+
 #[test]
 fn a_handshake_closes_a_link(rt: HostRuntime) -> Result<(), Fail> {
-    assert!(rt; all_close(rt.alloc(), false, 0, &IN_HANDSHAKE));
+    assert!(rt; all_close(rt.alloc(), false, 2, &IN_HANDSHAKE));
     Ok(())
 }
 
 #[test]
 fn a_line_behind_the_handshake_closes_a_link(rt: HostRuntime) -> Result<(), Fail> {
-    assert!(rt; all_close(rt.alloc(), true, 0, &BEHIND_HANDSHAKE));
+    assert!(rt; all_close(rt.alloc(), true, 2, &BEHIND_HANDSHAKE));
     Ok(())
 }
 
 #[test]
 fn no_server_comes_beyond_the_last(rt: HostRuntime) -> Result<(), Fail> {
-    assert!(rt; all_close(rt.alloc(), false, 255, &FULL_IN_HANDSHAKE));
-    assert!(rt; all_close(rt.alloc(), true, 254, &FULL_BEHIND));
+    assert!(rt; all_close(rt.alloc(), false, 256, &FULL_IN_HANDSHAKE));
+    assert!(rt; all_close(rt.alloc(), true, 255, &FULL_BEHIND));
     Ok(())
 }
 
 #[test]
-fn a_number_is_given_once(rt: HostRuntime) -> Result<(), Fail> {
-    assert!(rt; rows_hold(rt.alloc(), &BEFORE, &GIVEN_TWICE));
+fn nothing_comes_twice(rt: HostRuntime) -> Result<(), Fail> {
+    assert!(rt; rows_hold(rt.alloc(), &BEFORE, &TWICE));
+    Ok(())
+}
+
+#[test]
+fn events_of_links_that_are_not_there_are_refused(rt: HostRuntime) -> Result<(), Fail> {
+    assert!(rt; all_are_refused(rt.alloc()));
     Ok(())
 }

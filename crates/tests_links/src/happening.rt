@@ -71,14 +71,6 @@ pub fn takes(server: &mut Server, event: &Event, out: &mut Batch) -> bool {
     server.handle(event, out).is_ok()
 }
 
-/// Whether a server takes a client from the host h.
-fn connects(server: &mut Server, conn: u64, out: &mut Batch) -> bool {
-    match Host::read(b"h") {
-        Some(host) => takes(server, &Event::Connect(conn, host), out),
-        None => false,
-    }
-}
-
 /// Whether a server takes each line that bytes of a link complete.
 fn reads(alloc: Global, server: &mut Server, link: u64, bytes: &[u8], out: &mut Batch) -> bool {
     let Ok(lines) = lines_of_pieces(alloc, &[bytes]) else {
@@ -91,19 +83,28 @@ fn reads(alloc: Global, server: &mut Server, link: u64, bytes: &[u8], out: &mut 
     all
 }
 
+/// The event of a step; bytes are none before they complete a line.
+pub fn event_of(step: &Step) -> Option<Event> {
+    match step {
+        Step::Connects(conn) => Some(Event::Connect(*conn, Host::read(b"h")?)),
+        Step::Says(conn, text) => Some(Event::Line(*conn, line_of(text))),
+        Step::Leaves(conn) => Some(Event::Gone(*conn)),
+        Step::IsCalled(link) => Some(Event::LinkUp(*link, None)),
+        Step::Calls(link, name) => Some(Event::LinkUp(*link, ServerName::read(name))),
+        Step::Hears(link, text) => Some(Event::LinkLine(*link, line_of(text))),
+        Step::Loses(link) => Some(Event::LinkDown(*link)),
+        Step::Reads(..) => None,
+    }
+}
+
 /// Whether a server takes a step.
 fn takes_step(alloc: Global, server: &mut Server, step: &Step, out: &mut Batch) -> bool {
-    match step {
-        Step::Connects(conn) => connects(server, *conn, out),
-        Step::Says(conn, text) => takes(server, &Event::Line(*conn, line_of(text)), out),
-        Step::Leaves(conn) => takes(server, &Event::Gone(*conn), out),
-        Step::IsCalled(link) => takes(server, &Event::LinkUp(*link, None), out),
-        Step::Calls(link, name) => {
-            takes(server, &Event::LinkUp(*link, ServerName::read(name)), out)
-        }
-        Step::Hears(link, text) => takes(server, &Event::LinkLine(*link, line_of(text)), out),
-        Step::Reads(link, bytes) => reads(alloc, server, *link, bytes, out),
-        Step::Loses(link) => takes(server, &Event::LinkDown(*link), out),
+    if let Step::Reads(link, bytes) = step {
+        return reads(alloc, server, *link, bytes, out);
+    }
+    match event_of(step) {
+        Some(event) => takes(server, &event, out),
+        None => false,
     }
 }
 
