@@ -35,8 +35,17 @@ static SCENE: [Step; 26] = [
     Step::IsCalled(6),
 ];
 
+const LONG: &[u8] =
+    b"PRIVMSG #c :xxxxxxxxxxxxxxxxxxxxxxxxxxxxxxxxxxxxxxxxxxxxxxxxxxxxxxxxxxxxxxxxxxxxxxxxxxxxxxxxxxxxxxxxxxxxxxxxxxxxxxxxxxxxxxxxxxxxxxxxxxxxxxxxxxxxxxxxxxxxxxxxxxxxxxxxxxxxxxxxxxxxxxxxxxxxxxxxxxxxxxxxxxxxxxxxxxxxxxxxxxxxxxxxxxxxxxxxxxxxxxxxxxxxxxxxxxxxxxxxxxxxxxxxxxxxxxxxxxxxxxxxxxxxxxxxxxxxxxxxxxxxxxxxxxxxxxxxxxxxxxxxxxxxxxxxxxxxxxxxxxxxxxxxxxxxxxxxxxxxxxxxxxxxxxxxxxxxxxxxxxxxxxxxxxxxxxxxxxxxxxxxxxxxxxxxxxxxxxxxxxxxxxxxxxxxxxxxxxxxxxxxxxxxxxxxxxxxxxxxxxxxxxxxxxxxxxxxxxxxxxxxxxxxxxxxxxxxxxxxxxxxxxxxxxxxxxxxxx";
+
+const LONG_SHOWN: &[u8] =
+    b":al!u@h PRIVMSG #c :xxxxxxxxxxxxxxxxxxxxxxxxxxxxxxxxxxxxxxxxxxxxxxxxxxxxxxxxxxxxxxxxxxxxxxxxxxxxxxxxxxxxxxxxxxxxxxxxxxxxxxxxxxxxxxxxxxxxxxxxxxxxxxxxxxxxxxxxxxxxxxxxxxxxxxxxxxxxxxxxxxxxxxxxxxxxxxxxxxxxxxxxxxxxxxxxxxxxxxxxxxxxxxxxxxxxxxxxxxxxxxxxxxxxxxxxxxxxxxxxxxxxxxxxxxxxxxxxxxxxxxxxxxxxxxxxxxxxxxxxxxxxxxxxxxxxxxxxxxxxxxxxxxxxxxxxxxxxxxxxxxxxxxxxxxxxxxxxxxxxxxxxxxxxxxxxxxxxxxxxxxxxxxxxxxxxxxxxxxxxxxxxxxxxxxxxxxxxxxxxxxxxxxxxxxxxxxxxxxxxxxxxxxxxxxxxxxxxxxxxxxxxxxxxxxxxxxxxxxxxxxxxxxxxxxxxxxxxxxxxxxxxxxxxxx";
+
+const LONG_TOLD: &[u8] =
+    b":al PRIVMSG #c :xxxxxxxxxxxxxxxxxxxxxxxxxxxxxxxxxxxxxxxxxxxxxxxxxxxxxxxxxxxxxxxxxxxxxxxxxxxxxxxxxxxxxxxxxxxxxxxxxxxxxxxxxxxxxxxxxxxxxxxxxxxxxxxxxxxxxxxxxxxxxxxxxxxxxxxxxxxxxxxxxxxxxxxxxxxxxxxxxxxxxxxxxxxxxxxxxxxxxxxxxxxxxxxxxxxxxxxxxxxxxxxxxxxxxxxxxxxxxxxxxxxxxxxxxxxxxxxxxxxxxxxxxxxxxxxxxxxxxxxxxxxxxxxxxxxxxxxxxxxxxxxxxxxxxxxxxxxxxxxxxxxxxxxxxxxxxxxxxxxxxxxxxxxxxxxxxxxxxxxxxxxxxxxxxxxxxxxxxxxxxxxxxxxxxxxxxxxxxxxxxxxxxxxxxxxxxxxxxxxxxxxxxxxxxxxxxxxxxxxxxxxxxxxxxxxxxxxxxxxxxxxxxxxxxxxxxxxxxxxxxxxxxxxxxx";
+
 /// What is said.
-static TEXTS: [Row; 10] = [
+static TEXTS: [Row; 14] = [
     // On each link behind which a member is, once.
     (
         &[Step::Says(1, b"PRIVMSG #C :hi")],
@@ -119,13 +128,62 @@ static TEXTS: [Row; 10] = [
         &[Step::Hears(7, b":bo NOTICE al :hi")],
         &[Out::Line(1, b":bo!u@h NOTICE al :hi")],
     ),
+    // Names as they are stored, the command in any case.
+    (
+        &[Step::Hears(7, b":BO privmsg #C :Hi")],
+        &[
+            Out::Line(1, b":bo!u@h PRIVMSG #c :Hi"),
+            Out::Line(2, b":bo!u@h PRIVMSG #c :Hi"),
+            Out::LinkLine(8, b":bo PRIVMSG #c :Hi"),
+        ],
+    ),
+    // Whether somebody may speak in a channel is for its own server to say.
+    (
+        &[
+            Step::Says(1, b"MODE #c +nmb *!*@*"),
+            Step::Says(2, b"PRIVMSG #c :hi"),
+            Step::Hears(9, b":dee PRIVMSG #c :hi"),
+        ],
+        &[
+            Out::Line(1, b":al!u@h MODE #c +nmb *!*@*"),
+            Out::Line(2, b":al!u@h MODE #c +nmb *!*@*"),
+            Out::LinkLine(7, b":al MODE #c +nmb *!*@*"),
+            Out::LinkLine(8, b":al MODE #c +nmb *!*@*"),
+            Out::LinkLine(9, b":al MODE #c +nmb *!*@*"),
+            Out::Line(2, b":a.net 404 an #c :Cannot send to channel"),
+            Out::Line(1, b":dee!u@h PRIVMSG #c :hi"),
+            Out::Line(2, b":dee!u@h PRIVMSG #c :hi"),
+            Out::LinkLine(7, b":dee PRIVMSG #c :hi"),
+            Out::LinkLine(8, b":dee PRIVMSG #c :hi"),
+        ],
+    ),
+    // A text is cut by the server of its sender, so that all clients are shown the same: 498 bytes come, and 490 are left.
+    (
+        &[Step::Says(1, LONG)],
+        &[
+            Out::Line(2, LONG_SHOWN),
+            Out::LinkLine(7, LONG_TOLD),
+            Out::LinkLine(8, LONG_TOLD),
+        ],
+    ),
+    // In a channel whose members are all behind the link by which it comes.
+    (
+        &[
+            Step::Hears(7, b":bo JOIN #b\x07o"),
+            Step::Hears(7, b":bo PRIVMSG #b :hi"),
+        ],
+        &[
+            Out::LinkLine(8, b":bo JOIN #b\x07o"),
+            Out::LinkLine(9, b":bo JOIN #b\x07o"),
+        ],
+    ),
     // To somebody of whom nobody knows: a user that has left in the meantime.
     (&[Step::Hears(7, b":bo PRIVMSG zz :hi")], &[]),
     // From somebody of whom nobody knows.
     (&[Step::Hears(7, b":zz PRIVMSG al :hi")], &[]),
 ];
 
-static INVITATIONS: [Row; 6] = [
+static INVITATIONS: [Row; 7] = [
     (
         &[Step::Says(1, b"INVITE dee #c")],
         &[
@@ -183,12 +241,16 @@ static INVITATIONS: [Row; 6] = [
             Out::LinkLine(9, b":al INVITE dee #none"),
         ],
     ),
+    (
+        &[Step::Hears(7, b":bo INVITE al #none")],
+        &[Out::Line(1, b":bo!u@h INVITE al #none")],
+    ),
     // To somebody of whom nobody knows.
     (&[Step::Hears(7, b":bo INVITE zz #c")], &[]),
 ];
 
 /// Everything else goes to all links but the one by which it came, and to none that is not up yet.
-static OTHERS: [Row; 12] = [
+static OTHERS: [Row; 14] = [
     (
         &[
             Step::Says(3, b"NICK new"),
@@ -281,6 +343,45 @@ static OTHERS: [Row; 12] = [
             Out::Line(2, b":bo!u@h KICK #c cy :out"),
             Out::LinkLine(8, b":bo KICK #c cy :out"),
             Out::LinkLine(9, b":bo KICK #c cy :out"),
+        ],
+    ),
+    // So may somebody do anything who is no operator here.
+    (
+        &[
+            Step::Says(1, b"MODE #c +t"),
+            Step::Hears(7, b":ben KICK #c al :out"),
+            Step::Hears(7, b":ben TOPIC #c :"),
+            Step::Says(1, b"NAMES #c"),
+        ],
+        &[
+            Out::Line(1, b":al!u@h MODE #c +t"),
+            Out::Line(2, b":al!u@h MODE #c +t"),
+            Out::LinkLine(7, b":al MODE #c +t"),
+            Out::LinkLine(8, b":al MODE #c +t"),
+            Out::LinkLine(9, b":al MODE #c +t"),
+            Out::Line(1, b":ben!u@h KICK #c al :out"),
+            Out::Line(2, b":ben!u@h KICK #c al :out"),
+            Out::LinkLine(8, b":ben KICK #c al :out"),
+            Out::LinkLine(9, b":ben KICK #c al :out"),
+            Out::Line(2, b":ben!u@h TOPIC #c :"),
+            Out::LinkLine(8, b":ben TOPIC #c :"),
+            Out::LinkLine(9, b":ben TOPIC #c :"),
+            Out::Line(1, b":a.net 353 al = #c :an ben bo cas cy"),
+            Out::Line(1, b":a.net 366 al #c :End of NAMES list"),
+        ],
+    ),
+    // Members of a burst, each with its flags, to each viewer in turn.
+    (
+        &[Step::Hears(9, b":d.net NJOIN #c :@+dee")],
+        &[
+            Out::Line(1, b":dee!u@h JOIN #c"),
+            Out::Line(2, b":dee!u@h JOIN #c"),
+            Out::Line(1, b":a.net MODE #c +o dee"),
+            Out::Line(2, b":a.net MODE #c +o dee"),
+            Out::Line(1, b":a.net MODE #c +v dee"),
+            Out::Line(2, b":a.net MODE #c +v dee"),
+            Out::LinkLine(7, b":d.net NJOIN #c :@+dee"),
+            Out::LinkLine(8, b":d.net NJOIN #c :@+dee"),
         ],
     ),
     // The others are shown a QUIT before the one that quits is closed.
