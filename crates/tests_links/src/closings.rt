@@ -5,7 +5,6 @@ use irc_line::Line;
 use irc_server::{CloseReason, Event, Server, ServerFault};
 use itoa::Buffer;
 use std::alloc::Global;
-use std::test::Fail;
 
 /// c.net is linked by 8, and cy is its user; al is client 1. b.net opens the link 7.
 static BEFORE: [Step; 8] = [
@@ -195,7 +194,7 @@ static REFUSED: [(Step, ServerFault); 8] = [
     (Step::Leaves(8), ServerFault::NoSuchConnection),
 ];
 
-/// A name for each number.
+/// The line that tells of a server behind c.net, another one for each number.
 fn server_line(number: u32) -> Line {
     let mut digits = Buffer::new();
     let word = digits.format(number).as_bytes();
@@ -288,32 +287,27 @@ fn all_are_refused(alloc: Global) -> bool {
 }
 
 #[test]
-fn a_handshake_closes_a_link(rt: HostRuntime) -> Result<(), Fail> {
+fn a_handshake_closes_a_link(rt: HostRuntime) {
     assert!(rt; all_close(rt.alloc(), false, 2, &IN_HANDSHAKE));
-    Ok(())
 }
 
 #[test]
-fn a_line_behind_the_handshake_closes_a_link(rt: HostRuntime) -> Result<(), Fail> {
+fn a_line_behind_the_handshake_closes_a_link(rt: HostRuntime) {
     assert!(rt; all_close(rt.alloc(), true, 2, &BEHIND_HANDSHAKE));
-    Ok(())
 }
 
 #[test]
-fn no_server_comes_beyond_the_last(rt: HostRuntime) -> Result<(), Fail> {
+fn no_server_comes_beyond_the_last(rt: HostRuntime) {
     assert!(rt; all_close(rt.alloc(), false, 256, &FULL_IN_HANDSHAKE));
     assert!(rt; all_close(rt.alloc(), true, 255, &FULL_BEHIND));
-    Ok(())
 }
 
 #[test]
-fn nothing_comes_twice(rt: HostRuntime) -> Result<(), Fail> {
+fn nothing_comes_twice(rt: HostRuntime) {
     assert!(rt; rows_hold(rt.alloc(), &BEFORE, &TWICE));
-    Ok(())
 }
 
 #[test]
-fn events_of_links_that_are_not_there_are_refused(rt: HostRuntime) -> Result<(), Fail> {
+fn events_of_links_that_are_not_there_are_refused(rt: HostRuntime) {
     assert!(rt; all_are_refused(rt.alloc()));
-    Ok(())
 }

@@ -1,7 +1,6 @@
 //! Nicknames that two users would have: both are taken out (RFC 2813 section 4.1.5 and RFC 2812 section 3.7.1).
 use crate::happening::{Row, Step, rows_hold};
 use irc_batch::Out;
-use std::test::Fail;
 
 /// b.net is linked by 7, with bo, zed and gil, and c.net by 8, with cy. al is client 1 and an client 2. All but zed and gil are in #c.
 static SCENE: [Step; 21] = [
@@ -224,19 +223,16 @@ static KILLS: [Row; 5] = [
 ];
 
 #[test]
-fn a_change_of_nickname_kills_both(rt: HostRuntime) -> Result<(), Fail> {
+fn a_change_of_nickname_kills_both(rt: HostRuntime) {
     assert!(rt; rows_hold(rt.alloc(), &SCENE, &RENAMES));
-    Ok(())
 }
 
 #[test]
-fn an_introduction_kills_the_one_who_is_known(rt: HostRuntime) -> Result<(), Fail> {
+fn an_introduction_kills_the_one_who_is_known(rt: HostRuntime) {
     assert!(rt; rows_hold(rt.alloc(), &SCENE, &NEWCOMERS));
-    Ok(())
 }
 
 #[test]
-fn a_kill_goes_on(rt: HostRuntime) -> Result<(), Fail> {
+fn a_kill_goes_on(rt: HostRuntime) {
     assert!(rt; rows_hold(rt.alloc(), &SCENE, &KILLS));
-    Ok(())
 }

@@ -2,7 +2,6 @@
 use crate::happening::{Row, Step, rows_hold};
 use irc_batch::Out;
 use irc_server::CloseReason;
-use std::test::Fail;
 
 /// Nobody is there.
 static NOBODY: [Step; 0] = [];
@@ -320,19 +319,16 @@ static OF_TWO_SERVERS: [Row; 4] = [
 ];
 
 #[test]
-fn handshakes_of_an_empty_server(rt: HostRuntime) -> Result<(), Fail> {
+fn handshakes_of_an_empty_server(rt: HostRuntime) {
     assert!(rt; rows_hold(rt.alloc(), &NOBODY, &OF_NOBODY));
-    Ok(())
 }
 
 #[test]
-fn a_client_is_told_in_a_burst(rt: HostRuntime) -> Result<(), Fail> {
+fn a_client_is_told_in_a_burst(rt: HostRuntime) {
     assert!(rt; rows_hold(rt.alloc(), &ONE_CLIENT, &OF_ONE_CLIENT));
-    Ok(())
 }
 
 #[test]
-fn servers_are_told_in_a_burst(rt: HostRuntime) -> Result<(), Fail> {
+fn servers_are_told_in_a_burst(rt: HostRuntime) {
     assert!(rt; rows_hold(rt.alloc(), &TWO_SERVERS, &OF_TWO_SERVERS));
-    Ok(())
 }
