@@ -1,11 +1,10 @@
 -- What a server tells on its links: where none is open, nothing; and what a change at the room machine is at the server.
-use Rattle.std.proofs.Common.{◌≡◌, ℕ, true, false, Option, Some, None, List, [], ◌++◌, refl, sym, ◌∙◌, ap, subst, append-nil, map, if◌then◌else◌}
+use Rattle.std.proofs.Common.{◌≡◌, ℕ, true, false, Option, Some, None, List, [], ◌∷◌, ◌++◌, refl, sym, ◌∙◌, ap, subst, append-nil, length, map, if◌then◌else◌}
 use Rattle.std.specs.BTreeMap.{BTreeMap}
-use Rattle.std.specs.FinMap.{empty, get, get-empty}
+use Rattle.std.specs.FinMap.{empty, from_entries, get, get-empty}
 use Rattle.std.specs.Global.{Vec}
 use Rattle.std.specs.List.{flat_map}
 use Rattle.std.specs.Ordering.{nat_cmp}
-use Rattle.irc_line.specs.Messages.{text}
 use Rattle.irc_batch.specs.Batches.{Sent}
 use Rattle.irc_link_writer.specs.Written.{wire}
 use Rattle.irc_links.specs.Ways.{told_homes, AreEnds, IsMetEnd}
@@ -15,12 +14,11 @@ use Rattle.irc_room.specs.Seen.{seen}
 use Rattle.irc_routes.specs.Known.{Known, next_hop}
 use Rattle.irc_stage.specs.declared.peer.Peer.{Peer}
 use Rattle.irc_stage.specs.declared.stage.Stage.{Stage}
-use Rattle.irc_stage.specs.EffectTold.{Served, changed, effect_told, is_elsewhere, on_links, shown_at, view_after, ways_at, with_sent}
+use Rattle.irc_stage.specs.EffectTold.{changed, effect_told, is_elsewhere, on_links, shown_at, view_after}
 use Rattle.irc_stage.specs.Handle.{Handled, clients_after, to_viewer, with_effect}
 use Rattle.irc_stage.specs.View.{End, Ends, View, known_peer}
 use Rattle.irc_stage.specs.Lemmas.Alone.{no_ways, none_elsewhere, none_met}
-use Rattle.irc_stage.specs.Lemmas.Counting.{same_clients_elsewhere}
-use Rattle.irc_stage.specs.Loops.Stage.{lines_on, numbered, served_at, so_far, view_of, Keeps}
+use Rattle.irc_stage.specs.Loops.Stage.{numbered, served_at, so_far, view_of, Keeps}
 
 -- where no link is open, no server is known
 nowhere_known : (ends : Ends) (known : Known) → AreEnds ends known → ends ≡ empty → (name : List ℕ) → next_hop known name ≡ None
@@ -47,17 +45,6 @@ module _ (view : View) (met : AreEnds view.ends view.routes) (no_ends : view.end
       ∙ ap (λ links. (out ++ shown_at view effect) ++ on_links links (wire view.room view.routes effect))
       (sym (no_ways view.ends view.routes arrival (none_met view.ends no_ends) nowhere (told_homes view.room effect))))
 
--- an invitation of another server's user changes nothing here
-module _ (s : Served) (effect : Effect) (is : is_elsewhere s.view effect ≡ true) where
-  pub kept_elsewhere : s ≡ changed effect s
-  kept_elsewhere =
-      ap (λ o. record { view = s.view; out = o }) (sym (append-nil s.out))
-      ∙ ap (λ cs. record { view = record s.view { clients = cs }; out = s.out ++ [] }) (sym (same_clients_elsewhere s.view effect is))
-      ∙ ap (λ b. record {
-        view = record s.view { clients = clients_after effect s.view.clients; room = if b then s.view.room else after s.view.room effect };
-        out = s.out ++ (if b then [] else flat_map (to_viewer s.view.clients) (seen s.view.room effect));
-      }) (sym is)
-
 -- what the room machine does, the server does
 pub shown_served : (old new : Stage) (effect : Effect) (out out_after : List Sent) → Keeps old new → so_far new out_after ≡ with_effect effect (so_far old out)
     → is_elsewhere (view_of old) effect ≡ false → served_at new out_after ≡ changed effect (served_at old out)
@@ -75,12 +62,10 @@ shown_served old new effect out out_after keeps is here =
       out = out ++ (if b then [] else flat_map (to_viewer (view_of old).clients) (seen (view_of old).room effect));
     }) (sym here)
 
--- and tells it on these links
-pub sent_on_links : (new : Stage) (s : Served) (arrival : Option ℕ) (effect : Effect) (out out_after : List Sent) (links : List ℕ) (line : List ℕ)
-    → served_at new out ≡ changed effect s → links ≡ ways_at s.view arrival effect → line ≡ text (wire s.view.room s.view.routes effect)
-    → out_after ≡ out ++ lines_on links line → served_at new out_after ≡ effect_told arrival effect s
-sent_on_links new s arrival effect out out_after links line is links_are line_is out_is =
-    ap (λ o. record { view = view_of new; out = o }) out_is
-    ∙ ap (λ (t : Served). with_sent (lines_on links line) t) is
-    ∙ ap (λ l. with_sent (lines_on links l) (changed effect s)) line_is
-    ∙ ap (λ ls. with_sent (on_links ls (wire s.view.room s.view.routes effect)) (changed effect s)) links_are
+-- a map without entries has nothing under any number
+pub empty_by : (m : BTreeMap ℕ End) → length m.entries ≡ 0 → numbered m ≡ empty
+empty_by m none = by m.entries none
+  where
+    by : (es : List (ℕ × End)) → length es ≡ 0 → from_entries {R = nat_cmp} es ≡ empty
+    by [] is = refl
+    by (e ∷ es) is = cc is
