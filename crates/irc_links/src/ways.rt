@@ -45,7 +45,8 @@ impl Ways {
 
     /// Something has changed: where a channel has members is to be found anew.
     pub fn forget(&mut self)
-        ensures { KnowsNothing self.new }
+        ensures forgotten { KnowsNothing self.new }
+        ensures same { self.new.links ≡ self.old.links }
     {
         self.branches.clear();
     }

@@ -6,3 +6,6 @@ pub mod Listening
 pub mod Telling
 pub mod Peers
 pub mod ToldOnLinks
+pub mod LinkEnds
+pub mod EndedClients
+pub mod Serving

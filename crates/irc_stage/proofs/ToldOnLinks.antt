@@ -1,15 +1,17 @@
 -- What a server tells on its links: where none is open, nothing; and what a change at the room machine is at the server.
-use Rattle.std.proofs.Common.{◌≡◌, ℕ, Bool, true, false, Option, Some, None, List, [], ◌∷◌, ◌++◌, refl, sym, ◌∙◌, ap, subst, append-nil, filter_map, is_some, map, if◌then◌else◌}
+use Rattle.std.proofs.Common.{◌≡◌, ℕ, Bool, true, false, Option, Some, None, List, [], ◌∷◌, ◌++◌, refl, sym, ◌∙◌, ap, subst, append-nil, filter_map, is_some, length, map, if◌then◌else◌}
 use Rattle.std.specs.BTreeMap.{BTreeMap}
-use Rattle.std.specs.FinMap.{empty, from_entries, get, get-empty, keys}
+use Rattle.std.specs.FinMap.{empty, entries, from_entries, get, get-empty, keys, len-empty, len-entries}
 use Rattle.std.specs.Global.{Vec}
 use Rattle.std.specs.List.{cons_option, flat_map}
 use Rattle.std.specs.Option.{option_and_then}
 use Rattle.std.specs.Ordering.{nat_cmp}
+use Rattle.std.specs.declared.cmp.Ordering.{Ordering}
 use Rattle.irc_line.specs.Messages.{text}
 use Rattle.irc_names.specs.Fold.{key}
 use Rattle.irc_batch.specs.Batches.{Sent}
 use Rattle.irc_link_writer.specs.Written.{wire}
+use Rattle.irc_links.specs.Loops.Branching.{met_among}
 use Rattle.irc_links.specs.Ways.{but, met_links, told_homes, ways_toward, AreEnds, IsMetEnd}
 use Rattle.irc_room.specs.declared.effect.Effect.{Effect}
 use Rattle.irc_room.specs.declared.effect.Effect.TheVariants.{AddUser, Rename, Quit, Join, Part, Kick, ChangeModes, SetTopic, Say, Invite, UserMode}
@@ -32,14 +34,23 @@ none_toward known nowhere [] = refl
 none_toward known nowhere (home ∷ homes) =
     ap (λ o. cons_option o (filter_map (next_hop known) homes)) (nowhere home) ∙ none_toward known nowhere homes
 
+-- an empty map has no entries
+no_entries : (K X : Type 0) (R : K → K → Ordering) → entries (empty {K = K} {X = X} {R = R}) ≡ []
+no_entries K X R = by_length (entries (empty {K = K} {X = X} {R = R})) (sym (len-entries (empty {K = K} {X = X} {R = R})) ∙ len-empty R X)
+  where
+    by_length : (es : List (K × X)) → length es ≡ 0 → es ≡ []
+    by_length [] is = refl
+    by_length (e ∷ es) is = cc is
+
 no_ways : (ends : Ends) (known : Known) (arrival : Option ℕ) → met_links ends ≡ [] → ((name : List ℕ) → next_hop known name ≡ None)
     → (homes : Option (List (List ℕ))) → but arrival (ways_toward ends known homes) ≡ []
 no_ways ends known arrival none nowhere None = ap (but arrival) none
 no_ways ends known arrival none nowhere (Some homes) =
     ap (λ links. but arrival (keys (from_entries {R = nat_cmp} (map link_key links)))) (none_toward known nowhere homes)
+    ∙ ap (λ es. but arrival (map (λ (e : ℕ × Unit {0}). e.0) es)) (no_entries ℕ (Unit {0}) nat_cmp)
 
 none_elsewhere : (view : View) → ((name : List ℕ) → next_hop view.routes name ≡ None) → (effect : Effect) → is_elsewhere view effect ≡ false
-none_elsewhere view nowhere (Invite by nick channel) = by (home_under view.room (key nick))
+none_elsewhere view nowhere (Invite who nick channel) = by (home_under view.room (key nick))
   where
     by : (o : Option (List ℕ)) → is_some (option_and_then (next_hop view.routes) o) ≡ false
     by None = refl
@@ -69,7 +80,7 @@ module _ (view : View) (met : AreEnds view.ends view.routes) (no_ends : view.end
   nowhere = nowhere_known view.ends view.routes met no_ends
 
   none_met : met_links view.ends ≡ []
-  none_met = ap met_links no_ends
+  none_met = ap met_links no_ends ∙ ap met_among (no_entries ℕ End nat_cmp)
 
   pub stays_here : (effect : Effect) → is_elsewhere view effect ≡ false
   stays_here effect = none_elsewhere view nowhere effect

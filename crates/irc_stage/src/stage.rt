@@ -73,6 +73,7 @@ fn happen(
     ensures sound { OnOk result (IsSound room.new) }
     ensures forgotten { OnOk result (stale.new.channel ≡ None) }
     ensures nothing { OnOk result (KnowsNothing ways.new) }
+    ensures at_hand { OnOk result (ways.new.links ≡ ways.old.links) }
 {
     stale.clear();
     ways.forget();

@@ -1,5 +1,5 @@
 -- What comes by a link leaves clients and users matched, and the room well formed.
-use Rattle.std.proofs.Common.{◌≡◌, ℕ, Bool, true, false, cond, not, ◌&&◌, is_none, is_some, Option, Some, None, List, [], ◌∷◌, refl, sym, ◌∙◌, ap, subst, if◌then◌else◌}
+use Rattle.std.proofs.Common.{◌≡◌, ℕ, Bool, true, false, cond, not, ◌&&◌, is_none, is_some, Option, Some, None, List, [], ◌∷◌, ◌++◌, refl, sym, ◌∙◌, ap, subst, if◌then◌else◌}
 use Rattle.std.specs.List.{list_all}
 use Rattle.std.specs.Option.{option_map_or}
 use Rattle.std.specs.Ordering.{nat_cmp}
@@ -26,8 +26,9 @@ use Rattle.irc_stage.specs.RoomMachine.{Clients, RoomMachine, client_of}
 use Rattle.irc_stage.specs.Handle.{clients_after, is_client, machine_after}
 use Rattle.irc_stage.specs.Matched.{has_client, is_user_here, IsMatched}
 use Rattle.irc_stage.specs.View.{View, machine_of}
-use Rattle.irc_stage.specs.EffectTold.{Served, changed, changed_if, client_ended, counts, effect_came, effect_told, is_another, is_elsewhere, is_of_here, quit_by, room_after, taken_out, view_after}
-use Rattle.irc_stage.specs.Lemmas.Matching.{has_from, has_to, key_by_same, nick_in, quiet_matched, same_by_key}
+use Rattle.irc_stage.specs.EffectTold.{Served, changed, changed_if, client_ended, counts, effect_came, effect_told, is_another, is_elsewhere, is_of_here, quit_by, shown_at, taken_out}
+use Rattle.irc_stage.specs.Loops.Speaking.{IsSaidElsewhere}
+use Rattle.irc_stage.specs.Lemmas.Matching.{has_from, has_to, key_by_same, named_is, nick_in, quiet_matched, same_by_key}
 
 -- what always holds of a server that serves
 pub record Holds (s : Served) : Type 0 where
@@ -81,7 +82,7 @@ module _ (machine : RoomMachine) (user : User) (matched : IsMatched machine) (fr
       by None there = absurd (cc (sym (ap (λ o. option_map_or (is_home machine.place.name) o false) there) ∙ here))
       by (Some found) there = absurd (cc (sym (ap is_some there) ∙ none))
 
-  new_users : Table User
+  abbrev new_users : Table User
   new_users = alter (key user.nick) (λ _. Some user) machine.room.users
 
   old_row : (q : ℕ) (name : List ℕ) → get machine.clients q ≡ Some (Registered name) → row new_users (key name) ≡ row machine.room.users (key name)
@@ -115,7 +116,7 @@ module _ (machine : RoomMachine) (who text : List ℕ) (matched : IsMatched mach
       absurd (cc (sym (ap (λ f. option_map_or (is_home machine.place.name) (row machine.room.users f) false) (sym (one_fold (key name) (key who) one))
       ∙ matched.registered_is_user q name is) ∙ abroad))
 
-  left_users : Table User
+  abbrev left_users : Table User
   left_users = alter (key who) (λ _. None) machine.room.users
 
   left_row : (q : ℕ) (name : List ℕ) → get machine.clients q ≡ Some (Registered name) → row left_users (key name) ≡ row machine.room.users (key name)
@@ -176,10 +177,13 @@ with_parts view clients room = machine_of (record view { clients = clients; room
 changed_holds : (effect : Effect) (s : Served) → Holds s → IsPossible s.view.room effect → IsMatched (machine_after (machine_of s.view) effect) → Holds (changed effect s)
 changed_holds effect s holds possible after_matched = by (is_elsewhere s.view effect) refl
   where
-    Both : Bool → Type 0
-    Both b = Holds (record s { view = record s.view { clients = clients_after effect s.view.clients; room = if b then s.view.room else after s.view.room effect } })
+    HoldsBy : Bool → Type 0
+    HoldsBy b = Holds (record {
+      view = record s.view { clients = clients_after effect s.view.clients; room = if b then s.view.room else after s.view.room effect };
+      out = s.out ++ shown_at s.view effect;
+    })
 
-    by : (b : Bool) → is_elsewhere s.view effect ≡ b → Both b
+    by : (b : Bool) → is_elsewhere s.view effect ≡ b → HoldsBy b
     by true is = record {
       matched = subst (λ clients. IsMatched (with_parts s.view clients s.view.room)) (sym (same_clients_elsewhere s.view effect is)) holds.matched;
       well = holds.well;
@@ -309,3 +313,20 @@ taken_out_stays nick text s holds = by (has_user s.view.room nick) refl
       matched = ended_matched (machine_of s.view) nick s.view.room.users (no_users s.view.room nick none) holds.matched;
       well = holds.well;
     }
+
+-- ---- what links tell is no client's
+
+pub said_elsewhere : (view : View) (effect : Effect) → IsMatched (machine_of view) → is_of_here view effect ≡ false → IsSaidElsewhere (machine_of view) effect
+said_elsewhere view (Say by notice target text) matched abroad conn named =
+    named_is (key by) (client_of (machine_of view) conn) named (λ nick is one.
+    absurd (cc (sym (ap (λ f. option_map_or (is_home view.routes.name) (row view.room.users f) false) (sym one) ∙ matched.registered_is_user conn nick is) ∙ abroad)))
+said_elsewhere view (AddUser user) matched abroad = tt
+said_elsewhere view (Rename nick new) matched abroad = tt
+said_elsewhere view (Quit nick text) matched abroad = tt
+said_elsewhere view (Join nick channel op) matched abroad = tt
+said_elsewhere view (Part nick channel text) matched abroad = tt
+said_elsewhere view (Kick by channel nick text) matched abroad = tt
+said_elsewhere view (ChangeModes by channel changes) matched abroad = tt
+said_elsewhere view (SetTopic by channel text) matched abroad = tt
+said_elsewhere view (Invite by nick channel) matched abroad = tt
+said_elsewhere view (UserMode nick invisible) matched abroad = tt

@@ -359,7 +359,7 @@ mode_matched machine nick invisible matched = record {
         ∙ matched.registered_is_user conn name is
 
 -- who neither comes nor goes
-quiet_matched : (machine : RoomMachine) (effect : Effect) → IsMatched machine → IsPossible machine.room effect → adds_or_ends (Do effect) ≡ false → IsMatched (machine_after machine effect)
+pub quiet_matched : (machine : RoomMachine) (effect : Effect) → IsMatched machine → IsPossible machine.room effect → adds_or_ends (Do effect) ≡ false → IsMatched (machine_after machine effect)
 unfolding after
 quiet_matched machine (AddUser user) matched possible quiet = absurd (cc quiet)
 quiet_matched machine (Rename nick new) matched possible quiet = renamed_matched machine nick new matched possible

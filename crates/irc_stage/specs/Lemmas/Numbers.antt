@@ -5,7 +5,7 @@ use Rattle.std.specs.Cmp.{nat_cmp_total, eq_by_cmp_equiv, Equal-is}
 use Rattle.std.specs.BTreeMap.{BTreeMap, UpdatesBy, get as number_in}
 use Rattle.std.specs.FinMap.Entries.{below_all}
 use Rattle.irc_tables.specs.Lemmas.OrderedEntries.{above-is, find-above}
-use Rattle.std.specs.FinMap.{get, insert, remove, entries, find, get-from_entries, get-entries, get-insert, get-remove, same_map, nat_cmp-IsAntisymmetric}
+use Rattle.std.specs.FinMap.{FinMap, get, insert, remove, entries, find, get-from_entries, get-entries, get-insert, get-remove, same_map, nat_cmp-IsAntisymmetric}
 use Rattle.irc_stage.specs.declared.clients.Client.{Client}
 use Rattle.irc_stage.specs.RoomMachine.{Clients, each_client}
 use Rattle.irc_stage.specs.Loops.Stage.{numbered}
@@ -27,11 +27,11 @@ same_number-is q conn is = ap (same_number q) (sym is) ∙ same_number-refl q
 pub same_clients : (a b : Clients) → ((q : ℕ) → get a q ≡ get b q) → a ≡ b
 same_clients a b alike = same_map nat_cmp_total nat_cmp-IsAntisymmetric a b alike
 
-pub get-with : (clients : Clients) (conn : ℕ) (client : Client) (q : ℕ) → get (insert clients conn client) q ≡ cond (same_number q conn) (Some client) (get clients q)
-get-with clients conn client q = get-insert nat_cmp_total clients conn client q
+pub get-with : {X : Type 0} (map : FinMap nat_cmp X) (number : ℕ) (value : X) (q : ℕ) → get (insert map number value) q ≡ cond (same_number q number) (Some value) (get map q)
+get-with map number value q = get-insert nat_cmp_total map number value q
 
-pub get-without : (clients : Clients) (conn q : ℕ) → get (remove clients conn) q ≡ cond (same_number q conn) None (get clients q)
-get-without clients conn q = get-remove nat_cmp_total clients conn q
+pub get-without : {X : Type 0} (map : FinMap nat_cmp X) (number q : ℕ) → get (remove map number) q ≡ cond (same_number q number) None (get map q)
+get-without map number q = get-remove nat_cmp_total map number q
 
 find_each : (change : Client → Client) (q : ℕ) (es : List (ℕ × Client))
     → find nat_cmp q (map (λ (e : ℕ × Client). (e.0, change e.1)) es) ≡ option_map change (find nat_cmp q es)
