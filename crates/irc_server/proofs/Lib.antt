@@ -1,4 +1,5 @@
 pub mod OneMachine
+pub mod SettingKept
 pub mod ToldInPart
 pub mod WhatEventsDo
 pub mod NewServer

@@ -9,26 +9,23 @@ use Rattle.irc_stage.specs.View.{View, machine_of}
 use Rattle.irc_stage.specs.Handle.{Happening, handled}
 use Rattle.irc_server.specs.Served.{Occurrence, of_client, served}
 use Rattle.irc_server.specs.Happening.{occurrence_of, Does, IsHandled, takes_it, AreHandled}
-use Rattle.irc_server.proofs.OneMachine.{one_machine, same_out}
 use Rattle.irc_server.specs.Owed.{line_for, lines_to, after_all, owed, AllReceive, AreOfClients, Receives}
 
 receives_more : (view after : View) (event : Event) (happening : Happening) (left : List Happening) (out out_between : List Sent) (new : Option View)
     (out_after : List Sent) → occurrence_of event ≡ of_client happening → Does view event out after out_between → Receives after left out_between new out_after
     → Receives view (happening ∷ left) out new out_after
 receives_more view after event happening left out out_between new out_after event_is does later =
-    let put = (handled (machine_of view) happening).out in
+    let put = (served view (of_client happening)).out in
     let view_is : after ≡ (served view (of_client happening)).view = does.view_is ∙ ap (λ (o : Occurrence). (served view o).view) event_is in
-    let after_is : machine_of after ≡ (handled (machine_of view) happening).machine = ap machine_of view_is ∙ one_machine view happening in
-    let out_is : out_between ≡ out ++ put =
-    does.out_is ∙ ap (λ (o : Occurrence). out ++ (served view o).out) event_is ∙ ap (λ l. out ++ l) (same_out view happening) in
+    let out_is : out_between ≡ out ++ put = does.out_is ∙ ap (λ (o : Occurrence). out ++ (served view o).out) event_is in
     record {
       view_is = later.view_is ∙ ap (λ (v : View). Some (after_all v left)) view_is;
       received = λ conn.
           later.received conn
-          ∙ ap (λ l. lines_to conn l ++ owed conn (machine_of after) left) out_is
-          ∙ ap (λ l. l ++ owed conn (machine_of after) left) (filter_map-append (line_for conn) out put)
-          ∙ append_assoc (lines_to conn out) (lines_to conn put) (owed conn (machine_of after) left)
-          ∙ ap (λ (m : RoomMachine). lines_to conn out ++ (lines_to conn put ++ owed conn m left)) after_is;
+          ∙ ap (λ l. lines_to conn l ++ owed conn after left) out_is
+          ∙ ap (λ l. l ++ owed conn after left) (filter_map-append (line_for conn) out put)
+          ∙ append_assoc (lines_to conn out) (lines_to conn put) (owed conn after left)
+          ∙ ap (λ (v : View). lines_to conn out ++ (lines_to conn put ++ owed conn v left)) view_is;
     }
 
 -- the first event is handled, and those behind it

@@ -16,22 +16,25 @@ use Rattle.irc_commands.specs.AtOnce.{all_said, IsToldInPart}
 use Rattle.irc_commands.specs.Decisions.{Decided}
 use Rattle.irc_batch.specs.Batches.{Sent, line_to}
 use Rattle.irc_stage.specs.RoomMachine.{RoomMachine}
-use Rattle.irc_stage.specs.Handle.{Handled, stepped, all_stepped, closing, decided}
+use Rattle.irc_stage.specs.View.{View}
+use Rattle.irc_stage.specs.ClientTold.{closed_told, decision_told, step_told, steps_told}
+use Rattle.irc_stage.specs.EffectTold.{Served, in_silence}
 use Rattle.irc_stage.specs.Loops.Stage.{behind, AreInTurn}
 use Rattle.irc_stage.specs.Lemmas.Steps.{carried_behind}
 
 -- steps that only say something put out what they say
-said_first : (conn : ℕ) (name : Option (List ℕ)) (told rest : List Act) (h : Handled) → effects_among told ≡ []
-    → all_stepped conn name (told ++ rest) h ≡ all_stepped conn name rest (record h { out = h.out ++ all_said h.machine.place name conn told })
-said_first conn name [] rest h none = ap (λ out. all_stepped conn name rest (record h { out = out })) (sym (append-nil h.out))
-said_first conn name (Answer reply ∷ told) rest h none =
-    said_first conn name told rest (stepped conn name (Answer reply) h) none
-    ∙ ap (λ out. all_stepped conn name rest (record h { out = out }))
-    (append_assoc h.out (line_to conn (reply_text h.machine.place.name name reply) ∷ []) (all_said h.machine.place name conn told))
-said_first conn name (Raw line ∷ told) rest h none =
-    said_first conn name told rest (stepped conn name (Raw line) h) none
-    ∙ ap (λ out. all_stepped conn name rest (record h { out = out })) (append_assoc h.out (line_to conn line.items ∷ []) (all_said h.machine.place name conn told))
-said_first conn name (Do effect ∷ told) rest h none = cc none
+said_first : (conn : ℕ) (name : Option (List ℕ)) (told rest : List Act) (s : Served) → effects_among told ≡ []
+    → steps_told conn name (told ++ rest) s ≡ steps_told conn name rest (record s { out = s.out ++ all_said (place_of s.view.routes) name conn told })
+said_first conn name [] rest s none = ap (λ out. steps_told conn name rest (record s { out = out })) (sym (append-nil s.out))
+said_first conn name (Answer reply ∷ told) rest s none =
+    said_first conn name told rest (step_told conn name (Answer reply) s) none
+    ∙ ap (λ out. steps_told conn name rest (record s { out = out }))
+    (append_assoc s.out (line_to conn (reply_text s.view.routes.name name reply) ∷ []) (all_said (place_of s.view.routes) name conn told))
+said_first conn name (Raw line ∷ told) rest s none =
+    said_first conn name told rest (step_told conn name (Raw line) s) none
+    ∙ ap (λ out. steps_told conn name rest (record s { out = out }))
+    (append_assoc s.out (line_to conn line.items ∷ []) (all_said (place_of s.view.routes) name conn told))
+said_first conn name (Do effect ∷ told) rest s none = cc none
 
 pub so_left : (IsSo : RoomMachine → Effect → Type 0) (machine : RoomMachine) (told rest : List Act) → effects_among told ≡ [] → AreInTurn IsSo machine (told ++ rest)
     → AreInTurn IsSo machine rest
@@ -40,18 +43,19 @@ so_left IsSo machine (Answer reply ∷ told) rest none are = so_left IsSo machin
 so_left IsSo machine (Raw line ∷ told) rest none are = so_left IsSo machine told rest none are
 so_left IsSo machine (Do effect ∷ told) rest none are = cc none
 
-pub carried_in_part : (after : Handled) (conn : ℕ) (name known : Option (List ℕ)) (acts : List Act) (machine : RoomMachine) (want left : Decided) (out between : List Sent)
-    → acts ≡ left.steps → known ≡ name → IsToldInPart machine.place known conn want out between left
-    → after ≡ closing left.close conn (all_stepped conn name acts (record { machine = machine; out = between }))
-    → after ≡ behind out (decided machine conn name want)
-carried_in_part after conn name known acts machine want left out between acts_are known_is part is =
+pub carried_in_part : (after : Served) (conn : ℕ) (name known : Option (List ℕ)) (acts : List Act) (view : View) (want left : Decided) (out between : List Sent)
+    → acts ≡ left.steps → known ≡ name → IsToldInPart (place_of view.routes) known conn want out between left
+    → after ≡ closed_told left.close conn (steps_told conn name acts (record { view = view; out = between }))
+    → after ≡ behind out (decision_told conn name want (in_silence view))
+carried_in_part after conn name known acts view want left out between acts_are known_is part is =
     is
-    ∙ ap (λ a. closing left.close conn (all_stepped conn name a (record { machine = machine; out = between }))) acts_are
-    ∙ ap (λ o. closing left.close conn (all_stepped conn name left.steps (record { machine = machine; out = o }))) part.out_is
-    ∙ ap (λ n. closing left.close conn (all_stepped conn name left.steps (record { machine = machine; out = out ++ all_said machine.place n conn part.told }))) known_is
-    ∙ ap (closing left.close conn) (sym (said_first conn name part.told left.steps (record { machine = machine; out = out }) part.is_only_said))
-    ∙ ap (λ (d : Decided). closing d.close conn (all_stepped conn name d.steps (record { machine = machine; out = out }))) (sym part.want_is)
-    ∙ carried_behind out conn name want.steps want.close machine
+    ∙ ap (λ a. closed_told left.close conn (steps_told conn name a (record { view = view; out = between }))) acts_are
+    ∙ ap (λ o. closed_told left.close conn (steps_told conn name left.steps (record { view = view; out = o }))) part.out_is
+    ∙ ap (λ n. closed_told left.close conn
+    (steps_told conn name left.steps (record { view = view; out = out ++ all_said (place_of view.routes) n conn part.told }))) known_is
+    ∙ ap (closed_told left.close conn) (sym (said_first conn name part.told left.steps (record { view = view; out = out }) part.is_only_said))
+    ∙ ap (λ (d : Decided). closed_told d.close conn (steps_told conn name d.steps (record { view = view; out = out }))) (sym part.want_is)
+    ∙ carried_behind out conn name want.steps want.close view
 
 -- the same of a room and of servers that are the same
 pub told_there : (room room' : Room) (known known' : Known) (who : List ℕ) (conn : ℕ) (message : Parsed) (out between : List Sent) (left : Decided)

@@ -3,6 +3,7 @@ use Rattle.std.proofs.Common.{◌≡◌, ℕ, Bool, true, false, is_some, Option
 use Rattle.std.proofs.Math.Seq.{take-append_seam}
 use Rattle.std.specs.Borrow.{Bor}
 use Rattle.std.specs.BTreeMap.{BTreeMap}
+use Rattle.std.specs.FinMap.{get}
 use Rattle.std.specs.Global.{Vec}
 use Rattle.std.specs.Option.{option_copied}
 use Rattle.arrayvec.specs.ArrayVec.{ArrayVec}
@@ -13,6 +14,7 @@ use Rattle.irc_line.specs.MessageViews.{optional_now}
 use Rattle.irc_channels.specs.Texts.{cut_words}
 use Rattle.irc_users.specs.declared.user.User.{User}
 use Rattle.irc_room.specs.Room.{IsWellFormed}
+use Rattle.irc_routes.specs.Known.{place_of}
 use Rattle.irc_room.specs.Lemmas.Rows.{same_some}
 use Rattle.irc_acts.specs.declared.act.Act.{Act}
 use Rattle.irc_commands.specs.Decide.{decide}
@@ -25,14 +27,19 @@ use Rattle.irc_server.specs.declared.event.ServerFault.{ServerFault}
 use Rattle.irc_server.specs.declared.event.ServerFault.TheVariants.{Memory, Failed, NoSuchConnection, ConnectionThere, NoSuchLink, LinkThere}
 use Rattle.irc_stage.specs.declared.peer.Peer.{Peer}
 use Rattle.irc_stage.specs.declared.stage.Stage.{Stage}
-use Rattle.irc_stage.specs.RoomMachine.{RoomMachine, client_of, with_client}
-use Rattle.irc_stage.specs.View.{End, View, known_peer, machine_of, with_end, without_end}
-use Rattle.irc_stage.specs.Handle.{Happening, connects, says, goes, Handled, handled, fresh, gone, read_as, unchanged, closing, all_stepped, decided, user_decided, user_of, lost_text}
+use Rattle.irc_stage.specs.RoomMachine.{RoomMachine, client_of}
+use Rattle.irc_stage.specs.View.{End, View, known_peer, machine_of}
+use Rattle.irc_stage.specs.ClientTold.{client_told, closed_told, decision_told, gone_told, line_told, seated, steps_told, user_told}
+use Rattle.irc_stage.specs.EffectTold.{Served, in_silence}
+use Rattle.irc_stage.specs.Handle.{connects, says, goes, fresh, user_of, lost_text}
+use Rattle.irc_deeds.specs.DeedTold.{link_lost}
+use Rattle.irc_deeds.specs.LinkServed.{line_served, link_opened}
+use Rattle.irc_deeds.specs.Lemmas.Fronts.{lost_link_behind}
 use Rattle.irc_server.specs.Happening.{occurrence_of, Does, IsHandled, takes_it, refuses_it, wants_memory, has_failed}
 use Rattle.irc_server.specs.Loops.Acting.{nick_of, is_want_of_memory, Both, Comes, IsActed, IsSame, Stands}
-use Rattle.irc_server.specs.Served.{Occurrence, of_client, link_up, link_says, link_down, Served, in_silence, put_back, served, there, fault_of, AreMatched, IsDueAt, ServedStaysMatched}
+use Rattle.irc_server.specs.Served.{Occurrence, of_client, link_up, link_says, link_down, served, there, fault_of, AreMatched, IsDueAt, ServedStaysMatched}
 use Rattle.irc_batch.specs.Growing.{Grew}
-use Rattle.irc_stage.specs.Loops.Stage.{behind, numbered, so_far, view_of, machine_at, IsNoUser, Keeps}
+use Rattle.irc_stage.specs.Loops.Stage.{behind, numbered, view_of, machine_at, IsNoUser, Keeps}
 use Rattle.irc_stage.specs.Matched.{IsMatched}
 use Rattle.irc_stage.specs.Lemmas.Matching.{spelled_row}
 use Rattle.irc_stage.specs.Lemmas.Steps.{carried_behind, nothing_behind}
@@ -42,101 +49,85 @@ copied_now None = refl
 copied_now (Some bytes) = refl
 
 -- a decision that is carried out
-pub carried : (after : Handled) (conn : ℕ) (name name' : Option (List ℕ)) (acts acts' : List Act) (close close' : Bool) (machine machine' : RoomMachine)
-    (out : List Sent)
-    → name ≡ name' → acts ≡ acts' → close ≡ close' → machine ≡ machine'
-    → after ≡ closing close conn (all_stepped conn name acts (record { machine = machine; out = out }))
-    → after ≡ behind out (closing close' conn (all_stepped conn name' acts' (unchanged machine')))
-carried after conn name name' acts acts' close close' machine machine' out name_is acts_are close_is view_is is =
+pub carried : (after : Served) (conn : ℕ) (name name' : Option (List ℕ)) (acts acts' : List Act) (close close' : Bool) (view view' : View) (out : List Sent)
+    → name ≡ name' → acts ≡ acts' → close ≡ close' → view ≡ view'
+    → after ≡ closed_told close conn (steps_told conn name acts (record { view = view; out = out }))
+    → after ≡ behind out (closed_told close' conn (steps_told conn name' acts' (in_silence view')))
+carried after conn name name' acts acts' close close' view view' out name_is acts_are close_is view_is is =
     is
-    ∙ ap (λ n. closing close conn (all_stepped conn n acts (record { machine = machine; out = out }))) name_is
-    ∙ ap (λ a. closing close conn (all_stepped conn name' a (record { machine = machine; out = out }))) acts_are
-    ∙ ap (λ b. closing b conn (all_stepped conn name' acts' (record { machine = machine; out = out }))) close_is
-    ∙ ap (λ (v : RoomMachine). closing close' conn (all_stepped conn name' acts' (record { machine = v; out = out }))) view_is
-    ∙ carried_behind out conn name' acts' close' machine'
+    ∙ ap (λ n. closed_told close conn (steps_told conn n acts (record { view = view; out = out }))) name_is
+    ∙ ap (λ a. closed_told close conn (steps_told conn name' a (record { view = view; out = out }))) acts_are
+    ∙ ap (λ b. closed_told b conn (steps_told conn name' acts' (record { view = view; out = out }))) close_is
+    ∙ ap (λ (v : View). closed_told close' conn (steps_told conn name' acts' (record { view = v; out = out }))) view_is
+    ∙ carried_behind out conn name' acts' close' view'
 
-pub decided_by_name : (machine : RoomMachine) (conn : ℕ) (o : Option User) (name : List ℕ) (message : Parsed)
-    → option_map (λ (user : User). user.nick) o ≡ Some name
-    → decided machine conn (Some name) (decide machine.room machine.place name message) ≡ user_decided machine conn o message
-decided_by_name machine conn None name message is = cc is
-decided_by_name machine conn (Some user) name message is =
-    ap (λ n. decided machine conn (Some n) (decide machine.room machine.place n message)) (sym (same_some (user.nick) name is))
+pub decided_by_name : (view : View) (conn : ℕ) (o : Option User) (name : List ℕ) (message : Parsed) → option_map (λ (user : User). user.nick) o ≡ Some name
+    → decision_told conn (Some name) (decide view.room (place_of view.routes) name message) (in_silence view) ≡ user_told view conn o message
+decided_by_name view conn None name message is = cc is
+decided_by_name view conn (Some user) name message is =
+    ap (λ n. decision_told conn (Some n) (decide view.room (place_of view.routes) n message) (in_silence view)) (sym (same_some (user.nick) name is))
 
 pub lost_is_whole : cut_words lost_text ≡ lost_text
 unfolding cut_words
 lost_is_whole = refl
 
--- what each kind of event does
+-- what is seen of a server of which only its clients and its room have changed
+pub view_kept : (old new : Stage) (machine : RoomMachine) → Keeps old new → machine_at new ≡ machine
+    → view_of new ≡ record (view_of old) { clients = machine.clients; room = machine.room }
+view_kept old new machine keeps is =
+    ap (λ routes. record (view_of new) { routes = routes }) keeps.routes
+    ∙ ap (λ (peers : Vec Peer). record (view_of new) { routes = old.routes; peers = map known_peer peers.items }) keeps.peers
+    ∙ ap (λ (ends : BTreeMap ℕ End). record (view_of new) { routes = old.routes; peers = map known_peer old.peers.items; ends = numbered ends }) keeps.ends
+    ∙ ap (λ (m : RoomMachine). record (view_of old) { clients = m.clients; room = m.room }) is
 
-abbrev Happens : RoomMachine → Happening → List Sent → Handled → Type 0
-Happens old happening out after = after ≡ behind out (handled old happening)
+-- what each kind of event does, as it is served
 
-pub connected_is : (old new : RoomMachine) (out : List Sent) (conn : ℕ) (host : List ℕ) → new ≡ with_client old conn (fresh host)
-    → Happens old (connects conn host) out (record { machine = new; out = out })
-unfolding handled
-connected_is old new out conn host new_is =
-    ap (λ (m : RoomMachine). record { machine = m; out = out }) new_is ∙ nothing_behind (with_client old conn (fresh host)) out
+pub connected_is : (view : View) (conn : ℕ) (host : List ℕ) → in_silence (seated conn (fresh host) view) ≡ served view (of_client (connects conn host))
+unfolding served client_told
+connected_is view conn host = refl
 
-pub gone_is : (old : RoomMachine) (out : List Sent) (after : Handled) (conn : ℕ) → after ≡ behind out (gone old conn (client_of old conn))
-    → Happens old (goes conn) out after
-unfolding handled
-gone_is old out after conn is = is
+pub said_is : (view : View) (conn : ℕ) (read : Result Parsed LineFault) → line_told view conn read ≡ served view (of_client (says conn read))
+unfolding served client_told
+said_is view conn read = refl
 
-pub said_is : (old : RoomMachine) (out : List Sent) (after : Handled) (conn : ℕ) (read : Result Parsed LineFault) → after ≡ behind out (read_as old conn read)
-    → Happens old (says conn read) out after
-unfolding handled
-said_is old out after conn read is = is
+pub gone_is : (view : View) (conn : ℕ) → gone_told view conn ≡ served view (of_client (goes conn))
+unfolding served client_told
+gone_is view conn = refl
 
--- and so to the server
-
-pub does : (old new : Stage) (event : Event) (happening : Happening) (out out_after : List Sent) → occurrence_of event ≡ of_client happening → Keeps old new
-    → Happens (machine_at old) happening out (so_far new out_after) → Does (view_of old) event out (view_of new) out_after
+pub opened_is : (view : View) (link : ℕ) (starts : Option (List ℕ)) → link_opened view link starts ≡ served view (link_up link starts)
 unfolding served
-does old new event happening out out_after event_is keeps is = record {
-  view_is =
-      ap (λ routes. record (view_of new) { routes = routes }) keeps.routes
-      ∙ ap (λ (peers : Vec Peer). record (view_of new) { routes = old.routes; peers = map known_peer peers.items }) keeps.peers
-      ∙ ap (λ (ends : BTreeMap ℕ End). record (view_of new) { routes = old.routes; peers = map known_peer old.peers.items; ends = numbered ends }) keeps.ends
-      ∙ ap (λ (h : Handled). (put_back (view_of old) h).view) is
-      ∙ ap (λ (o : Occurrence). (served (view_of old) o).view) (sym event_is);
-  out_is = ap (λ (h : Handled). h.out) is ∙ ap (λ (o : Occurrence). out ++ (served (view_of old) o).out) (sym event_is);
+opened_is view link starts = refl
+
+pub heard_is : (view : View) (link : ℕ) (read : Result Parsed LineFault) → line_served view link read (get view.ends link) ≡ served view (link_says link read)
+unfolding served
+heard_is view link read = refl
+
+pub lost_is : (view : View) (link : ℕ) (out : List Sent) → link_lost link (record { view = view; out = out }) ≡ behind out (served view (link_down link))
+unfolding served
+lost_is view link out = ap (link_lost link) (nothing_behind view out) ∙ lost_link_behind link out (in_silence view)
+
+-- and so by the event
+pub does : (old new : View) (event : Event) (occurrence : Occurrence) (out out_after : List Sent) → occurrence_of event ≡ occurrence
+    → record { view = new; out = out_after } ≡ behind out (served old occurrence) → Does old event out new out_after
+does old new event occurrence out out_after event_is is = record {
+  view_is = ap (λ (s : Served). s.view) is ∙ ap (λ (o : Occurrence). (served old o).view) (sym event_is);
+  out_is = ap (λ (s : Served). s.out) is ∙ ap (λ (o : Occurrence). out ++ (served old o).out) (sym event_is);
 }
-
--- a link comes up, says something, or is lost, and nothing is put out
-pub in_silence_does : (old new : View) (event : Event) (out : List Sent) → in_silence new ≡ served old (occurrence_of event) → Does old event out new out
-in_silence_does old new event out is = record {
-  view_is = ap (λ (s : Served). s.view) is;
-  out_is = sym (append-nil out) ∙ ap (λ (s : Served). out ++ s.out) is;
-}
-
-pub comes_up : (view : View) (link : ℕ) (starts : Option (List ℕ)) → in_silence (with_end link starts view) ≡ served view (link_up link starts)
-unfolding served
-comes_up view link starts = refl
-
-pub says_nothing : (view : View) (link : ℕ) (read : Result Parsed LineFault) → in_silence view ≡ served view (link_says link read)
-unfolding served
-says_nothing view link read = refl
-
-pub goes_down : (view : View) (link : ℕ) → in_silence (without_end link view) ≡ served view (link_down link)
-unfolding served
-goes_down view link = refl
 
 -- nothing has changed
-pub same_by : (old new : Stage) (out out_after : List Sent) → Keeps old new → so_far new out_after ≡ so_far old out → IsSame (view_of old) out (view_of new) out_after
-same_by old new out out_after keeps is = record {
-  view_is =
-      ap (λ routes. record (view_of new) { routes = routes }) keeps.routes
-      ∙ ap (λ (peers : Vec Peer). record (view_of new) { routes = old.routes; peers = map known_peer peers.items }) keeps.peers
-      ∙ ap (λ (ends : BTreeMap ℕ End). record (view_of new) { routes = old.routes; peers = map known_peer old.peers.items; ends = numbered ends }) keeps.ends
-      ∙ ap (λ (h : Handled). (put_back (view_of old) h).view) is;
-  out_is = ap (λ (h : Handled). h.out) is;
-}
+pub same_by : (old new : View) (out out_after : List Sent) → ◌≡◌ {A = Served} (record { view = new; out = out_after }) (record { view = old; out = out })
+    → IsSame old out new out_after
+same_by old new out out_after is = record { view_is = ap (λ (s : Served). s.view) is; out_is = ap (λ (s : Served). s.out) is }
 
 -- who a connection is
 
 pub nobody_by : (found : Option (Bor Client)) (client : Option Client) → option_copied found ≡ client → is_some found ≡ false → IsNoUser client
 nobody_by None client is none = subst IsNoUser is tt
 nobody_by (Some there) client is none = absurd (cc none)
+
+pub nobody_owed : (found : Option (Bor Client)) (client : Option Client) → option_copied found ≡ client → is_some found ≡ false → there client ≡ None
+nobody_owed None client is none = ap there (sym is)
+nobody_owed (Some found) client is none = absurd (cc none)
 
 pub user_is : (machine : RoomMachine) → IsMatched machine → (conn : ℕ) (client : Client) → client_of machine conn ≡ Some client
     → user_of machine.room (Some client) ≡ nick_of client

@@ -1,5 +1,5 @@
 -- What one event does to a server: the view after it, and what is put out, in order; and which events are refused.
-use Rattle.std.specs.Prelude.{◌≡◌, ℕ, ⊤, Option, Some, None, Result, List, []}
+use Rattle.std.specs.Prelude.{◌≡◌, ℕ, ⊤, Option, Some, None, Result, List}
 use Rattle.std.specs.FinMap.{get}
 use Rattle.irc_line.specs.declared.reading.LineFault.{LineFault}
 use Rattle.irc_line.specs.Messages.{Parsed}
@@ -7,13 +7,16 @@ use Rattle.irc_room.specs.Room.{IsWellFormed}
 use Rattle.irc_stage.specs.declared.clients.Client.{Client}
 use Rattle.irc_server.specs.declared.event.Event.{Event}
 use Rattle.irc_server.specs.declared.event.Event.TheVariants.{Connect, Line, Gone, LinkUp, LinkLine, LinkDown}
-use Rattle.irc_batch.specs.Batches.{Sent}
 use Rattle.irc_server.specs.declared.event.ServerFault.{ServerFault}
 use Rattle.irc_server.specs.declared.event.ServerFault.TheVariants.{NoSuchConnection, ConnectionThere, NoSuchLink, LinkThere}
 use Rattle.irc_stage.specs.RoomMachine.{client_of}
-use Rattle.irc_stage.specs.View.{End, View, machine_of, with_end, without_end, IsAlone}
-use Rattle.irc_stage.specs.Handle.{Happening, Handled, handled}
+use Rattle.irc_stage.specs.View.{End, View, machine_of, IsAlone}
+use Rattle.irc_stage.specs.ClientTold.{client_told}
+use Rattle.irc_stage.specs.Handle.{Happening, handled}
 use Rattle.irc_stage.specs.Matched.{IsDue, IsMatched}
+use Rattle.irc_deeds.specs.DeedTold.{link_lost}
+use Rattle.irc_deeds.specs.LinkServed.{line_served, link_opened}
+pub use Rattle.irc_stage.specs.EffectTold.{Served, put_back, in_silence}
 
 -- What happens to a server: something by one of its clients; a link that this end opened to a peer, or that was opened to it; a line of the server at the
 -- other end, as it is read; a link that is lost.
@@ -23,25 +26,12 @@ pub data Occurrence : Type 0 where
   link_says : (link : ℕ) (read : Result Parsed LineFault) → Occurrence
   link_down : (link : ℕ) → Occurrence
 
-pub record Served : Type 0 where
-  pub view : View
-  pub out : List Sent
-
--- a view whose clients and room are those that its machine has then
-abbrev pub put_back : View → Handled → Served
-put_back view h = record { view = record view { clients = h.machine.clients; room = h.machine.room }; out = h.out }
-
--- nothing is put out
-abbrev pub in_silence : View → Served
-in_silence view = record { view = view; out = [] }
-
--- What happens by a client is done by the room machine that the server is to it. Of links the server keeps which are open; what their lines say it does not
--- take yet.
+-- Each is done as a server with links does it: what its clients do in `ClientTold`, what comes by its links in `LinkServed`.
 unfoldable pub served : View → Occurrence → Served
-served view (of_client happening) = put_back view (handled (machine_of view) happening)
-served view (link_up link starts) = in_silence (with_end link starts view)
-served view (link_says link read) = in_silence view
-served view (link_down link) = in_silence (without_end link view)
+served view (of_client happening) = client_told view happening
+served view (link_up link starts) = link_opened view link starts
+served view (link_says link read) = line_served view link read (get view.ends link)
+served view (link_down link) = link_lost link (in_silence view)
 
 -- the cause for which an event is refused, if it has one; it is the same whatever a line is read as
 abbrev pub there : Option Client → Option ServerFault
@@ -82,6 +72,17 @@ abbrev pub ServedStaysMatched : Type 0
 ServedStaysMatched =
     (view : View) → AreMatched view → IsWellFormed view.room → (occurrence : Occurrence) → IsDueAt view occurrence
     → AreMatched (served view occurrence).view
+
+-- What a server is configured to be, and what it says of itself, is the same at two moments.
+pub record IsSetAlike (old new : View) : Type 0 where
+  pub peers : new.peers ≡ old.peers
+  pub name : new.routes.name ≡ old.routes.name
+  pub info : new.routes.info ≡ old.routes.info
+  pub created : new.routes.created ≡ old.routes.created
+
+-- It is so whatever is served.
+abbrev pub ServedKeepsItsSetting : Type 0
+ServedKeepsItsSetting = (view : View) (occurrence : Occurrence) → IsSetAlike view (served view occurrence).view
 
 -- A server and a room machine say the same of a happening: put back, what the machine has is what the server has; its machine is the machine's; and the
 -- same is put out.

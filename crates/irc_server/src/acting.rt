@@ -1,16 +1,16 @@
 //! What each event does to a server.
 ghost use Rattle.std.specs.Prelude.{◌≡◌, ⊤, Some, OnOk, IfOk};
-ghost use Rattle.std.specs.FinMap.{get};
 ghost use Rattle.irc_line.specs.Messages.{Parsed};
 ghost use Rattle.irc_line.specs.MessageViews.{parsed};
+ghost use Rattle.irc_line.specs.Reading.{read_of};
 ghost use Rattle.irc_batch.specs.Growing.{Grew};
 ghost use Rattle.irc_stage.specs.Matched.{IsMatched};
 ghost use Rattle.irc_stage.specs.RoomMachine.{client_of};
-ghost use Rattle.irc_stage.specs.Loops.Speaking.{AreSpoken};
-ghost use Rattle.irc_stage.specs.Loops.Stage.{machine_at, view_of, AreFit, IsFreeOf, IsNoUser, IsReady, Keeps};
+ghost use Rattle.irc_stage.specs.Loops.Speaking.{AreSpokenAt};
+ghost use Rattle.irc_stage.specs.Loops.Stage.{machine_at, view_of, AreFitAt, IsFreeOf, IsNoUser, IsReady, IsServing, Keeps};
 ghost use Rattle.irc_stage.specs.declared.clients.Client.TheVariants.{Registered};
-ghost use Rattle.irc_server.specs.Served.{no_link, not_there};
-ghost use Rattle.irc_server.specs.Loops.Acting.{given_client, given_machine, nick_of, user_on, Comes, Decides, IsActed, IsConnected, IsGone, IsLinked, IsSaid, IsUnlinked, Leaves, Registers, Stands};
+ghost use Rattle.irc_server.specs.Served.{not_there};
+ghost use Rattle.irc_server.specs.Loops.Acting.{given_client, given_view, nick_of, user_on, Comes, Decides, IsActed, IsConnected, IsGone, IsHeard, IsLinked, IsSaid, IsUnlinked, Leaves, Registers, Stands};
 
 use crate::event::{Event, ServerFault};
 use irc_batch::Batch;
@@ -19,7 +19,7 @@ use irc_commands::{Pending, Registration, decide, laws, register};
 use irc_deeds::{hear_line, lose_link, open_link};
 use irc_line::{Message, parse};
 use irc_names::{Host, Nick, ServerName};
-use irc_room::Effect;
+use irc_room::{Effect, invitation_laws};
 use irc_stage::{Client, Origin, Speaker, Stage, Waiting};
 use std::alloc::{AllocError, Global};
 
@@ -67,8 +67,8 @@ fn on_registration(
     requires ready { IsReady stage.old }
     requires no_user { IsNoUser (client_of (machine_at stage.old) conn) }
     requires free { IsFreeOf (given_client given.now) (machine_at stage.old).clients }
-    requires fit { AreFit (given_machine stage.old conn given.now) given.now.steps.items }
-    requires spoken { AreSpoken conn (given_machine stage.old conn given.now) given.now.steps.items }
+    requires fit { AreFitAt (given_view stage.old conn given.now) given.now.steps.items }
+    requires spoken { AreSpokenAt conn (given_view stage.old conn given.now) given.now.steps.items }
     ensures ok { OnOk result (Registers conn given.now stage.old out.old stage.new out.new) }
     ensures ready { OnOk result (IsReady stage.new) }
     ensures keeps { Keeps stage.old stage.new }
@@ -97,6 +97,8 @@ fn on_user_message(
     ensures keeps { Keeps stage.old stage.new }
     ensures grew { Grew out.old.outs out.new.outs }
 {
+    invitation_laws::alike_take_alike();
+    invitation_laws::alike_stay_alike();
     laws::decided_is_possible();
     laws::decided_by_itself();
     laws::who_stays_is_user();
@@ -131,6 +133,8 @@ fn on_message(
     ensures keeps { Keeps stage.old stage.new }
     ensures grew { Grew out.old.outs out.new.outs }
 {
+    invitation_laws::alike_take_alike();
+    invitation_laws::alike_stay_alike();
     laws::registering_is_possible();
     laws::registered_is_added();
     laws::unregistered_changes_nothing();

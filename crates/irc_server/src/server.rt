@@ -133,8 +133,7 @@ impl Server {
         result
     }
 
-    /// Handles events one after another, up to the first that is refused. Where they are clients' alone, what each client receives is what the room
-    /// machine owes it.
+    /// Handles events one after another, up to the first that is refused. Where they are clients' alone, each client receives what the server owes it.
     ///
     /// # Errors
     /// As [`Server::handle`], for the first event that is refused: those before it are handled, and those behind it are not.

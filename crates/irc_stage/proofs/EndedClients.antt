@@ -1,8 +1,11 @@
 -- The client that is a user who was taken out is told why, and closed.
-use Rattle.std.proofs.Common.{◌≡◌, ℕ, Option, Some, None, List, [], ◌∷◌, ◌++◌, sym, ◌∙◌, ap, map, append-nil, append_assoc}
+use Rattle.std.proofs.Common.{◌≡◌, ℕ, Option, Some, None, List, [], ◌∷◌, ◌++◌, Bool, true, is_some, sym, ◌∙◌, ap, map, append-nil, append_assoc}
 use Rattle.std.specs.BTreeMap.{BTreeMap}
 use Rattle.std.specs.FinMap.{remove, retain_keys}
 use Rattle.std.specs.Global.{Vec}
+use Rattle.std.specs.Borrow.{Bor}
+use Rattle.std.specs.Option.{option_copied}
+use Rattle.irc_users.specs.declared.user.User.{User}
 use Rattle.irc_names.specs.Fold.{key}
 use Rattle.irc_names.specs.Tables.{Table, row}
 use Rattle.irc_commands.specs.Quit.{error_line}
@@ -55,3 +58,8 @@ ended_one old new index nick text conn is out put closed line line_is put_is clo
   where
     sent : List Sent
     sent = (out.outs ++ line_to conn (error_line text) ∷ []) ++ end_of conn ∷ []
+
+-- a user that the code has found is there
+pub some_there : (found : Option (Bor User)) (o : Option User) → option_copied found ≡ o → is_some found ≡ true → is_some o ≡ true
+some_there None o is some = absurd (cc some)
+some_there (Some user) o is some = ap is_some (sym is)

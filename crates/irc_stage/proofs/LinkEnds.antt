@@ -57,6 +57,13 @@ pub unlinked_met : (ends : Ends) (known : Known) (link : ℕ) → AreEnds ends k
 unlinked_met ends known link met q number is =
     by_row (row known.rows q) refl (sym (ap (option_map (λ (r : ServerRow). r.link)) (row-each (unless_behind link) known.rows q)) ∙ is)
   where
+    not_it : (a : ℕ) → nat_eq a link ≡ false → same_number a link ≡ false
+    not_it a two = by_number (same_number a link) refl
+      where
+        by_number : (b : Bool) → same_number a link ≡ b → b ≡ false
+        by_number false other = refl
+        by_number true one = absurd (cc (sym (eq-eqb a link (one_number a link one)) ∙ two))
+
     still : (r : ServerRow) → row known.rows q ≡ Some r → (b : Bool) → nat_eq r.link link ≡ b
         → option_map (λ (r : ServerRow). r.link) (if b then None else Some r) ≡ Some number → IsMetEnd (get (remove ends link) number)
     still r there true one none = cc none
@@ -65,13 +72,6 @@ unlinked_met ends known link met q number is =
         subst IsMetEnd
         (sym (get-without ends link number ∙ ap (λ b. cond b None (get ends number)) (ap (λ n. same_number n link) (sym number_is) ∙ not_it r.link two)))
         (met q number (ap (option_map (λ (r : ServerRow). r.link)) there ∙ left))
-
-    not_it : (a : ℕ) → nat_eq a link ≡ false → same_number a link ≡ false
-    not_it a two = by_number (same_number a link) refl
-      where
-        by_number : (b : Bool) → same_number a link ≡ b → b ≡ false
-        by_number false other = refl
-        by_number true one = absurd (cc (sym (eq-eqb a link (one_number a link one)) ∙ two))
 
     by_row : (o : Option ServerRow) → row known.rows q ≡ o → option_map (λ (r : ServerRow). r.link) (option_and_then (unless_behind link) o) ≡ Some number
         → IsMetEnd (get (remove ends link) number)

@@ -1,4 +1,5 @@
 -- Lemmas, with their proofs, that the crates above cite too. No rule stands here.
+pub mod Alone
 pub mod MatchedEvents
 pub mod Counting
 pub mod Matching

@@ -8,14 +8,12 @@ use Rattle.std.specs.FinMap.{get, empty, values, get-empty, get-from_entries}
 use Rattle.irc_names.specs.Tables.{fold_cmp, put, tabulate}
 use Rattle.irc_names.specs.TableLaws.{same_fold, same_table, row-put}
 use Rattle.irc_tables.specs.FoldedRows.{table_of, IsInFoldedOrder}
-use Rattle.irc_tables.specs.Lemmas.RowsAsTable.{nothing-table, nothing-sorted}
 use Rattle.irc_line.specs.Reading.{read_of}
 use Rattle.irc_relay.specs.Links.{Name, Link, part, distance, AreLinked, IsForest}
 use Rattle.irc_relay.specs.Links.{linked as are_linked}
 use Rattle.irc_relay.specs.Lemmas.TellingNames.{alike, unlike, tell, same_when}
 use Rattle.irc_room.specs.Room.{Room}
-use Rattle.irc_routes.specs.declared.server_row.ServerRow.{ServerRow}
-use Rattle.irc_routes.specs.Known.{others, alone_known, by_name, place_of}
+use Rattle.irc_routes.specs.Known.{others, by_name, place_of}
 use Rattle.irc_routes.specs.Laws.{AloneIsAlone}
 use Rattle.irc_routes.specs.Place.{KnownServer, Place, alone}
 use Rattle.irc_routes.specs.Lemmas.TableRows.{values-table_of}
@@ -23,7 +21,8 @@ use Rattle.irc_stage.specs.declared.clients.Client.{Client}
 use Rattle.irc_stage.specs.RoomMachine.{Clients, RoomMachine, client_of}
 use Rattle.irc_stage.specs.View.{View, machine_of}
 use Rattle.irc_stage.specs.Handle.{Happening, connects, says, goes, handled}
-use Rattle.irc_server.specs.Served.{of_client, served, LoneServerIsOneRoom, SaysTheSame}
+use Rattle.irc_stage.specs.Lemmas.Alone.{knows_no_other}
+use Rattle.irc_server.specs.Served.{Served, of_client, served, LoneServerIsOneRoom, SaysTheSame}
 use Rattle.irc_server.specs.Owed.{lines_to}
 use Rattle.irc_server.specs.Owed.{owed as owed_by_server}
 use Rattle.irc_world.specs.World.{Setting, Hall, World, new_world, setting_of, is_server, home_of, known_from, place_in, place_at, machine_at}
@@ -80,11 +79,6 @@ place_alone setting =
     ap (λ o. option_map_or (place_in (setting ∷ []) []) o (alone setting.name [] [])) (found setting)
     ∙ ap (λ ss. record { name = setting.name; info = setting.info; created = setting.created; links = 0; servers = ss }) (servers_alone setting)
 
-no_others : (name info created : List ℕ) → others (alone_known name info created) ≡ []
-no_others name info created =
-    ap values (sym (nothing-table (λ (r : ServerRow). (r.name, r))))
-    ∙ values-table_of (λ (r : ServerRow). r.name) [] (nothing-sorted (λ (r : ServerRow). (r.name, r)))
-
 -- the ends of a link would be two servers
 pub one_server_has_no_link : OneServerHasNoLink
 one_server_has_no_link setting world sound = by world.links sound.forest sound.ends_known
@@ -110,7 +104,7 @@ pub past_end : (homes : List Name) → slice_get homes (length homes) ≡ None
 past_end [] = refl
 past_end (home ∷ homes) = past_end homes
 
-module _ (alone_is : AloneIsAlone) (setting : Setting) where
+module _ (alone_is : AloneIsAlone) (one_room : LoneServerIsOneRoom) (setting : Setting) where
   machine_is : (world : World) (view : View) → world.links ≡ [] → IsTheServer setting world view → machine_at (setting ∷ []) world setting.name ≡ machine_of view
   machine_is world view no_links is =
       ap (λ links. machine_with (place_at (setting ∷ []) links setting.name) (world.hall setting.name).clients (world.hall setting.name).room) no_links
@@ -121,21 +115,28 @@ module _ (alone_is : AloneIsAlone) (setting : Setting) where
 
   machine_done : (world : World) (view : View) (happening : Happening) → world.links ≡ [] → IsTheServer setting world view
       → IsDone setting (by_machine (setting ∷ []) world setting.name happening) view happening
-  unfolding served
   machine_done world view happening no_links is = record {
     stays = record {
-      routes = is.routes;
-      no_ends = is.no_ends;
-      clients = hall_with (λ h. (handled (machine_of view) happening).machine.clients ≡ h.clients) setting.name setting.name hall world
+      routes = ap (λ (s : Served). s.view.routes) same.whole ∙ is.routes;
+      no_ends = ap (λ (s : Served). s.view.ends) same.whole ∙ is.no_ends;
+      clients = ap (λ (s : Served). s.view.clients) same.whole
+          ∙ hall_with (λ h. (handled (machine_of view) happening).machine.clients ≡ h.clients) setting.name setting.name hall world
           (λ _. ap (λ m. (handled m happening).machine.clients) (sym same_machine)) (λ apart. absurd (apart refl));
-      room = hall_with (λ h. (handled (machine_of view) happening).machine.room ≡ h.room) setting.name setting.name hall world
+      room = ap (λ (s : Served). s.view.room) same.whole
+          ∙ hall_with (λ h. (handled (machine_of view) happening).machine.room ≡ h.room) setting.name setting.name hall world
           (λ _. ap (λ m. (handled m happening).machine.room) (sym same_machine)) (λ apart. absurd (apart refl));
     };
-    lines = λ client. ap (λ m. lines_to client (handled m happening).out) same_machine;
+    lines = λ client. ap (λ m. lines_to client (handled m happening).out) same_machine ∙ ap (lines_to client) (sym same.out);
   }
     where
       same_machine : machine_at (setting ∷ []) world setting.name ≡ machine_of view
       same_machine = machine_is world view no_links is
+
+      same : SaysTheSame view happening
+      same = one_room view happening (record {
+        no_ends = is.no_ends;
+        no_others = ap others is.routes ∙ knows_no_other setting.name setting.info setting.created;
+      })
 
       hall : Hall
       hall = record {
@@ -209,69 +210,62 @@ module _ (alone_is : AloneIsAlone) (setting : Setting) where
         let none : false ≡ true = ap (λ links. are_linked links near far) (sym no_links) ∙ linked_so in
         cc none
 
-pub one_server_is_the_network : AloneIsAlone → OneServerIsTheNetwork
+pub one_server_is_the_network : AloneIsAlone → LoneServerIsOneRoom → OneServerIsTheNetwork
 unfolding refused step
-one_server_is_the_network alone_is setting world view item sound is taken = by item taken
+one_server_is_the_network alone_is one_room setting world view item sound is taken = by item taken
   where
     there : (client : ℕ) → (if is_some (open_client world client) then None else Some no_such_client) ≡ None → is_some (open_client world client) ≡ true
     there client taken = (if_taken (is_some (open_client world client)) no_such_client None taken).0
 
     by : (item : Item) → refused (setting ∷ []) world item ≡ None → IsServed setting world view item
     by (connect server host) taken =
-        let done = connect_done alone_is setting world view sound is server host
+        let done = connect_done alone_is one_room setting world view sound is server host
         (one_name setting server (server_known (setting ∷ []) world server host taken)) in
         record {
           happening = connects (suc (length world.homes)) host;
           is_item = refl;
-          expected = new_number alone_is setting world view sound is;
+          expected = new_number alone_is one_room setting world view sound is;
           stays = done.stays;
           lines = done.lines;
         }
     by (line client bytes) taken =
-        let done = client_done alone_is setting world view sound is client (says client (read_of bytes)) (there client taken) in
+        let done = client_done alone_is one_room setting world view sound is client (says client (read_of bytes)) (there client taken) in
         record {
           happening = says client (read_of bytes);
           is_item = refl;
-          expected = client_there alone_is setting world view sound is client (there client taken);
+          expected = client_there alone_is one_room setting world view sound is client (there client taken);
           stays = done.stays;
           lines = done.lines;
         }
     by (gone client) taken =
-        let done = client_done alone_is setting world view sound is client (goes client) (there client taken) in
+        let done = client_done alone_is one_room setting world view sound is client (goes client) (there client taken) in
         record {
           happening = goes client;
           is_item = refl;
-          expected = client_there alone_is setting world view sound is client (there client taken);
+          expected = client_there alone_is one_room setting world view sound is client (there client taken);
           stays = done.stays;
           lines = done.lines;
         }
-    by (link near far) taken = absurd (no_link alone_is setting world view sound is near far taken)
-    by (cut near far) taken = absurd (no_cut alone_is setting world view sound is near far taken)
+    by (link near far) taken = absurd (no_link alone_is one_room setting world view sound is near far taken)
+    by (cut near far) taken = absurd (no_cut alone_is one_room setting world view sound is near far taken)
 
 -- ---- one after another
 
 module _ (alone_is : AloneIsAlone) (one_room : LoneServerIsOneRoom) (stays_sound : StepStaysSound) (setting : Setting) (client : ℕ) where
   owes : (items : List Item) (world : World) (view : View) → IsSound (setting ∷ []) world → IsTheServer setting world view → AreTaken (setting ∷ []) world items
-      → owed_from (setting ∷ []) world items client ≡ owed_by_server client (machine_of view) (happenings_from (setting ∷ []) world items)
+      → owed_from (setting ∷ []) world items client ≡ owed_by_server client view (happenings_from (setting ∷ []) world items)
   owes [] world view sound is taken = refl
   owes (item ∷ items) world view sound is taken =
-      ap (λ lines. lines ++ owed_from (setting ∷ []) next items client) (first.lines client ∙ ap (lines_to client) same.out)
-      ∙ ap (λ lines. lines_to client (handled (machine_of view) first.happening).out ++ lines)
-      (owes items next (served view (of_client first.happening)).view (stays_sound (setting ∷ []) world item sound taken.now) first.stays taken.later
-      ∙ ap (λ m. owed_by_server client m (happenings_from (setting ∷ []) next items)) same.machine)
-      ∙ ap (λ o. owed_by_server client (machine_of view) (option_to_list o ++ happenings_from (setting ∷ []) next items)) (sym first.is_item)
+      ap (λ lines. lines ++ owed_from (setting ∷ []) next items client) (first.lines client)
+      ∙ ap (λ lines. lines_to client (served view (of_client first.happening)).out ++ lines)
+      (owes items next (served view (of_client first.happening)).view (stays_sound (setting ∷ []) world item sound taken.now) first.stays taken.later)
+      ∙ ap (λ o. owed_by_server client view (option_to_list o ++ happenings_from (setting ∷ []) next items)) (sym first.is_item)
     where
       first : IsServed setting world view item
-      first = one_server_is_the_network alone_is setting world view item sound is taken.now
+      first = one_server_is_the_network alone_is one_room setting world view item sound is taken.now
 
       next : World
       next = (step (setting ∷ []) world item).world
-
-      same : SaysTheSame view first.happening
-      same = one_room view first.happening (record {
-        no_ends = is.no_ends;
-        no_others = ap others is.routes ∙ no_others setting.name setting.info setting.created;
-      })
 
 pub one_server_owes : AloneIsAlone → LoneServerIsOneRoom → StepStaysSound → OneServerOwes
 unfolding owed_by_network

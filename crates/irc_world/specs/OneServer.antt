@@ -92,7 +92,7 @@ happenings_from settings world (item ∷ items) =
 -- so the clients of a network of one server are owed what that server owes them
 abbrev pub OneServerOwes : Type 0
 OneServerOwes = (setting : Setting) (items : List Item) → AreTaken (setting ∷ []) new_world items → (client : ℕ)
-    → owed_by_network (setting ∷ []) items client ≡ owed_by_server client (machine_of (lone_view setting)) (happenings_from (setting ∷ []) new_world items)
+    → owed_by_network (setting ∷ []) items client ≡ owed_by_server client (lone_view setting) (happenings_from (setting ∷ []) new_world items)
 
 -- What a client would do that is not there, the one server refuses as well.
 abbrev pub OneServerRefuses : Type 0

@@ -54,6 +54,7 @@ pub fn one_server_is_the_network()
     ensures { OneServerIsTheNetwork }
 {
     irc_routes::laws::alone_is_alone();
+    irc_server::laws::lone_server_is_one_room();
 }
 
 /// A network of one server has no link: both ends of a link are servers that there are.

@@ -1,7 +1,19 @@
-//! Tests of what a line of a link is to a server.
+//! Tests of one server with links.
 #![tactic(auto)]
 
 #[cfg(test)]
+mod closings;
+#[cfg(test)]
+mod collisions;
+#[cfg(test)]
+mod greetings;
+#[cfg(test)]
+mod happening;
+#[cfg(test)]
 mod hearing;
 #[cfg(test)]
+mod losses;
+#[cfg(test)]
 mod stage;
+#[cfg(test)]
+mod ways;

@@ -3,6 +3,7 @@ use Rattle.std.specs.Prelude.{◌≡◌, ℕ, ⊤, Bool, true, false, Option, So
 use Rattle.std.specs.FinMap.{get}
 use Rattle.irc_names.specs.Fold.{key}
 use Rattle.irc_names.specs.Tables.{row}
+use Rattle.irc_line.specs.declared.reading.LineFault.{LineFault}
 use Rattle.irc_line.specs.Messages.{Parsed}
 use Rattle.irc_room.specs.Room.{Room}
 use Rattle.irc_room.specs.Applying.{Kept}
@@ -15,10 +16,12 @@ use Rattle.irc_server.specs.declared.event.ServerFault.TheVariants.{Memory}
 use Rattle.irc_stage.specs.declared.clients.Client.{Client}
 use Rattle.irc_stage.specs.declared.clients.Client.TheVariants.{Registering, Registered}
 use Rattle.irc_stage.specs.declared.stage.Stage.{Stage}
-use Rattle.irc_stage.specs.RoomMachine.{RoomMachine, client_of, with_client}
-use Rattle.irc_stage.specs.Handle.{client_after, fresh, gone, pending_decided, said_by, user_decided, user_of}
-use Rattle.irc_stage.specs.View.{View, with_end, without_end}
-use Rattle.irc_stage.specs.Loops.Stage.{behind, machine_at, so_far}
+use Rattle.irc_stage.specs.ClientTold.{given_told, gone_told, message_told, seated, user_told}
+use Rattle.irc_stage.specs.Handle.{client_after, fresh, user_of}
+use Rattle.irc_stage.specs.RoomMachine.{client_of}
+use Rattle.irc_stage.specs.View.{View}
+use Rattle.irc_stage.specs.Loops.Stage.{machine_at, served_at, view_of}
+use Rattle.irc_deeds.specs.Loops.Serving.{Hears, Loses, Opens, Serves}
 use Rattle.irc_server.specs.Served.{fault_of, link_there, no_link, not_there, there}
 use Rattle.irc_server.specs.Happening.{Does}
 
@@ -64,38 +67,37 @@ pub record IsSame (old : View) (out : List Sent) (new : View) (out_after : List 
 abbrev pub given_client : Registration → Client
 given_client given = client_after (registered_of given) given.pending.nick
 
-abbrev pub given_machine : Stage → ℕ → Registration → RoomMachine
-given_machine stage conn given = with_client (machine_at stage) conn (given_client given)
+abbrev pub given_view : Stage → ℕ → Registration → View
+given_view stage conn given = seated conn (given_client given) (view_of stage)
 
 -- a line before registration has this effect
 abbrev pub Registers : ℕ → Registration → Stage → Batch → Stage → Batch → Type 0
-Registers conn given old out new out_after = so_far new out_after.outs ≡ behind out.outs (pending_decided (machine_at old) conn (registered_of given))
+Registers conn given old out new out_after = Serves (given_told conn (registered_of given) (view_of old)) out new out_after
 
 -- a message of the user with this nickname has
 abbrev pub Decides : ℕ → List ℕ → Parsed → Stage → Batch → Stage → Batch → Type 0
 Decides conn nick message old out new out_after =
-    so_far new out_after.outs ≡ behind out.outs (user_decided (machine_at old) conn (row (machine_at old).room.users (key nick)) message)
+    Serves (user_told (view_of old) conn (row (view_of old).room.users (key nick)) message) out new out_after
 
 -- a message of whoever is on this connection has
 abbrev pub Says : ℕ → Parsed → Stage → Batch → Stage → Batch → Type 0
-Says conn message old out new out_after =
-    so_far new out_after.outs ≡ behind out.outs (said_by (machine_at old) conn (client_of (machine_at old) conn) message)
+Says conn message old out new out_after = Serves (message_told (view_of old) conn (client_of (machine_at old) conn) message) out new out_after
 
 -- whoever is on this connection leaves, and with it the user that it is
 abbrev pub user_on : ℕ → Stage → Option (List ℕ)
-user_on conn stage = user_of (machine_at stage).room (client_of (machine_at stage) conn)
+user_on conn stage = user_of (view_of stage).room (client_of (machine_at stage) conn)
 
 abbrev pub Leaves : ℕ → Stage → Batch → Stage → Batch → Type 0
-Leaves conn old out new out_after = so_far new out_after.outs ≡ behind out.outs (gone (machine_at old) conn (client_of (machine_at old) conn))
+Leaves conn old out new out_after = Serves (gone_told (view_of old) conn) out new out_after
 
 -- What comes of each event: it is done, or it is refused and nothing has changed. A client connects, says something, is gone.
 abbrev pub IsConnected : ℕ → List ℕ → Stage → Result (Unit {0}) ServerFault → Stage → Type 0
 IsConnected conn host old result new =
-    Comes (there (client_of (machine_at old) conn)) (machine_at new ≡ with_client (machine_at old) conn (fresh host)) (new ≡ old) result
+    Comes (there (client_of (machine_at old) conn)) (view_of new ≡ seated conn (fresh host) (view_of old)) (new ≡ old) result
 
 -- nothing has changed, nor been put out
 abbrev pub AsBefore : Stage → Batch → Stage → Batch → Type 0
-AsBefore old out new out_after = so_far new out_after.outs ≡ so_far old out.outs
+AsBefore old out new out_after = served_at new out_after.outs ≡ served_at old out.outs
 
 abbrev pub IsSaid : ℕ → Parsed → Stage → Batch → Result (Unit {0}) ServerFault → Stage → Batch → Type 0
 IsSaid conn message old out result new out_after =
@@ -105,12 +107,18 @@ abbrev pub IsGone : ℕ → Stage → Batch → Result (Unit {0}) ServerFault �
 IsGone conn old out result new out_after =
     Comes (not_there (client_of (machine_at old) conn)) (Leaves conn old out new out_after) (AsBefore old out new out_after) result
 
--- A link is open, or lost.
-abbrev pub IsLinked : ℕ → Option (List ℕ) → View → Result (Unit {0}) ServerFault → View → Type 0
-IsLinked link starts old result new = Comes (link_there (get old.ends link)) (new ≡ with_end link starts old) (new ≡ old) result
+-- A link is opened, a line comes by it, it is lost.
+abbrev pub IsLinked : ℕ → Option (List ℕ) → Stage → Batch → Result (Unit {0}) ServerFault → Stage → Batch → Type 0
+IsLinked link starts old out result new out_after =
+    Comes (link_there (get (view_of old).ends link)) (Opens link starts old out new out_after) (AsBefore old out new out_after) result
 
-abbrev pub IsUnlinked : ℕ → View → Result (Unit {0}) ServerFault → View → Type 0
-IsUnlinked link old result new = Comes (no_link (get old.ends link)) (new ≡ without_end link old) (new ≡ old) result
+abbrev pub IsHeard : ℕ → Result Parsed LineFault → Stage → Batch → Result (Unit {0}) ServerFault → Stage → Batch → Type 0
+IsHeard link read old out result new out_after =
+    Comes (no_link (get (view_of old).ends link)) (Hears link read old out new out_after) (AsBefore old out new out_after) result
+
+abbrev pub IsUnlinked : ℕ → Stage → Batch → Result (Unit {0}) ServerFault → Stage → Batch → Type 0
+IsUnlinked link old out result new out_after =
+    Comes (no_link (get (view_of old).ends link)) (Loses link old out new out_after) (AsBefore old out new out_after) result
 
 -- any event
 abbrev pub IsActed : View → Event → List Sent → Result (Unit {0}) ServerFault → View → List Sent → Type 0

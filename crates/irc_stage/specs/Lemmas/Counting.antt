@@ -196,7 +196,7 @@ changed_stays effect s holds is =
     changed_holds effect s holds parts.0 (counted_matched s.view effect holds.matched parts.0 parts.1)
 
 -- the links are no part of what holds
-told_holds : (arrival : Option ℕ) (effect : Effect) (s : Served) → Holds (changed effect s) → Holds (effect_told arrival effect s)
+pub told_holds : (arrival : Option ℕ) (effect : Effect) (s : Served) → Holds (changed effect s) → Holds (effect_told arrival effect s)
 told_holds arrival effect s holds = record { matched = holds.matched; well = holds.well }
 
 pub changed_if_stays : (effect : Effect) (s : Served) → Holds s → Holds (changed_if effect s)
@@ -296,7 +296,7 @@ no_users room nick none q = by (same_fold q (key nick)) refl
     by true one = ap (row room.users) (one_fold q (key nick) one) ∙ no_row (row room.users (key nick)) none
     by false two = refl
 
-quit_possible : (room : Room) (nick text : List ℕ) → has_user room nick ≡ true → IsPossible room (Quit nick text)
+pub quit_possible : (room : Room) (nick text : List ℕ) → has_user room nick ≡ true → IsPossible room (Quit nick text)
 quit_possible room nick text there = record { users_there = ap (λ b. b && true) there; channel_there = refl; nick_free = refl }
 
 pub taken_out_stays : (nick text : List ℕ) (s : Served) → Holds s → Holds (taken_out nick text s)
@@ -317,7 +317,7 @@ taken_out_stays nick text s holds = by (has_user s.view.room nick) refl
 -- ---- what links tell is no client's
 
 pub said_elsewhere : (view : View) (effect : Effect) → IsMatched (machine_of view) → is_of_here view effect ≡ false → IsSaidElsewhere (machine_of view) effect
-said_elsewhere view (Say by notice target text) matched abroad conn named =
+said_elsewhere view (Say by notice target text) matched abroad = λ conn named.
     named_is (key by) (client_of (machine_of view) conn) named (λ nick is one.
     absurd (cc (sym (ap (λ f. option_map_or (is_home view.routes.name) (row view.room.users f) false) (sym one) ∙ matched.registered_is_user conn nick is) ∙ abroad)))
 said_elsewhere view (AddUser user) matched abroad = tt

@@ -10,4 +10,5 @@ returns-clause-machine c =
 pub returns-clause-server : goal.returns-clause-server
 returns-clause-server c =
     let users = c.users_come_and_go.ensures in
-    served_stays_matched (stays_matched users.possible users.stays users.closes users.registering users.added users.unregistered users.registered)
+    served_stays_matched c.alike_stay_alike.ensures
+    (stays_matched users.possible users.stays users.closes users.registering users.added users.unregistered users.registered)

@@ -1,0 +1,334 @@
+//! Handshakes and bursts, at the end that is called and at the end that calls (RFC 2813 section 4.1).
+use crate::happening::{Row, Step, rows_hold};
+use irc_batch::Out;
+use irc_server::CloseReason;
+
+/// Nobody is there.
+static NOBODY: [Step; 0] = [];
+
+/// al, client 1, has made #c.
+static ONE_CLIENT: [Step; 6] = [
+    Step::Connects(1),
+    Step::Says(1, b"NICK al"),
+    Step::Says(1, b"USER u 0 * :Al"),
+    Step::Says(1, b"JOIN #c"),
+    Step::Says(1, b"MODE #c +nt"),
+    Step::Says(1, b"TOPIC #c :hello"),
+];
+
+/// b.net is linked by 7, with aa.net behind it; bo is on b.net, cy on aa.net.
+static TWO_SERVERS: [Step; 7] = [
+    Step::IsCalled(7),
+    Step::Hears(7, b"PASS pw 0210010000 TREE|"),
+    Step::Hears(7, b"SERVER b.net 1 1 :B"),
+    Step::Hears(7, b":b.net SERVER aa.net 2 2 :Far"),
+    Step::Hears(7, b"NICK bo 1 u h 1 + :Bo"),
+    Step::Hears(7, b"NICK cy 2 u h 2 +i :Cy"),
+    Step::Hears(7, b":b.net NJOIN #c :@bo,+cy"),
+];
+
+static OF_NOBODY: [Row; 9] = [
+    // The end that is called waits for both lines.
+    (&[Step::IsCalled(7)], &[]),
+    (
+        &[
+            Step::IsCalled(7),
+            Step::Hears(7, b"PASS pw 0210010000 TREE|"),
+        ],
+        &[],
+    ),
+    (
+        &[
+            Step::IsCalled(7),
+            Step::Hears(7, b"PASS pw 0210010000 TREE|"),
+            Step::Hears(7, b"SERVER b.net 1 1 :B"),
+        ],
+        &[
+            Out::LinkLine(7, b"PASS pw 0210010000 TREE|"),
+            Out::LinkLine(7, b"SERVER a.net 1 1 :A"),
+        ],
+    ),
+    // The end that calls begins, with the password of the peer that it calls.
+    (
+        &[Step::Calls(7, b"c.net")],
+        &[
+            Out::LinkLine(7, b"PASS pq 0210010000 TREE|"),
+            Out::LinkLine(7, b"SERVER a.net 1 1 :A"),
+        ],
+    ),
+    (
+        &[
+            Step::Calls(7, b"b.net"),
+            Step::Hears(7, b"PASS pw 0210010000 TREE|"),
+            Step::Hears(7, b"SERVER b.net 1 1 :B"),
+        ],
+        &[
+            Out::LinkLine(7, b"PASS pw 0210010000 TREE|"),
+            Out::LinkLine(7, b"SERVER a.net 1 1 :A"),
+        ],
+    ),
+    // A server that is no peer is not called, and its link is open no more.
+    (
+        &[Step::Calls(7, b"x.net"), Step::IsCalled(7)],
+        &[Out::LinkClose(7, CloseReason::UnknownPeer)],
+    ),
+    // Who connects before the link is up is told in the burst; who comes afterwards by a line.
+    (
+        &[
+            Step::IsCalled(7),
+            Step::Connects(1),
+            Step::Says(1, b"NICK al"),
+            Step::Hears(7, b"PASS pw 0210010000 TREE|"),
+            Step::Hears(7, b"SERVER b.net 1 1 :B"),
+        ],
+        &[
+            Out::LinkLine(7, b"PASS pw 0210010000 TREE|"),
+            Out::LinkLine(7, b"SERVER a.net 1 1 :A"),
+        ],
+    ),
+    // The name that was called and the name that comes are not compared.
+    (
+        &[
+            Step::Calls(7, b"b.net"),
+            Step::Hears(7, b"PASS pq 0210010000 TREE|"),
+            Step::Hears(7, b"SERVER c.net 1 1 :C"),
+        ],
+        &[
+            Out::LinkLine(7, b"PASS pw 0210010000 TREE|"),
+            Out::LinkLine(7, b"SERVER a.net 1 1 :A"),
+        ],
+    ),
+    // A newcomer is told on each other link that is up, and on none that is not.
+    (
+        &[
+            Step::IsCalled(7),
+            Step::Hears(7, b"PASS pw 0210010000 TREE|"),
+            Step::Hears(7, b"SERVER b.net 1 1 :B"),
+            Step::IsCalled(9),
+            Step::IsCalled(8),
+            Step::Hears(8, b"PASS pq 0210010000 TREE|"),
+            Step::Hears(8, b"SERVER c.net 1 1 :C"),
+            Step::Hears(8, b":c.net SERVER far.net 2 4 :Far"),
+        ],
+        &[
+            Out::LinkLine(7, b"PASS pw 0210010000 TREE|"),
+            Out::LinkLine(7, b"SERVER a.net 1 1 :A"),
+            Out::LinkLine(8, b"PASS pq 0210010000 TREE|"),
+            Out::LinkLine(8, b"SERVER a.net 1 1 :A"),
+            Out::LinkLine(8, b":a.net SERVER b.net 2 2 :B"),
+            Out::LinkLine(7, b":a.net SERVER c.net 2 3 :C"),
+            Out::LinkLine(7, b":c.net SERVER far.net 3 4 :Far"),
+        ],
+    ),
+];
+
+static OF_ONE_CLIENT: [Row; 5] = [
+    (
+        &[
+            Step::IsCalled(7),
+            Step::Hears(7, b"PASS pw 0210010000 TREE|"),
+            Step::Hears(7, b"SERVER b.net 1 1 :B"),
+        ],
+        &[
+            Out::LinkLine(7, b"PASS pw 0210010000 TREE|"),
+            Out::LinkLine(7, b"SERVER a.net 1 1 :A"),
+            Out::LinkLine(7, b"NICK al 1 u h 1 + :Al"),
+            Out::LinkLine(7, b":a.net NJOIN #c :@al"),
+            Out::LinkLine(7, b":a.net MODE #c +nt"),
+            Out::LinkLine(7, b":a.net TOPIC #c :hello"),
+        ],
+    ),
+    // The end that calls tells its side upon SERVER, and waits for nothing more.
+    (
+        &[
+            Step::Calls(7, b"b.net"),
+            Step::Hears(7, b"PASS pw 0210010000 TREE|"),
+            Step::Hears(7, b"SERVER b.net 1 1 :B"),
+        ],
+        &[
+            Out::LinkLine(7, b"PASS pw 0210010000 TREE|"),
+            Out::LinkLine(7, b"SERVER a.net 1 1 :A"),
+            Out::LinkLine(7, b"NICK al 1 u h 1 + :Al"),
+            Out::LinkLine(7, b":a.net NJOIN #c :@al"),
+            Out::LinkLine(7, b":a.net MODE #c +nt"),
+            Out::LinkLine(7, b":a.net TOPIC #c :hello"),
+        ],
+    ),
+    // A link counts from SERVER on.
+    (
+        &[
+            Step::IsCalled(7),
+            Step::Says(1, b"MODE al +i"),
+            Step::Says(1, b"LUSERS"),
+            Step::Hears(7, b"PASS pw 0210010000 TREE|"),
+            Step::Hears(7, b"SERVER b.net 1 1 :B"),
+            Step::Says(1, b"LUSERS"),
+        ],
+        &[
+            Out::Line(1, b":al!u@h MODE al +i"),
+            Out::Line(
+                1,
+                b":a.net 251 al :There are 1 users and 0 services on 1 servers",
+            ),
+            Out::Line(1, b":a.net 254 al 1 :channels formed"),
+            Out::Line(1, b":a.net 255 al :I have 1 clients and 0 servers"),
+            Out::LinkLine(7, b"PASS pw 0210010000 TREE|"),
+            Out::LinkLine(7, b"SERVER a.net 1 1 :A"),
+            Out::LinkLine(7, b"NICK al 1 u h 1 +i :Al"),
+            Out::LinkLine(7, b":a.net NJOIN #c :@al"),
+            Out::LinkLine(7, b":a.net MODE #c +nt"),
+            Out::LinkLine(7, b":a.net TOPIC #c :hello"),
+            Out::Line(
+                1,
+                b":a.net 251 al :There are 1 users and 0 services on 2 servers",
+            ),
+            Out::Line(1, b":a.net 254 al 1 :channels formed"),
+            Out::Line(1, b":a.net 255 al :I have 1 clients and 1 servers"),
+        ],
+    ),
+    // What a burst brings is shown, member by member; modes and a topic of the other side do not count where al is a member.
+    (
+        &[
+            Step::Calls(7, b"b.net"),
+            Step::Hears(7, b"PASS pw 0210010000 TREE|"),
+            Step::Hears(7, b"SERVER b.net 1 1 :B"),
+            Step::Hears(7, b"NICK bo 1 u h 1 + :Bo"),
+            Step::Hears(7, b"NICK cy 1 u h 1 + :Cy"),
+            Step::Hears(7, b":b.net NJOIN #c :@+bo,cy"),
+            Step::Hears(7, b":b.net MODE #c +s"),
+            Step::Hears(7, b":b.net TOPIC #c :other"),
+        ],
+        &[
+            Out::LinkLine(7, b"PASS pw 0210010000 TREE|"),
+            Out::LinkLine(7, b"SERVER a.net 1 1 :A"),
+            Out::LinkLine(7, b"NICK al 1 u h 1 + :Al"),
+            Out::LinkLine(7, b":a.net NJOIN #c :@al"),
+            Out::LinkLine(7, b":a.net MODE #c +nt"),
+            Out::LinkLine(7, b":a.net TOPIC #c :hello"),
+            Out::Line(1, b":bo!u@h JOIN #c"),
+            Out::Line(1, b":a.net MODE #c +o bo"),
+            Out::Line(1, b":a.net MODE #c +v bo"),
+            Out::Line(1, b":cy!u@h JOIN #c"),
+        ],
+    ),
+    // A closed link is no link: nobody is told.
+    (
+        &[
+            Step::IsCalled(7),
+            Step::Hears(7, b"PASS xx 0210010000 TREE|"),
+            Step::Hears(7, b"SERVER b.net 1 1 :B"),
+            Step::Says(1, b"TOPIC #c :bye"),
+        ],
+        &[
+            Out::LinkClose(7, CloseReason::Password),
+            Out::Line(1, b":al!u@h TOPIC #c :bye"),
+        ],
+    ),
+];
+
+static OF_TWO_SERVERS: [Row; 4] = [
+    // By distance first, and then by name; each with the number and the distance that the newcomer has to know it by.
+    (
+        &[
+            Step::IsCalled(9),
+            Step::Hears(9, b"PASS pd 0210010000 TREE|"),
+            Step::Hears(9, b"SERVER d.net 1 1 :D"),
+        ],
+        &[
+            Out::LinkLine(9, b"PASS pd 0210010000 TREE|"),
+            Out::LinkLine(9, b"SERVER a.net 1 1 :A"),
+            Out::LinkLine(9, b":a.net SERVER b.net 2 2 :B"),
+            Out::LinkLine(9, b":b.net SERVER aa.net 3 3 :Far"),
+            Out::LinkLine(9, b"NICK bo 2 u h 2 + :Bo"),
+            Out::LinkLine(9, b"NICK cy 3 u h 3 +i :Cy"),
+            Out::LinkLine(9, b":a.net NJOIN #c :@bo,+cy"),
+            Out::LinkLine(7, b":a.net SERVER d.net 2 4 :D"),
+        ],
+    ),
+    // What comes by one link goes on by the others, with the numbers and distances of the next.
+    (
+        &[
+            Step::Calls(9, b"d.net"),
+            Step::Hears(9, b"PASS pd 0210010000 TREE|"),
+            Step::Hears(9, b"SERVER d.net 1 1 :D"),
+            Step::Hears(9, b":d.net SERVER e.net 2 9 :E"),
+            Step::Hears(9, b"NICK dee 2 u h 9 +i :Dee"),
+            Step::Hears(9, b":d.net NJOIN #C :@dee,bo"),
+            Step::Hears(9, b":d.net NJOIN #d :@dee"),
+            Step::Hears(9, b":d.net MODE #d +ntk pw"),
+            Step::Hears(9, b":d.net TOPIC #d :hello"),
+            Step::Hears(9, b":d.net MODE #c +s"),
+            Step::Hears(9, b":d.net TOPIC #c :hello"),
+        ],
+        &[
+            Out::LinkLine(9, b"PASS pd 0210010000 TREE|"),
+            Out::LinkLine(9, b"SERVER a.net 1 1 :A"),
+            Out::LinkLine(9, b":a.net SERVER b.net 2 2 :B"),
+            Out::LinkLine(9, b":b.net SERVER aa.net 3 3 :Far"),
+            Out::LinkLine(9, b"NICK bo 2 u h 2 + :Bo"),
+            Out::LinkLine(9, b"NICK cy 3 u h 3 +i :Cy"),
+            Out::LinkLine(9, b":a.net NJOIN #c :@bo,+cy"),
+            Out::LinkLine(7, b":a.net SERVER d.net 2 4 :D"),
+            Out::LinkLine(7, b":d.net SERVER e.net 3 5 :E"),
+            Out::LinkLine(7, b"NICK dee 3 u h 5 +i :Dee"),
+            Out::LinkLine(7, b":d.net NJOIN #C :@dee"),
+            Out::LinkLine(7, b":d.net NJOIN #d :@dee"),
+            Out::LinkLine(7, b":d.net MODE #d +ntk pw"),
+            Out::LinkLine(7, b":d.net TOPIC #d :hello"),
+        ],
+    ),
+    // An NJOIN of which nobody is left is not passed on.
+    (
+        &[
+            Step::Calls(9, b"d.net"),
+            Step::Hears(9, b"PASS pd 0210010000 TREE|"),
+            Step::Hears(9, b"SERVER d.net 1 1 :D"),
+            Step::Hears(9, b":d.net NJOIN #c :@bo,zz"),
+        ],
+        &[
+            Out::LinkLine(9, b"PASS pd 0210010000 TREE|"),
+            Out::LinkLine(9, b"SERVER a.net 1 1 :A"),
+            Out::LinkLine(9, b":a.net SERVER b.net 2 2 :B"),
+            Out::LinkLine(9, b":b.net SERVER aa.net 3 3 :Far"),
+            Out::LinkLine(9, b"NICK bo 2 u h 2 + :Bo"),
+            Out::LinkLine(9, b"NICK cy 3 u h 3 +i :Cy"),
+            Out::LinkLine(9, b":a.net NJOIN #c :@bo,+cy"),
+            Out::LinkLine(7, b":a.net SERVER d.net 2 4 :D"),
+        ],
+    ),
+    // The numbers of lost servers are given anew, the smallest first.
+    (
+        &[
+            Step::Loses(7),
+            Step::IsCalled(8),
+            Step::Hears(8, b"PASS pq 0210010000 TREE|"),
+            Step::Hears(8, b"SERVER c.net 1 1 :C"),
+            Step::IsCalled(9),
+            Step::Hears(9, b"PASS pd 0210010000 TREE|"),
+            Step::Hears(9, b"SERVER d.net 1 1 :D"),
+        ],
+        &[
+            Out::LinkLine(8, b"PASS pq 0210010000 TREE|"),
+            Out::LinkLine(8, b"SERVER a.net 1 1 :A"),
+            Out::LinkLine(9, b"PASS pd 0210010000 TREE|"),
+            Out::LinkLine(9, b"SERVER a.net 1 1 :A"),
+            Out::LinkLine(9, b":a.net SERVER c.net 2 2 :C"),
+            Out::LinkLine(8, b":a.net SERVER d.net 2 3 :D"),
+        ],
+    ),
+];
+
+#[test]
+fn handshakes_of_an_empty_server(rt: HostRuntime) {
+    assert!(rt; rows_hold(rt.alloc(), &NOBODY, &OF_NOBODY));
+}
+
+#[test]
+fn a_client_is_told_in_a_burst(rt: HostRuntime) {
+    assert!(rt; rows_hold(rt.alloc(), &ONE_CLIENT, &OF_ONE_CLIENT));
+}
+
+#[test]
+fn servers_are_told_in_a_burst(rt: HostRuntime) {
+    assert!(rt; rows_hold(rt.alloc(), &TWO_SERVERS, &OF_TWO_SERVERS));
+}

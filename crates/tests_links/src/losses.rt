@@ -1,0 +1,171 @@
+//! Servers that are lost, by a SQUIT or with a link (RFC 2813 section 4.1.6).
+use crate::happening::{Row, Step, rows_hold};
+use irc_batch::Out;
+use irc_server::CloseReason;
+
+/// b.net is linked by 7, with aa.net behind it, and c.net by 8. zed (client 1), al (client 2), bo and ed of b.net, cy of aa.net and dee of c.net are in #c; fay
+/// of b.net is not.
+static SCENE: [Step; 22] = [
+    Step::Connects(1),
+    Step::Says(1, b"NICK zed"),
+    Step::Says(1, b"USER u 0 * :Zed"),
+    Step::Connects(2),
+    Step::Says(2, b"NICK al"),
+    Step::Says(2, b"USER u 0 * :Al"),
+    Step::Says(1, b"JOIN #c"),
+    Step::Says(2, b"JOIN #c"),
+    Step::IsCalled(7),
+    Step::Hears(7, b"PASS pw 0210010000 TREE|"),
+    Step::Hears(7, b"SERVER b.net 1 1 :B"),
+    Step::Hears(7, b":b.net SERVER aa.net 2 2 :Far"),
+    Step::Hears(7, b"NICK ed 1 u h 1 + :Ed"),
+    Step::Hears(7, b"NICK bo 1 u h 1 + :Bo"),
+    Step::Hears(7, b"NICK fay 1 u h 1 + :Fay"),
+    Step::Hears(7, b"NICK cy 2 u h 2 + :Cy"),
+    Step::Hears(7, b":b.net NJOIN #c :bo,cy,ed"),
+    Step::IsCalled(8),
+    Step::Hears(8, b"PASS pq 0210010000 TREE|"),
+    Step::Hears(8, b"SERVER c.net 1 1 :C"),
+    Step::Hears(8, b"NICK dee 1 u h 1 + :Dee"),
+    Step::Hears(8, b":c.net NJOIN #c :dee"),
+];
+
+static ROWS: [Row; 9] = [
+    // All behind a link are lost with it, in order of name; the users of each quit in order of nickname, with the two ends of the link as text.
+    (
+        &[Step::Loses(7)],
+        &[
+            Out::Line(2, b":cy!u@h QUIT :a.net b.net"),
+            Out::Line(1, b":cy!u@h QUIT :a.net b.net"),
+            Out::LinkLine(8, b":a.net SQUIT aa.net :a.net b.net"),
+            Out::Line(2, b":bo!u@h QUIT :a.net b.net"),
+            Out::Line(1, b":bo!u@h QUIT :a.net b.net"),
+            Out::Line(2, b":ed!u@h QUIT :a.net b.net"),
+            Out::Line(1, b":ed!u@h QUIT :a.net b.net"),
+            Out::LinkLine(8, b":a.net SQUIT b.net :a.net b.net"),
+        ],
+    ),
+    // A link that is closed is lost.
+    (
+        &[Step::Hears(8, b"FOO")],
+        &[
+            Out::LinkClose(8, CloseReason::UnknownCommand),
+            Out::Line(2, b":dee!u@h QUIT :a.net c.net"),
+            Out::Line(1, b":dee!u@h QUIT :a.net c.net"),
+            Out::LinkLine(7, b":a.net SQUIT c.net :a.net c.net"),
+        ],
+    ),
+    // A SQUIT is of one server, and keeps its prefix and its text.
+    (
+        &[Step::Hears(7, b":b.net SQUIT aa.net :b.net aa.net")],
+        &[
+            Out::Line(2, b":cy!u@h QUIT :b.net aa.net"),
+            Out::Line(1, b":cy!u@h QUIT :b.net aa.net"),
+            Out::LinkLine(8, b":b.net SQUIT aa.net :b.net aa.net"),
+        ],
+    ),
+    // What is lost is known no more: its users' lines say nothing, and its links tell of it again.
+    (
+        &[
+            Step::Loses(8),
+            Step::Says(1, b"PRIVMSG dee :x"),
+            Step::IsCalled(8),
+            Step::Hears(8, b"PASS pq 0210010000 TREE|"),
+            Step::Hears(8, b"SERVER c.net 1 1 :C"),
+            Step::Hears(8, b":dee QUIT :x"),
+        ],
+        &[
+            Out::Line(2, b":dee!u@h QUIT :a.net c.net"),
+            Out::Line(1, b":dee!u@h QUIT :a.net c.net"),
+            Out::LinkLine(7, b":a.net SQUIT c.net :a.net c.net"),
+            Out::Line(1, b":a.net 401 zed dee :No such nick/channel"),
+            Out::LinkLine(8, b"PASS pq 0210010000 TREE|"),
+            Out::LinkLine(8, b"SERVER a.net 1 1 :A"),
+            Out::LinkLine(8, b":a.net SERVER b.net 2 2 :B"),
+            Out::LinkLine(8, b":b.net SERVER aa.net 3 3 :Far"),
+            Out::LinkLine(8, b"NICK al 1 u h 1 + :Al"),
+            Out::LinkLine(8, b"NICK bo 2 u h 2 + :Bo"),
+            Out::LinkLine(8, b"NICK cy 3 u h 3 + :Cy"),
+            Out::LinkLine(8, b"NICK ed 2 u h 2 + :Ed"),
+            Out::LinkLine(8, b"NICK fay 2 u h 2 + :Fay"),
+            Out::LinkLine(8, b"NICK zed 1 u h 1 + :Zed"),
+            Out::LinkLine(8, b":a.net NJOIN #c :al,bo,cy,ed,@zed"),
+            Out::LinkLine(7, b":a.net SERVER c.net 2 4 :C"),
+        ],
+    ),
+    // A link on which nobody has named itself is lost without a word; so is each other link afterwards.
+    (
+        &[
+            Step::IsCalled(9),
+            Step::Loses(9),
+            Step::Calls(9, b"d.net"),
+            Step::Hears(9, b"PASS pd 0210010000 TREE|"),
+            Step::Loses(9),
+        ],
+        &[
+            Out::LinkLine(9, b"PASS pd 0210010000 TREE|"),
+            Out::LinkLine(9, b"SERVER a.net 1 1 :A"),
+        ],
+    ),
+    // The last link is lost: nobody is told on a link.
+    (
+        &[Step::Loses(7), Step::Loses(8)],
+        &[
+            Out::Line(2, b":cy!u@h QUIT :a.net b.net"),
+            Out::Line(1, b":cy!u@h QUIT :a.net b.net"),
+            Out::LinkLine(8, b":a.net SQUIT aa.net :a.net b.net"),
+            Out::Line(2, b":bo!u@h QUIT :a.net b.net"),
+            Out::Line(1, b":bo!u@h QUIT :a.net b.net"),
+            Out::Line(2, b":ed!u@h QUIT :a.net b.net"),
+            Out::Line(1, b":ed!u@h QUIT :a.net b.net"),
+            Out::LinkLine(8, b":a.net SQUIT b.net :a.net b.net"),
+            Out::Line(2, b":dee!u@h QUIT :a.net c.net"),
+            Out::Line(1, b":dee!u@h QUIT :a.net c.net"),
+        ],
+    ),
+    // The front of a line says nothing, when the link is lost behind it.
+    (
+        &[
+            Step::Reads(7, b":b.net TOPIC #none :x\r\n:b.net NJOIN #c :fa"),
+            Step::Loses(7),
+        ],
+        &[
+            Out::Line(2, b":cy!u@h QUIT :a.net b.net"),
+            Out::Line(1, b":cy!u@h QUIT :a.net b.net"),
+            Out::LinkLine(8, b":a.net SQUIT aa.net :a.net b.net"),
+            Out::Line(2, b":bo!u@h QUIT :a.net b.net"),
+            Out::Line(1, b":bo!u@h QUIT :a.net b.net"),
+            Out::Line(2, b":ed!u@h QUIT :a.net b.net"),
+            Out::Line(1, b":ed!u@h QUIT :a.net b.net"),
+            Out::LinkLine(8, b":a.net SQUIT b.net :a.net b.net"),
+        ],
+    ),
+    // A client of the server's own: the others are told by its QUIT alone.
+    (
+        &[Step::Leaves(1)],
+        &[
+            Out::Line(2, b":zed!u@h QUIT :Connection closed"),
+            Out::LinkLine(7, b":zed QUIT :Connection closed"),
+            Out::LinkLine(8, b":zed QUIT :Connection closed"),
+        ],
+    ),
+    // Its server lost by the neighbour's own word, the link stays; and the text of a loss is the neighbour's name as before.
+    (
+        &[
+            Step::Hears(8, b":c.net SQUIT c.net :x"),
+            Step::Says(2, b"PRIVMSG #c :yo"),
+        ],
+        &[
+            Out::Line(2, b":dee!u@h QUIT :x"),
+            Out::Line(1, b":dee!u@h QUIT :x"),
+            Out::LinkLine(7, b":c.net SQUIT c.net :x"),
+            Out::Line(1, b":al!u@h PRIVMSG #c :yo"),
+            Out::LinkLine(7, b":al PRIVMSG #c :yo"),
+        ],
+    ),
+];
+
+#[test]
+fn all_behind_a_link_are_lost_with_it(rt: HostRuntime) {
+    assert!(rt; rows_hold(rt.alloc(), &SCENE, &ROWS));
+}

@@ -1,0 +1,463 @@
+//! The links by which a line goes on: along the tree, toward those whom it is for, and never back (RFC 2813 section 5).
+use crate::happening::{Row, Step, happens, rows_hold, server};
+use irc_batch::{Batch, Out};
+use std::alloc::Global;
+
+/// b.net is linked by 7, with bo and ben, c.net by 8, with cy and cas, and d.net by 9, with dee. al, client 1, is the operator of #c; an, client 2, and all of
+/// b.net and c.net are in it. A link 6 is not up yet.
+static SCENE: [Step; 26] = [
+    Step::Connects(1),
+    Step::Says(1, b"NICK al"),
+    Step::Says(1, b"USER u 0 * :Al"),
+    Step::Connects(2),
+    Step::Says(2, b"NICK an"),
+    Step::Says(2, b"USER u 0 * :An"),
+    Step::Says(1, b"JOIN #c"),
+    Step::Says(2, b"JOIN #c"),
+    Step::IsCalled(7),
+    Step::Hears(7, b"PASS pw 0210010000 TREE|"),
+    Step::Hears(7, b"SERVER b.net 1 1 :B"),
+    Step::Hears(7, b"NICK bo 1 u h 1 + :Bo"),
+    Step::Hears(7, b"NICK ben 1 u h 1 + :Ben"),
+    Step::Hears(7, b":b.net NJOIN #c :bo,ben"),
+    Step::IsCalled(8),
+    Step::Hears(8, b"PASS pq 0210010000 TREE|"),
+    Step::Hears(8, b"SERVER c.net 1 1 :C"),
+    Step::Hears(8, b"NICK cy 1 u h 1 + :Cy"),
+    Step::Hears(8, b"NICK cas 1 u h 1 + :Cas"),
+    Step::Hears(8, b":c.net NJOIN #c :cas,cy"),
+    Step::IsCalled(9),
+    Step::Hears(9, b"PASS pd 0210010000 TREE|"),
+    Step::Hears(9, b"SERVER d.net 1 1 :D"),
+    Step::Hears(9, b"NICK dee 1 u h 1 + :Dee"),
+    Step::Connects(3),
+    Step::IsCalled(6),
+];
+
+const LONG: &[u8] =
+    b"PRIVMSG #c :xxxxxxxxxxxxxxxxxxxxxxxxxxxxxxxxxxxxxxxxxxxxxxxxxxxxxxxxxxxxxxxxxxxxxxxxxxxxxxxxxxxxxxxxxxxxxxxxxxxxxxxxxxxxxxxxxxxxxxxxxxxxxxxxxxxxxxxxxxxxxxxxxxxxxxxxxxxxxxxxxxxxxxxxxxxxxxxxxxxxxxxxxxxxxxxxxxxxxxxxxxxxxxxxxxxxxxxxxxxxxxxxxxxxxxxxxxxxxxxxxxxxxxxxxxxxxxxxxxxxxxxxxxxxxxxxxxxxxxxxxxxxxxxxxxxxxxxxxxxxxxxxxxxxxxxxxxxxxxxxxxxxxxxxxxxxxxxxxxxxxxxxxxxxxxxxxxxxxxxxxxxxxxxxxxxxxxxxxxxxxxxxxxxxxxxxxxxxxxxxxxxxxxxxxxxxxxxxxxxxxxxxxxxxxxxxxxxxxxxxxxxxxxxxxxxxxxxxxxxxxxxxxxxxxxxxxxxxxxxxxxxxxxxxxxxxxxxxxx";
+
+const LONG_SHOWN: &[u8] =
+    b":al!u@h PRIVMSG #c :xxxxxxxxxxxxxxxxxxxxxxxxxxxxxxxxxxxxxxxxxxxxxxxxxxxxxxxxxxxxxxxxxxxxxxxxxxxxxxxxxxxxxxxxxxxxxxxxxxxxxxxxxxxxxxxxxxxxxxxxxxxxxxxxxxxxxxxxxxxxxxxxxxxxxxxxxxxxxxxxxxxxxxxxxxxxxxxxxxxxxxxxxxxxxxxxxxxxxxxxxxxxxxxxxxxxxxxxxxxxxxxxxxxxxxxxxxxxxxxxxxxxxxxxxxxxxxxxxxxxxxxxxxxxxxxxxxxxxxxxxxxxxxxxxxxxxxxxxxxxxxxxxxxxxxxxxxxxxxxxxxxxxxxxxxxxxxxxxxxxxxxxxxxxxxxxxxxxxxxxxxxxxxxxxxxxxxxxxxxxxxxxxxxxxxxxxxxxxxxxxxxxxxxxxxxxxxxxxxxxxxxxxxxxxxxxxxxxxxxxxxxxxxxxxxxxxxxxxxxxxxxxxxxxxxxxxxxxxxxxxxxxxxxxxx";
+
+const LONG_TOLD: &[u8] =
+    b":al PRIVMSG #c :xxxxxxxxxxxxxxxxxxxxxxxxxxxxxxxxxxxxxxxxxxxxxxxxxxxxxxxxxxxxxxxxxxxxxxxxxxxxxxxxxxxxxxxxxxxxxxxxxxxxxxxxxxxxxxxxxxxxxxxxxxxxxxxxxxxxxxxxxxxxxxxxxxxxxxxxxxxxxxxxxxxxxxxxxxxxxxxxxxxxxxxxxxxxxxxxxxxxxxxxxxxxxxxxxxxxxxxxxxxxxxxxxxxxxxxxxxxxxxxxxxxxxxxxxxxxxxxxxxxxxxxxxxxxxxxxxxxxxxxxxxxxxxxxxxxxxxxxxxxxxxxxxxxxxxxxxxxxxxxxxxxxxxxxxxxxxxxxxxxxxxxxxxxxxxxxxxxxxxxxxxxxxxxxxxxxxxxxxxxxxxxxxxxxxxxxxxxxxxxxxxxxxxxxxxxxxxxxxxxxxxxxxxxxxxxxxxxxxxxxxxxxxxxxxxxxxxxxxxxxxxxxxxxxxxxxxxxxxxxxxxxxxxxxxx";
+
+/// What is said.
+static TEXTS: [Row; 14] = [
+    // On each link behind which a member is, once.
+    (
+        &[Step::Says(1, b"PRIVMSG #C :hi")],
+        &[
+            Out::Line(2, b":al!u@h PRIVMSG #c :hi"),
+            Out::LinkLine(7, b":al PRIVMSG #c :hi"),
+            Out::LinkLine(8, b":al PRIVMSG #c :hi"),
+        ],
+    ),
+    (
+        &[Step::Says(2, b"NOTICE #c :hi")],
+        &[
+            Out::Line(1, b":an!u@h NOTICE #c :hi"),
+            Out::LinkLine(7, b":an NOTICE #c :hi"),
+            Out::LinkLine(8, b":an NOTICE #c :hi"),
+        ],
+    ),
+    // Never back.
+    (
+        &[Step::Hears(7, b":bo PRIVMSG #c :hi")],
+        &[
+            Out::Line(1, b":bo!u@h PRIVMSG #c :hi"),
+            Out::Line(2, b":bo!u@h PRIVMSG #c :hi"),
+            Out::LinkLine(8, b":bo PRIVMSG #c :hi"),
+        ],
+    ),
+    // Also from one who is no member.
+    (
+        &[Step::Hears(9, b":dee NOTICE #c :hi")],
+        &[
+            Out::Line(1, b":dee!u@h NOTICE #c :hi"),
+            Out::Line(2, b":dee!u@h NOTICE #c :hi"),
+            Out::LinkLine(7, b":dee NOTICE #c :hi"),
+            Out::LinkLine(8, b":dee NOTICE #c :hi"),
+        ],
+    ),
+    // Once the last member behind a link has left, no more by that one; once one is there, by that one too.
+    (
+        &[
+            Step::Hears(8, b":cy PART #c :x"),
+            Step::Says(1, b"PRIVMSG #c :one"),
+            Step::Hears(8, b":cas QUIT :x"),
+            Step::Says(1, b"PRIVMSG #c :two"),
+            Step::Hears(9, b":dee JOIN #c"),
+            Step::Says(1, b"PRIVMSG #c :three"),
+        ],
+        &[
+            Out::Line(1, b":cy!u@h PART #c :x"),
+            Out::Line(2, b":cy!u@h PART #c :x"),
+            Out::LinkLine(7, b":cy PART #c :x"),
+            Out::LinkLine(9, b":cy PART #c :x"),
+            Out::Line(2, b":al!u@h PRIVMSG #c :one"),
+            Out::LinkLine(7, b":al PRIVMSG #c :one"),
+            Out::LinkLine(8, b":al PRIVMSG #c :one"),
+            Out::Line(1, b":cas!u@h QUIT :x"),
+            Out::Line(2, b":cas!u@h QUIT :x"),
+            Out::LinkLine(7, b":cas QUIT :x"),
+            Out::LinkLine(9, b":cas QUIT :x"),
+            Out::Line(2, b":al!u@h PRIVMSG #c :two"),
+            Out::LinkLine(7, b":al PRIVMSG #c :two"),
+            Out::Line(1, b":dee!u@h JOIN #c"),
+            Out::Line(2, b":dee!u@h JOIN #c"),
+            Out::LinkLine(7, b":dee JOIN #c"),
+            Out::LinkLine(8, b":dee JOIN #c"),
+            Out::Line(2, b":al!u@h PRIVMSG #c :three"),
+            Out::LinkLine(7, b":al PRIVMSG #c :three"),
+            Out::LinkLine(9, b":al PRIVMSG #c :three"),
+        ],
+    ),
+    // To one user: by the link toward its server alone, or not by a link.
+    (
+        &[Step::Says(1, b"PRIVMSG dee :hi")],
+        &[Out::LinkLine(9, b":al PRIVMSG dee :hi")],
+    ),
+    (
+        &[Step::Hears(7, b":bo PRIVMSG dee :hi")],
+        &[Out::LinkLine(9, b":bo PRIVMSG dee :hi")],
+    ),
+    (
+        &[Step::Hears(7, b":bo NOTICE al :hi")],
+        &[Out::Line(1, b":bo!u@h NOTICE al :hi")],
+    ),
+    // Names as they are stored, the command in any case.
+    (
+        &[Step::Hears(7, b":BO privmsg #C :Hi")],
+        &[
+            Out::Line(1, b":bo!u@h PRIVMSG #c :Hi"),
+            Out::Line(2, b":bo!u@h PRIVMSG #c :Hi"),
+            Out::LinkLine(8, b":bo PRIVMSG #c :Hi"),
+        ],
+    ),
+    // Whether somebody may speak in a channel is for its own server to say.
+    (
+        &[
+            Step::Says(1, b"MODE #c +nmb *!*@*"),
+            Step::Says(2, b"PRIVMSG #c :hi"),
+            Step::Hears(9, b":dee PRIVMSG #c :hi"),
+        ],
+        &[
+            Out::Line(1, b":al!u@h MODE #c +nmb *!*@*"),
+            Out::Line(2, b":al!u@h MODE #c +nmb *!*@*"),
+            Out::LinkLine(7, b":al MODE #c +nmb *!*@*"),
+            Out::LinkLine(8, b":al MODE #c +nmb *!*@*"),
+            Out::LinkLine(9, b":al MODE #c +nmb *!*@*"),
+            Out::Line(2, b":a.net 404 an #c :Cannot send to channel"),
+            Out::Line(1, b":dee!u@h PRIVMSG #c :hi"),
+            Out::Line(2, b":dee!u@h PRIVMSG #c :hi"),
+            Out::LinkLine(7, b":dee PRIVMSG #c :hi"),
+            Out::LinkLine(8, b":dee PRIVMSG #c :hi"),
+        ],
+    ),
+    // A text is cut by the server of its sender, so that all clients are shown the same: 498 bytes come, and 490 are left.
+    (
+        &[Step::Says(1, LONG)],
+        &[
+            Out::Line(2, LONG_SHOWN),
+            Out::LinkLine(7, LONG_TOLD),
+            Out::LinkLine(8, LONG_TOLD),
+        ],
+    ),
+    // In a channel whose members are all behind the link by which it comes.
+    (
+        &[
+            Step::Hears(7, b":bo JOIN #b\x07o"),
+            Step::Hears(7, b":bo PRIVMSG #b :hi"),
+        ],
+        &[
+            Out::LinkLine(8, b":bo JOIN #b\x07o"),
+            Out::LinkLine(9, b":bo JOIN #b\x07o"),
+        ],
+    ),
+    // To somebody of whom nobody knows: a user that has left in the meantime.
+    (&[Step::Hears(7, b":bo PRIVMSG zz :hi")], &[]),
+    // From somebody of whom nobody knows.
+    (&[Step::Hears(7, b":zz PRIVMSG al :hi")], &[]),
+];
+
+static INVITATIONS: [Row; 7] = [
+    (
+        &[Step::Says(1, b"INVITE dee #c")],
+        &[
+            Out::Line(1, b":a.net 341 al #c dee"),
+            Out::LinkLine(9, b":al INVITE dee #c"),
+        ],
+    ),
+    (
+        &[Step::Hears(7, b":bo INVITE dee #c")],
+        &[Out::LinkLine(9, b":bo INVITE dee #c")],
+    ),
+    // One of the server's own is told, and may come in.
+    (
+        &[
+            Step::Hears(9, b":dee JOIN #d\x07o"),
+            Step::Hears(9, b":dee MODE #d +i"),
+            Step::Says(2, b"JOIN #d"),
+            Step::Hears(9, b":dee INVITE an #d"),
+            Step::Says(2, b"JOIN #d"),
+        ],
+        &[
+            Out::LinkLine(7, b":dee JOIN #d\x07o"),
+            Out::LinkLine(8, b":dee JOIN #d\x07o"),
+            Out::LinkLine(7, b":dee MODE #d +i"),
+            Out::LinkLine(8, b":dee MODE #d +i"),
+            Out::Line(2, b":a.net 473 an #d :Cannot join channel (+i)"),
+            Out::Line(2, b":dee!u@h INVITE an #d"),
+            Out::Line(2, b":an!u@h JOIN #d"),
+            Out::LinkLine(7, b":an JOIN #d"),
+            Out::LinkLine(8, b":an JOIN #d"),
+            Out::LinkLine(9, b":an JOIN #d"),
+            Out::Line(2, b":a.net 353 an = #d :an @dee"),
+            Out::Line(2, b":a.net 366 an #d :End of NAMES list"),
+        ],
+    ),
+    // Within the server.
+    (
+        &[Step::Says(1, b"JOIN #e"), Step::Says(1, b"INVITE an #e")],
+        &[
+            Out::Line(1, b":al!u@h JOIN #e"),
+            Out::LinkLine(7, b":al JOIN #e\x07o"),
+            Out::LinkLine(8, b":al JOIN #e\x07o"),
+            Out::LinkLine(9, b":al JOIN #e\x07o"),
+            Out::Line(1, b":a.net 353 al = #e :@al"),
+            Out::Line(1, b":a.net 366 al #e :End of NAMES list"),
+            Out::Line(1, b":a.net 341 al #e an"),
+            Out::Line(2, b":al!u@h INVITE an #e"),
+        ],
+    ),
+    // To a channel that is not there.
+    (
+        &[Step::Says(1, b"INVITE dee #none")],
+        &[
+            Out::Line(1, b":a.net 341 al #none dee"),
+            Out::LinkLine(9, b":al INVITE dee #none"),
+        ],
+    ),
+    (
+        &[Step::Hears(7, b":bo INVITE al #none")],
+        &[Out::Line(1, b":bo!u@h INVITE al #none")],
+    ),
+    // To somebody of whom nobody knows.
+    (&[Step::Hears(7, b":bo INVITE zz #c")], &[]),
+];
+
+/// Everything else goes to all links but the one by which it came, and to none that is not up yet.
+static OTHERS: [Row; 14] = [
+    (
+        &[
+            Step::Says(3, b"NICK new"),
+            Step::Says(3, b"USER u 0 * :New"),
+        ],
+        &[
+            Out::LinkLine(7, b"NICK new 1 u h 1 + :New"),
+            Out::LinkLine(8, b"NICK new 1 u h 1 + :New"),
+            Out::LinkLine(9, b"NICK new 1 u h 1 + :New"),
+            Out::Line(
+                3,
+                b":a.net 001 new :Welcome to the Internet Relay Network new!u@h",
+            ),
+            Out::Line(
+                3,
+                b":a.net 002 new :Your host is a.net, running version treeircd-1",
+            ),
+            Out::Line(3, b":a.net 003 new :This server was created 2024-01-01"),
+            Out::Line(3, b":a.net 004 new a.net treeircd-1 i biklmnopstv"),
+            Out::Line(3, b":a.net 422 new :MOTD File is missing"),
+        ],
+    ),
+    (
+        &[Step::Hears(9, b"NICK new 1 u h 1 +i :New")],
+        &[
+            Out::LinkLine(7, b"NICK new 2 u h 4 +i :New"),
+            Out::LinkLine(8, b"NICK new 2 u h 4 +i :New"),
+        ],
+    ),
+    (
+        &[Step::Says(1, b"NICK alf")],
+        &[
+            Out::Line(1, b":al!u@h NICK alf"),
+            Out::Line(2, b":al!u@h NICK alf"),
+            Out::LinkLine(7, b":al NICK alf"),
+            Out::LinkLine(8, b":al NICK alf"),
+            Out::LinkLine(9, b":al NICK alf"),
+        ],
+    ),
+    (
+        &[Step::Says(2, b"PART #c :bye")],
+        &[
+            Out::Line(1, b":an!u@h PART #c :bye"),
+            Out::Line(2, b":an!u@h PART #c :bye"),
+            Out::LinkLine(7, b":an PART #c :bye"),
+            Out::LinkLine(8, b":an PART #c :bye"),
+            Out::LinkLine(9, b":an PART #c :bye"),
+        ],
+    ),
+    (
+        &[Step::Says(1, b"KICK #c bo :out")],
+        &[
+            Out::Line(1, b":al!u@h KICK #c bo :out"),
+            Out::Line(2, b":al!u@h KICK #c bo :out"),
+            Out::LinkLine(7, b":al KICK #c bo :out"),
+            Out::LinkLine(8, b":al KICK #c bo :out"),
+            Out::LinkLine(9, b":al KICK #c bo :out"),
+        ],
+    ),
+    (
+        &[Step::Says(1, b"MODE #c +ov-s+l bo cy 5")],
+        &[
+            Out::Line(1, b":al!u@h MODE #c +ovl bo cy 5"),
+            Out::Line(2, b":al!u@h MODE #c +ovl bo cy 5"),
+            Out::LinkLine(7, b":al MODE #c +ovl bo cy 5"),
+            Out::LinkLine(8, b":al MODE #c +ovl bo cy 5"),
+            Out::LinkLine(9, b":al MODE #c +ovl bo cy 5"),
+        ],
+    ),
+    (
+        &[Step::Hears(7, b":bo TOPIC #c :hello")],
+        &[
+            Out::Line(1, b":bo!u@h TOPIC #c :hello"),
+            Out::Line(2, b":bo!u@h TOPIC #c :hello"),
+            Out::LinkLine(8, b":bo TOPIC #c :hello"),
+            Out::LinkLine(9, b":bo TOPIC #c :hello"),
+        ],
+    ),
+    (
+        &[Step::Hears(7, b":bo MODE bo +i")],
+        &[
+            Out::LinkLine(8, b":bo MODE bo +i"),
+            Out::LinkLine(9, b":bo MODE bo +i"),
+        ],
+    ),
+    (
+        &[Step::Hears(7, b":bo KICK #c cy :out")],
+        &[
+            Out::Line(1, b":bo!u@h KICK #c cy :out"),
+            Out::Line(2, b":bo!u@h KICK #c cy :out"),
+            Out::LinkLine(8, b":bo KICK #c cy :out"),
+            Out::LinkLine(9, b":bo KICK #c cy :out"),
+        ],
+    ),
+    // So may somebody do anything who is no operator here.
+    (
+        &[
+            Step::Says(1, b"MODE #c +t"),
+            Step::Hears(7, b":ben KICK #c al :out"),
+            Step::Hears(7, b":ben TOPIC #c :"),
+            Step::Says(1, b"NAMES #c"),
+        ],
+        &[
+            Out::Line(1, b":al!u@h MODE #c +t"),
+            Out::Line(2, b":al!u@h MODE #c +t"),
+            Out::LinkLine(7, b":al MODE #c +t"),
+            Out::LinkLine(8, b":al MODE #c +t"),
+            Out::LinkLine(9, b":al MODE #c +t"),
+            Out::Line(1, b":ben!u@h KICK #c al :out"),
+            Out::Line(2, b":ben!u@h KICK #c al :out"),
+            Out::LinkLine(8, b":ben KICK #c al :out"),
+            Out::LinkLine(9, b":ben KICK #c al :out"),
+            Out::Line(2, b":ben!u@h TOPIC #c :"),
+            Out::LinkLine(8, b":ben TOPIC #c :"),
+            Out::LinkLine(9, b":ben TOPIC #c :"),
+            Out::Line(1, b":a.net 353 al = #c :an ben bo cas cy"),
+            Out::Line(1, b":a.net 366 al #c :End of NAMES list"),
+        ],
+    ),
+    // Members of a burst, each with its flags, to each viewer in turn.
+    (
+        &[Step::Hears(9, b":d.net NJOIN #c :@+dee")],
+        &[
+            Out::Line(1, b":dee!u@h JOIN #c"),
+            Out::Line(2, b":dee!u@h JOIN #c"),
+            Out::Line(1, b":a.net MODE #c +o dee"),
+            Out::Line(2, b":a.net MODE #c +o dee"),
+            Out::Line(1, b":a.net MODE #c +v dee"),
+            Out::Line(2, b":a.net MODE #c +v dee"),
+            Out::LinkLine(7, b":d.net NJOIN #c :@+dee"),
+            Out::LinkLine(8, b":d.net NJOIN #c :@+dee"),
+        ],
+    ),
+    // The others are shown a QUIT before the one that quits is closed.
+    (
+        &[Step::Says(1, b"QUIT :bye")],
+        &[
+            Out::Line(2, b":al!u@h QUIT :bye"),
+            Out::LinkLine(7, b":al QUIT :bye"),
+            Out::LinkLine(8, b":al QUIT :bye"),
+            Out::LinkLine(9, b":al QUIT :bye"),
+            Out::Line(1, b"ERROR :Closing link (bye)"),
+            Out::Close(1),
+        ],
+    ),
+    // What does nothing is left out: who is there already, or is not there, or is a user of the server itself.
+    (
+        &[
+            Step::Hears(7, b":bo JOIN #c"),
+            Step::Hears(7, b":bo PART #none :x"),
+            Step::Hears(9, b":dee PART #c :x"),
+            Step::Hears(9, b":dee KICK #c zz :x"),
+            Step::Hears(9, b":dee TOPIC #none :x"),
+        ],
+        &[],
+    ),
+    // Names are passed on as they are stored.
+    (
+        &[
+            Step::Hears(7, b":BO PART #C :x"),
+            Step::Hears(7, b":bo JOIN #C"),
+        ],
+        &[
+            Out::Line(1, b":bo!u@h PART #c :x"),
+            Out::Line(2, b":bo!u@h PART #c :x"),
+            Out::LinkLine(8, b":bo PART #c :x"),
+            Out::LinkLine(9, b":bo PART #c :x"),
+            Out::Line(1, b":bo!u@h JOIN #c"),
+            Out::Line(2, b":bo!u@h JOIN #c"),
+            Out::LinkLine(8, b":bo JOIN #c"),
+            Out::LinkLine(9, b":bo JOIN #c"),
+        ],
+    ),
+];
+
+/// dee of d.net and an of a.net are invited.
+static INVITED: [Step; 3] = [
+    Step::Says(1, b"INVITE dee #c"),
+    Step::Says(1, b"JOIN #e"),
+    Step::Says(1, b"INVITE an #e"),
+];
+
+/// Whether the invitation of the server's own user is kept, and that of another server's is not.
+fn are_kept(alloc: Global) -> bool {
+    let Some(mut server) = server(alloc) else {
+        return false;
+    };
+    let mut out = Batch::new(alloc);
+    let stands = happens(alloc, &mut server, &SCENE, &mut out)
+        && happens(alloc, &mut server, &INVITED, &mut out);
+    match server.room() {
+        Some(room) => stands && room.invited(b"an", b"#e") && !room.invited(b"dee", b"#c"),
+        None => false,
+    }
+}
+
+#[test]
+fn texts_go_where_somebody_hears_them(rt: HostRuntime) {
+    assert!(rt; rows_hold(rt.alloc(), &SCENE, &TEXTS));
+}
+
+#[test]
+fn invitations_go_to_one_server(rt: HostRuntime) {
+    assert!(rt; rows_hold(rt.alloc(), &SCENE, &INVITATIONS));
+    assert!(rt; are_kept(rt.alloc()));
+}
+
+#[test]
+fn the_rest_goes_to_all_but_where_it_came_from(rt: HostRuntime) {
+    assert!(rt; rows_hold(rt.alloc(), &SCENE, &OTHERS));
+}
