@@ -55,13 +55,24 @@ static ROWS: [Row; 9] = [
             Out::LinkLine(7, b":a.net SQUIT c.net :a.net c.net"),
         ],
     ),
-    // A SQUIT is of one server, and keeps its prefix and its text.
+    // A SQUIT is of one server, and keeps its prefix and its text; the numbers of that server are free then.
     (
-        &[Step::Hears(7, b":b.net SQUIT aa.net :b.net aa.net")],
+        &[
+            Step::Hears(7, b":b.net SQUIT aa.net :b.net aa.net"),
+            Step::Hears(7, b":b.net SERVER g.net 2 2 :G"),
+            Step::Says(1, b"LUSERS"),
+        ],
         &[
             Out::Line(2, b":cy!u@h QUIT :b.net aa.net"),
             Out::Line(1, b":cy!u@h QUIT :b.net aa.net"),
             Out::LinkLine(8, b":b.net SQUIT aa.net :b.net aa.net"),
+            Out::LinkLine(8, b":b.net SERVER g.net 3 3 :G"),
+            Out::Line(
+                1,
+                b":a.net 251 zed :There are 6 users and 0 services on 4 servers",
+            ),
+            Out::Line(1, b":a.net 254 zed 1 :channels formed"),
+            Out::Line(1, b":a.net 255 zed :I have 2 clients and 2 servers"),
         ],
     ),
     // What is lost is known no more: its users' lines say nothing, and its links tell of it again.
