@@ -1,7 +1,7 @@
 -- What deeds and effects do to a server with links: it has no client and no link more, each known server stays behind a link that counts, and what is put out
 -- goes to clients and on links that it had.
-use Rattle.std.proofs.Common.{◌≡◌, ℕ, Bool, true, false, cond, not, is_some, Option, Some, None, List, [], ◌∷◌, ◌++◌, refl, sym, ◌∙◌, ap, map, filter_map, option_map, if◌then◌else◌}
-use Rattle.std.specs.FinMap.{entries, find, from_entries, get, get-from_entries}
+use Rattle.std.proofs.Common.{◌≡◌, ℕ, Bool, true, false, cond, not, is_some, Option, Some, None, List, [], ◌∷◌, ◌++◌, refl, sym, ◌∙◌, ap, map, filter_map, if◌then◌else◌}
+use Rattle.std.specs.FinMap.{entries, from_entries, get, get-from_entries}
 use Rattle.std.specs.Cmp.{nat_cmp_total}
 use Rattle.std.specs.List.{flat_map, list_all}
 use Rattle.std.specs.Ordering.{nat_cmp}
@@ -18,7 +18,7 @@ use Rattle.irc_merge.specs.Quits.{collision_text}
 use Rattle.irc_burst_lines.specs.DeedLines.{deed_parts}
 use Rattle.irc_link_writer.specs.Written.{wire}
 use Rattle.irc_links.specs.Ends.{End, Ends, is_met}
-use Rattle.irc_links.specs.Ways.{AreEnds, IsMetEnd, but, links_toward, met_links, told_homes, ways_toward}
+use Rattle.irc_links.specs.Ways.{AreEnds, but, links_toward, met_links, told_homes, ways_toward}
 use Rattle.irc_routes.specs.Known.{Known, link_key, next_hop}
 use Rattle.irc_stage.specs.declared.clients.Client.{Client}
 use Rattle.irc_stage.specs.RoomMachine.{Clients}
@@ -88,8 +88,8 @@ module _ (start : View) where
   toward_own ends known had met homes =
       all_keys (from_entries {R = nat_cmp} (map link_key hops)) (had_link start)
       (λ q is. all_found (had_link start) q hops
-        (all-gained (had_link start) (next_hop known) (λ name link is. had link (there (get ends link) (met name link is))) homes)
-        (sym (ap is_some (get-from_entries nat_cmp_total (map link_key hops) q)) ∙ is))
+      (all-gained (had_link start) (next_hop known) (λ name link is. had link (there (get ends link) (met name link is))) homes)
+      (sym (ap is_some (get-from_entries nat_cmp_total (map link_key hops) q)) ∙ is))
     where
       hops : List ℕ
       hops = filter_map (next_hop known) homes
@@ -177,9 +177,9 @@ module _ (start : View) where
     ends = own.ends;
     met = own.met;
     out = all-append (is_its_own start) s.out (told ++ ends_of nick s.view.clients) own.out
-      (all-append (is_its_own start) told (ends_of nick s.view.clients)
-      (viewers_own s.view.clients own.clients (record { viewer = nick; line = error_line words }))
-      (ended_own s.view.clients own.clients nick));
+        (all-append (is_its_own start) told (ends_of nick s.view.clients)
+        (viewers_own s.view.clients own.clients (record { viewer = nick; line = error_line words }))
+        (ended_own s.view.clients own.clients nick));
   }
     where
       told : List Sent

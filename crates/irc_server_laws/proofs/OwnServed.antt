@@ -1,5 +1,5 @@
 -- Whatever is served, each known server stays behind a link that counts, and what is put out goes to a server's own clients and on its open links.
-use Rattle.std.proofs.Common.{◌≡◌, ℕ, Bool, true, false, cond, ◌||◌, nat_eq, is_none, is_some, unwrap_or, Option, Some, None, Result, Ok, Err, List, [], ◌∷◌, ◌++◌, refl, sym, ◌∙◌, ap, subst, if◌then◌else◌}
+use Rattle.std.proofs.Common.{◌≡◌, ℕ, Bool, true, false, cond, ◌||◌, nat_eq, is_none, is_some, unwrap_or, Option, Some, None, Result, Ok, Err, List, [], ◌∷◌, refl, sym, ◌∙◌, ap, subst, if◌then◌else◌}
 use Rattle.std.proofs.lemmas.Bool.{eq-eqb}
 use Rattle.std.specs.FinMap.{get, insert}
 use Rattle.std.specs.List.{list_all}
@@ -39,7 +39,7 @@ use Rattle.irc_stage.specs.Linked.{is_taken, unlinked, with_far, with_password, 
 use Rattle.irc_stage.specs.ClientTold.{client_told, closed_told, message_told, quit_told, seated, step_told, steps_told, unseated, user_told}
 use Rattle.irc_stage.specs.Lemmas.Numbers.{get-with, get-without, one_number, same_number}
 use Rattle.irc_deeds.specs.DeedTold.{all_told, arrival_of, deeds_told, gain_told, link_lost, lost_behind, told_by}
-use Rattle.irc_deeds.specs.Heard.{Heard, ignored, closes, password, meets, tells, heard, met_unless, of_met, opened}
+use Rattle.irc_deeds.specs.Heard.{closes, heard, met_unless, of_met, opened}
 use Rattle.irc_deeds.specs.LinkServed.{after_heard, line_served, link_opened, met_by, on_link, opening_parts, owes}
 use Rattle.irc_deeds.specs.Lemmas.StayingEnds.{told_by_keeps_ends}
 use Rattle.irc_server.specs.Served.{Occurrence, of_client, link_up, link_says, link_down, served}
@@ -220,7 +220,7 @@ module _ (view : View) (met : AreEnds view.ends view.routes) where
       where
         by : (b : Bool) → is_met end ≡ b
             → IsOwn view (after_heard view link (if b then of_met (deeds_meant view.room view.routes link message)
-              else opened view end (handshake_meant (is_some end.password) view.room view.routes link message)))
+            else opened view end (handshake_meant (is_some end.password) view.room view.routes link message)))
         by true counts = of_deeds counts (deeds_meant view.room view.routes link message)
         by false counts = of_opening (handshake_meant (is_some end.password) view.room view.routes link message)
     heard_own (Err fault.Empty) = itself view met
@@ -242,7 +242,7 @@ left : (view : View) (occurrence : Occurrence) (s : Served) → IsOwn view s →
 left view occurrence s own = record {
   met = own.met;
   out = all-weaker (is_its_own view) (λ sent. is_its_own view sent || is_on_new occurrence sent)
-    (λ sent is. either_first (is_its_own view sent) (is_on_new occurrence sent) is) s.out own.out;
+      (λ sent is. either_first (is_its_own view sent) (is_on_new occurrence sent) is) s.out own.out;
 }
 
 client_left : (view : View) (happening : Happening) → AreEnds view.ends view.routes → IsLeft view (of_client happening) (client_told view happening)
@@ -255,7 +255,7 @@ client_left view (goes conn) met =
     left view (of_client (goes conn)) _ (quit_told_own view met (user_of view.room (client_of (machine_of view) conn)) (in_silence (unseated conn view))
     (unseated_own view conn (in_silence view) (itself view met)))
 
--- a link is opened: the end there, if there is one already, is replaced
+-- all that is put out for a link that is opened goes on it
 opened_out : (view : View) (link : ℕ) (starts : Option (List ℕ))
     → list_all (λ sent. is_its_own view sent || is_on_new (link_up link starts) sent) (link_opened view link starts).out ≡ true
 opened_out view link None = refl
