@@ -1,0 +1,4 @@
+pub mod AllOf
+pub mod MetEnds
+pub mod OwnKept
+pub mod OwnServed
