@@ -1,5 +1,5 @@
 -- What the code does, step by step, is the deed.
-use Rattle.std.proofs.Common.{◌≡◌, ℕ, Bool, true, false, Option, Some, None, List, [], ◌∷◌, ◌++◌, refl, sym, ◌∙◌, ap, map, if◌then◌else◌}
+use Rattle.std.proofs.Common.{◌≡◌, ℕ, Bool, true, false, Option, Some, None, List, refl, sym, ◌∙◌, ap, if◌then◌else◌}
 use Rattle.irc_line.specs.Messages.{Written, text}
 use Rattle.irc_names.specs.Spellings.{exactly_same}
 use Rattle.irc_channels.specs.Texts.{cut_words}
@@ -7,13 +7,13 @@ use Rattle.irc_channels.specs.declared.flags.Flags.{Flags}
 use Rattle.irc_modes.specs.declared.modes.ModeChange.{ModeChange}
 use Rattle.irc_room.specs.declared.effect.By.TheVariants as by
 use Rattle.irc_room.specs.declared.effect.Effect.{Effect}
-use Rattle.irc_room.specs.declared.effect.Effect.TheVariants.{ChangeModes, Quit, SetTopic}
+use Rattle.irc_room.specs.declared.effect.Effect.TheVariants.{ChangeModes, SetTopic}
 use Rattle.std.specs.List.{flat_map}
-use Rattle.irc_merge.specs.Deeds.{Deed, does, loses, kills, brings, sets, tops, effects_of, member_comes}
+use Rattle.irc_merge.specs.Deeds.{does, loses, kills, brings, sets, tops, member_comes}
 use Rattle.irc_merge.specs.Quits.{collision_text, quits_of, users_at}
 use Rattle.irc_links.specs.Ways.{but, met_links}
 use Rattle.irc_burst.specs.DeedsMeant.{a_deed, a_server}
-use Rattle.irc_burst_lines.specs.DeedLines.{deed_parts, kill_parts, mode_parts, njoin_parts, server_parts, squit_parts, topic_parts}
+use Rattle.irc_burst_lines.specs.DeedLines.{kill_parts, mode_parts, njoin_parts, server_parts, squit_parts, topic_parts}
 use Rattle.irc_stage.specs.EffectTold.{Served, all_changed, changed_if, effect_came, taken_out, with_sent}
 use Rattle.irc_stage.specs.Linked.{is_taken, told_on_all, with_row, without_row}
 use Rattle.irc_stage.specs.Loops.Stage.{lines_on}

@@ -1,5 +1,5 @@
 -- Effects that are taken one after another.
-use Rattle.std.proofs.Common.{◌≡◌, ℕ, false, List, [], ◌∷◌, ◌++◌, refl, sym, ◌∙◌, ap}
+use Rattle.std.proofs.Common.{◌≡◌, ℕ, false, List, [], ◌∷◌, ◌++◌, refl, ◌∙◌, ap}
 use Rattle.irc_channels.specs.declared.flags.Flags.{Flags}
 use Rattle.irc_merge.specs.Deeds.{flag_given, member_comes}
 use Rattle.irc_modes.specs.declared.modes.ModeLetter.TheVariants as letter

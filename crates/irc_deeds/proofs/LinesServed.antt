@@ -1,5 +1,5 @@
 -- What the code does of what happens by a link is what it does to the server.
-use Rattle.std.proofs.Common.{◌≡◌, ℕ, Bool, true, false, cond, is_none, is_some, Option, Some, None, Result, Ok, Err, List, [], ◌∷◌, ◌++◌, refl, sym, ◌∙◌, ap, subst, append-nil, append_assoc, map, if◌then◌else◌}
+use Rattle.std.proofs.Common.{◌≡◌, ℕ, Bool, true, false, cond, is_some, Option, Some, None, Result, Ok, Err, List, [], ◌∷◌, ◌++◌, refl, sym, ◌∙◌, ap, subst, append_assoc, map, if◌then◌else◌}
 use Rattle.std.proofs.lemmas.List.{map-append}
 use Rattle.std.proofs.lemmas.Simd.{map-map}
 use Rattle.std.specs.Bool.{⊤}
@@ -8,18 +8,17 @@ use Rattle.std.specs.FinMap.{get, insert, get-insert}
 use Rattle.std.specs.Option.{option_map_or}
 use Rattle.irc_line.specs.declared.reading.LineFault.{LineFault}
 use Rattle.irc_line.specs.declared.reading.LineFault.TheVariants as fault
-use Rattle.irc_line.specs.Messages.{Parsed, Written, text}
+use Rattle.irc_line.specs.Messages.{Parsed, text}
 use Rattle.irc_batch.specs.Batches.{Sent, end_of_link, line_on}
 use Rattle.irc_batch.specs.declared.close_reason.CloseReason.{CloseReason}
 use Rattle.irc_handshake.specs.declared.openings.Opening.{Opening}
 use Rattle.irc_handshake.specs.declared.openings.Opening.TheVariants as opening
-use Rattle.irc_handshake.specs.Peers.{refusal}
 use Rattle.irc_burst.specs.DeedsMeant.{Told, a_server, deeds_meant}
 use Rattle.irc_burst.specs.HandshakeMeant.{handshake_meant}
 use Rattle.irc_burst_lines.specs.BurstLines.{burst_parts}
 use Rattle.irc_links.specs.Ends.{is_met}
 use Rattle.irc_links.specs.Ways.{IsMetEnd}
-use Rattle.irc_stage.specs.View.{End, View, password_for}
+use Rattle.irc_stage.specs.View.{End, View}
 use Rattle.irc_stage.specs.EffectTold.{Served, in_silence, with_sent}
 use Rattle.irc_stage.specs.Linked.{with_far}
 use Rattle.irc_stage.specs.Lemmas.Numbers.{same_number-refl}
@@ -27,8 +26,8 @@ use Rattle.irc_stage.specs.Lemmas.Steps.{nothing_behind}
 use Rattle.irc_stage.specs.declared.stage.Stage.{Stage}
 use Rattle.irc_stage.specs.Loops.Stage.{behind, view_of}
 use Rattle.irc_deeds.specs.DeedTold.{link_lost, told_by}
-use Rattle.irc_deeds.specs.Heard.{Heard, ignored, closes, password, meets, tells, heard, message_heard, met_unless, of_met, opened}
-use Rattle.irc_deeds.specs.LinkServed.{met_by, on_link, opening_parts, owed_by, owes}
+use Rattle.irc_deeds.specs.Heard.{Heard, ignored, closes, password, meets, tells, heard, met_unless, of_met, opened}
+use Rattle.irc_deeds.specs.LinkServed.{met_by, on_link, owed_by, owes}
 use Rattle.irc_deeds.specs.Loops.Serving.{greeting_of, IsHearable}
 use Rattle.irc_deeds.specs.Lemmas.Fronts.{lost_link_behind, told_by_behind}
 

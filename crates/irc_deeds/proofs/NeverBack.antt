@@ -1,5 +1,5 @@
 -- A deed never goes back on the link by which it came.
-use Rattle.std.proofs.Common.{◌≡◌, ℕ, Bool, true, false, not, ◌||◌, Option, Some, None, List, [], ◌∷◌, ◌++◌, refl, sym, ◌∙◌, ap, append-nil, append_assoc, cond, filter_map, nat_eq, if◌then◌else◌}
+use Rattle.std.proofs.Common.{◌≡◌, ℕ, Bool, true, false, not, ◌||◌, Some, None, List, [], ◌∷◌, ◌++◌, refl, sym, ◌∙◌, ap, append-nil, append_assoc, cond, filter_map, nat_eq, if◌then◌else◌}
 use Rattle.std.proofs.lemmas.Bool.{eq-eqb, eqb-true}
 use Rattle.std.specs.List.{cons_option, flat_map, list_any}
 use Rattle.std.specs.FinMap.{entries}
@@ -20,7 +20,7 @@ use Rattle.irc_link_writer.specs.Written.{wire}
 use Rattle.irc_links.specs.Ways.{but, met_links, told_homes, ways_toward}
 use Rattle.irc_stage.specs.EffectTold.{Served, all_changed, changed, changed_if, client_ended, counts, effect_came, effect_told, ends_of, is_elsewhere, on_links, quit_by, shown_at, taken_out, with_sent}
 use Rattle.irc_stage.specs.Linked.{told_on_all}
-use Rattle.irc_deeds.specs.DeedTold.{deed_told, deeds_told, forgotten}
+use Rattle.irc_deeds.specs.DeedTold.{deed_told, forgotten}
 use Rattle.irc_deeds.specs.Laws.{NeverBack, NeverBackOfAll, PutsOutElsewhere, goes_on}
 
 -- ---- lists of what is put out

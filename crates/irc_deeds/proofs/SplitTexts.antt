@@ -1,5 +1,5 @@
 -- Texts that are not cut.
-use Rattle.std.proofs.Common.{◌≡◌, ℕ, ◌≤◌, ◌+◌, List, ◌++◌, length, take}
+use Rattle.std.proofs.Common.{◌≡◌, ℕ, ◌≤◌, List, length}
 use Rattle.std.proofs.lemmas.List.{take_all}
 use Rattle.irc_names.specs.Limits.{max_words}
 use Rattle.irc_channels.specs.Texts.{cut_words}

@@ -6,10 +6,10 @@
 --   a KILL of a.net's own, by a collision   likewise, and line_on 2 as well: it goes back by the link that the other came by
 --   `:b.net NJOIN #c :@bo`                  line_to 1 `:bo!u@h JOIN #c`, line_to 1 `:a.net MODE #c +o bo`, then line_on 3 the same NJOIN
 --   link 2 is lost                          as if each server behind it were lost, b.net and then c.net: `:a.net SQUIT b.net :a.net b.net` on link 3, ..
-use Rattle.std.specs.Prelude.{ℕ, Bool, true, false, Option, Some, None, List, [], ◌∷◌, ◌++◌, codes, if◌then◌else◌}
+use Rattle.std.specs.Prelude.{ℕ, Option, Some, None, List, [], ◌∷◌, ◌++◌, codes, if◌then◌else◌}
 use Rattle.std.specs.Option.{option_map_or}
 use Rattle.std.specs.FinMap.{get}
-use Rattle.irc_merge.specs.Deeds.{Deed, does, gains, loses, kills, brings, sets, tops, effects_of}
+use Rattle.irc_merge.specs.Deeds.{Deed, does, gains, loses, kills, effects_of}
 use Rattle.irc_merge.specs.Quits.{collision_text}
 use Rattle.irc_names.specs.Spellings.{exactly_same}
 use Rattle.irc_routes.specs.Known.{behind}

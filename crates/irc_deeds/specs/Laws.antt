@@ -1,5 +1,5 @@
 -- What holds of all that comes by a link.
-use Rattle.std.specs.Prelude.{◌≡◌, ℕ, Bool, false, nat_eq, Option, Some, List, ◌++◌}
+use Rattle.std.specs.Prelude.{◌≡◌, ℕ, Bool, false, nat_eq, Some, List, ◌++◌}
 use Rattle.std.specs.List.{list_any}
 use Rattle.irc_batch.specs.Batches.{Sent, line_to, end_of, line_on, end_of_link}
 use Rattle.irc_merge.specs.Deeds.{Deed}

@@ -7,7 +7,7 @@
 --   PASS and SERVER of c.net       line_on 2 PASS, SERVER and the burst of a.net, b.net in it; then line_on 1 `:a.net SERVER c.net 2 3 :C`
 --   a line that closes link 1      end_of_link 1 with the reason, and then all that the loss of the link does
 use Rattle.std.specs.Prelude.{ℕ, is_none, Option, Some, None, Result, List, [], ◌∷◌, ◌++◌, map, unwrap_or, if◌then◌else◌}
-use Rattle.std.specs.Option.{option_map, option_map_or}
+use Rattle.std.specs.Option.{option_map_or}
 use Rattle.std.specs.FinMap.{get}
 use Rattle.irc_line.specs.declared.reading.LineFault.{LineFault}
 use Rattle.irc_line.specs.Messages.{Parsed, Written, text}

@@ -1,5 +1,5 @@
 -- What the code that reads lines of a link gives.
-use Rattle.std.specs.Prelude.{◌≡◌, ⊤, ℕ, Option, Result, Ok, Err, List, [], unwrap_or}
+use Rattle.std.specs.Prelude.{◌≡◌, ⊤, ℕ, Result, Ok, Err, List, [], unwrap_or}
 use Rattle.std.specs.Global.{Vec}
 use Rattle.std.specs.declared.alloc.AllocError.{AllocError}
 use Rattle.irc_burst.specs.declared.acts.BurstAct.{BurstAct}

@@ -1,8 +1,8 @@
 -- What the code does of what happens by a link, from one moment of a server and of what it has put out to a later one.
-use Rattle.std.specs.Prelude.{◌≡◌, ℕ, ⊤, Option, Some, None, Result, List, [], ◌++◌, is_none, is_some, true, map, if◌then◌else◌}
+use Rattle.std.specs.Prelude.{◌≡◌, ℕ, ⊤, Option, Some, Result, List, [], ◌++◌, is_none, is_some, true, map, if◌then◌else◌}
 use Rattle.std.specs.FinMap.{get}
 use Rattle.std.specs.Option.{option_and_then}
-use Rattle.irc_batch.specs.Batches.{Batch, Sent, line_on}
+use Rattle.irc_batch.specs.Batches.{Batch, line_on}
 use Rattle.irc_line.specs.declared.reading.LineFault.{LineFault}
 use Rattle.irc_line.specs.Messages.{Parsed, Written}
 use Rattle.irc_routes.specs.Known.{behind as names_behind}

@@ -1,5 +1,5 @@
 -- What the code does of what a line of a link tells, from one moment of a server and of what it has put out to a later one.
-use Rattle.std.specs.Prelude.{◌≡◌, ℕ, Bool, true, Option, Some, List, [], ◌∷◌, map}
+use Rattle.std.specs.Prelude.{◌≡◌, ℕ, true, Option, Some, List, [], ◌∷◌, map}
 use Rattle.irc_batch.specs.Batches.{Batch}
 use Rattle.irc_burst.specs.DeedsMeant.{Told, a_deed, a_server}
 use Rattle.irc_burst.specs.Loops.Acts.{members_told}

@@ -1,4 +1,4 @@
-use Rattle.std.proofs.Common.{◌∙◌, Some, subst, sym, ap}
+use Rattle.std.proofs.Common.{◌∙◌, subst, sym, ap}
 use Rattle.std.specs.FinMap.{get}
 use Rattle.irc_links.specs.Ways.{IsMetEnd}
 use Rattle.irc_burst.specs.DeedsMeant.{a_server}

@@ -1,4 +1,4 @@
-use Rattle.std.proofs.Common.{◌∙◌, ap, sym, true, false}
+use Rattle.std.proofs.Common.{◌∙◌, ap, sym}
 use Rattle.irc_line.specs.Messages.{text}
 use Rattle.irc_burst_lines.specs.DeedLines.{server_parts}
 use Rattle.irc_stage.specs.Lemmas.Outcomes.{on_ok}

@@ -1,10 +1,9 @@
-use Rattle.std.proofs.Common.{◌≡◌, Some, None, ◌∙◌, ap, sym, if◌then◌else◌}
+use Rattle.std.proofs.Common.{Some, None, ◌∙◌, ap, sym, if◌then◌else◌}
 use Rattle.irc_names.specs.Spellings.{exactly_same}
 use Rattle.irc_routes.specs.Known.{Known}
 use Rattle.irc_stage.specs.EffectTold.{taken_out}
 use Rattle.irc_stage.specs.Lemmas.Outcomes.{on_ok}
-use Rattle.irc_stage.specs.Loops.Stage.{served_at, view_of}
-use Rattle.irc_deeds.specs.DeedTold.{deed_told}
+use Rattle.irc_stage.specs.Loops.Stage.{served_at}
 use Rattle.irc_deeds.proofs.DeedsDone.{collision_is_whole, kills_done, kills_told}
 use Rattle.irc_deeds.proofs.telling.kill.Goals as goal
 use Rattle.irc_deeds.proofs.telling.kill.Goals.{then-is_own, else-is_own}

@@ -4,7 +4,7 @@ use Rattle.irc_burst.specs.Loops.Acts.{act_told, members_told}
 use Rattle.irc_merge.specs.Deeds.{brings}
 use Rattle.irc_stage.specs.Lemmas.Outcomes.{on_ok}
 use Rattle.irc_stage.specs.Loops.Stage.{served_at}
-use Rattle.irc_deeds.specs.DeedTold.{deed_told, told_by}
+use Rattle.irc_deeds.specs.DeedTold.{told_by}
 use Rattle.irc_deeds.proofs.DeedsDone.{tells_brings, tells_does, tells_loses, tells_sets, tells_tops}
 use Rattle.irc_deeds.proofs.telling.tell.Goals as goal
 
