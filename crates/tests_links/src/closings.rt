@@ -30,9 +30,11 @@ static AFTERWARDS: [Step; 2] = [Step::Says(1, b"PRIVMSG cy :yo"), Step::IsCalled
 /// Lines by the link 7, the last of which closes it for a reason.
 type Closing = (&'static [&'static [u8]], CloseReason);
 
-static IN_HANDSHAKE: [Closing; 16] = [
+static IN_HANDSHAKE: [Closing; 18] = [
     (&[b"FOO"], CloseReason::UnknownCommand),
     (&[b"PASS pw 0210010001 TREE|"], CloseReason::Parameters),
+    (&[b"PASS pw 0210010000"], CloseReason::Parameters),
+    (&[b"NICK al 1 u h 1 +"], CloseReason::Parameters),
     (&[b":b.net"], CloseReason::Parameters),
     (
         &[b"PASS pw 0210010000 TREE|", b"SERVER b.net 2 1 :B"],
@@ -241,10 +243,9 @@ fn closes(alloc: Global, met: bool, end: u32, closing: &Closing) -> bool {
     let Some(mut server) = server(alloc) else {
         return false;
     };
-    let greeting: &[Step] = if met { &GREETING } else { &[] };
     let mut out = Batch::new(alloc);
     let stands = happens(alloc, &mut server, &BEFORE, &mut out)
-        && happens(alloc, &mut server, greeting, &mut out)
+        && (!met || happens(alloc, &mut server, &GREETING, &mut out))
         && fills(&mut server, end, &mut out);
     out.clear();
     let (lines, reason) = closing;

@@ -10,10 +10,6 @@ mod greetings;
 #[cfg(test)]
 mod happening;
 #[cfg(test)]
-mod hearing;
-#[cfg(test)]
 mod losses;
-#[cfg(test)]
-mod stage;
 #[cfg(test)]
 mod ways;
