@@ -1,4 +1,8 @@
-//! Networks of servers: what each thing given to one does, and each line delivered. Definitions are in `specs/`.
+//! Networks of servers: the lines that are on their way on a link, and, as definitions, what each thing given to a network does and each line delivered.
+//! Definitions are in `specs/`.
 #![tactic(auto)]
 
 pub mod laws;
+mod link_queue;
+
+pub use link_queue::LinkQueue;
