@@ -1,0 +1,2 @@
+-- Words of this crate's code alone. No rule stands here.
+pub mod AsTheyAre
