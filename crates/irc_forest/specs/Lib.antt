@@ -1,0 +1,3 @@
+pub mod Forests
+pub mod Loops
+pub mod Lemmas
