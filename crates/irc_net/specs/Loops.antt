@@ -1,2 +1,7 @@
 -- Words of this crate's code alone. No rule stands here.
 pub mod Queues
+pub mod Codes
+pub mod Sites
+pub mod Courses
+pub mod Parties
+pub mod Ordering

@@ -102,7 +102,7 @@ fn has_double(peers: &[Peer]) -> bool
 }
 
 /// Why no server is made of a configuration, if it is not for want of memory.
-pub(crate) fn config_fault(config: &Config) -> Option<ConfigFault>
+pub fn config_fault(config: &Config) -> Option<ConfigFault>
     ensures { result ≡ config_fault config.now }
 {
     if !(is_own(&config.own) && are_peers(&config.peers)) {

@@ -7,7 +7,7 @@ mod event;
 pub mod laws;
 mod server;
 
-pub use config::{Config, ConfigFault};
+pub use config::{Config, ConfigFault, config_fault};
 pub use event::{Event, ServerFault};
 pub use irc_batch::CloseReason;
 pub use irc_stage::{Client, Peer, Waiting};

@@ -1,0 +1,142 @@
+-- What comes of each call of a network. Where memory ran out nothing is promised of it but that it refuses everything from then on.
+use Rattle.std.specs.Prelude.{◌≡◌, ⊤, ℕ, min, Bool, true, false, Option, Some, None, Result, Ok, Err, List, [], ◌∷◌, ◌++◌, ◌⊎◌, if◌then◌else◌}
+use Rattle.std.specs.List.{AllByRecursion}
+use Rattle.std.specs.Option.{option_and_then}
+use Rattle.irc_line.specs.Carried.{IsCarried}
+use Rattle.irc_relay.specs.Links.{Name}
+use Rattle.irc_world.specs.Stepping.{Item, line}
+use Rattle.irc_net.specs.declared.answer.Answer.{Answer}
+use Rattle.irc_net.specs.declared.fault.NetFault.{NetFault}
+use Rattle.irc_net.specs.declared.fault.NetFault.TheVariants.{Memory, Failed}
+use Rattle.irc_net.specs.declared.step.Step.{Step}
+use Rattle.irc_net.specs.declared.step.Step.TheVariants.{Give, Deliver, Settle}
+use Rattle.irc_net.specs.declared.step.StepAnswer.{StepAnswer}
+use Rattle.irc_net.specs.declared.step.StepAnswer.TheVariants.{Given, Delivered, Settled, Refused}
+use Rattle.irc_net.specs.Faults.{deliver_fault, is_refusal, item_fault}
+use Rattle.irc_net.specs.Network.{Course, Ends, Network, Receipt, TakesInTurn, begun, delivered, ends_of, given, is_at_rest, max_count, number_given}
+use Rattle.irc_net.specs.Views.{item_of, receipts_of}
+
+-- a network, and whether memory ran out for it
+pub record NetView : Type 0 where
+  pub failed : Bool
+  pub network : Network
+
+abbrev pub standing : Network → NetView
+standing network = record { failed = false; network = network }
+
+-- ---- an item
+
+-- A line that a client says is one: 1 to 510 bytes, without NUL, CR and LF. It is the one thing that is asked of a caller.
+abbrev pub IsGivable : Item → Type 0
+IsGivable (line client bytes) = IsCarried bytes
+IsGivable other = ⊤
+
+abbrev pub IsPlayable : Step → Type 0
+IsPlayable (Give item) = IsGivable (item_of item)
+IsPlayable step = ⊤
+
+abbrev pub ArePlayable : List Step → Type 0
+ArePlayable = AllByRecursion IsPlayable
+
+pub record Gives (net : Network) (item : Item) (answer : Answer) (new : NetView) : Type 0 where
+  pub none : item_fault net item ≡ None
+  pub after : new ≡ standing (given item net).net
+  pub client : answer.client ≡ number_given net item
+  pub receipts : receipts_of answer.lines.items ≡ (given item net).receipts
+
+pub data IsGiven : NetView → Item → Result Answer NetFault → NetView → Type 0 where
+  given_it : {old new : NetView} {item : Item} {answer : Answer} → old.failed ≡ false → Gives old.network item answer new
+      → IsGiven old item (Ok answer) new
+  given_refused : {old : NetView} {item : Item} {fault : NetFault} → old.failed ≡ false → item_fault old.network item ≡ Some fault
+      → IsGiven old item (Err fault) old
+  given_wants_memory : {old new : NetView} {item : Item} → old.failed ≡ false → item_fault old.network item ≡ None → new.failed ≡ true
+      → IsGiven old item (Err Memory) new
+  given_to_failed : {old : NetView} {item : Item} → old.failed ≡ true → IsGiven old item (Err Failed) old
+
+-- ---- a delivery
+
+-- the oldest line that waits on the way from one server to another is taken; none where none waits
+abbrev pub delivery : Network → Name → Name → Option Course
+delivery net from to = option_and_then (λ (ends : Ends). delivered ends.near ends.far (begun net)) (ends_of net from to)
+
+-- whether one was taken, and what clients received by it
+abbrev pub Delivers : Option Course → Network → Bool → List Receipt → NetView → Type 0
+Delivers None net was_taken receipts new = (was_taken ≡ false) × (receipts ≡ []) × (new ≡ standing net)
+Delivers (Some course) net was_taken receipts new = (was_taken ≡ true) × (receipts ≡ course.receipts) × (new ≡ standing course.net)
+
+pub data IsDelivered : NetView → Name → Name → Result (Bool × List Receipt) NetFault → NetView → Type 0 where
+  delivers_it : {old new : NetView} {from to : Name} {was_taken : Bool} {receipts : List Receipt} → old.failed ≡ false
+      → deliver_fault old.network from to ≡ None → Delivers (delivery old.network from to) old.network was_taken receipts new
+      → IsDelivered old from to (Ok (was_taken, receipts)) new
+  delivery_refused : {old : NetView} {from to : Name} {fault : NetFault} → old.failed ≡ false → deliver_fault old.network from to ≡ Some fault
+      → IsDelivered old from to (Err fault) old
+  delivery_wants_memory : {old new : NetView} {from to : Name} → old.failed ≡ false → deliver_fault old.network from to ≡ None → new.failed ≡ true
+      → IsDelivered old from to (Err Memory) new
+  delivery_by_failed : {old : NetView} {from to : Name} → old.failed ≡ true → IsDelivered old from to (Err Failed) old
+
+-- ---- settling
+
+-- Lines are taken until none is on its way, or 2^64 - 1 were.
+pub record Settles (net : Network) (counted : ℕ) (receipts : List Receipt) (new : NetView) : Type 0 where
+  pub last : Course
+  pub takes : TakesInTurn counted (begun net) last
+  pub ends : (is_at_rest last.net ≡ true) ⊎ (counted ≡ max_count)
+  pub received : receipts ≡ last.receipts
+  pub after : new ≡ standing last.net
+
+pub data IsSettled : NetView → Result (ℕ × List Receipt) NetFault → NetView → Type 0 where
+  settles_it : {old new : NetView} {counted : ℕ} {receipts : List Receipt} → old.failed ≡ false → Settles old.network counted receipts new
+      → IsSettled old (Ok (counted, receipts)) new
+  settling_wants_memory : {old new : NetView} → old.failed ≡ false → new.failed ≡ true → IsSettled old (Err Memory) new
+  settling_by_failed : {old : NetView} → old.failed ≡ true → IsSettled old (Err Failed) old
+
+-- ---- steps
+
+-- a step is done, or refused and nothing changes
+abbrev pub IsStep : NetView → Step → StepAnswer → NetView → Type 0
+IsStep old (Give item) (Given answer) new = IsGiven old (item_of item) (Ok answer) new
+IsStep old (Give item) (Refused fault) new = IsGiven old (item_of item) (Err fault) new × (is_refusal fault ≡ true)
+IsStep old (Deliver from to) (Delivered was_taken lines) new = IsDelivered old from to (Ok (was_taken, receipts_of lines.items)) new
+IsStep old (Deliver from to) (Refused fault) new = IsDelivered old from to (Err fault) new × (is_refusal fault ≡ true)
+IsStep old Settle (Settled counted lines) new = IsSettled old (Ok (counted, receipts_of lines.items)) new
+IsStep old step answer new = ⊥
+
+-- what comes of a step for which memory runs out, or ran out before
+abbrev pub Breaks : NetView → Step → NetFault → NetView → Type 0
+Breaks old (Give item) fault new = IsGiven old (item_of item) (Err fault) new
+Breaks old (Deliver from to) fault new = IsDelivered old from to (Err fault) new
+Breaks old Settle fault new = IsSettled old (Err fault) new
+
+-- a refusal is the answer of a step, and want of memory is not
+abbrev pub step_refused : NetFault → Result StepAnswer NetFault
+step_refused fault = if is_refusal fault then Ok (Refused fault) else Err fault
+
+-- what comes of a step: it is done, or memory is wanting
+abbrev pub IsStepDone : NetView → Step → Result StepAnswer NetFault → NetView → Type 0
+IsStepDone old step (Ok answer) new = IsStep old step answer new
+IsStepDone old step (Err fault) new = Breaks old step fault new × (is_refusal fault ≡ false)
+
+-- steps are done one after another
+pub data Plays : NetView → List Step → List StepAnswer → NetView → Type 0 where
+  none_yet : {net : NetView} → Plays net [] [] net
+  then_one : {first between last : NetView} {steps all : List Step} {answers more : List StepAnswer} (step : Step) (answer : StepAnswer)
+      → Plays first steps answers between → IsStep between step answer last → all ≡ steps ++ step ∷ [] → more ≡ answers ++ answer ∷ []
+      → Plays first all more last
+
+-- some of them were done, and the next one broke
+pub record StopsAt (first : NetView) (steps : List Step) (fault : NetFault) (last : NetView) : Type 0 where
+  pub done : List Step
+  pub step : Step
+  pub left : List Step
+  pub parts : steps ≡ done ++ step ∷ left
+  pub answers : List StepAnswer
+  pub between : NetView
+  pub plays : Plays first done answers between
+  pub breaks : Breaks between step fault last
+  pub is_want : is_refusal fault ≡ false
+
+-- all steps are done, one broke, or there was no memory for the answers
+pub data ArePlayed : NetView → List Step → Result (List StepAnswer) NetFault → NetView → Type 0 where
+  plays_them : {old new : NetView} {steps : List Step} {answers : List StepAnswer} → Plays old steps answers new → ArePlayed old steps (Ok answers) new
+  stops_at : {old new : NetView} {steps : List Step} {fault : NetFault} → StopsAt old steps fault new → ArePlayed old steps (Err fault) new
+  answers_want_memory : {old new : NetView} {steps : List Step} → ArePlayed old steps (Err Memory) new

@@ -1,0 +1,72 @@
+-- Of which configurations a network is made.
+use Rattle.std.specs.Prelude.{◌≡◌, Bool, true, false, ◌||◌, Option, Some, None, Result, Ok, Err, List, [], ◌∷◌, length, map, nat_lt, if◌then◌else◌}
+use Rattle.std.specs.List.{list_any}
+use Rattle.std.specs.List.Sorted.{IsPermutation, IsSortedByKey}
+use Rattle.std.specs.FinMap.{empty}
+use Rattle.std.specs.Ordering.{nat_cmp}
+use Rattle.std.specs.Cmp.Lexicographic.{slice_cmp}
+use Rattle.irc_relay.specs.Links.{Name, same}
+use Rattle.irc_server.specs.Configuring.{config_fault, made_view}
+use Rattle.irc_server.specs.declared.config.Config.{Config}
+use Rattle.irc_server.specs.declared.config.ConfigFault.{ConfigFault}
+use Rattle.irc_server.specs.declared.config.ConfigFault.TheVariants as one
+use Rattle.irc_net.specs.declared.making.NetConfigFault.{NetConfigFault}
+use Rattle.irc_net.specs.declared.making.NetConfigFault.TheVariants.{BadName, DoubleName, TooMany, Memory}
+use Rattle.irc_net.specs.Calls.{NetView, standing}
+use Rattle.irc_net.specs.Network.{Network, Site}
+
+abbrev pub name_of : Config → Name
+name_of config = config.own.name.items
+
+-- a name, a text or a password of it is outside its limits
+abbrev pub is_bad_name : Option ConfigFault → Bool
+is_bad_name (Some one.BadName) = true
+is_bad_name fault = false
+
+abbrev pub is_bad : Config → Bool
+is_bad config = is_bad_name (config_fault config)
+
+-- a peer of it is there twice, or is the server itself
+abbrev pub is_double_name : Option ConfigFault → Bool
+is_double_name (Some one.DoubleName) = true
+is_double_name fault = false
+
+abbrev pub is_double : Config → Bool
+is_double config = is_double_name (config_fault config)
+
+abbrev pub is_named : Name → Config → Bool
+is_named name config = same (name_of config) name
+
+-- two servers have one name
+abbrev pub has_name_twice : List Config → Bool
+has_name_twice [] = false
+has_name_twice (config ∷ configs) = list_any (is_named (name_of config)) configs || has_name_twice configs
+
+-- why no network is made of configurations: the causes in the order in which they are looked for
+abbrev pub configs_fault : List Config → Option NetConfigFault
+configs_fault configs =
+    if list_any is_bad configs then Some BadName
+    else (if list_any is_double configs || has_name_twice configs then Some DoubleName
+    else (if nat_lt 256 (length configs) then Some TooMany else None))
+
+-- ---- the network that they make
+
+abbrev pub new_site : Config → Site
+new_site config = record { server = Some (made_view config); queues = empty }
+
+-- servers in this order: no link, and nobody connected
+abbrev pub made_of : List Config → Network
+made_of ordered = record { names = map name_of ordered; sites = map new_site ordered; links = []; homes = []; received = []; items = []; taken = 0 }
+
+-- in order of name
+pub record IsMadeOf (configs : List Config) (network : Network) : Type 0 where
+  pub ordered : List Config
+  pub same_ones : IsPermutation configs ordered
+  pub in_order : IsSortedByKey name_of (slice_cmp nat_cmp) ordered
+  pub network_is : network ≡ made_of ordered
+
+-- what comes of configurations
+abbrev pub IsMade : List Config → Result NetView NetConfigFault → Type 0
+IsMade configs (Ok net) = (configs_fault configs ≡ None) × (net.failed ≡ false) × IsMadeOf configs net.network
+IsMade configs (Err Memory) = configs_fault configs ≡ None
+IsMade configs (Err fault) = configs_fault configs ≡ Some fault

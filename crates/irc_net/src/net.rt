@@ -1,0 +1,251 @@
+//! A network of servers, as those above have it.
+ghost use Rattle.std.specs.Prelude.{◌≡◌, [], ◌∷◌, ◌++◌, map, OnOk};
+ghost use Rattle.irc_net.specs.declared.step.Step.TheVariants.{Deliver, Give, Settle};
+ghost use Rattle.irc_net.specs.Calls.{step_refused, ArePlayable, ArePlayed, IsDelivered, IsGivable, IsGiven, IsPlayable, IsSettled, IsStepDone};
+ghost use Rattle.irc_net.specs.Faults.{are_agreed};
+ghost use Rattle.irc_net.specs.Loops.Queues.{bytes_of};
+ghost use Rattle.irc_net.specs.Making.{IsMade};
+ghost use Rattle.irc_net.specs.Network.{is_at_rest, received_by, view_of};
+ghost use Rattle.irc_net.specs.Views.{answers_now, delivered_now, item_of, items_of, settled_now};
+
+use crate::answer::{Answer, Receipt};
+use crate::desk::Desk;
+use crate::fault::NetFault;
+use crate::item::Item;
+use crate::making::{NetConfigFault, configs_fault, forest_of, in_order, sites_of};
+use crate::network::Network;
+use crate::step::{Step, StepAnswer};
+use irc_line::Text;
+use irc_names::ServerName;
+use irc_server::Config;
+use std::alloc::{AllocError, Global};
+use std::marker::Model;
+
+/// A network of servers: what is given to it is done by the servers, each of which knows of the others by lines alone, and those lines are delivered in any
+/// order that one asks for.
+#[derive(Drop)]
+pub struct Net {
+    alloc: Global,
+    failed: bool,
+    network: Network,
+}
+
+/// In a clause it is the network, and whether memory ran out for it.
+impl Model for Net {
+    ghost use Rattle.irc_net.specs.Calls.{NetView};
+    ghost use Rattle.irc_net.specs.Loops.Codes.{net_code};
+    ghost use Rattle.irc_net.specs.contracts.network.Network.{the_row as network_row};
+
+    ghost Value = { NetView };
+
+    ghost coded = { net_code network_row.coded };
+
+    ghost view = { λ net. record { failed = net.failed; network = net.network } };
+}
+
+impl Net {
+    /// Servers that are not linked, and no client.
+    ///
+    /// # Errors
+    /// [`NetConfigFault`]s 1 to 3 for their causes in this order; [`NetConfigFault::Memory`] where memory runs out.
+    pub fn new(alloc: Global, configs: Vec<Config, Global>) -> Result<Self, NetConfigFault>
+        ensures { IsMade configs.items result }
+    {
+        if let Some(fault) = configs_fault(&configs) {
+            return Err(fault);
+        }
+        let ordered = in_order(configs);
+        let forest = forest_of(alloc, &ordered)?;
+        let sites = sites_of(alloc, ordered)?;
+        Ok(Net {
+            alloc,
+            failed: false,
+            network: Network::new(alloc, forest, sites),
+        })
+    }
+
+    /// What a client has received, whole lines; also once it is closed. Nothing for a number that was never given.
+    pub fn received(&self, client: u64) -> &[Text]
+        ensures { map bytes_of result.now ≡ received_by self.now.network client }
+    {
+        self.network.received(client)
+    }
+
+    /// What was given, in turn.
+    pub fn items(&self) -> &[Item]
+        ensures { items_of result.now ≡ self.now.network.items }
+    {
+        self.network.items()
+    }
+
+    /// Whether no line is on its way.
+    pub fn at_rest(&self) -> bool
+        ensures { result ≡ is_at_rest self.now.network }
+    {
+        self.network.is_at_rest()
+    }
+
+    /// How many lines were taken since the last item, at most 2^64 - 1.
+    pub fn lines_taken(&self) -> u64
+        ensures { result ≡ self.now.network.taken }
+    {
+        self.network.lines_taken()
+    }
+
+    /// Whether two servers agree on all channels that both would have if they were linked; false where no server has one of these names.
+    pub fn agrees(&self, one: &ServerName, other: &ServerName) -> bool
+        ensures { result ≡ are_agreed (view_of self.now.network one.now) (view_of self.now.network other.now) }
+    {
+        self.network.agrees(one, other)
+    }
+
+    /// An item is given.
+    ///
+    /// # Errors
+    /// [`NetFault`]s 1 to 6, with nothing changed, and 7 and 8.
+    pub fn item(&mut self, item: Item) -> Result<Answer, NetFault>
+        requires line { IsGivable (item_of item) }
+        ensures { IsGiven self.old (item_of item) result self.new }
+    {
+        if self.failed {
+            return Err(NetFault::Failed);
+        }
+        if let Some(fault) = self.network.item_fault(&item) {
+            return Err(fault);
+        }
+        let client = self.network.number_given(&item);
+        let mut desk = Desk::new(self.alloc);
+        self.failed = true;
+        self.network.give(item, &mut desk)?;
+        self.failed = false;
+        Ok(Answer {
+            client,
+            lines: desk.lines,
+        })
+    }
+
+    /// Takes the oldest line that waits on the way from one server to another, if one does, and asks the other for it. Answers whether one did, and what
+    /// clients have received by it.
+    ///
+    /// # Errors
+    /// [`NetFault::NoSuchServer`], then [`NetFault::NotLinked`], with nothing changed; [`NetFault::Memory`], [`NetFault::Failed`].
+    pub fn deliver(
+        &mut self,
+        from: &ServerName,
+        to: &ServerName,
+    ) -> Result<(bool, Vec<Receipt, Global>), NetFault>
+        ensures { IsDelivered self.old from.now to.now (delivered_now result) self.new }
+    {
+        if self.failed {
+            return Err(NetFault::Failed);
+        }
+        if let Some(fault) = self.network.way_fault(from, to) {
+            return Err(fault);
+        }
+        let mut desk = Desk::new(self.alloc);
+        self.failed = true;
+        let was_taken = self.network.deliver_between(from, to, &mut desk)?;
+        self.failed = false;
+        Ok((was_taken, desk.lines))
+    }
+
+    /// Takes lines, each time the oldest on the first way, by the names of its ends, on which one waits, until none is on its way. Answers how many, and
+    /// what clients have received by them. (It stops after 2^64 - 1.)
+    ///
+    /// # Errors
+    /// [`NetFault::Memory`], [`NetFault::Failed`].
+    pub fn settle(&mut self) -> Result<(u64, Vec<Receipt, Global>), NetFault>
+        ensures { IsSettled self.old (settled_now result) self.new }
+    {
+        if self.failed {
+            return Err(NetFault::Failed);
+        }
+        let mut desk = Desk::new(self.alloc);
+        self.failed = true;
+        let count = self.network.settle(&mut desk)?;
+        self.failed = false;
+        Ok((count, desk.lines))
+    }
+
+    /// Does steps one after another. A refusal 1 to 6 is that step's answer.
+    ///
+    /// # Errors
+    /// [`NetFault::Memory`], [`NetFault::Failed`]: those before it are done, and those behind it are not.
+    pub fn play(&mut self, steps: &[Step]) -> Result<Vec<StepAnswer, Global>, NetFault>
+        requires lines { ArePlayable steps.now }
+        ensures { ArePlayed self.old steps.now (answers_now result) self.new }
+    {
+        let mut answers = Vec::new(self.alloc);
+        for step in steps {
+            push_answer(&mut answers, self.do_step(step)?)?;
+        }
+        Ok(answers)
+    }
+
+    /// Does one step.
+    fn do_step(&mut self, step: &Step) -> Result<StepAnswer, NetFault>
+        requires line { IsPlayable step.now }
+        ensures { IsStepDone self.old step.now result self.new }
+    {
+        match step {
+            Step::Give(item) => self.step_by_item(item),
+            Step::Deliver(from, to) => self.step_by_delivery(from, to),
+            Step::Settle => self.step_by_settling(),
+        }
+    }
+
+    /// Gives an item, as a step.
+    fn step_by_item(&mut self, item: &Item) -> Result<StepAnswer, NetFault>
+        requires line { IsGivable (item_of item.now) }
+        ensures { IsStepDone self.old (Give item.now) result self.new }
+    {
+        match self.item(item.copy()) {
+            Ok(answer) => Ok(StepAnswer::Given(answer)),
+            Err(fault) => refused(fault),
+        }
+    }
+
+    /// Delivers a line, as a step.
+    fn step_by_delivery(
+        &mut self,
+        from: &ServerName,
+        to: &ServerName,
+    ) -> Result<StepAnswer, NetFault>
+        ensures { IsStepDone self.old (Deliver from.now to.now) result self.new }
+    {
+        match self.deliver(from, to) {
+            Ok((was_taken, lines)) => Ok(StepAnswer::Delivered(was_taken, lines)),
+            Err(fault) => refused(fault),
+        }
+    }
+
+    /// Settles, as a step.
+    fn step_by_settling(&mut self) -> Result<StepAnswer, NetFault>
+        ensures { IsStepDone self.old Settle result self.new }
+    {
+        match self.settle() {
+            Ok((count, lines)) => Ok(StepAnswer::Settled(count, lines)),
+            Err(fault) => Err(fault),
+        }
+    }
+}
+
+/// A refusal is the answer of a step, and want of memory ends the play.
+fn refused(fault: NetFault) -> Result<StepAnswer, NetFault>
+    ensures { result ≡ step_refused fault }
+{
+    if fault.is_refusal() {
+        Ok(StepAnswer::Refused(fault))
+    } else {
+        Err(fault)
+    }
+}
+
+fn push_answer(answers: &mut Vec<StepAnswer, Global>, answer: StepAnswer) -> Result<(), AllocError>
+    ensures { OnOk result (answers.new.items ≡ answers.old.items ++ answer ∷ []) }
+{
+    match answers.push(answer) {
+        Ok(()) => Ok(()),
+        Err(_) => Err(AllocError),
+    }
+}

@@ -1,0 +1,116 @@
+//! Networks that are made, linked and settled.
+use crate::{Item, Net, NetConfigFault, NetFault};
+use irc_line::Line;
+use irc_names::{Host, ServerName};
+use irc_routes::Own;
+use irc_server::{Config, Peer};
+use std::alloc::{AllocError, Global};
+use std::io::Write;
+
+/// The name of a server, by its number.
+fn name(number: usize) -> Option<ServerName> {
+    let mut text = [0; 8];
+    let mut rest: &mut [u8] = &mut text;
+    let _ = write!(rest, "s{number:03}.net");
+    ServerName::read(&text)
+}
+
+fn name_bytes(alloc: Global, number: usize) -> Result<Vec<u8, Global>, AllocError> {
+    match name(number) {
+        Some(name) => Vec::from_slice(alloc, name.as_bytes()),
+        None => Ok(Vec::new(alloc)),
+    }
+}
+
+/// A server that has one peer, with a password of its own.
+fn config(
+    alloc: Global,
+    number: usize,
+    peer: usize,
+    password: &[u8],
+) -> Result<Config, AllocError> {
+    let own = Own {
+        name: name_bytes(alloc, number)?,
+        info: Vec::from_slice(alloc, b"Test server")?,
+        created: Vec::from_slice(alloc, b"2024-01-01")?,
+    };
+    let mut peers = Vec::new(alloc);
+    peers.push(Peer {
+        name: name_bytes(alloc, peer)?,
+        password: Vec::from_slice(alloc, password)?,
+    })?;
+    Ok(Config { own, peers })
+}
+
+/// So many servers, the second first; each has the one before it as its peer, and the first the second.
+fn configs(
+    alloc: Global,
+    count: usize,
+    password: &[u8],
+) -> Result<Vec<Config, Global>, AllocError> {
+    let mut configs = Vec::new(alloc);
+    for number in 1..count {
+        configs.push(config(alloc, number, number - 1, password)?)?;
+    }
+    configs.push(config(alloc, 0, 1, b"pw")?)?;
+    Ok(configs)
+}
+
+fn network(alloc: Global, count: usize, password: &[u8]) -> Option<Result<Net, NetConfigFault>> {
+    match configs(alloc, count, password) {
+        Ok(configs) => Some(Net::new(alloc, configs)),
+        Err(_) => None,
+    }
+}
+
+fn is_fault(alloc: Global, count: usize, fault: NetConfigFault) -> bool {
+    match network(alloc, count, b"pw") {
+        Some(Err(found)) => found == fault,
+        _ => false,
+    }
+}
+
+fn links(net: &mut Net) -> Option<(u64, bool)> {
+    let item = Item::Link(name(1)?, name(0)?);
+    net.item(item).ok()?;
+    let (count, _) = net.settle().ok()?;
+    Some((count, net.at_rest()))
+}
+
+#[test]
+fn two_hundred_and_fifty_seven_are_too_many(rt: HostRuntime) {
+    assert!(rt; is_fault(rt.alloc(), 257, NetConfigFault::TooMany));
+}
+
+fn two_link(alloc: Global) -> bool {
+    match network(alloc, 2, b"pw") {
+        Some(Ok(mut net)) => links(&mut net) == Some((4, true)),
+        _ => false,
+    }
+}
+
+#[test]
+fn two_servers_link(rt: HostRuntime) {
+    assert!(rt; two_link(rt.alloc()));
+}
+
+fn refuses(alloc: Global) -> bool {
+    match network(alloc, 2, b"other") {
+        Some(Ok(mut net)) => match name(0) {
+            Some(one) => match name(1) {
+                Some(other) => matches!(
+                    net.item(Item::Link(one, other)),
+                    Err(NetFault::LinkRefused)
+                ),
+                None => false,
+            },
+            None => false,
+        },
+        _ => false,
+    }
+}
+
+#[test]
+fn passwords_that_differ(rt: HostRuntime) {
+    assert!(rt; refuses(rt.alloc()));
+}
