@@ -1,10 +1,11 @@
 -- A run that memory or a device ended.
 use Rattle.std.proofs.Common.{◌≡◌, ℕ, Option, Result, Ok, Err, IsErr, IsErrAnd, List, [], ◌++◌, ap, ◌∙◌, append_assoc}
 use Rattle.irc_script.specs.Loops.Steps.{RunInto}
-use Rattle.irc_script.specs.Runs.{IsTextOf, CutShort, EndsEarly, Ran, first_standing}
+use Rattle.irc_script.specs.Runs.{IsTextOf, CutShort, EndsEarly, Ran}
+use Rattle.irc_script.specs.Networks.{first_network}
 use Rattle.irc_script.specs.Scripts.{Asked, script_read}
 use Rattle.irc_script.specs.Sinks.{sink}
-use Rattle.irc_script.proofs.RunningOn.{first_lives, run_whole}
+use Rattle.irc_script.proofs.RunningOn.{run_whole}
 use Rattle.irc_script.specs.Faults.{fault_of as fault_by}
 use Rattle.irc_script.specs.declared.fault.SimFault.{SimFault}
 use Rattle.irc_script.specs.declared.fault.SimFault.TheVariants.{BadScript, Failed, Device}
@@ -13,8 +14,8 @@ use Rattle.irc_script.specs.declared.fault.Trouble.TheVariants.{Memory, Device a
 
 -- a run that was broken off
 pub cut_short : (remaining old new : Option (List ℕ)) (text : List ℕ) (asked : Asked) → IsTextOf text remaining → script_read text ≡ Ok asked
-    → RunInto (first_standing asked.server) asked.requests (sink old []) (sink new []) → CutShort remaining old new
-cut_short remaining old new text asked is_text read p = let run = run_whole p.begins (first_lives asked.server) in record {
+    → RunInto (first_network asked.servers) asked.requests (sink old []) (sink new []) → CutShort remaining old new
+cut_short remaining old new text asked is_text read p = let run = run_whole p.begins in record {
   text = text;
   is_text = is_text;
   asked = asked;

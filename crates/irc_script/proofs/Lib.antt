@@ -1,8 +1,15 @@
 pub mod NumbersWritten
 pub mod LineEnds
 pub mod ScriptSteps
+pub mod InOrder
+pub mod Beginning
 pub mod Playing
+pub mod Moving
+pub mod Settling
 pub mod RunningOn
 pub mod OneRun
 pub mod CutShort
 pub mod LineBodies
+pub mod LinesSaid
+pub mod Peering
+pub mod Receiving

@@ -3,11 +3,11 @@ pub mod Faults
 pub mod Numbers
 pub mod Scripts
 pub mod ScriptViews
-pub mod Events
+pub mod Moves
+pub mod Networks
 pub mod Printing
 pub mod Sinks
 pub mod Runs
 pub mod RunLaws
 pub mod Loops
 pub mod Lemmas
-pub mod Codes

@@ -5,6 +5,10 @@ use Rattle.std.specs.Prelude.{ℕ}
 unfoldable pub max_number : ℕ
 max_number = 18446744073709551615
 
+-- how many servers a script may name; our own choice
+unfoldable pub max_servers : ℕ
+max_servers = 256
+
 -- how many reads may be made of a script; our own choice
 unfoldable pub max_reads : ℕ
 max_reads = 16777216

@@ -1,10 +1,12 @@
--- What is printed: a line for each line that a client receives, and for each refusal.
+-- What is printed: each line that a client receives, how many lines servers took, and each refusal.
 use Rattle.std.specs.Prelude.{ℕ, ◌-◌, Option, Some, None, List, [], ◌∷◌, ◌++◌, length, take, drop, codes, decimal, if◌then◌else◌}
+use Rattle.std.specs.List.{flat_map}
 use Rattle.std.specs.Str.{bytes_eq}
 use Rattle.irc_line.specs.Bytes.{crlf, space, line_feed}
-use Rattle.irc_batch.specs.Batches.{Sent, line_to}
-use Rattle.irc_server.specs.declared.event.ServerFault.{ServerFault}
-use Rattle.irc_server.specs.declared.event.ServerFault.TheVariants.{Memory, Failed, NoSuchConnection, ConnectionThere, NoSuchLink, LinkThere}
+use Rattle.irc_net.specs.declared.fault.NetFault.{NetFault}
+use Rattle.irc_net.specs.declared.fault.NetFault.TheVariants.{NotAtRest, NoSuchServer, NoSuchClient, NotLinked, LinkRefused, Disagree, Memory, Failed}
+use Rattle.irc_net.specs.Faults.{is_refusal}
+use Rattle.irc_net.specs.Network.{Receipt}
 
 -- a text without the CR LF at its end, if it has one
 abbrev pub body_of : List ℕ → List ℕ
@@ -14,19 +16,31 @@ body_of text = let front = length text - 2 in if bytes_eq crlf (drop front text)
 abbrev pub printed_line : ℕ → List ℕ → List ℕ
 printed_line client text = decimal client ++ space ∷ body_of text ++ line_feed ∷ []
 
--- the end of a connection is not printed, nor what goes on links
-abbrev pub printed : Sent → List ℕ
-printed (line_to client text) = printed_line client text
-printed other = []
+abbrev pub printed : Receipt → List ℕ
+printed receipt = printed_line receipt.client receipt.text
 
--- the place of a refusal among the faults of a server, counted from 1; want of memory is no refusal
-abbrev pub refusal_number : ServerFault → Option ℕ
-refusal_number Memory = None
-refusal_number Failed = None
-refusal_number NoSuchConnection = Some 3
-refusal_number ConnectionThere = Some 4
-refusal_number NoSuchLink = Some 5
-refusal_number LinkThere = Some 6
+-- so many lines were taken
+abbrev pub count_line : ℕ → List ℕ
+count_line count = codes "= " ++ decimal count ++ line_feed ∷ []
+
+-- behind what clients received by that
+abbrev pub taken_text : ℕ → List Receipt → List ℕ
+taken_text count receipts = flat_map printed receipts ++ count_line count
+
+-- the place of a fault among those of a network
+abbrev pub fault_number : NetFault → ℕ
+fault_number NotAtRest = 1
+fault_number NoSuchServer = 2
+fault_number NoSuchClient = 3
+fault_number NotLinked = 4
+fault_number LinkRefused = 5
+fault_number Disagree = 6
+fault_number Memory = 7
+fault_number Failed = 8
 
 abbrev pub refusal_line : ℕ → List ℕ
 refusal_line number = codes "! " ++ decimal number ++ line_feed ∷ []
+
+-- want of memory is no refusal
+abbrev pub refusal_number : NetFault → Option ℕ
+refusal_number fault = if is_refusal fault then Some (fault_number fault) else None

@@ -1,94 +1,74 @@
--- What a script does: which events it gives to the server, in which order, what the server answers to each, and what is printed.
-use Rattle.std.specs.Prelude.{◌≡◌, ℕ, ◌+◌, Option, Some, None, Result, Ok, Err, List, [], ◌∷◌, ◌++◌, ◌⊎◌, codes, nat_lt, IfSome, if◌then◌else◌}
+-- What a script does: which moves it makes on its network, in which order, what comes of each, and what is printed.
+use Rattle.std.specs.Prelude.{◌≡◌, ℕ, ◌≤◌, Option, Some, None, Result, Ok, Err, List, [], ◌∷◌, ◌++◌, ◌⊎◌, IfSome}
 use Rattle.std.specs.Io.KnownBytes.{Appends}
 use Rattle.std.specs.List.{flat_map}
-use Rattle.std.specs.FinMap.{empty}
-use Rattle.irc_server.specs.declared.event.Event.{Event}
-use Rattle.irc_server.specs.declared.event.Event.TheVariants.{Connect}
-use Rattle.irc_batch.specs.Batches.{Sent}
-use Rattle.irc_server.specs.declared.event.ServerFault.{ServerFault}
-use Rattle.irc_server.specs.declared.event.ServerFault.TheVariants.{NoSuchConnection}
-use Rattle.irc_stage.specs.View.{View}
-use Rattle.irc_server.specs.Happening.{IsHandled}
-use Rattle.irc_routes.specs.Known.{alone_known}
-use Rattle.irc_room.specs.Laws.{no_room}
+use Rattle.irc_net.specs.declared.fault.NetFault.{NetFault}
+use Rattle.irc_net.specs.Calls.{Settles, delivery, standing}
+use Rattle.irc_net.specs.Faults.{deliver_fault, item_fault}
+use Rattle.irc_net.specs.Network.{Course, Network, Receipt, given, max_count}
+use Rattle.irc_relay.specs.Links.{Name}
+use Rattle.irc_world.specs.Stepping.{Item}
 use Rattle.irc_script.specs.declared.fault.SimFault.{SimFault}
 use Rattle.irc_script.specs.declared.fault.SimFault.TheVariants.{BadScript, Failed, Device}
+use Rattle.irc_script.specs.Moves.{Move, gives, delivers_line, settles_all, moves_of}
+use Rattle.irc_script.specs.Networks.{first_network}
+use Rattle.irc_script.specs.Printing.{fault_number, printed, refusal_line, taken_text}
 use Rattle.irc_script.specs.Scripts.{Request, Asked, script_read}
-use Rattle.irc_script.specs.Events.{events_of}
-use Rattle.irc_script.specs.Limits.{max_number}
-use Rattle.irc_script.specs.Printing.{printed, refusal_line, refusal_number}
 
--- what an event comes to: the server puts something out, or refuses it
-pub data Answer : Type 0 where
-  puts_out : (outs : List Sent) → Answer
-  refuses : (number : ℕ) → Answer
+-- what comes of a move: what is printed, and the network then
+pub record Outcome : Type 0 where
+  pub text : List ℕ
+  pub network : Network
 
-abbrev pub answer_text : Answer → List ℕ
-answer_text (puts_out outs) = flat_map printed outs
-answer_text (refuses number) = refusal_line number
+-- what is refused changes nothing
+abbrev pub refused : NetFault → Network → Outcome
+refused fault net = record { text = refusal_line (fault_number fault); network = net }
 
--- the number behind a client's; the last stays
-abbrev pub number_behind : ℕ → ℕ
-number_behind number = if nat_lt number max_number then number + 1 else number
+abbrev pub lines_received : Course → Outcome
+lines_received course = record { text = flat_map printed course.receipts; network = course.net }
 
--- the number for the next client, once an event was not refused
-abbrev pub next_if_taken : Event → ℕ → ℕ
-next_if_taken (Connect client host) next = number_behind next
-next_if_taken event next = next
+abbrev pub given_or : Option NetFault → Item → Network → Outcome
+given_or None item net = lines_received (given item net)
+given_or (Some fault) item net = refused fault net
 
--- A connect that is refused uses no number.
-abbrev pub next_after : Event → Answer → ℕ → ℕ
-next_after e (puts_out outs) next = next_if_taken e next
-next_after e (refuses number) next = next
+-- one line was taken, or none waits
+abbrev pub delivered_by : Option Course → Network → Outcome
+delivered_by None net = record { text = taken_text 0 []; network = net }
+delivered_by (Some course) net = record { text = taken_text 1 course.receipts; network = course.net }
 
--- where a script stands: the number for the next client, and the server, if the script has one
-pub record Standing : Type 0 where
-  pub next : ℕ
-  pub server : Option (Option View)
+abbrev pub delivered_or : Option NetFault → Name → Name → Network → Outcome
+delivered_or None from to net = delivered_by (delivery net from to) net
+delivered_or (Some fault) from to net = refused fault net
 
--- a server refuses an event, by the number of a fault
-pub record IsRefused (old : Option View) (e : Event) (number : ℕ) (new : Option View) : Type 0 where
-  pub fault : ServerFault
-  pub number_is : refusal_number fault ≡ Some number
-  pub is_refused : IsHandled old e [] (Err fault) new []
+-- Lines are taken until none is on its way, or 2^64 - 1 were.
+pub record IsSettling (net : Network) (outcome : Outcome) : Type 0 where
+  pub count : ℕ
+  pub receipts : List Receipt
+  pub settles : Settles net count receipts (standing outcome.network)
+  pub at_most : count ≤ max_count
+  pub text_is : outcome.text ≡ taken_text count receipts
 
--- What an event comes to: what the server makes of it, as its definition says. Where there is no server, no client is there.
-abbrev pub AnswersAt : Option (Option View) → Event → Answer → Option (Option View) → Type 0
-AnswersAt (Some old) e (puts_out outs) (Some new) = IsHandled old e [] (Ok tt) new outs
-AnswersAt (Some old) e (refuses number) (Some new) = IsRefused old e number new
-AnswersAt None e (refuses number) None = refusal_number NoSuchConnection ≡ Some number
-AnswersAt old e answer new = ⊥
+-- what comes of a move, as the network's definitions say
+abbrev pub Comes : Network → Move → Outcome → Type 0
+Comes net (gives item) outcome = outcome ≡ given_or (item_fault net item) item net
+Comes net (delivers_line from to) outcome = outcome ≡ delivered_or (deliver_fault net from to) from to net
+Comes net settles_all outcome = IsSettling net outcome
 
--- Events are given one after another, and after each its answer is printed.
-pub data Plays : Standing → List Event → Standing → List ℕ → Type 0 where
-  nothing : {first : Standing} → Plays first [] first []
-  event : {first middle last : Standing} {e : Event} {events : List Event} {more text : List ℕ} (answer : Answer)
-      → AnswersAt first.server e answer middle.server → middle.next ≡ next_after e answer first.next
-      → text ≡ answer_text answer ++ more → Plays middle events last more → Plays first (e ∷ events) last text
+-- Moves are made one after another, and what comes of each is printed.
+pub data Plays : Network → List Move → Network → List ℕ → Type 0 where
+  nothing : {first : Network} → Plays first [] first []
+  move : {first last : Network} {m : Move} {moves : List Move} {more text : List ℕ} (outcome : Outcome)
+      → Comes first m outcome → text ≡ outcome.text ++ more → Plays outcome.network moves last more → Plays first (m ∷ moves) last text
 
 -- The same of what a script asks for.
-pub data Runs : Standing → List Request → Standing → List ℕ → Type 0 where
-  end : {first : Standing} → Runs first [] first []
-  request : {first middle last : Standing} {r : Request} {requests : List Request} {start more text : List ℕ}
-      → text ≡ start ++ more → Plays first (events_of first.next r) middle start → Runs middle requests last more → Runs first (r ∷ requests) last text
+pub data Runs : Network → List Request → Network → List ℕ → Type 0 where
+  end : {first : Network} → Runs first [] first []
+  request : {first middle last : Network} {r : Request} {requests : List Request} {start more text : List ℕ}
+      → text ≡ start ++ more → Plays first (moves_of r) middle start → Runs middle requests last more → Runs first (r ∷ requests) last text
 
 -- the text is what a reader had, where that is known
 abbrev pub IsTextOf : List ℕ → Option (List ℕ) → Type 0
 IsTextOf text remaining = IfSome remaining (λ bytes. text ≡ bytes)
-
--- Clients are numbered from 1.
-abbrev pub first_client : ℕ
-first_client = 1
-
--- the server of a script: nobody is connected to it, and its room is empty
-abbrev pub first_view : List ℕ → View
-first_view name = record { routes = alone_known name (codes "Test server") (codes "2024-01-01"); peers = []; ends = empty; clients = empty; room = no_room }
-
--- where a script begins, with a server of this name or with none
-abbrev pub first_standing : Option (List ℕ) → Standing
-first_standing None = record { next = first_client; server = None }
-first_standing (Some name) = record { next = first_client; server = Some (Some (first_view name)) }
 
 -- a script was run to its end
 pub record Finished (remaining old new : Option (List ℕ)) : Type 0 where
@@ -96,9 +76,9 @@ pub record Finished (remaining old new : Option (List ℕ)) : Type 0 where
   pub is_text : IsTextOf text remaining
   pub asked : Asked
   pub read : script_read text ≡ Ok asked
-  pub last : Standing
+  pub last : Network
   pub printed : List ℕ
-  pub runs : Runs (first_standing asked.server) asked.requests last printed
+  pub runs : Runs (first_network asked.servers) asked.requests last printed
   pub appended : Appends old new printed
 
 -- a script was refused for this line, and nothing was printed
@@ -119,9 +99,9 @@ pub record CutShort (remaining old new : Option (List ℕ)) : Type 0 where
   pub is_text : IsTextOf text remaining
   pub asked : Asked
   pub read : script_read text ≡ Ok asked
-  pub last : Standing
+  pub last : Network
   pub whole : List ℕ
-  pub runs : Runs (first_standing asked.server) asked.requests last whole
+  pub runs : Runs (first_network asked.servers) asked.requests last whole
   pub printed : List ℕ
   pub appended : Appends old new printed
   pub front : IsFront printed whole

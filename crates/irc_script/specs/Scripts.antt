@@ -1,18 +1,23 @@
 -- What a script asks for, line by line.
-use Rattle.std.specs.Prelude.{ℕ, ◌+◌, ◌&&◌, ◌==◌, Bool, Option, Some, None, Result, Ok, Err, List, [], ◌∷◌, take, drop, position, codes, is_none, option_and_then, if◌then◌else◌}
-use Rattle.std.specs.List.{slice_split, filter_map}
-use Rattle.std.specs.Option.{option_map}
+use Rattle.std.specs.Prelude.{ℕ, ◌+◌, ◌&&◌, ◌==◌, not, nat_lt, Bool, Option, Some, None, Result, Ok, Err, List, [], ◌∷◌, ◌++◌, length, take, drop, position, codes, is_none, is_some, option_and_then, if◌then◌else◌}
+use Rattle.std.specs.List.{slice_split, filter_map, list_any}
+use Rattle.std.specs.Option.{option_map, option_to_list}
 use Rattle.std.specs.Str.{bytes_eq}
 use Rattle.irc_line.specs.Bytes.{line_feed, is_space}
 use Rattle.irc_line.specs.Lines.{is_empty, last_piece, earlier_pieces}
 use Rattle.irc_names.specs.Names.{is_server, is_host}
+use Rattle.irc_script.specs.Limits.{max_servers}
 use Rattle.irc_script.specs.Numbers.{number_of}
 
 -- what one line asks for
 pub data Request : Type 0 where
-  connects : (host : List ℕ) → Request
+  connects : (server host : List ℕ) → Request
   says : (client : ℕ) (rest : List ℕ) → Request
   goes : (client : ℕ) → Request
+  links : (near far : List ℕ) → Request
+  cuts : (near far : List ℕ) → Request
+  delivers : (from to : List ℕ) → Request
+  settles : Request
 
 abbrev pub is_line_feed : ℕ → Bool
 is_line_feed b = b == line_feed
@@ -48,13 +53,12 @@ named_in line = if is_word line.before (codes "server") && is_server line.behind
 abbrev pub server_named : List ℕ → Option (List ℕ)
 server_named line = option_and_then named_in (cut_at_space line)
 
--- `NAME HOST`, where the name is the server's
-abbrev pub connect_in : Option (List ℕ) → Cut → Option Request
-connect_in None words = None
-connect_in (Some server) words = if is_word words.before server && is_host words.behind then Some (connects words.behind) else None
+-- `NAME HOST`
+abbrev pub connect_in : Cut → Option Request
+connect_in words = if is_server words.before && is_host words.behind then Some (connects words.before words.behind) else None
 
-abbrev pub connect_of : Option (List ℕ) → List ℕ → Option Request
-connect_of server words = option_and_then (connect_in server) (cut_at_space words)
+abbrev pub connect_of : List ℕ → Option Request
+connect_of words = option_and_then connect_in (cut_at_space words)
 
 -- `N REST`
 abbrev pub say_in : Cut → Option Request
@@ -67,45 +71,82 @@ say_of words = option_and_then say_in (cut_at_space words)
 abbrev pub gone_of : List ℕ → Option Request
 gone_of word = option_map goes (number_of word)
 
-abbrev pub request_in : Option (List ℕ) → Cut → Option Request
-request_in server line =
-    if is_word line.before (codes "connect") then connect_of server line.behind
+-- the names of two servers
+pub record Pair : Type 0 where
+  pub near : List ℕ
+  pub far : List ℕ
+
+-- `NAME NAME`
+abbrev pub pair_in : Cut → Option Pair
+pair_in words = if is_server words.before && is_server words.behind then Some (record { near = words.before; far = words.behind }) else None
+
+abbrev pub pair_of : List ℕ → Option Pair
+pair_of words = option_and_then pair_in (cut_at_space words)
+
+abbrev pub link_of : List ℕ → Option Request
+link_of words = option_map (λ pair. links pair.near pair.far) (pair_of words)
+
+abbrev pub cut_of : List ℕ → Option Request
+cut_of words = option_map (λ pair. cuts pair.near pair.far) (pair_of words)
+
+abbrev pub deliver_of : List ℕ → Option Request
+deliver_of words = option_map (λ pair. delivers pair.near pair.far) (pair_of words)
+
+-- what is asked for by a word with words behind it
+abbrev pub request_in : Cut → Option Request
+request_in line =
+    if is_word line.before (codes "connect") then connect_of line.behind
     else if is_word line.before (codes "say") then say_of line.behind
     else if is_word line.before (codes "gone") then gone_of line.behind
+    else if is_word line.before (codes "link") then link_of line.behind
+    else if is_word line.before (codes "cut") then cut_of line.behind
+    else if is_word line.before (codes "deliver") then deliver_of line.behind
     else None
 
--- what a line asks for, where the script has this server; nothing where it is none of `connect`, `say` and `gone`
-unfoldable pub request_of : Option (List ℕ) → List ℕ → Option Request
-request_of server line = option_and_then (request_in server) (cut_at_space line)
+-- what a line asks for, if anything
+unfoldable pub request_of : List ℕ → Option Request
+request_of line = if is_word line (codes "settle") then Some settles else option_and_then request_in (cut_at_space line)
 
--- the server of a script: the first line names it
-abbrev pub server_of : List (List ℕ) → Option (List ℕ)
-server_of [] = None
-server_of (line ∷ lines) = server_named line
+-- whether a server of this name may be named behind these: none has the name, and there is room for one more
+abbrev pub may_be_named : List (List ℕ) → List ℕ → Bool
+may_be_named named name = nat_lt (length named) max_servers && not (list_any (bytes_eq name) named)
 
--- how many lines name the server
-abbrev pub named_lines : Option (List ℕ) → ℕ
-named_lines None = 0
-named_lines (Some name) = 1
+abbrev pub if_another : List (List ℕ) → List ℕ → Option (List ℕ)
+if_another named name = if may_be_named named name then Some name else None
+
+-- the server that a line names behind these, if it names another
+abbrev pub another_server : List (List ℕ) → List ℕ → Option (List ℕ)
+another_server named line = option_and_then (if_another named) (server_named line)
+
+-- these, and those that the lines name behind them: the first line that names no other is the end
+unfoldable pub servers_behind : List (List ℕ) → List (List ℕ) → List (List ℕ)
+servers_behind named [] = named
+servers_behind named (line ∷ lines) =
+    if is_some (another_server named line) then servers_behind (named ++ option_to_list (another_server named line)) lines else named
+
+-- the servers of a script, in the order in which its first lines name them
+abbrev pub servers_of : List (List ℕ) → List (List ℕ)
+servers_of lines = servers_behind [] lines
 
 pub record Asked : Type 0 where
-  pub server : Option (List ℕ)
+  pub servers : List (List ℕ)
   pub requests : List Request
 
 -- the first of these lines that asks for nothing is bad; lines are counted from 1
-abbrev pub judged : Option (List ℕ) → List (List ℕ) → Option ℕ → Result Asked ℕ
-judged server lines (Some bad) = Err (named_lines server + bad + 1)
-judged server lines None = Ok (record { server = server; requests = filter_map (request_of server) lines })
+abbrev pub judged : List (List ℕ) → List (List ℕ) → Option ℕ → Result Asked ℕ
+judged servers lines (Some bad) = Err (length servers + bad + 1)
+judged servers lines None = Ok (record { servers = servers; requests = filter_map request_of lines })
 
 -- whether a line asks for nothing
-abbrev pub is_bad : Option (List ℕ) → List ℕ → Bool
-is_bad server line = is_none (request_of server line)
+abbrev pub is_bad : List ℕ → Bool
+is_bad line = is_none (request_of line)
 
-abbrev pub behind_server : Option (List ℕ) → List (List ℕ) → Result Asked ℕ
-behind_server server lines = judged server lines (position (is_bad server) lines)
+abbrev pub behind_servers : List (List ℕ) → List (List ℕ) → Result Asked ℕ
+behind_servers servers lines = judged servers lines (position is_bad lines)
 
+-- each server stands in a line of its own, ahead of all that is asked for
 abbrev pub lines_read : List (List ℕ) → Result Asked ℕ
-lines_read lines = behind_server (server_of lines) (drop (named_lines (server_of lines)) lines)
+lines_read lines = behind_servers (servers_of lines) (drop (length (servers_of lines)) lines)
 
 -- what a script asks for, or the number of its first bad line
 unfoldable pub script_read : List ℕ → Result Asked ℕ

@@ -1,29 +1,13 @@
-//! Scripts of clients on one server: how a script is read, what it asks of the server, and what is printed.
+//! Scripts of clients on networks of servers: how a script is read, what it asks of the network, and what is printed.
 #![tactic(auto)]
 
-#[cfg(test)]
-mod channel_tests;
-mod events;
+mod commands;
+mod configs;
 mod fault;
-#[cfg(test)]
-mod invite_tests;
-#[cfg(test)]
-mod kick_tests;
 pub mod laws;
-#[cfg(test)]
-mod leaving_tests;
-#[cfg(test)]
-mod message_tests;
-#[cfg(test)]
-mod mode_tests;
-#[cfg(test)]
-mod nickname_tests;
+mod lines;
 mod number;
 mod printing;
-#[cfg(test)]
-mod query_tests;
-#[cfg(test)]
-mod registration_tests;
 mod script;
 mod sim;
 mod sink;

@@ -1,80 +1,50 @@
 //! What is printed.
-ghost use Rattle.std.specs.Prelude.{◌≡◌};
-ghost use Rattle.irc_batch.specs.Batches.{sent_of};
-ghost use Rattle.irc_script.specs.Sinks.{IsPrinted, sink};
+ghost use Rattle.std.specs.Prelude.{◌≡◌, ◌++◌};
 ghost use Rattle.std.specs.List.{flat_map};
-ghost use Rattle.irc_script.specs.Printing.{printed, printed_line, refusal_line, refusal_number, body_of};
+ghost use Rattle.irc_net.specs.Views.{receipt_of, receipts_of};
+ghost use Rattle.irc_script.specs.Loops.Steps.{IsFaultPrinted};
+ghost use Rattle.irc_script.specs.Printing.{body_of, count_line, printed, printed_line, refusal_line, refusal_number, taken_text};
+ghost use Rattle.irc_script.specs.Sinks.{IsPrinted, sink};
 
 use crate::fault::Trouble;
 use crate::sink::{Waiting, print_pieces};
-use irc_batch::{Batch, Out};
-use irc_server::ServerFault;
+use irc_net::{NetFault, Receipt};
 use itoa::Buffer;
 use std::io::Write;
 
-/// The number of the refusal of an event for a client that is not there.
-pub const NO_SUCH_CLIENT: u64 = 3;
-
-/// The number by which a refusal is printed: its place among the faults of a server, counted from 1. None where it is no
-/// refusal, but want of memory.
-pub fn refusal_number(fault: ServerFault) -> Option<u64>
+/// The number by which a refusal is printed. None where it is no refusal, but want of memory.
+fn refusal_number(fault: NetFault) -> Option<u64>
     ensures { result ≡ refusal_number fault }
 {
     match fault {
-        ServerFault::Memory | ServerFault::Failed => None,
-        ServerFault::NoSuchConnection => Some(NO_SUCH_CLIENT),
-        ServerFault::ConnectionThere => Some(4),
-        ServerFault::NoSuchLink => Some(5),
-        ServerFault::LinkThere => Some(6),
+        NetFault::NotAtRest => Some(1),
+        NetFault::NoSuchServer => Some(2),
+        NetFault::NoSuchClient => Some(3),
+        NetFault::NotLinked => Some(4),
+        NetFault::LinkRefused => Some(5),
+        NetFault::Disagree => Some(6),
+        NetFault::Memory | NetFault::Failed => None,
     }
-}
-
-/// Prints each line to a client that was put out, in order.
-///
-/// # Errors
-/// Here and below: where a write fails.
-pub fn print_lines<W: Write>(
-    outs: &Batch,
-    waiting: &mut Waiting,
-    output: &mut W,
-) -> Result<(), Trouble>
-    ensures { IsPrinted result (sink (W.contents output.old) waiting.old.items) (sink (W.contents output.new) waiting.new.items) (flat_map printed outs.now.outs) }
-{
-    for place in 0..outs.len() {
-        let Some(out) = outs.get(place) else {
-            unreachable!();
-        };
-        print_out(out, waiting, output)?;
-    }
-    Ok(())
-}
-
-/// Prints a line to a client. The end of a connection is not printed, nor anything of links.
-fn print_out<W: Write>(out: Out<'_>, waiting: &mut Waiting, output: &mut W) -> Result<(), Trouble>
-    ensures { IsPrinted result (sink (W.contents output.old) waiting.old.items) (sink (W.contents output.new) waiting.new.items) (printed (sent_of out.entry)) }
-{
-    match out {
-        Out::Line(client, text) => print_line(client, text, waiting, output),
-        Out::Close(_) | Out::LinkLine(_, _) | Out::LinkClose(_, _) => Ok(()),
-    }
-}
-
-/// Prints a line to a client: the number of the client, a space, and the line.
-fn print_line<W: Write>(
-    client: u64,
-    text: &[u8],
-    waiting: &mut Waiting,
-    output: &mut W,
-) -> Result<(), Trouble>
-    ensures { IsPrinted result (sink (W.contents output.old) waiting.old.items) (sink (W.contents output.new) waiting.new.items) (printed_line client text.now) }
-{
-    let mut digits = Buffer::new();
-    let number = digits.format(client).as_bytes();
-    print_pieces(&[number, b" ", line_body(text), b"\n"], waiting, output)
 }
 
 /// Prints the number of a refusal.
-pub fn print_refusal<W: Write>(
+///
+/// # Errors
+/// Here and below: where a write fails. Here also where it is no refusal, but want of memory: nothing is printed then.
+pub fn print_fault<W: Write>(
+    fault: NetFault,
+    waiting: &mut Waiting,
+    output: &mut W,
+) -> Result<(), Trouble>
+    ensures { IsFaultPrinted (refusal_number fault) result (sink (W.contents output.old) waiting.old.items) (sink (W.contents output.new) waiting.new.items) }
+{
+    match refusal_number(fault) {
+        Some(number) => print_refusal(number, waiting, output),
+        None => Err(Trouble::Memory),
+    }
+}
+
+fn print_refusal<W: Write>(
     number: u64,
     waiting: &mut Waiting,
     output: &mut W,
@@ -84,6 +54,58 @@ pub fn print_refusal<W: Write>(
     let mut digits = Buffer::new();
     let number = digits.format(number).as_bytes();
     print_pieces(&[b"! ", number, b"\n"], waiting, output)
+}
+
+/// Prints each line that a client has received, in order, and behind them how many lines the servers took.
+pub fn print_taken<W: Write>(
+    count: u64,
+    lines: &[Receipt],
+    waiting: &mut Waiting,
+    output: &mut W,
+) -> Result<(), Trouble>
+    ensures { IsPrinted result (sink (W.contents output.old) waiting.old.items) (sink (W.contents output.new) waiting.new.items) (taken_text count (receipts_of lines.now)) }
+{
+    print_receipts(lines, waiting, output)?;
+    print_count(count, waiting, output)
+}
+
+fn print_count<W: Write>(count: u64, waiting: &mut Waiting, output: &mut W) -> Result<(), Trouble>
+    ensures { IsPrinted result (sink (W.contents output.old) waiting.old.items) (sink (W.contents output.new) waiting.new.items) (count_line count) }
+{
+    let mut digits = Buffer::new();
+    let number = digits.format(count).as_bytes();
+    print_pieces(&[b"= ", number, b"\n"], waiting, output)
+}
+
+/// Prints each line that a client has received, in order.
+pub fn print_receipts<W: Write>(
+    lines: &[Receipt],
+    waiting: &mut Waiting,
+    output: &mut W,
+) -> Result<(), Trouble>
+    ensures { IsPrinted result (sink (W.contents output.old) waiting.old.items) (sink (W.contents output.new) waiting.new.items) (flat_map printed (receipts_of lines.now)) }
+{
+    for line in lines {
+        print_receipt(line, waiting, output)?;
+    }
+    Ok(())
+}
+
+/// Prints a line that a client has received: the number of the client, a space, and the line.
+fn print_receipt<W: Write>(
+    line: &Receipt,
+    waiting: &mut Waiting,
+    output: &mut W,
+) -> Result<(), Trouble>
+    ensures { IsPrinted result (sink (W.contents output.old) waiting.old.items) (sink (W.contents output.new) waiting.new.items) (printed (receipt_of line.now)) }
+{
+    let mut digits = Buffer::new();
+    let number = digits.format(line.client).as_bytes();
+    print_pieces(
+        &[number, b" ", line_body(&line.text), b"\n"],
+        waiting,
+        output,
+    )
 }
 
 /// A text without its CR LF (RFC 2812 section 2.3).

@@ -1,42 +1,32 @@
-//! Scripts: their lines, and what each line asks for.
-ghost use Rattle.std.specs.Prelude.{◌≡◌, IfOk, length, drop, option_to_list, position, ◌+◌, ◌++◌, OnOk};
-ghost use Rattle.std.specs.List.{filter_map, slice_split};
+//! Scripts: their lines, and the servers that the first of these name.
+ghost use Rattle.std.specs.Prelude.{◌≡◌, ◌≤◌, IfOk, length, option_to_list, position, ◌++◌, OnOk};
+ghost use Rattle.std.specs.List.{filter_map, list_any, slice_split};
 ghost use Rattle.std.specs.Option.{option_map};
-ghost use Rattle.irc_line.specs.Bytes.{is_space};
-ghost use Rattle.irc_script.specs.Scripts.{is_word, is_line_feed, cut_at_space, ended, is_bad, named_lines, server_named, server_of, request_of, connect_of, say_of, gone_of};
-ghost use Rattle.irc_script.specs.ScriptViews.{cut_now, lines_now, request, requests, name_now, IsReadAs};
+ghost use Rattle.std.specs.Str.{bytes_eq};
+ghost use Rattle.irc_script.specs.Scripts.{is_line_feed, ended, is_bad, server_named, may_be_named, another_server, servers_of, request_of};
+ghost use Rattle.irc_script.specs.ScriptViews.{lines_now, request, requests, IsReadAs};
 
+use crate::commands::{Command, cut_at_space, is_word, read_command};
 use crate::fault::SimFault;
-use crate::number::read_number;
-use irc_names::{Host, ServerName};
+use irc_names::ServerName;
 use std::alloc::{AllocError, Global};
 
 const LINE_FEED: u8 = b'\n';
 
-const SPACE: u8 = b' ';
-
-/// What a line of a script asks for, behind the `server` line.
-#[derive(Drop)]
-pub enum Command<'a> {
-    /// A client connects to the server from this host.
-    Connect(Host),
-    /// The client with this number sends these bytes and an LF.
-    Say(u64, &'a [u8]),
-    /// The client with this number is gone.
-    Gone(u64),
-}
+/// How many servers a script may name.
+pub const MAX_SERVERS: usize = 256;
 
 /// A script that is read whole.
 #[derive(Drop)]
 pub struct Script<'a> {
-    /// The server, if the script names one.
-    pub server: Option<ServerName>,
+    /// The servers, in the order in which the script names them.
+    pub servers: Vec<ServerName, Global>,
     /// What is asked for, in order.
     pub commands: Vec<Command<'a>, Global>,
 }
 
-/// Reads a script: a line `server NAME`, which may be left out, and lines `connect NAME HOST` with that name, `say N REST` and
-/// `gone N`, each ended by LF (the last may go without). Nothing is run here.
+/// Reads a script: lines `server NAME`, at most [`MAX_SERVERS`] and no name twice, and behind them commands, each line ended by LF
+/// (the last may go without). Nothing is run here.
 ///
 /// # Errors
 /// The first line that is none of these; else where memory runs out.
@@ -45,12 +35,13 @@ pub fn read_script(alloc: Global, text: &[u8]) -> Result<Script<'_>, SimFault>
 {
     let pieces = pieces(alloc, text)?;
     let lines = whole_lines(&pieces);
-    let (server, rest) = behind_server(lines);
-    if let Some(bad) = first_bad(rest, server.as_ref()) {
-        return Err(SimFault::BadScript((lines.len() - rest.len() + bad) as u64 + 1));
+    let servers = servers_of(alloc, lines)?;
+    let rest = &lines[servers.len()..];
+    if let Some(bad) = first_bad(rest) {
+        return Err(SimFault::BadScript((servers.len() + bad) as u64 + 1));
     }
-    let commands = commands_of(alloc, rest, server.as_ref())?;
-    Ok(Script { server, commands })
+    let commands = commands_of(alloc, rest)?;
+    Ok(Script { servers, commands })
 }
 
 /// What stands between the LFs of a text.
@@ -72,18 +63,46 @@ fn whole_lines<'b, 'a>(pieces: &'b [&'a [u8]]) -> &'b [&'a [u8]]
     pieces
 }
 
-/// The server that the first line names, if it does, and the lines behind that.
-fn behind_server<'b, 'a>(lines: &'b [&'a [u8]]) -> (Option<ServerName>, &'b [&'a [u8]])
-    ensures server { result.0 ≡ server_of (lines_now lines.now) }
-    ensures lines { lines_now result.1.now ≡ drop (named_lines result.0) (lines_now lines.now) }
-    ensures count { named_lines result.0 + length result.1.now ≡ length lines.now }
+/// The servers that the first lines name, up to a line that names no other.
+fn servers_of(alloc: Global, lines: &[&[u8]]) -> Result<Vec<ServerName, Global>, AllocError>
+    ensures servers { IfOk result (λ servers. servers.items ≡ servers_of (lines_now lines.now)) }
+    ensures count { IfOk result (λ servers. length servers.items ≤ length lines.now) }
 {
-    if let Some((first, rest)) = lines.split_first() {
-        if let Some(name) = read_server(first) {
-            return (Some(name), rest);
-        }
+    let mut servers = Vec::new(alloc);
+    for line in lines {
+        let Some(name) = another_server(&servers, line) else {
+            return Ok(servers);
+        };
+        servers.push(name)?;
     }
-    (None, lines)
+    Ok(servers)
+}
+
+/// The server that a line names behind these: none has its name, and there is room for one more.
+fn another_server(servers: &[ServerName], line: &[u8]) -> Option<ServerName>
+    ensures { result ≡ another_server servers.now line.now }
+{
+    let name = read_server(line)?;
+    if may_be_named(servers, &name) {
+        Some(name)
+    } else {
+        None
+    }
+}
+
+/// Whether a server of this name may be named behind these.
+#[tactic(auto, unfolding(crate::specs::Limits::max_servers))]
+fn may_be_named(servers: &[ServerName], name: &ServerName) -> bool
+    ensures { result ≡ may_be_named servers.now name.now }
+{
+    servers.len() < MAX_SERVERS && !is_named(servers, name.as_bytes())
+}
+
+/// Whether one of these servers has this name.
+fn is_named(servers: &[ServerName], name: &[u8]) -> bool
+    ensures { result ≡ list_any (bytes_eq name.now) servers.now }
+{
+    servers.iter().any(|server| name == server.as_bytes())
 }
 
 /// The name in a line `server NAME`.
@@ -99,30 +118,29 @@ fn read_server(line: &[u8]) -> Option<ServerName>
 }
 
 /// Where the first line stands that is no command.
-fn first_bad(lines: &[&[u8]], server: Option<&ServerName>) -> Option<usize>
-    ensures { result ≡ position (λ line. is_bad (name_now server.entry) line.now) lines.now }
+fn first_bad(lines: &[&[u8]]) -> Option<usize>
+    ensures { result ≡ position (λ line. is_bad line.now) lines.now }
 {
-    lines.iter().position(|line| is_bad(line, server))
+    lines.iter().position(|line| is_bad(line))
 }
 
 /// Whether a line is no command.
-fn is_bad(line: &[u8], server: Option<&ServerName>) -> bool
-    ensures { result ≡ is_bad (name_now server.entry) line.now }
+fn is_bad(line: &[u8]) -> bool
+    ensures { result ≡ is_bad line.now }
 {
-    read_command(line, server).is_none()
+    read_command(line).is_none()
 }
 
 /// The commands among these lines.
 fn commands_of<'a>(
     alloc: Global,
     lines: &[&'a [u8]],
-    server: Option<&ServerName>,
 ) -> Result<Vec<Command<'a>, Global>, AllocError>
-    ensures { IfOk result (λ commands. requests commands.items ≡ filter_map (request_of (name_now server.entry)) (lines_now lines.now)) }
+    ensures { IfOk result (λ commands. requests commands.items ≡ filter_map request_of (lines_now lines.now)) }
 {
     let mut commands = Vec::new(alloc);
     for line in lines {
-        push_found(&mut commands, read_command(line, server))?;
+        push_found(&mut commands, read_command(line))?;
     }
     Ok(commands)
 }
@@ -138,70 +156,4 @@ fn push_found<'a>(
         commands.push(command)?;
     }
     Ok(())
-}
-
-/// The command that a line is.
-#[tactic(auto, unfolding(crate::specs::Scripts::request_of))]
-fn read_command<'a>(line: &'a [u8], server: Option<&ServerName>) -> Option<Command<'a>>
-    ensures { option_map request result ≡ request_of (name_now server.entry) line.now }
-{
-    let (word, rest) = cut_at_space(line)?;
-    if is_word(word, b"connect") {
-        read_connect(rest, server)
-    } else if is_word(word, b"say") {
-        read_say(rest)
-    } else if is_word(word, b"gone") {
-        read_gone(rest)
-    } else {
-        None
-    }
-}
-
-/// What follows `connect`: the name of the server, and a host.
-fn read_connect<'a>(words: &'a [u8], server: Option<&ServerName>) -> Option<Command<'a>>
-    ensures { option_map request result ≡ connect_of (name_now server.entry) words.now }
-{
-    let (name, host) = cut_at_space(words)?;
-    if is_word(name, server?.as_bytes()) {
-        Some(Command::Connect(Host::read(host)?))
-    } else {
-        None
-    }
-}
-
-/// What follows `say`: the number of a client, a space, and bytes.
-fn read_say(words: &[u8]) -> Option<Command<'_>>
-    ensures { option_map request result ≡ say_of words.now }
-{
-    let (number, rest) = cut_at_space(words)?;
-    Some(Command::Say(read_number(number)?, rest))
-}
-
-/// What follows `gone`: the number of a client.
-fn read_gone(word: &[u8]) -> Option<Command<'_>>
-    ensures { option_map request result ≡ gone_of word.now }
-{
-    Some(Command::Gone(read_number(word)?))
-}
-
-/// Whether two texts are the same.
-fn is_word(text: &[u8], word: &[u8]) -> bool
-    ensures { result ≡ is_word text.now word.now }
-{
-    text == word
-}
-
-/// What stands before the first space, and what behind it; nothing where there is none.
-fn cut_at_space(line: &[u8]) -> Option<(&[u8], &[u8])>
-    ensures { option_map cut_now result ≡ cut_at_space line.now }
-{
-    let end = place_of_space(line)?;
-    Some((&line[..end], &line[end + 1..]))
-}
-
-/// Where the first space stands.
-fn place_of_space(line: &[u8]) -> Option<usize>
-    ensures { result ≡ position is_space line.now }
-{
-    line.iter().position(|byte| *byte == SPACE)
 }

@@ -8,8 +8,9 @@ ghost use Rattle.irc_script.specs.Runs.{Ran, IsTextOf};
 ghost use Rattle.irc_script.specs.ScriptViews.{requests};
 ghost use Rattle.irc_script.specs.Sinks.{sink};
 
+use crate::commands::Command;
 use crate::fault::{SimFault, Trouble};
-use crate::script::{Command, read_script};
+use crate::script::read_script;
 use crate::sink::{Waiting, flush, write_waiting};
 use crate::stage::Stage;
 use std::alloc::Global;
@@ -21,8 +22,8 @@ pub const MAX_READS: u32 = 16_777_216;
 /// How many bytes are asked for in one read.
 pub const READ_SIZE: usize = 4096;
 
-/// Runs a script on one server, and prints each line that a client receives, as the client's number and the line, in the order
-/// of the calls.
+/// Runs a script on the network of its servers, and prints what comes of it: each line that a client receives, as the client's number
+/// and the line; `= 1` or `= 0` for a delivery, `= K` for a settling, K the lines that were taken; `! NUMBER` for a refusal.
 ///
 /// # Errors
 /// - [`SimFault::BadScript`] where a line is none that a script can have. Then nothing was run and nothing printed.
@@ -37,7 +38,7 @@ pub fn run_sim<R: Read, W: Write>(
 {
     let text = read_text(alloc, input)?;
     let script = read_script(alloc, &text)?;
-    let mut stage = Stage::new(alloc, script.server.as_ref())?;
+    let mut stage = Stage::new(alloc, &script.servers)?;
     run_all(&mut stage, &script.commands, output)?;
     Ok(())
 }
@@ -86,7 +87,7 @@ fn run_all<W: Write>(
     commands: &[Command<'_>],
     output: &mut W,
 ) -> Result<(), Trouble>
-    ensures { HasRun result stage.old (requests commands.now) stage.new (sink (W.contents output.old) []) (sink (W.contents output.new) []) }
+    ensures { HasRun result stage.old.net.network (requests commands.now) stage.new.net.network (sink (W.contents output.old) []) (sink (W.contents output.new) []) }
 {
     let mut waiting = Waiting::new();
     let performed = perform_all(stage, commands, &mut waiting, output);
@@ -102,7 +103,7 @@ fn perform_all<W: Write>(
     waiting: &mut Waiting,
     output: &mut W,
 ) -> Result<(), Trouble>
-    ensures { HasRun result stage.old (requests commands.now) stage.new (sink (W.contents output.old) waiting.old.items) (sink (W.contents output.new) waiting.new.items) }
+    ensures { HasRun result stage.old.net.network (requests commands.now) stage.new.net.network (sink (W.contents output.old) waiting.old.items) (sink (W.contents output.new) waiting.new.items) }
 {
     for command in commands {
         stage.perform(command, waiting, output)?;

@@ -1,109 +1,76 @@
-//! The server of a script, and what the script does to it.
-ghost use Rattle.std.specs.Prelude.{◌≡◌, [], ◌∷◌, codes, Some, IfOk};
-ghost use Rattle.irc_script.specs.Events.{events_of, lines_said};
-ghost use Rattle.irc_script.specs.Loops.Steps.{IsPlayed, answer_by};
-ghost use Rattle.irc_script.specs.Runs.{AnswersAt, first_standing, first_view, next_if_taken, number_behind};
-ghost use Rattle.irc_script.specs.ScriptViews.{name_now, request};
-ghost use Rattle.irc_script.specs.Scripts.{connects};
+//! The network of a script, and what the script does to it.
+ghost use Rattle.std.specs.Prelude.{◌≡◌, [], ◌∷◌, IfOk};
+ghost use Rattle.irc_net.specs.Calls.{IsGivable};
+ghost use Rattle.irc_net.specs.Views.{item_of};
+ghost use Rattle.irc_script.specs.Loops.Steps.{IsPlayed, taken_count};
+ghost use Rattle.irc_script.specs.Moves.{delivers_line, gives, lines_said, moves_of, settles_all};
+ghost use Rattle.irc_script.specs.Networks.{first_network};
+ghost use Rattle.irc_script.specs.ScriptViews.{request};
 ghost use Rattle.irc_script.specs.Sinks.{sink};
 
-use crate::events::lines_said;
+use crate::commands::Command;
+use crate::configs::configs_of;
 use crate::fault::Trouble;
-use crate::printing::{NO_SUCH_CLIENT, print_lines, print_refusal, refusal_number};
-use crate::script::Command;
+use crate::lines::lines_said;
+use crate::printing::{print_fault, print_receipts, print_taken};
 use crate::sink::Waiting;
-use irc_batch::Batch;
-use irc_names::{Host, ServerName};
-use irc_routes::Own;
-use irc_server::{Config, Event, Server};
-use std::alloc::{AllocError, Global};
+use irc_names::ServerName;
+use irc_net::{Item, Net};
+use std::alloc::Global;
 use std::io::Write;
-use std::marker::Model;
 
-/// How each server of a script describes itself.
-const INFO: &[u8] = b"Test server";
-
-/// When each server of a script says that it was created.
-const CREATED: &[u8] = b"2024-01-01";
-
-/// The number of the first client.
-const FIRST_CLIENT: u64 = 1;
-
-/// The server of a script, if it has one.
+/// The network of a script.
 #[derive(Drop)]
 pub struct Stage {
     alloc: Global,
-    server: Option<Server>,
-    next: u64,
-    out: Batch,
-}
-
-/// In a clause it is the number for the next client, and the server, if there is one.
-impl Model for Stage {
-    ghost use Rattle.irc_script.specs.Runs.{Standing};
-    ghost use Rattle.irc_script.specs.Codes.{standing_code};
-    ghost use Rattle.irc_server.specs.contracts.server.Server.{the_row as server_row};
-
-    ghost Value = { Standing };
-
-    ghost coded = { standing_code server_row.coded };
-
-    ghost view = { λ stage. record { next = stage.next; server = stage.server } };
+    pub(crate) net: Net,
 }
 
 impl Stage {
-    /// A server with this name that no client is connected to, or no server.
+    /// A network of servers with these names: none is linked, and nobody is connected.
     ///
     /// # Errors
     /// Where memory runs out.
-    pub fn new(alloc: Global, name: Option<&ServerName>) -> Result<Self, Trouble>
-        ensures { IfOk result (λ stage. stage ≡ first_standing (name_now name.entry)) }
+    pub fn new(alloc: Global, servers: &[ServerName]) -> Result<Self, Trouble>
+        ensures { IfOk result (λ stage. stage.net.network ≡ first_network servers.now) }
     {
-        let server = match name {
-            Some(name) => Some(new_server(alloc, name)?),
-            None => None,
-        };
-        Ok(Stage {
-            alloc,
-            server,
-            next: FIRST_CLIENT,
-            out: Batch::new(alloc),
-        })
+        let configs = configs_of(alloc, servers)?;
+        match Net::new(alloc, configs) {
+            Ok(net) => Ok(Stage { alloc, net }),
+            Err(_) => Err(Trouble::Memory),
+        }
     }
 
-    /// Gives the events of a command to the server, and prints what it answers to each.
+    /// Makes the moves of a command on the network, and prints what comes of each.
     ///
     /// # Errors
-    /// Where memory runs out, and where the writer fails.
+    /// Here and below: where memory runs out, and where the writer fails.
     pub fn perform<W: Write>(
         &mut self,
         command: &Command<'_>,
         waiting: &mut Waiting,
         output: &mut W,
     ) -> Result<(), Trouble>
-        ensures { IsPlayed result self.old (events_of self.old.next (request command.now)) self.new (sink (W.contents output.old) waiting.old.items) (sink (W.contents output.new) waiting.new.items) }
+        ensures { IsPlayed result self.old.net.network (moves_of (request command.now)) self.new.net.network (sink (W.contents output.old) waiting.old.items) (sink (W.contents output.new) waiting.new.items) }
     {
         match command {
-            Command::Connect(host) => self.connect(host, waiting, output),
+            Command::Connect(server, host) => {
+                self.give(Item::Connect(server.copy(), host.copy()), waiting, output)
+            }
             Command::Say(client, rest) => self.say(*client, rest, waiting, output),
-            Command::Gone(client) => self.give(&Event::Gone(*client), waiting, output),
+            Command::Gone(client) => self.give(Item::Gone(*client), waiting, output),
+            Command::Link(near, far) => {
+                self.give(Item::Link(near.copy(), far.copy()), waiting, output)
+            }
+            Command::Cut(near, far) => {
+                self.give(Item::Cut(near.copy(), far.copy()), waiting, output)
+            }
+            Command::Deliver(from, to) => self.deliver(from, to, waiting, output),
+            Command::Settle => self.settle(waiting, output),
         }
     }
 
-    /// The same of a client that connects.
-    fn connect<W: Write>(
-        &mut self,
-        host: &Host,
-        waiting: &mut Waiting,
-        output: &mut W,
-    ) -> Result<(), Trouble>
-        ensures { IsPlayed result self.old (events_of self.old.next (connects host.now)) self.new (sink (W.contents output.old) waiting.old.items) (sink (W.contents output.new) waiting.new.items) }
-    {
-        let event = Event::Connect(self.next, host.copy());
-        self.give(&event, waiting, output)
-    }
-
-    /// The same of the lines that a client says.
+    /// Gives the lines that a client says.
     fn say<W: Write>(
         &mut self,
         client: u64,
@@ -111,98 +78,63 @@ impl Stage {
         waiting: &mut Waiting,
         output: &mut W,
     ) -> Result<(), Trouble>
-        ensures { IsPlayed result self.old (lines_said client rest.now) self.new (sink (W.contents output.old) waiting.old.items) (sink (W.contents output.new) waiting.new.items) }
+        ensures { IsPlayed result self.old.net.network (lines_said client rest.now) self.new.net.network (sink (W.contents output.old) waiting.old.items) (sink (W.contents output.new) waiting.new.items) }
     {
         let lines = lines_said(self.alloc, rest)?;
         let mut left = lines.into_iter();
         while let Some(line) = left.next() {
-            self.give(&Event::Line(client, line), waiting, output)?;
+            self.give(Item::Line(client, line), waiting, output)?;
         }
         Ok(())
     }
 
-    /// Gives one event to the server, and prints the lines that it puts out, or the number of its refusal.
+    /// Gives one item, and prints the lines that clients receive by it, or the number of its refusal.
     fn give<W: Write>(
         &mut self,
-        event: &Event,
+        item: Item,
         waiting: &mut Waiting,
         output: &mut W,
     ) -> Result<(), Trouble>
-        ensures { IsPlayed result self.old (event.now ∷ []) self.new (sink (W.contents output.old) waiting.old.items) (sink (W.contents output.new) waiting.new.items) }
+        requires { IsGivable (item_of item) }
+        ensures { IsPlayed result self.old.net.network (gives (item_of item) ∷ []) self.new.net.network (sink (W.contents output.old) waiting.old.items) (sink (W.contents output.new) waiting.new.items) }
     {
-        let next = next_if_taken(event, self.next);
-        if let Some(number) = refusal_of(&mut self.server, event, &mut self.out)? {
-            return print_refusal(number, waiting, output);
+        match self.net.item(item) {
+            Ok(answer) => print_receipts(&answer.lines, waiting, output),
+            Err(fault) => print_fault(fault, waiting, output),
         }
-        self.next = next;
-        print_lines(&self.out, waiting, output)
+    }
+
+    /// Delivers one line, if one waits, and prints the lines that clients receive by it and whether one did, or the number of the
+    /// refusal.
+    fn deliver<W: Write>(
+        &mut self,
+        from: &ServerName,
+        to: &ServerName,
+        waiting: &mut Waiting,
+        output: &mut W,
+    ) -> Result<(), Trouble>
+        ensures { IsPlayed result self.old.net.network (delivers_line from.now to.now ∷ []) self.new.net.network (sink (W.contents output.old) waiting.old.items) (sink (W.contents output.new) waiting.new.items) }
+    {
+        match self.net.deliver(from, to) {
+            Ok((was_taken, lines)) => print_taken(count_taken(was_taken), &lines, waiting, output),
+            Err(fault) => print_fault(fault, waiting, output),
+        }
+    }
+
+    /// Delivers all lines, and prints the lines that clients receive by them and how many they are.
+    fn settle<W: Write>(&mut self, waiting: &mut Waiting, output: &mut W) -> Result<(), Trouble>
+        ensures { IsPlayed result self.old.net.network (settles_all ∷ []) self.new.net.network (sink (W.contents output.old) waiting.old.items) (sink (W.contents output.new) waiting.new.items) }
+    {
+        match self.net.settle() {
+            Ok((count, lines)) => print_taken(count, &lines, waiting, output),
+            Err(_) => Err(Trouble::Memory),
+        }
     }
 }
 
-/// Lets the server handle an event. Says by which number the event is refused; else `out` is what the server put out.
-fn refusal_of(
-    server: &mut Option<Server>,
-    event: &Event,
-    out: &mut Batch,
-) -> Result<Option<u64>, Trouble>
-    ensures { IfOk result (λ number. AnswersAt server.old event.now (answer_by number out.new.outs) server.new) }
+/// How many lines a delivery took.
+fn count_taken(was_taken: bool) -> u64
+    ensures { result ≡ taken_count was_taken }
 {
-    out.clear();
-    let Some(server) = server else {
-        return Ok(Some(NO_SUCH_CLIENT));
-    };
-    match server.handle(event, out) {
-        Ok(()) => Ok(None),
-        Err(fault) => match refusal_number(fault) {
-            Some(number) => Ok(Some(number)),
-            None => Err(Trouble::Memory),
-        },
-    }
-}
-
-/// The number for the next client, once an event was not refused.
-fn next_if_taken(event: &Event, next: u64) -> u64
-    ensures { result ≡ next_if_taken event.now next }
-{
-    match event {
-        Event::Connect(_, _) => number_behind(next),
-        _ => next,
-    }
-}
-
-/// The number behind a client's. At the greatest number it stays.
-#[tactic(auto, unfolding(crate::specs::Limits::max_number))]
-fn number_behind(number: u64) -> u64
-    ensures { result ≡ number_behind number }
-{
-    number.saturating_add(1)
-}
-
-/// A server of a script, with this name.
-fn new_server(alloc: Global, name: &ServerName) -> Result<Server, Trouble>
-    ensures { IfOk result (λ server. server ≡ Some (first_view name.now)) }
-{
-    let config = config(alloc, name)?;
-    match Server::new(alloc, config) {
-        Ok(server) => Ok(server),
-        Err(_) => Err(Trouble::Memory),
-    }
-}
-
-/// What a server of a script is configured to be.
-fn config(alloc: Global, name: &ServerName) -> Result<Config, AllocError>
-    ensures name { IfOk result (λ config. config.own.name.items ≡ name.now) }
-    ensures info { IfOk result (λ config. config.own.info.items ≡ codes "Test server") }
-    ensures created { IfOk result (λ config. config.own.created.items ≡ codes "2024-01-01") }
-    ensures peers { IfOk result (λ config. config.peers.items ≡ []) }
-{
-    let own = Own {
-        name: Vec::from_slice(alloc, name.as_bytes())?,
-        info: Vec::from_slice(alloc, INFO)?,
-        created: Vec::from_slice(alloc, CREATED)?,
-    };
-    Ok(Config {
-        own,
-        peers: Vec::new(alloc),
-    })
+    if was_taken { 1 } else { 0 }
 }

@@ -1,172 +1,26 @@
-//! Scripts that are bad, and devices that fail, and how the other tests run a script. What is expected is that of the RFC's replies in the wording of docs/PROFILE.md, none of
-//! it taken from the program.
-//!
-//! A text is a script and what it prints. A line behind `> ` is a line of the script, and below it stands what is printed there, in order;
-//! all that is printed is compared.
-//! `%` stands for 160 bytes `x`, which is the most of a topic and of the text of a PART, a KICK or a QUIT.
+//! Scripts that are bad, and devices that fail.
 use crate::fault::SimFault;
-use crate::message_tests::LONG;
 use crate::sim::run_sim;
+use itoa::Buffer;
 use std::alloc::{AllocError, Global};
 use std::cmp::min;
 use std::io;
 use std::io::{ErrorKind, Read, Write};
 
-/// The first clients, each as it registers.
-static CLIENTS: [&str; 3] = [AL, BO, CY];
-
-const AL: &str = "\
-> server a.net
-> connect a.net h
-> say 1 NICK al
-> say 1 USER u 0 * :Al
-1 :a.net 001 al :Welcome to the Internet Relay Network al!u@h
-1 :a.net 002 al :Your host is a.net, running version treeircd-1
-1 :a.net 003 al :This server was created 2024-01-01
-1 :a.net 004 al a.net treeircd-1 i biklmnopstv
-1 :a.net 422 al :MOTD File is missing
-";
-
-const BO: &str = "\
-> connect a.net h
-> say 2 NICK bo
-> say 2 USER u 0 * :Bo
-2 :a.net 001 bo :Welcome to the Internet Relay Network bo!u@h
-2 :a.net 002 bo :Your host is a.net, running version treeircd-1
-2 :a.net 003 bo :This server was created 2024-01-01
-2 :a.net 004 bo a.net treeircd-1 i biklmnopstv
-2 :a.net 422 bo :MOTD File is missing
-";
-
-const CY: &str = "\
-> connect a.net h
-> say 3 NICK cy
-> say 3 USER u 0 * :Cy
-3 :a.net 001 cy :Welcome to the Internet Relay Network cy!u@h
-3 :a.net 002 cy :Your host is a.net, running version treeircd-1
-3 :a.net 003 cy :This server was created 2024-01-01
-3 :a.net 004 cy a.net treeircd-1 i biklmnopstv
-3 :a.net 422 cy :MOTD File is missing
-";
-
-/// Whether the script of a text, behind the registration of so many clients, is run to its end and prints just what the text says.
-pub(crate) fn prints(alloc: Global, clients: usize, text: &str) -> bool {
-    prints_in_pieces(alloc, usize::MAX, clients, text)
-}
-
-/// The same, where a read gives at most so many bytes.
-fn prints_in_pieces(alloc: Global, size: usize, clients: usize, text: &str) -> bool {
-    let mut script = Vec::new(alloc);
-    let mut printed = Vec::new(alloc);
-    let mut output = Vec::new(alloc);
-    add_clients(clients, &mut script, &mut printed).is_ok()
-        && add_text(text, &mut script, &mut printed).is_ok()
-        && is_run(alloc, &script, size, &mut output)
-        && output == printed
-}
-
-/// Whether a script is run to its end, where a read gives at most so many bytes.
-pub(crate) fn is_run(alloc: Global, script: &[u8], size: usize, output: &mut Vec<u8>) -> bool {
-    let mut input = Pieces {
-        rest: script,
-        size,
-        breaks: false,
-    };
-    run_sim(alloc, &mut input, output).is_ok()
-}
-
-fn add_clients(
-    clients: usize,
-    script: &mut Vec<u8>,
-    printed: &mut Vec<u8>,
-) -> Result<(), AllocError> {
-    for client in CLIENTS.iter().take(clients) {
-        add_text(client, script, printed)?;
-    }
-    Ok(())
-}
-
-/// Appends the two parts of a text.
-pub(crate) fn add_text(
-    text: &str,
-    script: &mut Vec<u8>,
-    printed: &mut Vec<u8>,
-) -> Result<(), AllocError> {
-    for line in text.split('\n') {
-        add_line(line.as_bytes(), script, printed)?;
-    }
-    Ok(())
-}
-
-/// Appends a line to the part that it belongs to. What follows the last LF is no line.
-fn add_line(line: &[u8], script: &mut Vec<u8>, printed: &mut Vec<u8>) -> Result<(), AllocError> {
-    if line.is_empty() {
-        return Ok(());
-    }
-    match line.strip_prefix(b"> ") {
-        Some(said) => spell_out(said, script),
-        None => spell_out(line, printed),
-    }
-}
-
-fn spell_out(line: &[u8], part: &mut Vec<u8>) -> Result<(), AllocError> {
-    for byte in line {
-        spell_byte(*byte, part)?;
-    }
-    part.extend_from_slice(b"\n")
-}
-
-fn spell_byte(byte: u8, part: &mut Vec<u8>) -> Result<(), AllocError> {
-    if byte == b'%' {
-        part.extend_from_slice(&[b'x'; 160])
-    } else {
-        part.extend_from_slice(&[byte])
-    }
-}
-
-#[test]
-fn a_script_may_come_in_pieces(rt: HostRuntime) {
-    let alloc = rt.alloc();
-    assert!(rt;
-        prints_in_pieces(alloc, 1, 3, LONG)
-            && prints_in_pieces(alloc, 2, 3, LONG)
-            && prints_in_pieces(alloc, 509, 3, LONG)
-    );
-}
-
-/// The first client is al, the second connects at the end.
-const NOBODY: &str = "\
-> say 0 PING x
-! 3
-> say 2 PING x
-! 3
-> gone 2
-! 3
-> gone 18446744073709551615
-! 3
-> connect a.net h
-> say 2 PING x
-2 :a.net PONG a.net :x
-";
-
-#[test]
-fn clients_that_are_not_there_are_refused(rt: HostRuntime) {
-    assert!(rt; prints(rt.alloc(), 1, NOBODY));
-}
-
 /// Scripts, each with its first line that no script can have.
-static BAD_SCRIPTS: [(&[u8], u64); 24] = [
+static BAD_SCRIPTS: [(&[u8], u64); 37] = [
     (b"\n", 1),
     (b"server a.net\n\n", 2),
     (b"server a\n", 1),
     (b"server A.net\n", 1),
     (b"server a.net \n", 1),
     (b"server a.net b.net\n", 1),
-    (b"server a.net\nserver b.net\n", 2),
     (b"server a.net\nserver a.net\n", 2),
+    (b"server a.net\nserver b.net\nserver a.net\n", 3),
     (b"gone 1\nserver a.net\n", 2),
-    (b"connect a.net h\n", 1),
-    (b"server a.net\nconnect b.net h\n", 2),
+    (b"server a.net\nlink a.net b.net\nserver b.net\n", 3),
+    (b"connect a h\n", 1),
+    (b"server a.net\nconnect A.net h\n", 2),
     (b"server a.net\nconnect a.net\n", 2),
     (b"server a.net\nconnect a.net :h\n", 2),
     (b"server a.net\nconnect a.net h h\n", 2),
@@ -177,20 +31,34 @@ static BAD_SCRIPTS: [(&[u8], u64); 24] = [
     (b"say  x\n", 1),
     (b"say 18446744073709551616 x\n", 1),
     (b"gone 1 \n", 1),
-    (b"gone 1\nsettle", 2),
     (b"gone 1\nGONE 1\n", 2),
     (b"gone 1\r\n", 1),
+    (b"link a.net\n", 1),
+    (b"link a.net b\n", 1),
+    (b"link a b.net\n", 1),
+    (b"link a.net b.net \n", 1),
+    (b"link  a.net b.net\n", 1),
+    (b"cut a.net\n", 1),
+    (b"cut a.net b.net c.net\n", 1),
+    (b"deliver a.net\n", 1),
+    (b"deliver a.net b.net c.net\n", 1),
+    (b"deliver b.net A.net", 1),
+    (b"settle x\n", 1),
+    (b"gone 1\nsettle ", 2),
+    (b"settle\nsettled\n", 2),
 ];
+
+/// How a run of a script ends, and whether nothing is printed.
+fn ends(alloc: Global, script: &[u8]) -> (Result<(), SimFault>, bool) {
+    let mut input = script;
+    let mut output = Vec::new(alloc);
+    let end = run_sim(alloc, &mut input, &mut output);
+    (end, output.is_empty())
+}
 
 /// Whether a script is refused for this line, and nothing is run.
 fn is_bad_at(alloc: Global, script: &[u8], line: u64) -> bool {
-    let mut input = Pieces {
-        rest: script,
-        size: usize::MAX,
-        breaks: false,
-    };
-    let mut output = Vec::new(alloc);
-    run_sim(alloc, &mut input, &mut output) == Err(SimFault::BadScript(line)) && output.is_empty()
+    ends(alloc, script) == (Err(SimFault::BadScript(line)), true)
 }
 
 fn are_bad(alloc: Global) -> bool {
@@ -207,15 +75,44 @@ fn bad_scripts_are_named_by_their_line(rt: HostRuntime) {
     assert!(rt; are_bad(rt.alloc()));
 }
 
+/// The lines of so many servers, `0.net` and so on.
+fn add_servers(count: u64, script: &mut Vec<u8, Global>) -> Result<(), AllocError> {
+    for number in 0..count {
+        add_server(number, script)?;
+    }
+    Ok(())
+}
+
+fn add_server(number: u64, script: &mut Vec<u8, Global>) -> Result<(), AllocError> {
+    script.extend_from_slice(b"server ")?;
+    script.extend_from_slice(Buffer::new().format(number).as_bytes())?;
+    script.extend_from_slice(b".net\n")
+}
+
+/// What may follow the servers of a script, but for its second line, which nothing is.
+const BEHIND: &[u8] = b"gone 1\n\n";
+
+/// Whether a script may name as many servers as there may be, and not one more.
+fn are_bounded(alloc: Global) -> bool {
+    let mut most = Vec::new(alloc);
+    let mut more = Vec::new(alloc);
+    add_servers(256, &mut most).is_ok()
+        && add_servers(257, &mut more).is_ok()
+        && most.extend_from_slice(BEHIND).is_ok()
+        && is_bad_at(alloc, &most, 258)
+        && is_bad_at(alloc, &more, 257)
+}
+
+#[test]
+fn a_script_names_so_many_servers(rt: HostRuntime) {
+    assert!(rt; are_bounded(rt.alloc()));
+}
+
 const PING: &[u8] = b"server a.net\nconnect a.net h\nsay 1 PING x";
 
 /// Whether nothing is run where a read fails behind the whole script.
 fn breaks_unread(alloc: Global) -> bool {
-    let mut input = Pieces {
-        rest: PING,
-        size: 1,
-        breaks: true,
-    };
+    let mut input = Breaking { rest: PING };
     let mut output = Vec::new(alloc);
     run_sim(alloc, &mut input, &mut output) == Err(SimFault::Device) && output.is_empty()
 }
@@ -273,20 +170,18 @@ fn a_script_without_an_end(rt: HostRuntime) {
     assert!(rt; is_given_up(rt.alloc()));
 }
 
-/// A reader that gives at most so many bytes at a time, and ends or breaks behind the last.
+/// A reader that gives some bytes, and breaks behind the last.
 #[derive(Drop)]
-struct Pieces<'a> {
+struct Breaking<'a> {
     rest: &'a [u8],
-    size: usize,
-    breaks: bool,
 }
 
-impl Read for Pieces<'_> {
+impl Read for Breaking<'_> {
     fn read(&mut self, buf: &mut [u8]) -> io::Result<usize> {
-        if self.breaks && self.rest.is_empty() {
+        if self.rest.is_empty() {
             return Err(io::Error::from(ErrorKind::Other));
         }
-        let count = min(self.size, min(buf.len(), self.rest.len()));
+        let count = min(buf.len(), self.rest.len());
         let (piece, rest) = self.rest.split_at(count);
         buf[..count].copy_from_slice(piece);
         self.rest = rest;

@@ -1,6 +1,7 @@
 use Rattle.std.proofs.Common.{[], ◌∙◌, ap, sym, subst, inr}
 use Rattle.irc_script.specs.Loops.Steps.{RunWhole, RunInto}
-use Rattle.irc_script.specs.Runs.{IsTextOf, first_standing}
+use Rattle.irc_script.specs.Networks.{first_network}
+use Rattle.irc_script.specs.Runs.{IsTextOf}
 use Rattle.irc_script.specs.ScriptViews.{asked, requests}
 use Rattle.irc_script.specs.Sinks.{sink}
 use Rattle.irc_script.specs.Lemmas.Sinking.{whole_appended}
@@ -11,8 +12,8 @@ pub returns-in_err-run_all : goal.returns-in_err-run_all
 returns-in_err-run_all g c =
     let old = sink (g.W.Write.contents c.args.output.now) [] in
     let new = sink (g.W.Write.contents c.run_all.new.output) [] in
-    let some = subst (λ commands. RunInto c.in_ok-stage.stage (requests commands) old new) c.deref-2.ensures.value c.in_err-run_all.ensures in
-    let from_first = subst (λ first. RunInto first (requests c.in_ok-script.script.commands.items) old new) (c.in_ok-stage.ensures ∙ ap first_standing c.as_ref.ensures.value) some in
+    let some = subst (λ commands. RunInto c.in_ok-stage.stage.net.network (requests commands) old new) c.deref-3.ensures.value c.in_err-run_all.ensures in
+    let from_first = subst (λ first. RunInto first (requests c.in_ok-script.script.commands.items) old new) (c.in_ok-stage.ensures ∙ ap first_network c.deref-2.ensures.value) some in
     ran_early c.from_residual-in_err-run_all.result c.in_err-run_all.field-0.0 _ _ _ c.from_residual-in_err-run_all.ensures.0 c.from_residual-in_err-run_all.ensures.1
     (inr (cut_short _ _ _ c.deref.result.now (asked c.in_ok-script.script)
     (subst (λ text. IsTextOf text (g.R.Read.remaining c.args.input.now)) (sym c.deref.ensures.value) c.in_ok-text.ensures) c.in_ok-script.ensures from_first))
@@ -21,9 +22,9 @@ pub returns : goal.returns
 returns g c =
     let old = sink (g.W.Write.contents c.args.output.now) [] in
     let new = sink (g.W.Write.contents c.run_all.new.output) [] in
-    let last = c.run_all.new.stage in
-    let all = subst (λ commands. RunWhole c.in_ok-stage.stage (requests commands) last old new) c.deref-2.ensures.value c.in_ok-run_all.ensures in
-    let from_first = subst (λ first. RunWhole first (requests c.in_ok-script.script.commands.items) last old new) (c.in_ok-stage.ensures ∙ ap first_standing c.as_ref.ensures.value) all in
+    let last = c.run_all.new.stage.net.network in
+    let all = subst (λ commands. RunWhole c.in_ok-stage.stage.net.network (requests commands) last old new) c.deref-3.ensures.value c.in_ok-run_all.ensures in
+    let from_first = subst (λ first. RunWhole first (requests c.in_ok-script.script.commands.items) last old new) (c.in_ok-stage.ensures ∙ ap first_network c.deref-2.ensures.value) all in
     record {
       text = c.deref.result.now;
       is_text = subst (λ text. IsTextOf text (g.R.Read.remaining c.args.input.now)) (sym c.deref.ensures.value) c.in_ok-text.ensures;

@@ -1,0 +1,68 @@
+-- The network of a script, before anything is asked for.
+use Rattle.std.specs.Prelude.{ℕ, Bool, true, false, Option, Some, None, List, [], ◌∷◌, codes, map, if◌then◌else◌}
+use Rattle.std.specs.Cmp.Lexicographic.{slice_cmp}
+use Rattle.std.specs.FinMap.{empty}
+use Rattle.std.specs.List.{filter_map}
+use Rattle.std.specs.Ordering.{nat_cmp}
+use Rattle.std.specs.declared.cmp.Ordering.{Ordering}
+use Rattle.std.specs.declared.cmp.Ordering.TheVariants.{Greater}
+use Rattle.irc_net.specs.Network.{Network, Site}
+use Rattle.irc_relay.specs.Links.{Name, same}
+use Rattle.irc_room.specs.Laws.{no_room}
+use Rattle.irc_routes.specs.Known.{alone_known}
+use Rattle.irc_stage.specs.View.{KnownPeer, View}
+
+-- the password that any two servers of a script keep for each other
+abbrev pub script_password : List ℕ
+script_password = codes "pw"
+
+-- another server is a peer
+abbrev pub peer_of : Name → Name → Option KnownPeer
+peer_of server other = if same other server then None else Some (record { name = other; password = script_password })
+
+-- the peers of one of these servers: all others
+abbrev pub peers_of : Name → List Name → List KnownPeer
+peers_of server names = filter_map (peer_of server) names
+
+-- one of these servers: no link, and nobody connected
+abbrev pub first_view : List Name → Name → View
+first_view names server = record {
+  routes = alone_known server (codes "Test server") (codes "2024-01-01");
+  peers = peers_of server names;
+  ends = empty;
+  clients = empty;
+  room = no_room;
+}
+
+abbrev pub first_site : List Name → Name → Site
+first_site names server = record { server = Some (first_view names server); queues = empty }
+
+abbrev pub is_greater : Ordering → Bool
+is_greater Greater = true
+is_greater other = false
+
+-- whether a name is greater than another
+abbrev pub exceeds : Name → Name → Bool
+exceeds name other = is_greater (slice_cmp nat_cmp name other)
+
+-- a name goes in front of the first that is not less
+abbrev pub put_in : Name → List Name → List Name
+put_in name [] = name ∷ []
+put_in name (first ∷ names) = if exceeds name first then first ∷ put_in name names else name ∷ first ∷ names
+
+-- names in order
+abbrev pub in_order : List Name → List Name
+in_order [] = []
+in_order (name ∷ names) = put_in name (in_order names)
+
+-- the network with which a script begins: its servers, in the order of their names
+abbrev pub first_network : List Name → Network
+first_network names = record {
+  names = in_order names;
+  sites = map (first_site names) (in_order names);
+  links = [];
+  homes = [];
+  received = [];
+  items = [];
+  taken = 0;
+}

@@ -1,0 +1,141 @@
+//! What a line of a script asks for.
+ghost use Rattle.std.specs.Prelude.{◌≡◌, position};
+ghost use Rattle.std.specs.Option.{option_map};
+ghost use Rattle.irc_line.specs.Bytes.{is_space};
+ghost use Rattle.irc_script.specs.Scripts.{is_word, cut_at_space, request_of, request_in, connect_of, say_of, gone_of, pair_of, link_of, cut_of, deliver_of};
+ghost use Rattle.irc_script.specs.ScriptViews.{cut_now, pair_now, request};
+
+use crate::number::read_number;
+use irc_names::{Host, ServerName};
+
+const SPACE: u8 = b' ';
+
+/// What a line of a script asks for, behind the `server` lines.
+#[derive(Drop)]
+pub enum Command<'a> {
+    /// A client connects to this server from this host.
+    Connect(ServerName, Host),
+    /// The client with this number sends these bytes and an LF.
+    Say(u64, &'a [u8]),
+    /// The client with this number is gone.
+    Gone(u64),
+    /// These two servers are linked.
+    Link(ServerName, ServerName),
+    /// The link of these two servers is lost.
+    Cut(ServerName, ServerName),
+    /// The second server takes the oldest line that is on its way from the first.
+    Deliver(ServerName, ServerName),
+    /// Lines are taken until none is on its way.
+    Settle,
+}
+
+/// The command that a line is: `connect NAME HOST`, `say N REST`, `gone N`, `link NAME NAME`, `cut NAME NAME`, `deliver NAME NAME` or
+/// `settle`.
+#[tactic(auto, unfolding(crate::specs::Scripts::request_of))]
+pub fn read_command(line: &[u8]) -> Option<Command<'_>>
+    ensures { option_map request result ≡ request_of line.now }
+{
+    if is_word(line, b"settle") {
+        return Some(Command::Settle);
+    }
+    let (word, rest) = cut_at_space(line)?;
+    read_words(word, rest)
+}
+
+/// The command of a word with words behind it.
+fn read_words<'a>(word: &[u8], rest: &'a [u8]) -> Option<Command<'a>>
+    ensures { option_map request result ≡ request_in (record { before = word.now; behind = rest.now }) }
+{
+    if is_word(word, b"connect") {
+        read_connect(rest)
+    } else if is_word(word, b"say") {
+        read_say(rest)
+    } else if is_word(word, b"gone") {
+        read_gone(rest)
+    } else if is_word(word, b"link") {
+        read_link(rest)
+    } else if is_word(word, b"cut") {
+        read_cut(rest)
+    } else if is_word(word, b"deliver") {
+        read_deliver(rest)
+    } else {
+        None
+    }
+}
+
+/// What follows `connect`: the name of a server, and a host.
+fn read_connect(words: &[u8]) -> Option<Command<'_>>
+    ensures { option_map request result ≡ connect_of words.now }
+{
+    let (name, host) = cut_at_space(words)?;
+    Some(Command::Connect(ServerName::read(name)?, Host::read(host)?))
+}
+
+/// What follows `link`: the names of two servers.
+fn read_link(words: &[u8]) -> Option<Command<'_>>
+    ensures { option_map request result ≡ link_of words.now }
+{
+    let (near, far) = read_pair(words)?;
+    Some(Command::Link(near, far))
+}
+
+/// What follows `cut`, which is the same.
+fn read_cut(words: &[u8]) -> Option<Command<'_>>
+    ensures { option_map request result ≡ cut_of words.now }
+{
+    let (near, far) = read_pair(words)?;
+    Some(Command::Cut(near, far))
+}
+
+/// What follows `deliver`, which is the same too.
+fn read_deliver(words: &[u8]) -> Option<Command<'_>>
+    ensures { option_map request result ≡ deliver_of words.now }
+{
+    let (from, to) = read_pair(words)?;
+    Some(Command::Deliver(from, to))
+}
+
+/// The names of two servers.
+fn read_pair(words: &[u8]) -> Option<(ServerName, ServerName)>
+    ensures { option_map pair_now result ≡ pair_of words.now }
+{
+    let (near, far) = cut_at_space(words)?;
+    Some((ServerName::read(near)?, ServerName::read(far)?))
+}
+
+/// What follows `say`: the number of a client, a space, and bytes.
+fn read_say(words: &[u8]) -> Option<Command<'_>>
+    ensures { option_map request result ≡ say_of words.now }
+{
+    let (number, rest) = cut_at_space(words)?;
+    Some(Command::Say(read_number(number)?, rest))
+}
+
+/// What follows `gone`: the number of a client.
+fn read_gone(word: &[u8]) -> Option<Command<'_>>
+    ensures { option_map request result ≡ gone_of word.now }
+{
+    Some(Command::Gone(read_number(word)?))
+}
+
+/// Whether two texts are the same.
+pub fn is_word(text: &[u8], word: &[u8]) -> bool
+    ensures { result ≡ is_word text.now word.now }
+{
+    text == word
+}
+
+/// What stands before the first space, and what behind it; nothing where there is none.
+pub fn cut_at_space(line: &[u8]) -> Option<(&[u8], &[u8])>
+    ensures { option_map cut_now result ≡ cut_at_space line.now }
+{
+    let end = place_of_space(line)?;
+    Some((&line[..end], &line[end + 1..]))
+}
+
+/// Where the first space stands.
+fn place_of_space(line: &[u8]) -> Option<usize>
+    ensures { result ≡ position is_space line.now }
+{
+    line.iter().position(|byte| *byte == SPACE)
+}
