@@ -1,17 +1,19 @@
 -- Each step of the board, as what becomes of every connection.
 use Rattle.std.proofs.Common.{◌≡◌, ℕ, ◌+◌, ◌<◌, ◌≤◌, Bool, true, false, ◌&&◌, ◌||◌, cond, nat_eq, is_some, Option, Some, None, Result, Ok, Err, List, [], ◌∷◌, ◌++◌, length, refl, sym, ◌∙◌, ap, subst, append_assoc, append-nil, arith, length-append}
-use Rattle.std.specs.BTreeSet.{BTreeSet, btree_set_len}
+use Rattle.std.specs.BTreeMap.{BTreeMap, btree_map_len}
 use Rattle.irc_outbox.specs.declared.wire.IoFault.{IoFault}
 use Rattle.irc_outbox.specs.Calls.{Call, writes, closes, bytes_taken}
 use Rattle.irc_batch.specs.Batches.{Sent, end_of, line_to}
 use Rattle.irc_engine.specs.declared.board.Board.{Board}
+use Rattle.irc_engine.specs.declared.kind.Kind.{Kind}
 use Rattle.irc_engine.specs.declared.seat.Seat.{Seat}
-use Rattle.irc_engine.specs.Carrying.{owed, is_open_at, AddsAll, cut_off, overflowed, Passage}
+use Rattle.irc_engine.specs.Carrying.{owed, open_kind_at, AddsAll, cut_off, overflowed, Passage}
 use Rattle.irc_engine.specs.Loops.Counts.{count_of}
 use Rattle.irc_engine.specs.Loops.Seats.{seat_count, seat_of, IsSet}
-use Rattle.irc_engine.specs.Loops.Boards.{has, IsNoted, Ends, Loses, Carries}
+use Rattle.irc_engine.specs.Loops.Boards.{lost_at, lost_by, IsLostAs, Ends, Loses, Carries}
 use Rattle.irc_engine.proofs.SeatLaws.{one_number, nat_eq-refl}
 use Rattle.irc_engine.proofs.HearingLaws.{hears_gone}
+use Rattle.irc_engine.proofs.KindLaws.{kind_of_lost, some_lost, lost_by_open, lost_by_shut, open_some}
 use Rattle.irc_engine.proofs.CarryingLaws.{IsElsewhere, untouched, elsewhere_both}
 
 -- accounts
@@ -28,7 +30,7 @@ adds_both is_after old mid new a b one other = λ calls after.
 -- numbers
 
 -- what holds of one connection, and of each other that nothing has happened to
-pub by_number : (conn : ℕ) (old new : ℕ → Option Seat) (was now : ℕ → Bool) (calls : List Call) (outs : List Sent)
+pub by_number : (conn : ℕ) (old new : ℕ → Option Seat) (was now : ℕ → Option Kind) (calls : List Call) (outs : List Sent)
     → ((q : ℕ) → nat_eq conn q ≡ false → new q ≡ old q) → ((q : ℕ) → nat_eq conn q ≡ false → now q ≡ was q)
     → ((q : ℕ) → nat_eq conn q ≡ false → IsElsewhere q calls outs) → Passage conn (old conn) (was conn) calls outs (new conn) (now conn)
     → (q : ℕ) → Passage q (old q) (was q) calls outs (new q) (now q)
@@ -92,34 +94,19 @@ shut_elsewhere conn q two = record {
 
 -- losing a connection
 
-open_some : (seat : Option Seat) → is_open_at seat ≡ true → is_some seat ≡ true
-open_some None unshut = cc unshut
-open_some (Some seat) unshut = refl
-
-noted_or : (t l o : Bool) → o ≡ true → cond t true l ≡ (l || (t && o))
-noted_or true true o is = refl
-noted_or true false o is = sym is
-noted_or false true o is = refl
-noted_or false false o is = refl
-
-never_or : (t l o : Bool) → o ≡ false → l ≡ (l || (t && o))
-never_or t true o is = refl
-never_or true false o is = sym is
-never_or false false o is = refl
-
 module _ {W : Type 0} (is_after : W → List Call → Type 0) (conn : ℕ) (old done : Board W) where
-  pub lost_open : (numbers : BTreeSet ℕ) → Ends is_after conn old done → is_open_at (seat_of old.seats conn) ≡ true → IsNoted done.lost conn true numbers
-      → btree_set_len numbers ≤ btree_set_len done.lost + 1 → Loses is_after conn old (record done { lost = numbers })
-  lost_open numbers ends unshut noted len =
+  pub lost_open : (lost : BTreeMap ℕ Kind) (kind : Kind) → Ends is_after conn old done → open_kind_at (seat_of old.seats conn) ≡ Some kind
+      → IsLostAs done.lost conn (Some kind) lost → btree_map_len lost ≤ btree_map_len done.lost + 1 → Loses is_after conn old (record done { lost = lost })
+  lost_open lost kind ends unshut noted len =
       let fewer : seat_count done.seats + 1 ≡ seat_count old.seats =
-      ap (λ t. seat_count done.seats + cond t 1 0) (sym (open_some (seat_of old.seats conn) unshut)) ∙ ends.len in
+      ap (λ t. seat_count done.seats + cond t 1 0) (sym (open_some (seat_of old.seats conn) kind unshut)) ∙ ends.len in
       record {
         account = ends.account;
         seats = ends.seats;
-        lost = λ q. noted q ∙ noted_or (nat_eq conn q) (has done.lost q) (is_open_at (seat_of old.seats conn)) unshut
-            ∙ ap (λ l. has l q || (nat_eq conn q && is_open_at (seat_of old.seats conn))) ends.lost;
+        lost = λ q. noted q ∙ lost_by_open (nat_eq conn q) (seat_of old.seats conn) kind (lost_at done.lost q) unshut
+            ∙ ap (λ l. lost_by (nat_eq conn q) (seat_of old.seats conn) (lost_at l q)) ends.lost;
         waiting = ends.waiting;
-        count = omega (arith, ap btree_set_len ends.lost);
+        count = omega (arith, ap btree_map_len ends.lost);
       }
 
   fewer_or : (t : Bool) (n m : ℕ) → n + cond t 1 0 ≡ m → n ≤ m
@@ -129,13 +116,13 @@ module _ {W : Type 0} (is_after : W → List Call → Type 0) (conn : ℕ) (old 
   pub ends_fewer : Ends is_after conn old done → count_of done ≤ count_of old
   ends_fewer ends =
       let fewer = fewer_or (is_some (seat_of old.seats conn)) (seat_count done.seats) (seat_count old.seats) ends.len in
-      omega (arith, ap btree_set_len ends.lost)
+      omega (arith, ap btree_map_len ends.lost)
 
-  pub lost_shut : Ends is_after conn old done → is_open_at (seat_of old.seats conn) ≡ false → Loses is_after conn old done
+  pub lost_shut : Ends is_after conn old done → open_kind_at (seat_of old.seats conn) ≡ None → Loses is_after conn old done
   lost_shut ends shut = record {
     account = ends.account;
     seats = ends.seats;
-    lost = λ q. ap (λ l. has l q) ends.lost ∙ never_or (nat_eq conn q) (has old.lost q) (is_open_at (seat_of old.seats conn)) shut;
+    lost = λ q. ap (λ l. lost_at l q) ends.lost ∙ lost_by_shut (nat_eq conn q) (seat_of old.seats conn) (lost_at old.lost q) shut;
     waiting = ends.waiting;
     count = ends_fewer ends;
   }
@@ -145,7 +132,7 @@ pub record Drops {W : Type 0} (is_after : W → List Call → Type 0) (conn : �
   pub was : seat_of old.seats conn ≡ Some seat
   pub account : AddsAll is_after old.wire (before ++ closes conn ∷ []) new.wire
   pub seats : IsSet (seat_of old.seats) conn None (seat_of new.seats)
-  pub lost : (q : ℕ) → has new.lost q ≡ (has old.lost q || (nat_eq conn q && is_some seat.framer))
+  pub lost : (q : ℕ) → lost_at new.lost q ≡ lost_by (nat_eq conn q) (Some seat) (lost_at old.lost q)
   pub count : count_of new ≤ count_of old
 
 pub last_close : (conn : ℕ) → 0 + cond (nat_eq conn conn) 1 0 ≡ 1
@@ -157,11 +144,12 @@ at_last false true true is = refl
 at_last false true false is = refl
 at_last false false o is = cc is
 
-apart_lost : (l t o : Bool) → t ≡ false → (l || (t && o)) ≡ l
-apart_lost true t o is = refl
-apart_lost false t o is = ap (λ u. u && o) is
-
 module _ {W : Type 0} (is_after : W → List Call → Type 0) (conn : ℕ) (old new : Board W) (seat : Seat) where
+  dropped_lost : ((q : ℕ) → lost_at new.lost q ≡ lost_by (nat_eq conn q) (Some seat) (lost_at old.lost q))
+      → is_some (lost_at new.lost conn) ≡ ((is_some (lost_at old.lost conn) || (is_some seat.framer && true)) && true)
+  dropped_lost lost = ap is_some (lost conn) ∙ some_lost (nat_eq conn conn) (Some seat) (lost_at old.lost conn)
+      ∙ at_last (is_some (lost_at old.lost conn)) (nat_eq conn conn) (is_some seat.framer) (nat_eq-refl conn)
+
   -- a line that does not fit its outbox
   pub line_drops : (text : List ℕ) → is_some seat.framer ≡ true → seat.outbox.room < length seat.outbox.bytes + length text
       → Drops is_after conn seat [] old new → Carries is_after [] old (line_to conn text ∷ []) new
@@ -172,12 +160,12 @@ module _ {W : Type 0} (is_after : W → List Call → Type 0) (conn : ℕ) (old 
       record {
         calls = closes conn ∷ [];
         account = drops.account;
-        passage = by_number conn (seat_of old.seats) (seat_of new.seats) (has old.lost) (has new.lost) (closes conn ∷ []) outs
+        passage = by_number conn (seat_of old.seats) (seat_of new.seats) (lost_at old.lost) (lost_at new.lost) (closes conn ∷ []) outs
             (set_other (seat_of old.seats) (seat_of new.seats) conn None drops.seats)
-            (λ q two. drops.lost q ∙ apart_lost (has old.lost q) (nat_eq conn q) (is_some seat.framer) two)
+            (λ q two. drops.lost q ∙ ap (λ t. lost_by t (Some seat) (lost_at old.lost q)) two)
             (λ q two. elsewhere_both q [] (closes conn ∷ []) outs [] (line_elsewhere conn q text two) (close_elsewhere conn q two))
-            (subst (λ (s : Option Seat). Passage conn s (has old.lost conn) (closes conn ∷ []) outs (seat_of new.seats conn) (has new.lost conn)) (sym drops.was)
-            (subst (λ (s : Option Seat). Passage conn (Some seat) (has old.lost conn) (closes conn ∷ []) outs s (has new.lost conn))
+            (subst (λ (s : Option Seat). Passage conn s (lost_at old.lost conn) (closes conn ∷ []) outs (seat_of new.seats conn) (lost_at new.lost conn)) (sym drops.was)
+            (subst (λ (s : Option Seat). Passage conn (Some seat) (lost_at old.lost conn) (closes conn ∷ []) outs s (lost_at new.lost conn))
             (sym (set_here (seat_of old.seats) (seat_of new.seats) conn None drops.seats)) (record {
               fate = record {
                 left = seat.outbox.bytes ++ owed (is_some seat.framer) conn outs;
@@ -190,7 +178,8 @@ module _ {W : Type 0} (is_after : W → List Call → Type 0) (conn : ℕ) (old 
                   length-append {A = ℕ} seat.outbox.bytes (owed (is_some seat.framer) conn outs),
                 ));
               };
-              lost_is = drops.lost conn ∙ at_last (has old.lost conn) (nat_eq conn conn) (is_some seat.framer) (nat_eq-refl conn);
+              lost_is = dropped_lost drops.lost;
+              keeps_kind = kind_of_lost (Some seat) (lost_at old.lost conn) (lost_at new.lost conn) (nat_eq conn conn) (drops.lost conn);
               hears_none = hears_gone seat.framer;
             })));
         exchanged = refl;
@@ -205,12 +194,12 @@ module _ {W : Type 0} (is_after : W → List Call → Type 0) (conn : ℕ) (old 
       record {
         calls = calls;
         account = drops.account;
-        passage = by_number conn (seat_of old.seats) (seat_of new.seats) (has old.lost) (has new.lost) calls []
+        passage = by_number conn (seat_of old.seats) (seat_of new.seats) (lost_at old.lost) (lost_at new.lost) calls []
             (set_other (seat_of old.seats) (seat_of new.seats) conn None drops.seats)
-            (λ q two. drops.lost q ∙ apart_lost (has old.lost q) (nat_eq conn q) (is_some seat.framer) two)
+            (λ q two. drops.lost q ∙ ap (λ t. lost_by t (Some seat) (lost_at old.lost q)) two)
             (λ q two. elsewhere_both q (writes conn front (Err fault) ∷ []) (closes conn ∷ []) [] [] (write_elsewhere conn q front (Err fault) two) (close_elsewhere conn q two))
-            (subst (λ (s : Option Seat). Passage conn s (has old.lost conn) calls [] (seat_of new.seats conn) (has new.lost conn)) (sym drops.was)
-            (subst (λ (s : Option Seat). Passage conn (Some seat) (has old.lost conn) calls [] s (has new.lost conn))
+            (subst (λ (s : Option Seat). Passage conn s (lost_at old.lost conn) calls [] (seat_of new.seats conn) (lost_at new.lost conn)) (sym drops.was)
+            (subst (λ (s : Option Seat). Passage conn (Some seat) (lost_at old.lost conn) calls [] s (lost_at new.lost conn))
             (sym (set_here (seat_of old.seats) (seat_of new.seats) conn None drops.seats)) (record {
               fate = record {
                 left = seat.outbox.bytes ++ owed (is_some seat.framer) conn [];
@@ -218,7 +207,8 @@ module _ {W : Type 0} (is_after : W → List Call → Type 0) (conn : ℕ) (old 
                 once = last_close conn;
                 why = cut_off (ap (λ t. t || false) (nat_eq-refl conn));
               };
-              lost_is = drops.lost conn ∙ at_last (has old.lost conn) (nat_eq conn conn) (is_some seat.framer) (nat_eq-refl conn);
+              lost_is = dropped_lost drops.lost;
+              keeps_kind = kind_of_lost (Some seat) (lost_at old.lost conn) (lost_at new.lost conn) (nat_eq conn conn) (drops.lost conn);
               hears_none = hears_gone seat.framer;
             })));
         exchanged = refl;

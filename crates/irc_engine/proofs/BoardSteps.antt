@@ -2,7 +2,7 @@
 use Rattle.std.proofs.Common.{◌≡◌, ℕ, ◌≤◌, Bool, true, false, not, ◌&&◌, ◌||◌, cond, nat_eq, is_some, Option, Some, None, Result, Ok, Err, List, [], ◌∷◌, ◌++◌, length, refl, sym, ◌∙◌, ap, subst, append-nil, arith}
 use Rattle.std.specs.List.{filter}
 use Rattle.std.proofs.lemmas.List.Elements.{filter-append}
-use Rattle.std.specs.BTreeSet.{BTreeSet}
+use Rattle.std.specs.BTreeMap.{BTreeMap}
 use Rattle.irc_outbox.specs.declared.outbox.Overflow.{Overflow}
 use Rattle.irc_outbox.specs.Calls.{Call, closes, is_some_bytes}
 use Rattle.irc_batch.specs.Batches.{Sent, end_of, end_of_link, line_on, line_to}
@@ -10,15 +10,17 @@ use Rattle.irc_batch.specs.declared.close_reason.CloseReason.{CloseReason}
 use Rattle.irc_engine.specs.declared.board.Board.{Board}
 use Rattle.irc_engine.specs.declared.seat.Offered.{Offered}
 use Rattle.irc_engine.specs.declared.seat.Offered.TheVariants.{Nothing}
+use Rattle.irc_engine.specs.declared.kind.Kind.{Kind}
 use Rattle.irc_engine.specs.declared.seat.Seat.{Seat}
 use Rattle.irc_line.specs.Lines.{Begun}
 use Rattle.irc_engine.specs.Hearing.{Hears}
 use Rattle.irc_engine.proofs.HearingLaws.{hears_gone, hears_same}
-use Rattle.irc_engine.specs.Carrying.{owed, is_closed_by, is_open_at, is_exchange, AddsAll, Passage, finished}
+use Rattle.irc_engine.specs.Carrying.{owed, is_closed_by, is_exchange, AddsAll, Passage, finished}
 use Rattle.irc_engine.specs.Loops.Counts.{count_of}
 use Rattle.irc_engine.specs.Loops.Seats.{seat_count, seat_of, is_done_at, AreSame, at_seat, no_seat, IsOfferedAt, IsShutAt}
-use Rattle.irc_engine.specs.Loops.Boards.{has, IsNoted, Ends, Loses, Settles, ended, stayed, Carries}
+use Rattle.irc_engine.specs.Loops.Boards.{lost_at, lost_by, IsLostAs, Ends, Loses, Settles, ended, stayed, Carries}
 use Rattle.irc_engine.proofs.SeatLaws.{nat_eq-refl, IsQueuedAt}
+use Rattle.irc_engine.proofs.KindLaws.{kind_kept, kind_forgotten, kind_gone}
 use Rattle.irc_engine.proofs.CarryingLaws.{IsElsewhere, nothing_owed, passage_as, passage_on, untouched, still, kept_none, kept_some}
 use Rattle.irc_engine.proofs.BoardLaws.{adds_none, adds_both, at_once, by_number, set_here, set_other, nothing_else, close_elsewhere, line_elsewhere, shut_elsewhere, ends_fewer, last_close, line_drops}
 
@@ -33,7 +35,7 @@ module _ {W : Type 0} (is_after : W → List Call → Type 0) where
     calls = one.calls ++ other.calls;
     account = adds_both is_after old.wire mid.wire new.wire one.calls other.calls one.account other.account;
     passage = λ conn. passage_on conn one.calls other.calls x y (seat_of old.seats conn) (seat_of mid.seats conn) (seat_of new.seats conn)
-        (has old.lost conn) (has mid.lost conn) (has new.lost conn) (one.passage conn) (other.passage conn);
+        (lost_at old.lost conn) (lost_at mid.lost conn) (lost_at new.lost conn) (one.passage conn) (other.passage conn);
     exchanged = filter-append is_exchange one.calls other.calls ∙ ap (λ cs. cs ++ filter is_exchange other.calls) one.exchanged ∙ ap
         (λ cs. a ++ cs) other.exchanged;
     count = omega (arith, one.count, other.count);
@@ -45,8 +47,8 @@ module _ {W : Type 0} (is_after : W → List Call → Type 0) where
   carries_none old new wire same lost count = record {
     calls = [];
     account = adds_none is_after old.wire new.wire wire;
-    passage = λ conn. untouched conn [] [] (nothing_else conn) (seat_of old.seats conn) (seat_of new.seats conn) (has old.lost conn) (has new.lost conn)
-        (same conn) (ap (λ l. has l conn) lost);
+    passage = λ conn. untouched conn [] [] (nothing_else conn) (seat_of old.seats conn) (seat_of new.seats conn) (lost_at old.lost conn) (lost_at new.lost conn)
+        (same conn) (ap (λ l. lost_at l conn) lost);
     exchanged = refl;
     count = count;
   }
@@ -54,17 +56,17 @@ module _ {W : Type 0} (is_after : W → List Call → Type 0) where
   module _ (conn : ℕ) (old new : Board W) where
     -- one connection alone has another seat
     pub one_seat : (calls : List Call) (outs : List Sent) (was now : Option Seat) → seat_of old.seats conn ≡ was → seat_of new.seats conn ≡ now
-        → ((q : ℕ) → nat_eq conn q ≡ false → seat_of new.seats q ≡ seat_of old.seats q) → ((q : ℕ) → nat_eq conn q ≡ false → has new.lost q ≡ has old.lost q)
-        → ((q : ℕ) → nat_eq conn q ≡ false → IsElsewhere q calls outs) → Passage conn was (has old.lost conn) calls outs now (has new.lost conn)
-        → (q : ℕ) → Passage q (seat_of old.seats q) (has old.lost q) calls outs (seat_of new.seats q) (has new.lost q)
+        → ((q : ℕ) → nat_eq conn q ≡ false → seat_of new.seats q ≡ seat_of old.seats q) → ((q : ℕ) → nat_eq conn q ≡ false → lost_at new.lost q ≡ lost_at old.lost q)
+        → ((q : ℕ) → nat_eq conn q ≡ false → IsElsewhere q calls outs) → Passage conn was (lost_at old.lost conn) calls outs now (lost_at new.lost conn)
+        → (q : ℕ) → Passage q (seat_of old.seats q) (lost_at old.lost q) calls outs (seat_of new.seats q) (lost_at new.lost q)
     one_seat calls outs was now is_was is_now same lost apart here =
-        by_number conn (seat_of old.seats) (seat_of new.seats) (has old.lost) (has new.lost) calls outs same lost apart
-        (subst (λ (s : Option Seat). Passage conn s (has old.lost conn) calls outs (seat_of new.seats conn) (has new.lost conn)) (sym is_was)
-        (subst (λ (s : Option Seat). Passage conn was (has old.lost conn) calls outs s (has new.lost conn)) (sym is_now) here))
+        by_number conn (seat_of old.seats) (seat_of new.seats) (lost_at old.lost) (lost_at new.lost) calls outs same lost apart
+        (subst (λ (s : Option Seat). Passage conn s (lost_at old.lost conn) calls outs (seat_of new.seats conn) (lost_at new.lost conn)) (sym is_was)
+        (subst (λ (s : Option Seat). Passage conn was (lost_at old.lost conn) calls outs s (lost_at new.lost conn)) (sym is_now) here))
 
     module _ (text : List ℕ) (wire : new.wire ≡ old.wire) (lost : new.lost ≡ old.lost) (count : count_of new ≤ count_of old) where
-      same_lost : (q : ℕ) → has new.lost q ≡ has old.lost q
-      same_lost q = ap (λ l. has l q) lost
+      same_lost : (q : ℕ) → lost_at new.lost q ≡ lost_at old.lost q
+      same_lost q = ap (λ l. lost_at l q) lost
 
       -- a line that its outbox takes
       pub line_taken : IsQueuedAt conn text old.seats new.seats → Carries is_after [] old (line_to conn text ∷ []) new
@@ -86,7 +88,8 @@ module _ {W : Type 0} (is_after : W → List Call → Type 0) where
                     never = refl;
                     never_cut = refl;
                   };
-                  lost_is = same_lost conn ∙ kept_some (has old.lost conn) (is_some seat.framer);
+                  lost_is = ap is_some (same_lost conn) ∙ kept_some (is_some (lost_at old.lost conn)) (is_some seat.framer);
+                  keeps_kind = kind_kept (Some seat) (Some now) (lost_at old.lost conn) (lost_at new.lost conn) (ap (λ (s : Seat). Some s.kind) queued.is) (same_lost conn);
                   hears_none = hears_same seat.framer now.framer (ap (λ (s : Seat). s.framer) queued.is);
                 });
             exchanged = refl;
@@ -108,7 +111,12 @@ module _ {W : Type 0} (is_after : W → List Call → Type 0) where
             account = adds_none is_after old.wire new.wire wire;
             passage = one_seat [] (line_to conn text ∷ []) None None none (same conn ∙ none) (λ q two. same q) (λ q two. same_lost q)
                 (λ q two. line_elsewhere conn q text two)
-                (record { fate = record { nothing = refl; never = refl }; lost_is = same_lost conn ∙ kept_none (has old.lost conn); hears_none = refl });
+                (record {
+                  fate = record { nothing = refl; never = refl };
+                  lost_is = ap is_some (same_lost conn) ∙ kept_none (is_some (lost_at old.lost conn));
+                  keeps_kind = kind_kept None None (lost_at old.lost conn) (lost_at new.lost conn) refl (same_lost conn);
+                  hears_none = refl;
+                });
             exchanged = refl;
             count = count;
           }
@@ -126,7 +134,8 @@ module _ {W : Type 0} (is_after : W → List Call → Type 0) where
                     never = refl;
                     never_cut = refl;
                   };
-                  lost_is = same_lost conn ∙ kept_some (has old.lost conn) (is_some seat.framer);
+                  lost_is = ap is_some (same_lost conn) ∙ kept_some (is_some (lost_at old.lost conn)) (is_some seat.framer);
+                  keeps_kind = kind_kept (Some seat) (Some now) (lost_at old.lost conn) (lost_at new.lost conn) (ap (λ (s : Seat). Some s.kind) now_is) (same_lost conn);
                   hears_none = hears_same seat.framer now.framer (ap (λ (s : Seat). s.framer) now_is);
                 });
             exchanged = refl;
@@ -137,22 +146,27 @@ module _ {W : Type 0} (is_after : W → List Call → Type 0) where
     closed_now x = ap (λ t. x && not (t || false)) (nat_eq-refl conn) ∙ and_false x
 
     -- the server has closed a connection
-    pub shut_now : IsShutAt conn old.seats new.seats → IsNoted old.lost conn false new.lost → new.wire ≡ old.wire → count_of new ≤ count_of old
+    pub shut_now : IsShutAt conn old.seats new.seats → IsLostAs old.lost conn None new.lost → new.wire ≡ old.wire → count_of new ≤ count_of old
         → Carries is_after [] old (end_of conn ∷ []) new
     shut_now shut forgotten wire count = by shut
       where
-        others_lost : (q : ℕ) → nat_eq conn q ≡ false → has new.lost q ≡ has old.lost q
-        others_lost q two = forgotten q ∙ ap (λ t. cond t false (has old.lost q)) two
+        others_lost : (q : ℕ) → nat_eq conn q ≡ false → lost_at new.lost q ≡ lost_at old.lost q
+        others_lost q two = forgotten q ∙ ap (λ t. cond {A = Option Kind} t None (lost_at old.lost q)) two
 
-        not_lost : has new.lost conn ≡ false
-        not_lost = forgotten conn ∙ at_once conn false (has old.lost conn)
+        not_lost : lost_at new.lost conn ≡ None
+        not_lost = forgotten conn ∙ at_once {A = Option Kind} conn None (lost_at old.lost conn)
 
         by : IsShutAt conn old.seats new.seats → Carries is_after [] old (end_of conn ∷ []) new
         by (no_seat none same so) = record {
           calls = [];
           account = adds_none is_after old.wire new.wire wire;
           passage = one_seat [] (end_of conn ∷ []) None None none (same conn ∙ none) (λ q two. same q) others_lost (λ q two. shut_elsewhere conn q two)
-              (record { fate = record { nothing = refl; never = refl }; lost_is = not_lost ∙ sym (closed_now _); hears_none = refl });
+              (record {
+                fate = record { nothing = refl; never = refl };
+                lost_is = ap is_some not_lost ∙ sym (closed_now _);
+                keeps_kind = kind_forgotten None None (lost_at old.lost conn) (lost_at new.lost conn) refl not_lost;
+                hears_none = refl;
+              });
           exchanged = refl;
           count = count;
         }
@@ -170,7 +184,8 @@ module _ {W : Type 0} (is_after : W → List Call → Type 0) where
                   never = refl;
                   never_cut = refl;
                 };
-                lost_is = not_lost ∙ sym (closed_now _);
+                lost_is = ap is_some not_lost ∙ sym (closed_now _);
+                keeps_kind = kind_forgotten (Some seat) (Some now) (lost_at old.lost conn) (lost_at new.lost conn) (ap (λ (s : Seat). Some s.kind) now_is) not_lost;
                 hears_none = subst (λ (b : Option Begun). Hears seat.framer [] [] b) (sym (ap (λ (s : Seat). s.framer) now_is)) (hears_gone seat.framer);
               });
           exchanged = refl;
@@ -199,7 +214,7 @@ module _ {W : Type 0} (is_after : W → List Call → Type 0) where
               calls = closes conn ∷ [];
               account = ends.account;
               passage = one_seat (closes conn ∷ []) [] (Some seat) None was (set_here (seat_of old.seats) (seat_of new.seats) conn None ends.seats)
-                  (set_other (seat_of old.seats) (seat_of new.seats) conn None ends.seats) (λ q two. ap (λ l. has l q) ends.lost)
+                  (set_other (seat_of old.seats) (seat_of new.seats) conn None ends.seats) (λ q two. ap (λ l. lost_at l q) ends.lost)
                   (λ q two. close_elsewhere conn q two)
                   (record {
                     fate = record {
@@ -208,7 +223,8 @@ module _ {W : Type 0} (is_after : W → List Call → Type 0) where
                       once = last_close conn;
                       why = finished (ap (λ o. o && true) parts.0) refl;
                     };
-                    lost_is = ap (λ l. has l conn) ends.lost ∙ shut_lost (has old.lost conn) (is_some seat.framer) parts.0;
+                    lost_is = ap (λ l. is_some (lost_at l conn)) ends.lost ∙ shut_lost (is_some (lost_at old.lost conn)) (is_some seat.framer) parts.0;
+                    keeps_kind = kind_gone (Some seat) (lost_at old.lost conn) (lost_at new.lost conn) (ap (λ l. lost_at l conn) ends.lost);
                     hears_none = hears_gone seat.framer;
                   });
               exchanged = refl;
@@ -218,7 +234,7 @@ module _ {W : Type 0} (is_after : W → List Call → Type 0) where
   pub settled : (conn : ℕ) (old new : Board W) → Settles is_after conn old new → Carries is_after [] old [] new
   settled conn old new (ended done ends) = ends_done conn old new done ends
   settled conn old new (stayed undone wire seats lost noted) =
-      carries_none old new wire (λ q. ap (λ s. seat_of s q) seats) lost (omega (arith, ap seat_count seats, ap (λ (s : BTreeSet ℕ). length s.keys) lost))
+      carries_none old new wire (λ q. ap (λ s. seat_of s q) seats) lost (omega (arith, ap seat_count seats, ap (λ (m : BTreeMap ℕ Kind). length m.entries) lost))
 
   module _ (conn : ℕ) (old mid new : Board W) (loses : Loses is_after conn mid new) (lost : mid.lost ≡ old.lost) (count : count_of mid ≤ count_of old) where
     -- a line does not fit, and the connection is lost
@@ -234,8 +250,8 @@ module _ {W : Type 0} (is_after : W → List Call → Type 0) where
               account = subst (λ w. AddsAll is_after w (closes conn ∷ []) new.wire) wire loses.account;
               seats = λ q. loses.seats q ∙ over q (nat_eq conn q) refl (set q);
               lost = λ q. loses.lost q
-                  ∙ ap (λ l. has l q || (nat_eq conn q && is_open_at (seat_of mid.seats conn))) lost
-                  ∙ ap (λ (s : Option Seat). has old.lost q || (nat_eq conn q && is_open_at s)) (set_here (seat_of old.seats) (seat_of mid.seats) conn (Some now) set ∙ ap Some now_is);
+                  ∙ ap (λ l. lost_by (nat_eq conn q) (seat_of mid.seats conn) (lost_at l q)) lost
+                  ∙ ap (λ (s : Option Seat). lost_by (nat_eq conn q) s (lost_at old.lost q)) (set_here (seat_of old.seats) (seat_of mid.seats) conn (Some now) set ∙ ap Some now_is);
               count = omega (arith, loses.count, count);
             })
           where

@@ -5,6 +5,7 @@ use Rattle.std.proofs.lemmas.List.Folds.{list_any-append}
 use Rattle.std.proofs.lemmas.List.Sums.{sum_by-append}
 use Rattle.irc_outbox.specs.Calls.{Call, written, written_by, times_closed, is_close_of}
 use Rattle.irc_batch.specs.Batches.{Sent, end_of, end_of_link, line_on, line_to}
+use Rattle.irc_engine.specs.declared.kind.Kind.{Kind}
 use Rattle.irc_engine.specs.declared.seat.Seat.{Seat}
 use Rattle.irc_engine.specs.Hearing.{begun_at}
 use Rattle.irc_engine.proofs.HearingLaws.{hears_on, hears_kept}
@@ -187,13 +188,14 @@ module _ (conn : ℕ) (a b : List Call) (x y : List Sent) where
       ∙ lost_both was (is_some old.framer && true) (is_closed_by conn x) (is_closed_by conn y)
   lost_on (Some old) None (Some new) was between one other is = absurd other
 
-  pub passage_on : (old mid new : Option Seat) (was between now : Bool) → Passage conn old was a x mid between → Passage conn mid between b y new now
+  pub passage_on : (old mid new : Option Seat) (was between now : Option Kind) → Passage conn old was a x mid between → Passage conn mid between b y new now
       → Passage conn old was (a ++ b) (x ++ y) new now
   passage_on old mid new was between now one other = record {
     fate = fate_on old mid new one.fate other.fate;
     lost_is =
-        other.lost_is ∙ lost_on old mid new was between one.fate other.fate one.lost_is
-        ∙ ap (λ t. is_lost_after old was t new) (sym (is_closed_by-append conn x y));
+        other.lost_is ∙ lost_on old mid new (is_some was) (is_some between) one.fate other.fate one.lost_is
+        ∙ ap (λ t. is_lost_after old (is_some was) t new) (sym (is_closed_by-append conn x y));
+    keeps_kind = λ kind is. one.keeps_kind kind (other.keeps_kind kind is);
     hears_none = hears_on (begun_at old) (begun_at mid) (begun_at new) [] [] [] [] one.hears_none other.hears_none;
   }
 
@@ -246,13 +248,14 @@ kept_lost : (seat : Option Seat) (l c : Bool) → c ≡ false → l ≡ is_lost_
 kept_lost None l c is = kept_none l ∙ ap (λ t. (l || false) && not t) (sym is)
 kept_lost (Some seat) l c is = kept_some l (is_some seat.framer) ∙ ap (λ t. (l || (is_some seat.framer && false)) && not t) (sym is)
 
-pub untouched : (conn : ℕ) (calls : List Call) (outs : List Sent) → IsElsewhere conn calls outs → (old new : Option Seat) (was now : Bool) → new ≡ old → now ≡ was
+pub untouched : (conn : ℕ) (calls : List Call) (outs : List Sent) → IsElsewhere conn calls outs → (old new : Option Seat) (was now : Option Kind) → new ≡ old → now ≡ was
     → Passage conn old was calls outs new now
 untouched conn calls outs apart old new was now same as_lost =
     subst (λ (s : Option Seat). Passage conn old was calls outs s now) (sym same)
-    (subst (λ (l : Bool). Passage conn old was calls outs old l) (sym as_lost) (record {
+    (subst (λ (l : Option Kind). Passage conn old was calls outs old l) (sym as_lost) (record {
       fate = untouched_fate conn calls outs apart old;
-      lost_is = kept_lost old was (is_closed_by conn outs) apart.never_closed;
+      lost_is = kept_lost old (is_some was) (is_closed_by conn outs) apart.never_closed;
+      keeps_kind = λ kind is. is;
       hears_none = hears_kept (begun_at old);
     }))
 
@@ -284,10 +287,11 @@ module _ (conn : ℕ) (calls : List Call) (outs outs' : List Sent) (owes : (unsh
     why = why_as old fate.left fate.why;
   }
 
-  pub passage_as : (old : Option Seat) (was_lost : Bool) (new : Option Seat) (is_lost : Bool) → Passage conn old was_lost calls outs new is_lost
+  pub passage_as : (old : Option Seat) (was_lost : Option Kind) (new : Option Seat) (is_lost : Option Kind) → Passage conn old was_lost calls outs new is_lost
       → Passage conn old was_lost calls outs' new is_lost
   passage_as old was_lost new is_lost passage = record {
     fate = fate_as old new passage.fate;
-    lost_is = passage.lost_is ∙ ap (λ b. is_lost_after old was_lost b new) closes;
+    lost_is = passage.lost_is ∙ ap (λ b. is_lost_after old (is_some was_lost) b new) closes;
+    keeps_kind = passage.keeps_kind;
     hears_none = passage.hears_none;
   }

@@ -1,5 +1,6 @@
 pub mod HearingLaws
 pub mod SeatLaws
+pub mod KindLaws
 pub mod CarryingLaws
 pub mod BoardLaws
 pub mod BoardSteps

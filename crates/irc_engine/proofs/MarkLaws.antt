@@ -7,6 +7,7 @@ use Rattle.irc_outbox.specs.Calls.{Call, is_some_bytes}
 use Rattle.irc_engine.specs.declared.board.Board.{Board}
 use Rattle.irc_engine.specs.declared.seat.Offered.{Offered}
 use Rattle.irc_engine.specs.declared.seat.Offered.TheVariants.{Nothing, First, More}
+use Rattle.irc_engine.specs.declared.kind.Kind.{Kind}
 use Rattle.irc_engine.specs.declared.seat.Seat.{Seat}
 use Rattle.irc_engine.specs.Carrying.{fresh_seat, has_some_at, is_done_at}
 use Rattle.irc_engine.specs.Loops.Seats.{seat_of, at_seat, no_seat, IsOfferedAt, IsQueued, IsSet, IsShutAt, FramesAt}
@@ -172,7 +173,7 @@ module _ {W : Type 0} (conn : ℕ) (old new : Board W) where
           ∙ sym (ap has_some_at now_there ∙ ap (λ (s : Seat). is_some_bytes s.outbox.bytes) now_is)
 
   -- a framer has taken bytes
-  pub marks_framed : (piece : List ℕ) (result : Option (ℕ × Option (ArrayVec ℕ))) → FramesAt conn piece old.seats result new.seats
+  pub marks_framed : (piece : List ℕ) (result : Option (ℕ × Kind × Option (ArrayVec ℕ))) → FramesAt conn piece old.seats result new.seats
       → ((q : ℕ) → has new.waiting q ≡ has old.waiting q) → KeepsMarks old new
   marks_framed piece result (no_seat none same so) noted = marks_same same noted
   marks_framed piece None (at_seat seat now was set so) noted = marks_same (same_seats seat now was set so.1) noted
@@ -218,19 +219,19 @@ module _ {W : Type 0} (conn : ℕ) (old new : Board W) where
         (record { noted_is = refl; not_done = undone }))
 
   -- a connection has been made, and more is done
-  pub notes_seated : (mid : Board W) (room : ℕ) → seat_of old.seats conn ≡ None → IsSet (seat_of old.seats) conn (Some (fresh_seat room)) (seat_of mid.seats)
+  pub notes_seated : (mid : Board W) (kind : Kind) (room : ℕ) → seat_of old.seats conn ≡ None → IsSet (seat_of old.seats) conn (Some (fresh_seat kind room)) (seat_of mid.seats)
       → ((q : ℕ) → has mid.waiting q ≡ has old.waiting q) → KeepsMarks mid new → KeepsNotes old new
-  notes_seated mid room none set waiting keeps = λ q is. keeps q false (by q (nat_eq conn q) refl is)
+  notes_seated mid kind room none set waiting keeps = λ q is. keeps q false (by q (nat_eq conn q) refl is)
     where
       at : IsMarkedAt conn false old → IsMarkedAt conn false mid
       at is = subst (λ (s : Option Seat). IsMarked false s (has mid.waiting conn)) (sym (set_here (seat_of old.seats) (seat_of mid.seats) conn (Some
-          (fresh_seat room)) set))
+          (fresh_seat kind room)) set))
           (record { noted_is = waiting conn ∙ is.noted_is ∙ ap has_some_at none; not_done = refl })
 
       by : (q : ℕ) (t : Bool) → nat_eq conn q ≡ t → IsMarkedAt q false old → IsMarkedAt q false mid
       by q true one is = subst (λ p. IsMarkedAt p false mid) (one_number conn q one) (at (subst (λ p. IsMarkedAt p false old) (sym (one_number conn q one)) is))
       by q false two is = marked_as false (seat_of old.seats q) (seat_of mid.seats q) (has old.waiting q) (has mid.waiting q)
-          (set_other (seat_of old.seats) (seat_of mid.seats) conn (Some (fresh_seat room)) set q two) (waiting q) is
+          (set_other (seat_of old.seats) (seat_of mid.seats) conn (Some (fresh_seat kind room)) set q two) (waiting q) is
 
 pub noted_as : (old new : BTreeSet ℕ) (conn : ℕ) (a b : Bool) → a ≡ b → IsNoted old conn a new → IsNoted old conn b new
 noted_as old new conn a b is noted = λ q. noted q ∙ ap (λ t. cond (nat_eq conn q) t (has old q)) is

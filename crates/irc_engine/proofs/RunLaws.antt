@@ -1,12 +1,11 @@
 -- Stretches of a turn, one after another.
 use Rattle.std.proofs.Common.{◌≡◌, ℕ, ◌+◌, ◌-◌, ◌<◌, ◌≤◌, Bool, true, false, not, ◌&&◌, ◌||◌, cond, nat_eq, is_some, Option, Some, None, Result, Ok, Err, OnOk, List, [], ◌∷◌, ◌++◌, refl, sym, ◌∙◌, ap, subst, append_assoc, append-nil, arith, take, drop, length, length-append}
-use Rattle.std.specs.List.{filter, list_any, slice_range}
+use Rattle.std.specs.List.{filter, slice_range, AllByRecursion}
 use Rattle.std.specs.BTreeSet.{BTreeSet}
 use Rattle.std.proofs.Math.Seq.{take-add}
 use Rattle.std.proofs.lemmas.List.{take-append-le, take-append-drop, length-take}
 use Rattle.std.proofs.lemmas.List.Folds.{drop_split}
 use Rattle.std.proofs.lemmas.List.Elements.{filter-append}
-use Rattle.std.proofs.lemmas.List.Folds.{list_any-append}
 use Rattle.irc_outbox.specs.declared.wire.Got.{Got}
 use Rattle.irc_outbox.specs.declared.wire.Got.TheVariants.{Bytes, Later, End}
 use Rattle.irc_outbox.specs.declared.wire.IoFault.{IoFault}
@@ -17,27 +16,33 @@ use Rattle.irc_server.specs.declared.event.ServerFault.{ServerFault}
 use Rattle.irc_stage.specs.View.{View}
 use Rattle.irc_server.specs.Happening.{IsHandled}
 use Rattle.irc_engine.specs.declared.board.Board.{Board}
+use Rattle.irc_engine.specs.declared.kind.Kind.{Kind}
+use Rattle.irc_engine.specs.declared.kind.Kind.TheVariants as kinds
 use Rattle.irc_engine.specs.declared.seat.Seat.{Seat}
 use Rattle.irc_engine.specs.declared.seat.Seats.{Seats}
-use Rattle.irc_engine.specs.Carrying.{is_exchange, owed, is_open_at, is_cut_off, is_closed_by, AddsAll, Fate, Passage, cut_off}
-use Rattle.irc_server.specs.declared.event.Event.TheVariants.{Gone}
+use Rattle.irc_engine.specs.Carrying.{is_exchange, owed, is_open_at, is_cut_off, is_closed_by, kind_at, AddsAll, Fate, IsOfKind, kind_of_seat, kind_of_loss, KeepsKind, Passage, cut_off}
 use Rattle.irc_line.specs.Lines.{Begun}
 use Rattle.irc_line.specs.Framed.{found_in}
-use Rattle.irc_engine.specs.Hearing.{begun_at, is_connect, lines_by, times_gone, nothing_of, only_of, Hears}
-use Rattle.irc_engine.specs.Running.{Moment, AreAsked, AsksOnce, Ran, RanOn, Standing, standing_of, Tells}
+use Rattle.irc_engine.specs.Hearing.{begun_at, end_event_of, line_event_of, lines_by, times_gone, nothing_of, only_of, Hears}
+use Rattle.irc_engine.specs.Running.{Moment, AreAsked, AsksOnce, IsNews, a_line, an_end, Ran, RanOn, Standing, standing_of, Tells}
 use Rattle.irc_engine.specs.Writing.{one_if}
 use Rattle.irc_engine.proofs.HearingLaws.{lines_by-append, times_gone-append, hears_on, hears_kept, hears_same, hears_gone, hears_deaf}
 use Rattle.irc_engine.specs.Loops.Seats.{seat_of, at_seat, no_seat, FramesAt}
-use Rattle.irc_engine.specs.Loops.Boards.{has, Carries, Loses}
+use Rattle.irc_engine.specs.Loops.Boards.{has, lost_at, lost_by, Carries, Loses}
 use Rattle.irc_engine.specs.Loops.Desks.{came, passed_on}
 use Rattle.irc_engine.proofs.BoardLaws.{adds_none, adds_both, at_once, set_here, set_other, close_elsewhere, last_close}
 use Rattle.irc_engine.proofs.SeatLaws.{one_number, nat_eq-refl}
+use Rattle.irc_engine.proofs.KindLaws.{kind_kept, kind_of_lost, some_lost}
 use Rattle.arrayvec.specs.ArrayVec.{ArrayVec}
 use Rattle.irc_engine.proofs.CarryingLaws.{is_closed_by-append, IsElsewhere, elsewhere_both, fate_on, same_fate, untouched_fate, nothing_owed, still}
 
 pub on_ok : {E : Type 0} (result : Result (Unit {0}) E) (P Q : Type 0) → (P → Q) → OnOk result P → OnOk result Q
 on_ok (Ok done) P Q so holds = so holds
 on_ok (Err fault) P Q so holds = tt
+
+pub on_both : {E : Type 0} (result : Result (Unit {0}) E) (P Q R : Type 0) → (P → Q → R) → OnOk result P → OnOk result Q → OnOk result R
+on_both (Ok done) P Q R so holds too = so holds too
+on_both (Err fault) P Q R so holds too = tt
 
 pub none_there : (seat : Option Seat) → is_some seat ≡ false → seat ≡ None
 none_there None none = refl
@@ -114,16 +119,16 @@ known_left false false true = refl
 known_left false false false = refl
 
 -- the server knows of just those connections of which it knew, but for those that it has closed
-known_after : (conn : ℕ) (old : Option Seat) (was : Bool) (calls : List Call) (outs : List Sent) (new : Option Seat) (now : Bool)
-    → Passage conn old was calls outs new now → (now || is_open_at new) ≡ ((was || is_open_at old) && not (is_closed_by conn outs))
-known_after conn None was calls outs None now passed = ap (λ t. t || false) passed.lost_is ∙ known_none was (is_closed_by conn outs)
+known_after : (conn : ℕ) (old : Option Seat) (was : Option Kind) (calls : List Call) (outs : List Sent) (new : Option Seat) (now : Option Kind)
+    → Passage conn old was calls outs new now → (is_some now || is_open_at new) ≡ ((is_some was || is_open_at old) && not (is_closed_by conn outs))
+known_after conn None was calls outs None now passed = ap (λ t. t || false) passed.lost_is ∙ known_none (is_some was) (is_closed_by conn outs)
 known_after conn None was calls outs (Some new) now passed = absurd passed.fate
 known_after conn (Some old) was calls outs (Some new) now passed =
     ap (λ t. t || is_some new.framer) passed.lost_is
-    ∙ ap (λ t. ((was || (is_some old.framer && false)) && not (is_closed_by conn outs)) || t) passed.fate.still_open
-    ∙ known_some was (is_some old.framer) (is_closed_by conn outs)
+    ∙ ap (λ t. ((is_some was || (is_some old.framer && false)) && not (is_closed_by conn outs)) || t) passed.fate.still_open
+    ∙ known_some (is_some was) (is_some old.framer) (is_closed_by conn outs)
 known_after conn (Some old) was calls outs None now passed =
-    ap (λ t. t || false) passed.lost_is ∙ known_left was (is_some old.framer) (is_closed_by conn outs)
+    ap (λ t. t || false) passed.lost_is ∙ known_left (is_some was) (is_some old.framer) (is_closed_by conn outs)
 
 never_both : (b : Bool) → (b && false) ≡ false
 never_both true = refl
@@ -136,29 +141,29 @@ apart_some true false false is = refl
 apart_some false true c is = refl
 apart_some false false c is = refl
 
-apart_after : (conn : ℕ) (old : Option Seat) (was : Bool) (calls : List Call) (outs : List Sent) (new : Option Seat) (now : Bool)
-    → Passage conn old was calls outs new now → (was && is_open_at old) ≡ false → (now && is_open_at new) ≡ false
-apart_after conn old was calls outs None now passed apart = never_both now
+apart_after : (conn : ℕ) (old : Option Seat) (was : Option Kind) (calls : List Call) (outs : List Sent) (new : Option Seat) (now : Option Kind)
+    → Passage conn old was calls outs new now → (is_some was && is_open_at old) ≡ false → (is_some now && is_open_at new) ≡ false
+apart_after conn old was calls outs None now passed apart = never_both (is_some now)
 apart_after conn None was calls outs (Some new) now passed apart = absurd passed.fate
 apart_after conn (Some old) was calls outs (Some new) now passed apart =
     ap (λ t. t && is_some new.framer) passed.lost_is
-    ∙ ap (λ t. ((was || (is_some old.framer && false)) && not (is_closed_by conn outs)) && t) passed.fate.still_open
-    ∙ apart_some was (is_some old.framer) (is_closed_by conn outs) apart
+    ∙ ap (λ t. ((is_some was || (is_some old.framer && false)) && not (is_closed_by conn outs)) && t) passed.fate.still_open
+    ∙ apart_some (is_some was) (is_some old.framer) (is_closed_by conn outs) apart
 
 -- the board has done something: the server is told nothing
-tells_passage : (conn : ℕ) (old : Option Seat) (was : Bool) (calls : List Call) (outs : List Sent) (new : Option Seat) (now : Bool)
+tells_passage : (conn : ℕ) (old : Option Seat) (was : Option Kind) (calls : List Call) (outs : List Sent) (new : Option Seat) (now : Option Kind)
     → Passage conn old was calls outs new now
-    → Tells conn (record { lost = was; unshut = is_open_at old }) [] outs (record { lost = now; unshut = is_open_at new })
+    → Tells conn (record { lost = is_some was; unshut = is_open_at old }) [] outs (record { lost = is_some now; unshut = is_open_at new })
 tells_passage conn old was calls outs new now passed = λ apart. record {
-  at_most = subst (λ (b : Bool). 0 + one_if b ≤ one_if (was || is_open_at old)) (sym known) (fewer (was || is_open_at old) (is_closed_by conn outs));
+  at_most = subst (λ (b : Bool). 0 + one_if b ≤ one_if (is_some was || is_open_at old)) (sym known) (fewer (is_some was || is_open_at old) (is_closed_by conn outs));
   unless_closed = λ unshut.
-      let same : one_if (now || is_open_at new) ≡ one_if (was || is_open_at old) =
-      ap one_if (known ∙ ap (λ c. (was || is_open_at old) && not c) unshut ∙ and_true (was || is_open_at old)) in
+      let same : one_if (is_some now || is_open_at new) ≡ one_if (is_some was || is_open_at old) =
+      ap one_if (known ∙ ap (λ c. (is_some was || is_open_at old) && not c) unshut ∙ and_true (is_some was || is_open_at old)) in
       omega (arith, same);
   apart = apart_after conn old was calls outs new now passed apart;
 }
   where
-    known : (now || is_open_at new) ≡ ((was || is_open_at old) && not (is_closed_by conn outs))
+    known : (is_some now || is_open_at new) ≡ ((is_some was || is_open_at old) && not (is_closed_by conn outs))
     known = known_after conn old was calls outs new now passed
 
 or_false : (b : Bool) → (b || false) ≡ b
@@ -174,25 +179,30 @@ lost_now q l o t false s one here unshut = cc unshut
 lost_now q true true true true s one here unshut = λ apart. cc apart
 lost_now q false true true true s one here unshut = λ apart. record { at_most = omega arith; unless_closed = λ never. omega arith; apart = refl }
 
-no_connect_in : (conn : ℕ) (line : Option (ArrayVec ℕ)) → list_any is_connect (passed_on conn line) ≡ false
-no_connect_in conn None = refl
-no_connect_in conn (Some line) = refl
+line_told : (kind : Kind) (conn q : ℕ) (line : ArrayVec ℕ) → lines_by q (line_event_of kind conn line ∷ []) ≡ cond (nat_eq conn q) (line.items ∷ []) [] ++ []
+line_told kinds.Client conn q line = refl
+line_told kinds.Link conn q line = refl
 
-lines_here : (conn : ℕ) (line : Option (ArrayVec ℕ)) → lines_by conn (passed_on conn line) ≡ found_in line
-lines_here conn None = refl
-lines_here conn (Some line) = ap (λ xs. xs ++ []) (at_once conn (line.items ∷ []) [])
+lines_here : (kind : Kind) (conn : ℕ) (line : Option (ArrayVec ℕ)) → lines_by conn (passed_on kind conn line) ≡ found_in line
+lines_here kind conn None = refl
+lines_here kind conn (Some line) = line_told kind conn conn line ∙ ap (λ xs. xs ++ []) (at_once conn (line.items ∷ []) [])
 
-lines_elsewhere : (conn q : ℕ) (line : Option (ArrayVec ℕ)) → nat_eq conn q ≡ false → lines_by q (passed_on conn line) ≡ []
-lines_elsewhere conn q None two = refl
-lines_elsewhere conn q (Some line) two = ap (λ t. cond t (line.items ∷ []) [] ++ []) two
+lines_elsewhere : (kind : Kind) (conn q : ℕ) (line : Option (ArrayVec ℕ)) → nat_eq conn q ≡ false → lines_by q (passed_on kind conn line) ≡ []
+lines_elsewhere kind conn q None two = refl
+lines_elsewhere kind conn q (Some line) two = line_told kind conn q line ∙ ap (λ t. cond t (line.items ∷ []) [] ++ []) two
 
-told_by_no_line : (q conn : ℕ) (line : Option (ArrayVec ℕ)) (was now : Standing) (events : List Event) (outs : List Sent)
-    → Tells q was events outs now → Tells q was (passed_on conn line ++ events) outs now
-told_by_no_line q conn line was now events outs tells = tells_on q was was now (passed_on conn line) events [] outs (alone line) tells
+no_end_told : (kind : Kind) (conn q : ℕ) (line : ArrayVec ℕ) → times_gone q (line_event_of kind conn line ∷ []) ≡ 0
+no_end_told kinds.Client conn q line = refl
+no_end_told kinds.Link conn q line = refl
+
+told_by_no_line : (q : ℕ) (kind : Kind) (conn : ℕ) (line : Option (ArrayVec ℕ)) (was now : Standing) (events : List Event) (outs : List Sent)
+    → Tells q was events outs now → Tells q was (passed_on kind conn line ++ events) outs now
+told_by_no_line q kind conn line was now events outs tells = tells_on q was was now (passed_on kind conn line) events [] outs (alone line) tells
   where
-    alone : (line : Option (ArrayVec ℕ)) → Tells q was (passed_on conn line) [] was
+    alone : (line : Option (ArrayVec ℕ)) → Tells q was (passed_on kind conn line) [] was
     alone None = tells_still q was
-    alone (Some l) = λ apart. record { at_most = omega arith; unless_closed = λ never. omega arith; apart = apart }
+    alone (Some l) = λ apart. let none = no_end_told kind conn q l in
+        record { at_most = omega (arith, none); unless_closed = λ never. omega (arith, none); apart = apart }
 
 none_of : (t : Bool) → cond {A = List ℕ} t [] [] ≡ []
 none_of true = refl
@@ -231,10 +241,10 @@ front_whole buffer used count within = ap (λ n. take n buffer) (omega (arith, w
 pub used_within : (bytes : List ℕ) (used count more : ℕ) → used < count → more ≤ length (take (count - used) bytes) → used + more ≤ count
 used_within bytes used count more within fits = omega (arith, within, fits, length-take (count - used) bytes)
 
-pub frames_within : (conn : ℕ) (piece : List ℕ) (old new : Seats) (used : ℕ) (line : Option (ArrayVec ℕ)) → FramesAt conn piece old (Some (used, line)) new
+pub frames_within : (conn : ℕ) (piece : List ℕ) (old new : Seats) (used : ℕ) (kind : Kind) (line : Option (ArrayVec ℕ)) → FramesAt conn piece old (Some (used, kind, line)) new
     → used ≤ length piece
-frames_within conn piece old new used line (no_seat none same never) = cc never
-frames_within conn piece old new used line (at_seat seat now was set so) = so.within
+frames_within conn piece old new used kind line (no_seat none same never) = cc never
+frames_within conn piece old new used kind line (at_seat seat now was set so) = so.within
 
 -- what a read gave, in the buffer after it
 pub front_after : (answer : Result Got IoFault) (xs rest : List ℕ) (n room len : ℕ) → came answer ≡ Some n → FitsIn answer room → room ≡ len → length xs ≡ room
@@ -249,13 +259,27 @@ front_after (Ok Later) xs rest n room len is fits same long = subst (λ k. take 
 front_after (Ok End) xs rest n room len is fits same long = cc is
 front_after (Err fault) xs rest n room len is fits same long = cc is
 
+-- what is told in two stretches
+all_both : {X : Type 0} (P : X → Type 0) (xs ys : List X) → AllByRecursion P xs → AllByRecursion P ys → AllByRecursion P (xs ++ ys)
+all_both P [] ys one other = other
+all_both P (x ∷ xs) ys one other = (one.0, all_both P xs ys one.1 other)
+
+all_as : {X : Type 0} (P Q : X → Type 0) → ((x : X) → P x → Q x) → (xs : List X) → AllByRecursion P xs → AllByRecursion Q xs
+all_as P Q so [] all = tt
+all_as P Q so (x ∷ xs) all = (so x all.0, all_as P Q so xs all.1)
+
+news_before : {W : Type 0} (old mid : Moment W) → ((conn : ℕ) → KeepsKind (old.seats conn) (old.lost conn) (mid.seats conn) (mid.lost conn)) → (event : Event)
+    → IsNews mid event → IsNews old event
+news_before old mid keep event (a_line kind conn line is told) = a_line kind conn line (keep conn kind is) told
+news_before old mid keep event (an_end kind conn is told) = an_end kind conn (keep conn kind is) told
+
 -- the engine's board, and what else there is of it, at one moment
 abbrev pub at_board : {W : Type 0} → Option View → ℕ → Board W → Moment W
 at_board server room board = record {
   server = server;
   wire = board.wire;
   seats = seat_of board.seats;
-  lost = has board.lost;
+  lost = lost_at board.lost;
   waiting = has board.waiting;
   read_room = room;
 }
@@ -273,7 +297,9 @@ module _ {W : Type 0} (is_after : W → List Call → Type 0) where
     exchanged = filter-append is_exchange one.calls other.calls ∙ ap (λ cs. cs ++ filter is_exchange other.calls) one.exchanged ∙ ap
         (λ cs. a ++ cs) other.exchanged;
     fates = λ conn. fate_on conn one.calls other.calls one.outs other.outs (old.seats conn) (mid.seats conn) (new.seats conn) (one.fates conn) (other.fates conn);
-    no_connect = list_any-append is_connect one.events other.events ∙ ap (λ t. t || list_any is_connect other.events) one.no_connect ∙ other.no_connect;
+    are_news = all_both (IsNews old) one.events other.events one.are_news
+        (all_as (IsNews mid) (IsNews old) (news_before old mid one.keep_kinds) other.events other.are_news);
+    keep_kinds = λ conn kind is. one.keep_kinds conn kind (other.keep_kinds conn kind is);
     hears = λ conn. subst (λ (bs : List ℕ). Hears (begun_at (old.seats conn)) bs (lines_by conn (one.events ++ other.events)) (begun_at (new.seats conn))) (sym (is conn))
         (subst (λ (ls : List (List ℕ)). Hears (begun_at (old.seats conn)) (f conn ++ g conn) ls (begun_at (new.seats conn)))
         (sym (lines_by-append conn one.events other.events))
@@ -308,7 +334,8 @@ module _ {W : Type 0} (is_after : W → List Call → Type 0) where
     account = adds_none is_after old.wire old.wire refl;
     exchanged = refl;
     fates = λ conn. same_fate conn (old.seats conn);
-    no_connect = refl;
+    are_news = tt;
+    keep_kinds = λ conn kind is. is;
     hears = λ conn. hears_kept (begun_at (old.seats conn));
     tells = λ conn. tells_still conn (standing_of conn old);
     same_room = refl;
@@ -325,7 +352,8 @@ module _ {W : Type 0} (is_after : W → List Call → Type 0) where
     account = adds_none is_after board.wire board.wire refl;
     exchanged = refl;
     fates = λ conn. same_fate conn (seat_of board.seats conn);
-    no_connect = refl;
+    are_news = tt;
+    keep_kinds = λ conn kind is. is;
     hears = λ conn. hears_kept (begun_at (seat_of board.seats conn));
     tells = λ conn. tells_still conn (standing_of conn (at_board server room board));
     same_room = refl;
@@ -351,9 +379,10 @@ module _ {W : Type 0} (is_after : W → List Call → Type 0) where
     account = carries.account;
     exchanged = carries.exchanged;
     fates = λ conn. (carries.passage conn).fate;
-    no_connect = refl;
+    are_news = tt;
+    keep_kinds = λ conn. (carries.passage conn).keeps_kind;
     hears = λ conn. (carries.passage conn).hears_none;
-    tells = λ conn. tells_passage conn (seat_of old.seats conn) (has old.lost conn) carries.calls outs (seat_of new.seats conn) (has new.lost conn) (carries.passage conn);
+    tells = λ conn. tells_passage conn (seat_of old.seats conn) (lost_at old.lost conn) carries.calls outs (seat_of new.seats conn) (lost_at new.lost conn) (carries.passage conn);
     same_room = refl;
   }
 
@@ -363,6 +392,10 @@ module _ {W : Type 0} (is_after : W → List Call → Type 0) where
   unfolding ran_event
   asked_once server after room old new event result before outs none handled carries =
       (ran_event server after room old new event result before outs none handled carries, refl)
+
+  -- the event by which the server is asked, called otherwise
+  pub asks_as : (event told : Event) (old new : Moment W) → event ≡ told → AsksOnce is_after event old new → AsksOnce is_after told old new
+  asks_as event told old new same asks = subst (λ (e : Event). AsksOnce is_after e old new) same asks
 
   -- the board has done something of itself
   pub ran_board : (server : Option View) (room : ℕ) (exchanges : List Call) (old new : Board W) → Carries is_after exchanges old [] new
@@ -375,56 +408,85 @@ module _ {W : Type 0} (is_after : W → List Call → Type 0) where
     account = carries.account;
     exchanged = carries.exchanged;
     fates = λ conn. (carries.passage conn).fate;
-    no_connect = refl;
+    are_news = tt;
+    keep_kinds = λ conn. (carries.passage conn).keeps_kind;
     hears = λ conn. (carries.passage conn).hears_none;
-    tells = λ conn. tells_passage conn (seat_of old.seats conn) (has old.lost conn) carries.calls [] (seat_of new.seats conn) (has new.lost conn) (carries.passage conn);
+    tells = λ conn. tells_passage conn (seat_of old.seats conn) (lost_at old.lost conn) carries.calls [] (seat_of new.seats conn) (lost_at new.lost conn) (carries.passage conn);
     same_room = refl;
   }
 
   -- The server is told that a connection is gone, which was lost and of which it was to be told.
-  gone_of : (conn q : ℕ) (t l o : Bool) (events : List Event) (outs : List Sent) (now : Standing) → nat_eq conn q ≡ t → (t ≡ true → l ≡ true)
-      → Tells q (record { lost = cond t false l; unshut = o }) events outs now → Tells q (record { lost = l; unshut = o }) (Gone conn ∷ events) outs now
-  gone_of conn q true true true events outs now is lost tells = λ apart. cc apart
-  gone_of conn q true true false events outs now is lost tells = λ apart.
+  gone_once : (kind : Kind) (conn q : ℕ) (t : Bool) → nat_eq conn q ≡ t → times_gone q (end_event_of kind conn ∷ []) ≡ 0 + cond t 1 0
+  gone_once kinds.Client conn q t is = ap (λ u. 0 + cond u 1 0) is
+  gone_once kinds.Link conn q t is = ap (λ u. 0 + cond u 1 0) is
+
+  gone_of : (kind : Kind) (conn q : ℕ) (t l o : Bool) (events : List Event) (outs : List Sent) (now : Standing) → nat_eq conn q ≡ t → (t ≡ true → l ≡ true)
+      → Tells q (record { lost = cond t false l; unshut = o }) events outs now
+      → Tells q (record { lost = l; unshut = o }) (end_event_of kind conn ∷ events) outs now
+  gone_of kind conn q true true true events outs now is lost tells = λ apart. cc apart
+  gone_of kind conn q true true false events outs now is lost tells = λ apart.
       let told = tells refl in
-      let here : times_gone q (Gone conn ∷ []) ≡ 1 = ap (λ t. 0 + cond t 1 0) is in
+      let here = gone_once kind conn q true is in
       record {
-        at_most = omega (arith, told.at_most, here, times_gone-append q (Gone conn ∷ []) events);
-        unless_closed = λ unshut. omega (arith, told.unless_closed unshut, here, times_gone-append q (Gone conn ∷ []) events);
+        at_most = omega (arith, told.at_most, here, times_gone-append q (end_event_of kind conn ∷ []) events);
+        unless_closed = λ unshut. omega (arith, told.unless_closed unshut, here, times_gone-append q (end_event_of kind conn ∷ []) events);
         apart = told.apart;
       }
-  gone_of conn q true false o events outs now is lost tells = cc (lost refl)
-  gone_of conn q false l o events outs now is lost tells = λ apart.
+  gone_of kind conn q true false o events outs now is lost tells = cc (lost refl)
+  gone_of kind conn q false l o events outs now is lost tells = λ apart.
       let told = tells apart in
-      let here : times_gone q (Gone conn ∷ []) ≡ 0 = ap (λ t. 0 + cond t 1 0) is in
+      let here = gone_once kind conn q false is in
       record {
-        at_most = omega (arith, told.at_most, here, times_gone-append q (Gone conn ∷ []) events);
-        unless_closed = λ unshut. omega (arith, told.unless_closed unshut, here, times_gone-append q (Gone conn ∷ []) events);
+        at_most = omega (arith, told.at_most, here, times_gone-append q (end_event_of kind conn ∷ []) events);
+        unless_closed = λ unshut. omega (arith, told.unless_closed unshut, here, times_gone-append q (end_event_of kind conn ∷ []) events);
         apart = told.apart;
       }
 
-  pub ran_gone : (server : Option View) (room conn : ℕ) (old mid : Board W) (new : Moment W) → mid.wire ≡ old.wire → mid.seats ≡ old.seats → has old.lost conn ≡ true
-      → ((q : ℕ) → has mid.lost q ≡ cond (nat_eq conn q) false (has old.lost q))
-      → Ran is_after [] (Gone conn ∷ []) nothing_of (at_board server room mid) new → RanOn is_after (at_board server room old) new
-  ran_gone server room conn old mid new wire seats was_lost popped ran = record {
-    events = Gone conn ∷ ran.events;
+  no_line_of_an_end : (kind : Kind) (conn q : ℕ) (events : List Event) → lines_by q (end_event_of kind conn ∷ events) ≡ lines_by q events
+  no_line_of_an_end kinds.Client conn q events = refl
+  no_line_of_an_end kinds.Link conn q events = refl
+
+  still_lost : (t : Bool) (l : Option Kind) → is_some (cond t None l) ≡ cond t false (is_some l)
+  still_lost true l = refl
+  still_lost false l = refl
+
+  pub ran_gone : (server : Option View) (room conn : ℕ) (kind : Kind) (old mid : Board W) (new : Moment W) → mid.wire ≡ old.wire → mid.seats ≡ old.seats
+      → lost_at old.lost conn ≡ Some kind → ((q : ℕ) → lost_at mid.lost q ≡ cond (nat_eq conn q) None (lost_at old.lost q))
+      → Ran is_after [] (end_event_of kind conn ∷ []) nothing_of (at_board server room mid) new → RanOn is_after (at_board server room old) new
+  ran_gone server room conn kind old mid new wire seats as_lost popped ran = record {
+    events = end_event_of kind conn ∷ ran.events;
     outs = ran.outs;
     calls = ran.calls;
     are_asked = ran.are_asked;
     account = subst (λ w. AddsAll is_after w ran.calls new.wire) wire ran.account;
     exchanged = ran.exchanged;
     fates = λ q. subst (λ (s : Option Seat). Fate q s ran.calls ran.outs (new.seats q)) (at q) (ran.fates q);
-    no_connect = ran.no_connect;
-    hears = λ q. subst (λ (s : Option Seat). Hears (begun_at s) [] (lines_by q ran.events) (begun_at (new.seats q))) (at q) (ran.hears q);
-    tells = λ q. gone_of conn q (nat_eq conn q) (has old.lost q) (is_open_at (seat_of old.seats q)) ran.events ran.outs (standing_of q new) refl
-        (λ one. ap (has old.lost) (sym (one_number conn q one)) ∙ was_lost)
-        (subst (λ (l : Bool). Tells q (record { lost = l; unshut = is_open_at (seat_of old.seats q) }) ran.events ran.outs (standing_of q new)) (popped q)
-        (subst (λ (s : Option Seat). Tells q (record { lost = has mid.lost q; unshut = is_open_at s }) ran.events ran.outs (standing_of q new)) (at q) (ran.tells q)));
+    are_news = (
+      an_end kind conn (kind_of_loss as_lost) refl,
+      all_as (IsNews (at_board server room mid)) (IsNews (at_board server room old))
+          (news_before (at_board server room old) (at_board server room mid) kept) ran.events ran.are_news,
+    );
+    keep_kinds = λ q one is. kept q one (ran.keep_kinds q one is);
+    hears = λ q. subst (λ (ls : List (List ℕ)). Hears (begun_at (seat_of old.seats q)) [] ls (begun_at (new.seats q))) (sym (no_line_of_an_end kind conn q ran.events))
+        (subst (λ (s : Option Seat). Hears (begun_at s) [] (lines_by q ran.events) (begun_at (new.seats q))) (at q) (ran.hears q));
+    tells = λ q. gone_of kind conn q (nat_eq conn q) (is_some (lost_at old.lost q)) (is_open_at (seat_of old.seats q)) ran.events ran.outs (standing_of q new) refl
+        (λ one. ap (λ p. is_some (lost_at old.lost p)) (sym (one_number conn q one)) ∙ ap is_some as_lost)
+        (subst (λ (l : Bool). Tells q (record { lost = l; unshut = is_open_at (seat_of old.seats q) }) ran.events ran.outs (standing_of q new))
+        (ap is_some (popped q) ∙ still_lost (nat_eq conn q) (lost_at old.lost q))
+        (subst (λ (s : Option Seat). Tells q (record { lost = is_some (lost_at mid.lost q); unshut = is_open_at s }) ran.events ran.outs (standing_of q new)) (at q) (ran.tells q)));
     same_room = ran.same_room;
   }
     where
       at : (q : ℕ) → seat_of mid.seats q ≡ seat_of old.seats q
       at q = ap (λ s. seat_of s q) seats
+
+      kept : (q : ℕ) → KeepsKind (seat_of old.seats q) (lost_at old.lost q) (seat_of mid.seats q) (lost_at mid.lost q)
+      kept q one (kind_of_seat is) = kind_of_seat (sym (ap kind_at (at q)) ∙ is)
+      kept q one (kind_of_loss is) = by (nat_eq conn q) (sym (popped q) ∙ is)
+        where
+          by : (t : Bool) → cond t None (lost_at old.lost q) ≡ Some one → IsOfKind one (seat_of old.seats q) (lost_at old.lost q)
+          by true never = cc never
+          by false same = kind_of_loss same
 
   -- the fate of one connection, and that of the others
   fate_of_one : (conn : ℕ) (old new : ℕ → Option Seat) (calls : List Call) (outs : List Sent) → ((q : ℕ) → nat_eq conn q ≡ false → new q ≡ old q)
@@ -454,10 +516,12 @@ module _ {W : Type 0} (is_after : W → List Call → Type 0) where
     exchanged = refl;
     fates = λ q. subst (λ (s : Option Seat). Fate q (seat_of old.seats q) (reads conn room answer bytes ∷ []) [] s) (sym (at q))
         (untouched_fate q (reads conn room answer bytes ∷ []) [] (goes_by conn room answer bytes n is q) (seat_of old.seats q));
-    no_connect = refl;
+    are_news = tt;
+    keep_kinds = λ q. kind_kept (seat_of old.seats q) (seat_of new.seats q) (lost_at old.lost q) (lost_at new.lost q) (ap kind_at (at q))
+        (ap (λ l. lost_at l q) lost);
     hears = λ q. hears_same (begun_at (seat_of old.seats q)) (begun_at (seat_of new.seats q)) (ap begun_at (at q));
     tells = λ q. tells_as q (standing_of q (at_board server size old)) (standing_of q (at_board server later new))
-        (ap (λ l. has l q) lost) (ap is_open_at (at q));
+        (ap (λ l. is_some (lost_at l q)) lost) (ap is_open_at (at q));
     same_room = as_large;
   }
     where
@@ -496,7 +560,8 @@ module _ {W : Type 0} (is_after : W → List Call → Type 0) where
         (λ q two. elsewhere_both q (reads conn room answer bytes ∷ []) (closes conn ∷ []) [] [] (cut_elsewhere conn room answer bytes is q two) (close_elsewhere conn q two))
         (subst (λ (s : Option Seat). Fate conn (seat_of old.seats conn) calls [] s) (sym (set_here (seat_of old.seats) (seat_of new.seats) conn None set))
         (here (seat_of old.seats conn) unshut));
-    no_connect = refl;
+    are_news = tt;
+    keep_kinds = λ q. kind_cut q (nat_eq conn q) refl;
     hears = λ q. subst (λ (s : Option Seat). Hears (begun_at (seat_of old.seats q)) [] [] (begun_at s)) (sym (set q)) (hears_cut (nat_eq conn q) (seat_of old.seats q));
     tells = λ q. tells_cut q (nat_eq conn q) refl;
     same_room = as_large;
@@ -512,20 +577,34 @@ module _ {W : Type 0} (is_after : W → List Call → Type 0) where
       hears_cut true s = hears_gone (begun_at s)
       hears_cut false s = hears_kept (begun_at s)
 
-      lost_is : (q : ℕ) → has new.lost q ≡ (has old.lost q || (nat_eq conn q && is_open_at (seat_of old.seats conn)))
-      lost_is q = loses.lost q ∙ ap (λ l. has l q || (nat_eq conn q && is_open_at (seat_of mid.seats conn))) same_lost
-          ∙ ap (λ s. has old.lost q || (nat_eq conn q && is_open_at (seat_of s conn))) same
+      lost_as : (q : ℕ) → lost_at new.lost q ≡ lost_by (nat_eq conn q) (seat_of old.seats conn) (lost_at old.lost q)
+      lost_as q = loses.lost q ∙ ap (λ l. lost_by (nat_eq conn q) (seat_of mid.seats conn) (lost_at l q)) same_lost
+          ∙ ap (λ s. lost_by (nat_eq conn q) (seat_of s conn) (lost_at old.lost q)) same
+
+      lost_is : (q : ℕ) → is_some (lost_at new.lost q) ≡ (is_some (lost_at old.lost q) || (nat_eq conn q && is_open_at (seat_of old.seats conn)))
+      lost_is q = ap is_some (lost_as q) ∙ some_lost (nat_eq conn q) (seat_of old.seats conn) (lost_at old.lost q)
+
+      kind_cut : (q : ℕ) (t : Bool) → nat_eq conn q ≡ t → KeepsKind (seat_of old.seats q) (lost_at old.lost q) (seat_of new.seats q) (lost_at new.lost q)
+      kind_cut q true one =
+          subst (λ (s : Option Seat). KeepsKind (seat_of old.seats q) (lost_at old.lost q) s (lost_at new.lost q))
+          (sym (set q ∙ ap (λ t. cond t None (seat_of old.seats q)) one))
+          (kind_of_lost (seat_of old.seats q) (lost_at old.lost q) (lost_at new.lost q) (nat_eq conn q)
+          (lost_as q ∙ ap (λ p. lost_by (nat_eq conn q) (seat_of old.seats p) (lost_at old.lost q)) (one_number conn q one)))
+      kind_cut q false two =
+          kind_kept (seat_of old.seats q) (seat_of new.seats q) (lost_at old.lost q) (lost_at new.lost q)
+          (ap kind_at (set q) ∙ ap (λ t. kind_at (cond t None (seat_of old.seats q))) two)
+          (lost_as q ∙ ap (λ t. lost_by t (seat_of old.seats conn) (lost_at old.lost q)) two)
 
       tells_cut : (q : ℕ) (t : Bool) → nat_eq conn q ≡ t → Tells q (standing_of q (at_board server size old)) [] [] (standing_of q (at_board server later new))
       tells_cut q true one =
           subst (λ (l : Bool). Tells q (standing_of q (at_board server size old)) [] [] (record { lost = l; unshut = is_open_at (seat_of new.seats q) })) (sym (lost_is q))
           (subst (λ (s : Option Seat). Tells q (standing_of q (at_board server size old)) [] []
-          (record { lost = has old.lost q || (nat_eq conn q && is_open_at (seat_of old.seats conn)); unshut = is_open_at s })) (sym (set q))
-          (lost_now q (has old.lost q) (is_open_at (seat_of old.seats q)) (nat_eq conn q) (is_open_at (seat_of old.seats conn)) (seat_of old.seats q) one
+          (record { lost = is_some (lost_at old.lost q) || (nat_eq conn q && is_open_at (seat_of old.seats conn)); unshut = is_open_at s })) (sym (set q))
+          (lost_now q (is_some (lost_at old.lost q)) (is_open_at (seat_of old.seats q)) (nat_eq conn q) (is_open_at (seat_of old.seats conn)) (seat_of old.seats q) one
           (ap (λ p. is_open_at (seat_of old.seats p)) (sym (one_number conn q one)) ∙ unshut) unshut))
       tells_cut q false two =
           tells_as q (standing_of q (at_board server size old)) (standing_of q (at_board server later new))
-          (lost_is q ∙ ap (λ t. has old.lost q || (t && is_open_at (seat_of old.seats conn))) two ∙ or_false (has old.lost q))
+          (lost_is q ∙ ap (λ t. is_some (lost_at old.lost q) || (t && is_open_at (seat_of old.seats conn))) two ∙ or_false (is_some (lost_at old.lost q)))
           (ap is_open_at (set q) ∙ ap (λ t. is_open_at (cond t None (seat_of old.seats q))) two)
 
       here : (s : Option Seat) → is_open_at s ≡ true → Fate conn s (reads conn room answer bytes ∷ closes conn ∷ []) [] None
@@ -538,16 +617,16 @@ module _ {W : Type 0} (is_after : W → List Call → Type 0) where
       }
 
   -- A framer has taken bytes, and the line that they complete is passed on.
-  pub ran_framed : (server : Option View) (size : ℕ) (old mid : Board W) (new : Moment W) (conn : ℕ) (piece : List ℕ) (used : ℕ) (line : Option (ArrayVec ℕ))
-      (result : Option (ℕ × Option (ArrayVec ℕ))) → result ≡ Some (used, line) → FramesAt conn piece old.seats result mid.seats → mid.wire ≡ old.wire → mid.lost ≡ old.lost
-      → Ran is_after [] (passed_on conn line) nothing_of (at_board server size mid) new
+  pub ran_framed : (server : Option View) (size : ℕ) (old mid : Board W) (new : Moment W) (conn : ℕ) (piece : List ℕ) (used : ℕ) (kind : Kind) (line : Option (ArrayVec ℕ))
+      (result : Option (ℕ × Kind × Option (ArrayVec ℕ))) → result ≡ Some (used, kind, line) → FramesAt conn piece old.seats result mid.seats → mid.wire ≡ old.wire → mid.lost ≡ old.lost
+      → Ran is_after [] (passed_on kind conn line) nothing_of (at_board server size mid) new
       → Ran is_after [] [] (only_of conn (take used piece)) (at_board server size old) new
-  ran_framed server size old mid new conn piece used line result is frames wire lost ran = by (subst (λ r. FramesAt conn piece old.seats r mid.seats) is frames)
+  ran_framed server size old mid new conn piece used kind line result is frames wire lost ran = by (subst (λ r. FramesAt conn piece old.seats r mid.seats) is frames)
     where
-      by : FramesAt conn piece old.seats (Some (used, line)) mid.seats → Ran is_after [] [] (only_of conn (take used piece)) (at_board server size old) new
+      by : FramesAt conn piece old.seats (Some (used, kind, line)) mid.seats → Ran is_after [] [] (only_of conn (take used piece)) (at_board server size old) new
       by (no_seat none same never) = cc never
       by (at_seat seat now was set so) = record {
-        events = passed_on conn line ++ ran.events;
+        events = passed_on kind conn line ++ ran.events;
         outs = ran.outs;
         calls = ran.calls;
         are_asked = ran.are_asked;
@@ -566,21 +645,38 @@ module _ {W : Type 0} (is_after : W → List Call → Type 0) where
               never_cut = refl;
             }))) q)
             (ran.fates q);
-        no_connect = list_any-append is_connect (passed_on conn line) ran.events ∙ ap (λ t. t || list_any is_connect ran.events) (no_connect_in conn line) ∙ ran.no_connect;
+        are_news = all_both (IsNews (at_board server size old)) (passed_on kind conn line) ran.events (line_is_news line)
+            (all_as (IsNews (at_board server size mid)) (IsNews (at_board server size old)) (news_before (at_board server size old) (at_board server size mid) kept)
+            ran.events ran.are_news);
+        keep_kinds = λ q one is. kept q one (ran.keep_kinds q one is);
         hears = λ q.
             subst (λ (ls : List (List ℕ)). Hears (begun_at (seat_of old.seats q)) (only_of conn (take used piece) q) ls (begun_at (new.seats q)))
-            (sym (lines_by-append q (passed_on conn line) ran.events))
-            (subst (λ (bs : List ℕ). Hears (begun_at (seat_of old.seats q)) bs (lines_by q (passed_on conn line) ++ lines_by q ran.events) (begun_at (new.seats q)))
+            (sym (lines_by-append q (passed_on kind conn line) ran.events))
+            (subst (λ (bs : List ℕ). Hears (begun_at (seat_of old.seats q)) bs (lines_by q (passed_on kind conn line) ++ lines_by q ran.events) (begun_at (new.seats q)))
             (append-nil (only_of conn (take used piece) q))
             (hears_on (begun_at (seat_of old.seats q)) (begun_at (seat_of mid.seats q)) (begun_at (new.seats q)) (only_of conn (take used piece) q) []
-            (lines_by q (passed_on conn line)) (lines_by q ran.events) (framed q (nat_eq conn q) refl) (ran.hears q)));
-        tells = λ q. subst (λ (s : Standing). Tells q s (passed_on conn line ++ ran.events) ran.outs (standing_of q new)) (same_standing q)
-            (told_by_no_line q conn line (standing_of q (at_board server size mid)) (standing_of q new) ran.events ran.outs (ran.tells q));
+            (lines_by q (passed_on kind conn line)) (lines_by q ran.events) (framed q (nat_eq conn q) refl) (ran.hears q)));
+        tells = λ q. subst (λ (s : Standing). Tells q s (passed_on kind conn line ++ ran.events) ran.outs (standing_of q new)) (same_standing q)
+            (told_by_no_line q kind conn line (standing_of q (at_board server size mid)) (standing_of q new) ran.events ran.outs (ran.tells q));
         same_room = ran.same_room;
       }
         where
           is_now : seat_of mid.seats conn ≡ Some now
           is_now = set_here (seat_of old.seats) (seat_of mid.seats) conn (Some now) set
+
+          line_is_news : (line : Option (ArrayVec ℕ)) → AllByRecursion (IsNews (at_board server size old)) (passed_on kind conn line)
+          line_is_news None = tt
+          line_is_news (Some l) = (a_line kind conn l (kind_of_seat (ap kind_at was ∙ ap Some (sym so.kind_is))) refl, tt)
+
+          kind_as : (q : ℕ) (t : Bool) → nat_eq conn q ≡ t → kind_at (seat_of mid.seats q) ≡ kind_at (seat_of old.seats q)
+          kind_as q true one = ap (λ p. kind_at (seat_of mid.seats p)) (sym (one_number conn q one))
+              ∙ ap kind_at is_now ∙ ap (λ (s : Seat). Some s.kind) so.is
+              ∙ sym (ap kind_at was) ∙ ap (λ p. kind_at (seat_of old.seats p)) (one_number conn q one)
+          kind_as q false two = ap kind_at (set_other (seat_of old.seats) (seat_of mid.seats) conn (Some now) set q two)
+
+          kept : (q : ℕ) → KeepsKind (seat_of old.seats q) (lost_at old.lost q) (seat_of mid.seats q) (lost_at mid.lost q)
+          kept q = kind_kept (seat_of old.seats q) (seat_of mid.seats q) (lost_at old.lost q) (lost_at mid.lost q) (kind_as q (nat_eq conn q) refl)
+              (ap (λ l. lost_at l q) lost)
 
           unshut_as : (q : ℕ) (t : Bool) → nat_eq conn q ≡ t → is_open_at (seat_of mid.seats q) ≡ is_open_at (seat_of old.seats q)
           unshut_as q true one = ap (λ p. is_open_at (seat_of mid.seats p)) (sym (one_number conn q one))
@@ -589,29 +685,29 @@ module _ {W : Type 0} (is_after : W → List Call → Type 0) where
           unshut_as q false two = ap is_open_at (set_other (seat_of old.seats) (seat_of mid.seats) conn (Some now) set q two)
 
           same_standing : (q : ℕ) → standing_of q (at_board server size mid) ≡ standing_of q (at_board server size old)
-          same_standing q = ap (λ l. record { lost = has l q; unshut = is_open_at (seat_of mid.seats q) }) lost
-              ∙ ap (λ o. record { lost = has old.lost q; unshut = o }) (unshut_as q (nat_eq conn q) refl)
+          same_standing q = ap (λ l. record { lost = is_some (lost_at l q); unshut = is_open_at (seat_of mid.seats q) }) lost
+              ∙ ap (λ o. record { lost = is_some (lost_at old.lost q); unshut = o }) (unshut_as q (nat_eq conn q) refl)
 
           framed : (q : ℕ) (t : Bool) → nat_eq conn q ≡ t
-              → Hears (begun_at (seat_of old.seats q)) (only_of conn (take used piece) q) (lines_by q (passed_on conn line)) (begun_at (seat_of mid.seats q))
+              → Hears (begun_at (seat_of old.seats q)) (only_of conn (take used piece) q) (lines_by q (passed_on kind conn line)) (begun_at (seat_of mid.seats q))
           framed q true one =
-              subst (λ p. Hears (begun_at (seat_of old.seats p)) (only_of conn (take used piece) p) (lines_by p (passed_on conn line)) (begun_at (seat_of mid.seats p)))
+              subst (λ p. Hears (begun_at (seat_of old.seats p)) (only_of conn (take used piece) p) (lines_by p (passed_on kind conn line)) (begun_at (seat_of mid.seats p)))
               (one_number conn q one)
-              (subst (λ (s : Option Seat). Hears (begun_at s) (only_of conn (take used piece) conn) (lines_by conn (passed_on conn line)) (begun_at (seat_of mid.seats conn))) (sym was)
-              (subst (λ (s : Option Seat). Hears seat.framer (only_of conn (take used piece) conn) (lines_by conn (passed_on conn line)) (begun_at s)) (sym is_now)
-              (subst (λ (bs : List ℕ). Hears seat.framer bs (lines_by conn (passed_on conn line)) now.framer) (sym (at_once conn (take used piece) []))
-              (subst (λ (ls : List (List ℕ)). Hears seat.framer (take used piece) ls now.framer) (sym (lines_here conn line))
+              (subst (λ (s : Option Seat). Hears (begun_at s) (only_of conn (take used piece) conn) (lines_by conn (passed_on kind conn line)) (begun_at (seat_of mid.seats conn))) (sym was)
+              (subst (λ (s : Option Seat). Hears seat.framer (only_of conn (take used piece) conn) (lines_by conn (passed_on kind conn line)) (begun_at s)) (sym is_now)
+              (subst (λ (bs : List ℕ). Hears seat.framer bs (lines_by conn (passed_on kind conn line)) now.framer) (sym (at_once conn (take used piece) []))
+              (subst (λ (ls : List (List ℕ)). Hears seat.framer (take used piece) ls now.framer) (sym (lines_here kind conn line))
               (subst (λ (b : Option Begun). Hears b (take used piece) (found_in line) now.framer) (sym so.was)
               (subst (λ (b : Option Begun). Hears (Some so.before) (take used piece) (found_in line) b) (sym (ap (λ (s : Seat). s.framer) so.is)) so.takes))))))
           framed q false two =
-              subst (λ (bs : List ℕ). Hears (begun_at (seat_of old.seats q)) bs (lines_by q (passed_on conn line)) (begun_at (seat_of mid.seats q)))
+              subst (λ (bs : List ℕ). Hears (begun_at (seat_of old.seats q)) bs (lines_by q (passed_on kind conn line)) (begun_at (seat_of mid.seats q)))
               (sym (ap (λ t. cond t (take used piece) []) two))
-              (subst (λ (ls : List (List ℕ)). Hears (begun_at (seat_of old.seats q)) [] ls (begun_at (seat_of mid.seats q))) (sym (lines_elsewhere conn q line two))
+              (subst (λ (ls : List (List ℕ)). Hears (begun_at (seat_of old.seats q)) [] ls (begun_at (seat_of mid.seats q))) (sym (lines_elsewhere kind conn q line two))
               (hears_same (begun_at (seat_of old.seats q)) (begun_at (seat_of mid.seats q))
               (ap begun_at (set_other (seat_of old.seats) (seat_of mid.seats) conn (Some now) set q two))))
 
   -- bytes come of a connection that is not open
-  pub ran_refused : (server : Option View) (size : ℕ) (old new : Board W) (conn : ℕ) (piece bytes : List ℕ) (result : Option (ℕ × Option (ArrayVec ℕ))) → result ≡ None
+  pub ran_refused : (server : Option View) (size : ℕ) (old new : Board W) (conn : ℕ) (piece bytes : List ℕ) (result : Option (ℕ × Kind × Option (ArrayVec ℕ))) → result ≡ None
       → FramesAt conn piece old.seats result new.seats → new.wire ≡ old.wire → new.lost ≡ old.lost
       → Ran is_after [] [] (only_of conn bytes) (at_board server size old) (at_board server size new)
   ran_refused server size old new conn piece bytes result is frames wire lost = by (subst (λ r. FramesAt conn piece old.seats r new.seats) is frames)
@@ -626,9 +722,11 @@ module _ {W : Type 0} (is_after : W → List Call → Type 0) where
         account = adds_none is_after old.wire new.wire wire;
         exchanged = refl;
         fates = λ q. subst (λ (s : Option Seat). Fate q (seat_of old.seats q) [] [] s) (sym (same q)) (same_fate q (seat_of old.seats q));
-        no_connect = refl;
+        are_news = tt;
+        keep_kinds = λ q. kind_kept (seat_of old.seats q) (seat_of new.seats q) (lost_at old.lost q) (lost_at new.lost q) (ap kind_at (same q))
+            (ap (λ l. lost_at l q) lost);
         hears = λ q. subst (λ (s : Option Seat). Hears (begun_at (seat_of old.seats q)) (only_of conn bytes q) [] (begun_at s)) (sym (same q)) (deaf q (nat_eq conn q) refl);
-        tells = λ q. tells_as q (standing_of q (at_board server size old)) (standing_of q (at_board server size new)) (ap (λ l. has l q) lost) (ap is_open_at (same q));
+        tells = λ q. tells_as q (standing_of q (at_board server size old)) (standing_of q (at_board server size new)) (ap (λ l. is_some (lost_at l q)) lost) (ap is_open_at (same q));
         same_room = refl;
       }
         where
@@ -683,5 +781,5 @@ module _ {W : Type 0} (is_after : W → List Call → Type 0) where
       (λ q. ap (λ bs. only_of conn bs q) (front_whole buffer used count within)
       ∙ only_both (nat_eq conn q) (take used buffer) (take (count - used) (drop used buffer))) one other
 
-  pub ran_no_line : (conn : ℕ) (line : Option (ArrayVec ℕ)) (now : Moment W) → line ≡ None → Ran is_after [] (passed_on conn line) nothing_of now now
-  ran_no_line conn line now none = subst (λ (o : Option (ArrayVec ℕ)). Ran is_after [] (passed_on conn o) nothing_of now now) (sym none) (ran_none now)
+  pub ran_no_line : (kind : Kind) (conn : ℕ) (line : Option (ArrayVec ℕ)) (now : Moment W) → line ≡ None → Ran is_after [] (passed_on kind conn line) nothing_of now now
+  ran_no_line kind conn line now none = subst (λ (o : Option (ArrayVec ℕ)). Ran is_after [] (passed_on kind conn o) nothing_of now now) (sym none) (ran_none now)

@@ -5,6 +5,7 @@ use Rattle.irc_outbox.specs.declared.wire.Ready.TheVariants.{Idle, Writable}
 use Rattle.irc_outbox.specs.Calls.{Call, asks, Adds}
 use Rattle.irc_engine.specs.declared.engine.Desk.{Desk}
 use Rattle.irc_engine.specs.declared.engine.Engine.{Engine}
+use Rattle.irc_engine.specs.declared.engine.Rooms.{Rooms}
 use Rattle.irc_engine.specs.declared.engine.EngineFault.{EngineFault}
 use Rattle.irc_engine.specs.Running.{Moment, AllTold, Answers, Does, Flushes, IsInOrder}
 use Rattle.irc_engine.specs.Loops.Boards.{IsMarkedAt, KeepsNotes}
@@ -14,7 +15,7 @@ use Rattle.irc_engine.specs.Turning.{Taken, takes_it, runs_out, Turned, takes_tu
 
 module _ {W : Type 0} (is_after : W → List Call → Type 0) (old new : Engine W) (ready : Ready) (asked : W) where
   pub turned_from : (result : Result (Unit {0}) EngineFault) → old.failed ≡ false → Adds is_after old.desk.board.wire (asks (Ok ready)) asked
-      → Taken is_after old.client_room ready (record (moment_of old.desk) { wire = asked }) new result → Turned is_after old new result
+      → Taken is_after old.rooms ready (record (moment_of old.desk) { wire = asked }) new result → Turned is_after old new result
   turned_from (Ok done) serves account (takes_it still same does) =
       takes_turn serves still same (record { report = ready; wire = asked; account = account; does = does })
   turned_from (Err fault) serves account (runs_out failed busy) =
@@ -23,10 +24,10 @@ module _ {W : Type 0} (is_after : W → List Call → Type 0) (old new : Engine 
       (record { nothing_ready = idle.nothing_ready; nothing_left = idle.nothing_left }))
 
 -- nothing is ready, or only that a connection takes bytes again
-pub nothing_to_do : {W : Type 0} (is_after : W → List Call → Type 0) (room : ℕ) (now : Moment W) (ready : Ready) → (ready ≡ Idle) ⊎ ((conn : ℕ) × (ready ≡ Writable conn))
-    → Answers is_after room ready now now
-nothing_to_do is_after room now ready (inl is) = subst (λ r. Answers is_after room r now now) (sym is) (ran_none is_after now)
-nothing_to_do is_after room now ready (inr is) = subst (λ r. Answers is_after room r now now) (sym is.1) (ran_none is_after now)
+pub nothing_to_do : {W : Type 0} (is_after : W → List Call → Type 0) (rooms : Rooms) (now : Moment W) (ready : Ready) → (ready ≡ Idle) ⊎ ((conn : ℕ) × (ready ≡ Writable conn))
+    → Answers is_after rooms ready now now
+nothing_to_do is_after rooms now ready (inl is) = subst (λ r. Answers is_after rooms r now now) (sym is) (ran_none is_after now)
+nothing_to_do is_after rooms now ready (inr is) = subst (λ r. Answers is_after rooms r now now) (sym is.1) (ran_none is_after now)
 
 -- what is ready is done, and then outboxes are written
 module _ {W : Type 0} (is_after : W → List Call → Type 0) (old between new : Desk W) where
@@ -37,19 +38,19 @@ module _ {W : Type 0} (is_after : W → List Call → Type 0) (old between new :
       marked : (q : ℕ) → IsMarkedAt q false between.board
       marked q = notes q (record { noted_is = order.noted q; not_done = order.none_done q })
 
-  pub does_both : {E : Type 0} (room : ℕ) (ready : Ready) (result : Result (Unit {0}) E) → Answers is_after room ready (moment_of old) (moment_of between)
+  pub does_both : {E : Type 0} (rooms : Rooms) (ready : Ready) (result : Result (Unit {0}) E) → Answers is_after rooms ready (moment_of old) (moment_of between)
       → (AllTold (moment_of old) → AllTold (moment_of between)) → KeepsNotes old.board between.board
       → OnOk result (Flushes is_after (moment_of between) (moment_of new))
       → OnOk result (AllTold (moment_of between) → AllTold (moment_of new))
-      → OnOk result (IsInOrder (moment_of between) → IsInOrder (moment_of new)) → OnOk result (Does is_after room ready (moment_of old) (moment_of new))
-  does_both room ready (Ok done) answers told notes writes later still = record {
+      → OnOk result (IsInOrder (moment_of between) → IsInOrder (moment_of new)) → OnOk result (Does is_after rooms ready (moment_of old) (moment_of new))
+  does_both rooms ready (Ok done) answers told notes writes later still = record {
     between = moment_of between;
     answers = answers;
     writes = writes;
     all_told = λ before. (told before, later (told before));
     in_order = λ order. (order_between told notes order, still (order_between told notes order));
   }
-  does_both room ready (Err fault) answers told notes writes later still = tt
+  does_both rooms ready (Err fault) answers told notes writes later still = tt
 
 -- one turn is not taken, behind those that were
 pub stops_by : {W : Type 0} (is_after : W → List Call

@@ -1,16 +1,16 @@
 -- One write to a connection, and what comes of it.
-use Rattle.std.proofs.Common.{◌≡◌, ℕ, ◌≤◌, Bool, true, false, ◌&&◌, ◌||◌, cond, nat_eq, is_some, Option, Some, None, Result, Ok, Err, List, [], ◌∷◌, ◌++◌, refl, sym, ◌∙◌, ap, subst, append-nil, arith}
+use Rattle.std.proofs.Common.{◌≡◌, ℕ, ◌≤◌, Bool, true, false, cond, nat_eq, is_some, Option, Some, None, Result, Ok, Err, List, [], ◌∷◌, ◌++◌, refl, sym, ◌∙◌, ap, subst, append-nil, arith}
 use Rattle.irc_outbox.specs.declared.wire.IoFault.{IoFault}
 use Rattle.irc_outbox.specs.Calls.{Call, writes, closes, bytes_taken, is_some_bytes}
 use Rattle.irc_outbox.specs.Outboxes.{IsFront}
 use Rattle.irc_engine.specs.declared.board.Board.{Board}
 use Rattle.irc_engine.specs.declared.seat.Seat.{Seat}
-use Rattle.irc_engine.specs.Carrying.{is_open_at}
 use Rattle.irc_engine.specs.Loops.Counts.{count_of}
 use Rattle.irc_engine.specs.Loops.Seats.{seat_of, at_seat, no_seat, IsWrittenAt}
-use Rattle.irc_engine.specs.Loops.Boards.{has, AreWrites, Carries, Loses, Settles, Writes}
+use Rattle.irc_engine.specs.Loops.Boards.{has, lost_at, lost_by, AreWrites, Carries, Loses, Settles, Writes}
 use Rattle.irc_engine.proofs.BoardLaws.{adds_both, at_once, set_here, set_other, write_elsewhere, write_drops}
 use Rattle.irc_engine.proofs.BoardSteps.{carries_none, carries_on, one_seat, settled}
+use Rattle.irc_engine.proofs.KindLaws.{kind_kept}
 use Rattle.irc_engine.proofs.CarryingLaws.{nothing_owed, still, kept_some}
 use Rattle.irc_engine.proofs.HearingLaws.{hears_same}
 use Rattle.irc_engine.proofs.MarkLaws.{unmarks_gone, unmarks_settled}
@@ -44,7 +44,7 @@ module _ {W : Type 0} (is_after : W → List Call → Type 0) (conn : ℕ) (old 
           account = w.account;
           passage = one_seat is_after conn old mid (writes conn w.front (Ok n) ∷ []) [] (Some seat) (Some now) was
               (set_here (seat_of old.seats) (seat_of mid.seats) conn (Some now) set)
-              (set_other (seat_of old.seats) (seat_of mid.seats) conn (Some now) set) (λ q two. ap (λ l. has l q) lost)
+              (set_other (seat_of old.seats) (seat_of mid.seats) conn (Some now) set) (λ q two. ap (λ l. lost_at l q) lost)
               (λ q two. write_elsewhere conn q w.front (Ok n) two)
               (record {
                 fate = record {
@@ -52,12 +52,14 @@ module _ {W : Type 0} (is_after : W → List Call → Type 0) (conn : ℕ) (old 
                       ∙ ap (λ xs. xs ++ now.outbox.bytes)
                       (sym (append-nil (bytes_taken w.front (Ok n))) ∙ ap (λ xs. xs ++ []) (sym (at_once conn (bytes_taken w.front (Ok n)) [])));
                   same_room = w.same_room;
-                  still_open = ap is_some so.same_framer ∙ still (is_some seat.framer) false refl;
+                  still_open = ap (λ (s : Seat). is_some s.framer) so.same ∙ still (is_some seat.framer) false refl;
                   never = refl;
                   never_cut = refl;
                 };
-                lost_is = ap (λ l. has l conn) lost ∙ kept_some (has old.lost conn) (is_some seat.framer);
-                hears_none = hears_same seat.framer now.framer so.same_framer;
+                lost_is = ap (λ l. is_some (lost_at l conn)) lost ∙ kept_some (is_some (lost_at old.lost conn)) (is_some seat.framer);
+                keeps_kind = kind_kept (Some seat) (Some now) (lost_at old.lost conn) (lost_at mid.lost conn) (ap (λ (s : Seat). Some s.kind) so.same)
+                    (ap (λ l. lost_at l conn) lost);
+                hears_none = hears_same seat.framer now.framer (ap (λ (s : Seat). s.framer) so.same);
               });
           exchanged = refl;
           count = count;
@@ -101,10 +103,10 @@ module _ {W : Type 0} (is_after : W → List Call → Type 0) (conn : ℕ) (old 
                 account = adds_both is_after old.wire mid.wire new.wire (writes conn w.front (Err fault) ∷ []) (closes conn ∷ []) w.account loses.account;
                 seats = λ q. loses.seats q ∙ over q (nat_eq conn q) refl (set q);
                 lost = λ q. loses.lost q
-                    ∙ ap (λ l. has l q || (nat_eq conn q && is_open_at (seat_of mid.seats conn))) lost
-                    ∙ ap (λ (s : Option Seat). has old.lost q || (nat_eq conn q && is_open_at s)) (set_here (seat_of old.seats) (seat_of mid.seats) conn
+                    ∙ ap (λ l. lost_by (nat_eq conn q) (seat_of mid.seats conn) (lost_at l q)) lost
+                    ∙ ap (λ (s : Option Seat). lost_by (nat_eq conn q) s (lost_at old.lost q)) (set_here (seat_of old.seats) (seat_of mid.seats) conn
                     (Some now) set)
-                    ∙ ap (λ t. has old.lost q || (nat_eq conn q && t)) (ap is_some so.same_framer);
+                    ∙ ap (λ (s : Seat). lost_by (nat_eq conn q) (Some s) (lost_at old.lost q)) so.same;
                 count = omega (arith, loses.count, count);
               });
               are_writes = subst (λ (s : Option Seat). AreWrites conn s (writes conn w.front (Err fault) ∷ [])) (sym was)

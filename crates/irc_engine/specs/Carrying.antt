@@ -7,12 +7,13 @@ use Rattle.irc_line.specs.Lines.{nothing_begun}
 use Rattle.irc_outbox.specs.Outboxes.{holding}
 use Rattle.irc_outbox.specs.Calls.{Call, reads, writes, closes, is_some_bytes, written, times_closed}
 use Rattle.irc_batch.specs.Batches.{Sent, end_of, end_of_link, line_on, line_to}
+use Rattle.irc_engine.specs.declared.kind.Kind.{Kind}
 use Rattle.irc_engine.specs.declared.seat.Seat.{Seat}
 use Rattle.irc_engine.specs.Hearing.{begun_at, Hears}
 
 -- the seat of a connection that has just been made
-abbrev pub fresh_seat : ℕ → Seat
-fresh_seat room = record { outbox = holding [] room; framer = Some nothing_begun }
+abbrev pub fresh_seat : Kind → ℕ → Seat
+fresh_seat kind room = record { kind = kind; outbox = holding [] room; framer = Some nothing_begun }
 
 -- The bytes to a connection among what the server puts out, up to where it closes it. A link is a connection of the wire too: no number is that of a
 -- client and of a link.
@@ -41,6 +42,24 @@ owed false conn outs = []
 abbrev pub is_open_at : Option Seat → Bool
 is_open_at None = false
 is_open_at (Some seat) = is_some seat.framer
+
+-- the kind of the seat of a connection, if it has one
+abbrev pub kind_at : Option Seat → Option Kind
+kind_at None = None
+kind_at (Some seat) = Some seat.kind
+
+-- and if the server has not closed it
+abbrev pub open_kind_at : Option Seat → Option Kind
+open_kind_at seat = if is_open_at seat then kind_at seat else None
+
+-- A connection is of this kind: it has a seat of this kind, or it was lost as one of this kind, and the server has yet to be told.
+pub data IsOfKind (kind : Kind) (seat : Option Seat) (lost : Option Kind) : Type 0 where
+  kind_of_seat : kind_at seat ≡ Some kind → IsOfKind kind seat lost
+  kind_of_loss : lost ≡ Some kind → IsOfKind kind seat lost
+
+-- it is of no other kind than before
+abbrev pub KeepsKind : Option Seat → Option Kind → Option Seat → Option Kind → Type 0
+KeepsKind old was new now = (kind : Kind) → IsOfKind kind new now → IsOfKind kind old was
 
 -- whether it has a seat with bytes to write
 abbrev pub has_some_at : Option Seat → Bool
@@ -109,7 +128,9 @@ Fate conn (Some old) calls outs None = Leaves conn old calls outs
 abbrev pub is_lost_after : Option Seat → Bool → Bool → Option Seat → Bool
 is_lost_after old was_lost closed new = (was_lost || (is_open_at old && not (is_some new))) && not closed
 
-pub record Passage (conn : ℕ) (old : Option Seat) (was_lost : Bool) (calls : List Call) (outs : List Sent) (new : Option Seat) (is_lost : Bool) : Type 0 where
+pub record Passage (conn : ℕ) (old : Option Seat) (was_lost : Option Kind) (calls : List Call) (outs : List Sent) (new : Option Seat) (is_lost : Option Kind)
+    : Type 0 where
   pub fate : Fate conn old calls outs new
-  pub lost_is : is_lost ≡ is_lost_after old was_lost (is_closed_by conn outs) new
+  pub lost_is : is_some is_lost ≡ is_lost_after old (is_some was_lost) (is_closed_by conn outs) new
+  pub keeps_kind : KeepsKind old was_lost new is_lost
   pub hears_none : Hears (begun_at old) [] [] (begun_at new)

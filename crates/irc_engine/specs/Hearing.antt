@@ -1,10 +1,23 @@
 -- What a server is told of one connection: the lines that its bytes complete, and once that it is gone.
-use Rattle.std.specs.Prelude.{◌≡◌, ℕ, Bool, true, false, nat_eq, Option, Some, None, List, [], ◌∷◌, ◌++◌, count_by, if◌then◌else◌}
+use Rattle.std.specs.Prelude.{◌≡◌, ℕ, Bool, false, nat_eq, Option, Some, None, List, [], ◌∷◌, ◌++◌, count_by, if◌then◌else◌}
 use Rattle.std.specs.List.{flat_map}
+use Rattle.arrayvec.specs.ArrayVec.{ArrayVec}
 use Rattle.irc_line.specs.Lines.{Begun, Takes}
 use Rattle.irc_server.specs.declared.event.Event.{Event}
-use Rattle.irc_server.specs.declared.event.Event.TheVariants.{Connect, Line, Gone, LinkLine, LinkDown}
+use Rattle.irc_server.specs.declared.event.Event.TheVariants.{Line, Gone, LinkLine, LinkDown}
+use Rattle.irc_engine.specs.declared.kind.Kind.{Kind}
+use Rattle.irc_engine.specs.declared.kind.Kind.TheVariants.{Client, Link}
 use Rattle.irc_engine.specs.declared.seat.Seat.{Seat}
+
+-- the event by which the server is told a line of a connection of some kind
+abbrev pub line_event_of : Kind → ℕ → ArrayVec ℕ → Event
+line_event_of Client conn line = Line conn line
+line_event_of Link conn line = LinkLine conn line
+
+-- the event by which it is told that a connection of some kind is gone
+abbrev pub end_event_of : Kind → ℕ → Event
+end_event_of Client conn = Gone conn
+end_event_of Link conn = LinkDown conn
 
 -- the lines of a connection among some events, in order
 abbrev pub line_by : ℕ → Event → List (List ℕ)
@@ -23,10 +36,6 @@ is_gone_of conn other = false
 -- how often the server is told that a connection is gone
 abbrev pub times_gone : ℕ → List Event → ℕ
 times_gone conn events = count_by (is_gone_of conn) events
-
-abbrev pub is_connect : Event → Bool
-is_connect (Connect conn host) = true
-is_connect other = false
 
 -- what has come of the next line of a connection; nothing where it has no seat, or where the server has closed it
 abbrev pub begun_at : Option Seat → Option Begun

@@ -1,29 +1,33 @@
 -- What a turn of an engine does: the events that it passes to the server, the calls that it makes of the wire, and what becomes of each connection.
 use Rattle.std.specs.Prelude.{◌≡◌, ℕ, ◌+◌, ◌≤◌, Bool, true, false, ◌&&◌, ◌||◌, nat_eq, is_some, Option, Some, None, Result, Ok, List, [], ◌∷◌, ◌++◌, if◌then◌else◌}
-use Rattle.std.specs.List.{filter, list_any}
+use Rattle.std.specs.List.{filter, AllByRecursion}
+use Rattle.arrayvec.specs.ArrayVec.{ArrayVec}
 use Rattle.irc_outbox.specs.declared.wire.Ready.{Ready}
 use Rattle.irc_outbox.specs.declared.wire.Ready.TheVariants.{Client, Linked, Idle, Readable, Writable}
 use Rattle.irc_outbox.specs.declared.wire.Got.{Got}
 use Rattle.irc_outbox.specs.declared.wire.IoFault.{IoFault}
-use Rattle.irc_outbox.specs.Calls.{Call, asks, reads, closes, Adds}
+use Rattle.irc_outbox.specs.Calls.{Call, asks, reads, Adds}
 use Rattle.irc_server.specs.declared.event.Event.{Event}
-use Rattle.irc_server.specs.declared.event.Event.TheVariants.{Connect, Gone}
+use Rattle.irc_server.specs.declared.event.Event.TheVariants.{Connect, LinkUp}
 use Rattle.irc_batch.specs.Batches.{Sent}
 use Rattle.irc_server.specs.declared.event.ServerFault.{ServerFault}
 use Rattle.irc_stage.specs.View.{View}
 use Rattle.irc_server.specs.Happening.{IsHandled}
+use Rattle.irc_engine.specs.declared.engine.Rooms.{Rooms}
+use Rattle.irc_engine.specs.declared.kind.Kind.{Kind}
+use Rattle.irc_engine.specs.declared.kind.Kind.TheVariants as kinds
 use Rattle.irc_engine.specs.declared.seat.Seat.{Seat}
-use Rattle.irc_engine.specs.Carrying.{has_some_at, is_closed_by, is_done_at, is_exchange, is_open_at, AddsAll, Fate, fresh_seat}
-use Rattle.irc_engine.specs.Hearing.{begun_at, is_connect, lines_by, nothing_of, only_of, times_gone, Hears}
+use Rattle.irc_engine.specs.Carrying.{has_some_at, is_closed_by, is_done_at, is_exchange, is_open_at, AddsAll, Fate, fresh_seat, IsOfKind, KeepsKind}
+use Rattle.irc_engine.specs.Hearing.{begun_at, end_event_of, line_event_of, lines_by, nothing_of, only_of, times_gone, Hears}
 use Rattle.irc_engine.specs.Writing.{one_if, WritesEach}
 
--- an engine at one moment: its server, its wire, the seat of each connection, those that were lost and of which the server has yet to be told, those that are
--- noted to be written to, and how many bytes it reads at most
+-- an engine at one moment: its server, its wire, the seat of each connection, those that were lost and of which the server has yet to be told, with their
+-- kinds, those that are noted to be written to, and how many bytes it reads at most
 pub record Moment (W : Type 0) : Type 0 where
   pub server : Option View
   pub wire : W
   pub seats : ℕ → Option Seat
-  pub lost : ℕ → Bool
+  pub lost : ℕ → Option Kind
   pub waiting : ℕ → Bool
   pub read_room : ℕ
 
@@ -33,7 +37,7 @@ pub record Standing : Type 0 where
   pub unshut : Bool
 
 abbrev pub standing_of : {W : Type 0} → ℕ → Moment W → Standing
-standing_of conn now = record { lost = now.lost conn; unshut = is_open_at (now.seats conn) }
+standing_of conn now = record { lost = is_some (now.lost conn); unshut = is_open_at (now.seats conn) }
 
 -- whether the server knows of it
 abbrev pub is_known : Standing → Bool
@@ -45,7 +49,7 @@ IsApart now = (now.lost && now.unshut) ≡ false
 
 -- the server has been told of each connection that was lost
 abbrev pub AllTold : {W : Type 0} → Moment W → Type 0
-AllTold now = (conn : ℕ) → now.lost conn ≡ false
+AllTold now = (conn : ℕ) → now.lost conn ≡ None
 
 -- An engine between two turns: the server has been told of each connection that was lost, just those with bytes to write are noted, and what the server has
 -- closed is closed on the wire as soon as nothing is left to write.
@@ -79,9 +83,14 @@ pub record IsTold (conn : ℕ) (was : Standing) (events : List Event) (outs : Li
 abbrev pub Tells : ℕ → Standing → List Event → List Sent → Standing → Type 0
 Tells conn was events outs now = IsApart was → IsTold conn was events outs now
 
+-- An event tells a line of a connection, or that it is gone, by the kind that it is of.
+pub data IsNews {W : Type 0} (now : Moment W) (event : Event) : Type 0 where
+  a_line : (kind : Kind) (conn : ℕ) (line : ArrayVec ℕ) → IsOfKind kind (now.seats conn) (now.lost conn) → event ≡ line_event_of kind conn line → IsNews now event
+  an_end : (kind : Kind) (conn : ℕ) → IsOfKind kind (now.seats conn) (now.lost conn) → event ≡ end_event_of kind conn → IsNews now event
+
 -- From one moment to another: the server was asked for some events, calls were made of the wire, and each connection has met its fate. Just these
 -- of the calls asked what is ready, read or wrote. The events begin with the given ones; behind them are the lines that the bytes of each connection
--- complete, and that connections are gone.
+-- complete, and that connections are gone, each told by the kind of its connection.
 pub record Ran {W : Type 0} (is_after : W → List Call → Type 0) (exchanges : List Call) (first : List Event) (came : ℕ → List ℕ)
     (old new : Moment W) : Type 0 where
   pub events : List Event
@@ -91,7 +100,8 @@ pub record Ran {W : Type 0} (is_after : W → List Call → Type 0) (exchanges :
   pub account : AddsAll is_after old.wire calls new.wire
   pub exchanged : filter is_exchange calls ≡ exchanges
   pub fates : (conn : ℕ) → Fate conn (old.seats conn) calls outs (new.seats conn)
-  pub no_connect : list_any is_connect events ≡ false
+  pub are_news : AllByRecursion (IsNews old) events
+  pub keep_kinds : (conn : ℕ) → KeepsKind (old.seats conn) (old.lost conn) (new.seats conn) (new.lost conn)
   pub hears : (conn : ℕ) → Hears (begun_at (old.seats conn)) (came conn) (lines_by conn events) (begun_at (new.seats conn))
   pub tells : (conn : ℕ) → Tells conn (standing_of conn old) events outs (standing_of conn new)
   pub same_room : new.read_room ≡ old.read_room
@@ -104,17 +114,17 @@ RanOn is_after old new = Ran is_after [] [] nothing_of old new
 abbrev pub AsksOnce : {W : Type 0} → (W → List Call → Type 0) → Event → Moment W → Moment W → Type 0
 AsksOnce is_after event old new = (ran : Ran is_after [] (event ∷ []) nothing_of old new) × (ran.events ≡ [])
 
--- This connection was lost, and none that has a lower number.
-pub record IsLowestLost (conn : ℕ) (lost : ℕ → Bool) : Type 0 where
-  pub is_lost : lost conn ≡ true
-  pub is_lowest : (q : ℕ) → lost q ≡ true → conn ≤ q
+-- This connection was lost, as one of this kind, and none that has a lower number.
+pub record IsLowestLost (conn : ℕ) (kind : Kind) (lost : ℕ → Option Kind) : Type 0 where
+  pub is_lost : lost conn ≡ Some kind
+  pub is_lowest : (q : ℕ) → is_some (lost q) ≡ true → conn ≤ q
 
 -- The server is told of losses, one after another: each time of the one with the lowest number, of those that there are by then.
 pub data TellsLosses {W : Type 0} (is_after : W → List Call → Type 0) (old : Moment W) : Moment W → Type 0 where
   none_so_far : TellsLosses is_after old old
-  tells_lowest : (conn : ℕ) (before told new : Moment W) → TellsLosses is_after old before → IsLowestLost conn before.lost
-      → told ≡ record before { lost = told.lost } → ((q : ℕ) → told.lost q ≡ (if nat_eq conn q then false else before.lost q))
-      → AsksOnce is_after (Gone conn) told new → TellsLosses is_after old new
+  tells_lowest : (conn : ℕ) (kind : Kind) (before told new : Moment W) → TellsLosses is_after old before → IsLowestLost conn kind before.lost
+      → told ≡ record before { lost = told.lost } → ((q : ℕ) → told.lost q ≡ (if nat_eq conn q then None else before.lost q))
+      → AsksOnce is_after (end_event_of kind conn) told new → TellsLosses is_after old new
 
 -- The server is asked for an event, and then told of the connections that were lost by it.
 pub record PassesOn {W : Type 0} (is_after : W → List Call → Type 0) (event : Event) (old new : Moment W) : Type 0 where
@@ -122,20 +132,15 @@ pub record PassesOn {W : Type 0} (is_after : W → List Call → Type 0) (event 
   pub asks : AsksOnce is_after event old between
   pub losses : TellsLosses is_after between new
 
--- A client has connected, and has a seat: nothing is owed to it, and nothing has come. A number that has a seat is passed over.
-pub data Connects {W : Type 0} (is_after : W → List Call → Type 0) (room conn : ℕ) (host : List ℕ) (old new : Moment W) : Type 0 where
-  in_use : is_some (old.seats conn) ≡ true → RanOn is_after old new → Connects is_after room conn host old new
+-- A client has connected or a link is open, and has a seat: nothing is owed to it, and nothing has come. The server is asked for this event. A number that has
+-- a seat is passed over.
+pub data Starts {W : Type 0} (is_after : W → List Call → Type 0) (kind : Kind) (room conn : ℕ) (event : Event) (old new : Moment W) : Type 0 where
+  in_use : is_some (old.seats conn) ≡ true → RanOn is_after old new → Starts is_after kind room conn event old new
   takes_seat : (between : Moment W) → old.seats conn ≡ None → between.server ≡ old.server → between.wire ≡ old.wire
       → between.lost ≡ old.lost → between.waiting ≡ old.waiting → between.read_room ≡ old.read_room
-      → ((q : ℕ) → between.seats q ≡ (if nat_eq conn q then Some (fresh_seat room) else old.seats q))
-      → Ran is_after [] (Connect conn host ∷ []) nothing_of between new
-      → Connects is_after room conn host old new
-
--- A server is connected. Servers cannot be linked yet, so it is closed at once. A number that has a seat is passed over.
-pub data RefusesLink {W : Type 0} (is_after : W → List Call → Type 0) (conn : ℕ) (old new : Moment W) : Type 0 where
-  in_use_by_client : is_some (old.seats conn) ≡ true → RanOn is_after old new → RefusesLink is_after conn old new
-  closes_it : old.seats conn ≡ None → Adds is_after old.wire (closes conn) new.wire
-      → new ≡ record old { wire = new.wire } → RefusesLink is_after conn old new
+      → ((q : ℕ) → between.seats q ≡ (if nat_eq conn q then Some (fresh_seat kind room) else old.seats q))
+      → Ran is_after [] (event ∷ []) nothing_of between new
+      → Starts is_after kind room conn event old new
 
 -- A connection that the server has not closed is read once; another is not.
 pub data Reads {W : Type 0} (is_after : W → List Call → Type 0) (conn : ℕ) (old new : Moment W) : Type 0 where
@@ -144,12 +149,12 @@ pub data Reads {W : Type 0} (is_after : W → List Call → Type 0) (conn : ℕ)
       → Ran is_after (reads conn room answer bytes ∷ []) [] (only_of conn bytes) old new → Reads is_after conn old new
 
 -- What is ready is done.
-abbrev pub Answers : {W : Type 0} → (W → List Call → Type 0) → ℕ → Ready → Moment W → Moment W → Type 0
-Answers is_after room Idle old new = RanOn is_after old new
-Answers is_after room (Client conn host) old new = Connects is_after room conn host old new
-Answers is_after room (Linked conn starts) old new = RefusesLink is_after conn old new
-Answers is_after room (Readable conn) old new = Reads is_after conn old new
-Answers is_after room (Writable conn) old new = RanOn is_after old new
+abbrev pub Answers : {W : Type 0} → (W → List Call → Type 0) → Rooms → Ready → Moment W → Moment W → Type 0
+Answers is_after rooms Idle old new = RanOn is_after old new
+Answers is_after rooms (Client conn host) old new = Starts is_after kinds.Client rooms.client conn (Connect conn host) old new
+Answers is_after rooms (Linked conn starts) old new = Starts is_after kinds.Link rooms.link conn (LinkUp conn starts) old new
+Answers is_after rooms (Readable conn) old new = Reads is_after conn old new
+Answers is_after rooms (Writable conn) old new = RanOn is_after old new
 
 -- Each outbox that is not empty is written once.
 pub record Flushes {W : Type 0} (is_after : W → List Call → Type 0) (old new : Moment W) : Type 0 where
@@ -158,16 +163,16 @@ pub record Flushes {W : Type 0} (is_after : W → List Call → Type 0) (old new
   pub each : IsInOrder old → WritesEach old.seats exchanges new.seats
 
 -- What is ready is done, and then outboxes are written.
-pub record Does {W : Type 0} (is_after : W → List Call → Type 0) (room : ℕ) (report : Ready) (old new : Moment W) : Type 0 where
+pub record Does {W : Type 0} (is_after : W → List Call → Type 0) (rooms : Rooms) (report : Ready) (old new : Moment W) : Type 0 where
   pub between : Moment W
-  pub answers : Answers is_after room report old between
+  pub answers : Answers is_after rooms report old between
   pub writes : Flushes is_after between new
   pub all_told : AllTold old → AllTold between × AllTold new
   pub in_order : IsInOrder old → IsInOrder between × IsInOrder new
 
 -- One turn: the wire is asked once what is ready, and that is done.
-pub record Turn {W : Type 0} (is_after : W → List Call → Type 0) (room : ℕ) (old new : Moment W) : Type 0 where
+pub record Turn {W : Type 0} (is_after : W → List Call → Type 0) (rooms : Rooms) (old new : Moment W) : Type 0 where
   pub report : Ready
   pub wire : W
   pub account : Adds is_after old.wire (asks (Ok report)) wire
-  pub does : Does is_after room report (record old { wire = wire }) new
+  pub does : Does is_after rooms report (record old { wire = wire }) new

@@ -6,6 +6,7 @@ use Rattle.irc_outbox.specs.declared.wire.Ready.TheVariants.{Idle, Writable}
 use Rattle.irc_outbox.specs.Calls.{Call, asks, Adds}
 use Rattle.irc_stage.specs.View.{View}
 use Rattle.irc_engine.specs.declared.engine.Engine.{Engine}
+use Rattle.irc_engine.specs.declared.engine.Rooms.{Rooms}
 use Rattle.irc_engine.specs.declared.engine.EngineFault.{EngineFault}
 use Rattle.irc_engine.specs.declared.engine.EngineFault.TheVariants.{Memory, Failed, Device}
 use Rattle.irc_engine.specs.Carrying.{has_some_at}
@@ -13,12 +14,11 @@ use Rattle.irc_engine.specs.Running.{Moment, IsInOrder, Does, Turn}
 use Rattle.irc_engine.specs.Loops.Desks.{moment_of}
 
 -- an engine that has served nobody
-pub record IsNew {W : Type 0} (server : Option View) (wire : W) (room link_room : ℕ) (engine : Engine W) : Type 0 where
+pub record IsNew {W : Type 0} (server : Option View) (wire : W) (client_room link_room : ℕ) (engine : Engine W) : Type 0 where
   pub serves : engine.failed ≡ false
   pub server_is : engine.desk.server ≡ server
   pub wire_is : engine.desk.board.wire ≡ wire
-  pub room_is : engine.client_room ≡ room
-  pub link_room_is : engine.link_room ≡ link_room
+  pub rooms_are : engine.rooms ≡ record { client = client_room; link = link_room }
   pub no_seats : (conn : ℕ) → (moment_of engine.desk).seats conn ≡ None
   pub in_order : IsInOrder (moment_of engine.desk)
   pub reads_at_most : (moment_of engine.desk).read_room ≡ 4096
@@ -35,17 +35,17 @@ pub record IsNothingToDo {W : Type 0} (report : Ready) (now : Moment W) : Type 0
   pub nothing_left : (conn : ℕ) → has_some_at (now.seats conn) ≡ false
 
 -- What is ready is done, and then outboxes are written; or memory ran out, which it does not where there is nothing to do.
-pub data Taken {W : Type 0} (is_after : W → List Call → Type 0) (room : ℕ) (report : Ready) (old : Moment W) (new : Engine W)
+pub data Taken {W : Type 0} (is_after : W → List Call → Type 0) (rooms : Rooms) (report : Ready) (old : Moment W) (new : Engine W)
     : Result (Unit {0}) EngineFault → Type 0 where
-  takes_it : new.failed ≡ false → new.client_room ≡ room → Does is_after room report old (moment_of new.desk) → Taken is_after room report old new (Ok tt)
-  runs_out : new.failed ≡ true → (IsInOrder old → ¬ (IsNothingToDo report old)) → Taken is_after room report old new (Err Memory)
+  takes_it : new.failed ≡ false → new.rooms ≡ rooms → Does is_after rooms report old (moment_of new.desk) → Taken is_after rooms report old new (Ok tt)
+  runs_out : new.failed ≡ true → (IsInOrder old → ¬ (IsNothingToDo report old)) → Taken is_after rooms report old new (Err Memory)
 
 -- A turn is taken; or the wire could not tell what is ready, and nothing else has happened; or memory ran out, where there was something to do; or it ran out
--- before. The room of a client's outbox stays what it was.
+-- before. The rooms of outboxes stay what they were.
 pub data Turned {W : Type 0} (is_after : W → List Call → Type 0) (old : Engine W) (new : Engine W) : Result (Unit {0}) EngineFault → Type 0 where
-  takes_turn : old.failed ≡ false → new.failed ≡ false → new.client_room ≡ old.client_room
-      → Turn is_after old.client_room (moment_of old.desk) (moment_of new.desk) → Turned is_after old new (Ok tt)
-  device_failed : (fault : IoFault) → old.failed ≡ false → new.failed ≡ false → new.client_room ≡ old.client_room
+  takes_turn : old.failed ≡ false → new.failed ≡ false → new.rooms ≡ old.rooms
+      → Turn is_after old.rooms (moment_of old.desk) (moment_of new.desk) → Turned is_after old new (Ok tt)
+  device_failed : (fault : IoFault) → old.failed ≡ false → new.failed ≡ false → new.rooms ≡ old.rooms
       → Adds is_after old.desk.board.wire (asks (Err fault)) new.desk.board.wire
       → moment_of new.desk ≡ record (moment_of old.desk) { wire = new.desk.board.wire } → Turned is_after old new (Err Device)
   wants_memory : (report : Ready) (wire : W) → old.failed ≡ false → new.failed ≡ true → Adds is_after old.desk.board.wire (asks (Ok report)) wire

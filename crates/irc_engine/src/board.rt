@@ -1,15 +1,16 @@
 //! The connections and the wire: what the server puts out goes to outboxes, and outboxes are written.
-ghost use Rattle.std.specs.Prelude.{◌≡◌, ◌+◌, ◌<◌, ◌≤◌, ◌↔◌, true, false, is_some, [], ◌∷◌, IfSome, IsSome, IsTrue, OnOk, if◌then◌else◌};
+ghost use Rattle.std.specs.Prelude.{◌≡◌, ◌+◌, ◌<◌, ◌≤◌, ◌↔◌, true, false, is_some, Some, None, [], ◌∷◌, IfNone, IfSome, IsSome, OnOk, if◌then◌else◌};
 ghost use Rattle.std.specs.Ordering.{nat_cmp};
-ghost use Rattle.std.specs.BTreeSet.{btree_set_len, IsLowerBound, Updates};
-ghost use Rattle.irc_engine.specs.Loops.Boards.{has, Carries, Ends, IsNoted, KeepsMarks, Loses, Settles, Writes};
+ghost use Rattle.std.specs.BTreeMap.{btree_map_len, IsLowerBound, IsUnchanged, Updates};
+ghost use Rattle.irc_engine.specs.Loops.Boards.{lost_at, Carries, Ends, IsLostAs, IsNoted, KeepsMarks, Loses, Settles, Writes};
 ghost use Rattle.irc_batch.specs.Batches.{end_of, line_to, sent_of};
 
+use crate::kind::Kind;
 use crate::seat::{Offered, Seats};
 use irc_batch::{Batch, Out};
 use irc_outbox::Wire;
 use std::alloc::{AllocError, Global};
-use std::collections::BTreeSet;
+use std::collections::{BTreeMap, BTreeSet};
 
 /// The connections of an engine, and its wire.
 #[derive(Drop)]
@@ -20,14 +21,13 @@ pub(crate) struct Board<W: Wire> {
     pub seats: Seats,
     /// Connections with bytes to write, but for those that the turn is about to write to.
     pub waiting: BTreeSet<u64, Global>,
-    /// Connections that were lost, of which the server has yet to be told.
-    pub lost: BTreeSet<u64, Global>,
+    /// Connections that were lost, of which the server has yet to be told, with their kinds.
+    pub lost: BTreeMap<u64, Kind, Global>,
 }
 
 /// Notes a connection's number.
 fn note(numbers: &mut BTreeSet<u64, Global>, conn: u64) -> Result<(), AllocError>
-    ensures noted { OnOk result (IsNoted numbers.old conn true numbers.new) }
-    ensures len { OnOk result (btree_set_len numbers.new ≤ btree_set_len numbers.old + 1) }
+    ensures { OnOk result (IsNoted numbers.old conn true numbers.new) }
 {
     match numbers.insert(conn) {
         Ok(_) => Ok(()),
@@ -37,21 +37,44 @@ fn note(numbers: &mut BTreeSet<u64, Global>, conn: u64) -> Result<(), AllocError
 
 /// Forgets a connection's number.
 fn forget(numbers: &mut BTreeSet<u64, Global>, conn: u64)
-    ensures forgotten { IsNoted numbers.old conn false numbers.new }
-    ensures len { btree_set_len numbers.new ≤ btree_set_len numbers.old }
+    ensures { IsNoted numbers.old conn false numbers.new }
 {
     numbers.remove(&conn);
 }
 
-/// Takes the lowest of these numbers out.
-pub(crate) fn take_lowest(numbers: &mut BTreeSet<u64, Global>) -> Option<u64>
-    ensures variant { IsSome result ↔ (0 < btree_set_len numbers.old) }
-    ensures member { IfSome result (λ conn. IsTrue (has numbers.old conn)) }
-    ensures least { IfSome result (IsLowerBound nat_cmp numbers.old) }
-    ensures updates { IfSome result (λ conn. Updates nat_cmp numbers.old numbers.new conn false) }
-    ensures len { btree_set_len numbers.new + (if is_some result then 1 else 0) ≡ btree_set_len numbers.old }
+/// Notes that a connection of this kind was lost.
+fn note_loss(
+    lost: &mut BTreeMap<u64, Kind, Global>,
+    conn: u64,
+    kind: Kind,
+) -> Result<(), AllocError>
+    ensures noted { OnOk result (IsLostAs lost.old conn (Some kind) lost.new) }
+    ensures len { OnOk result (btree_map_len lost.new ≤ btree_map_len lost.old + 1) }
 {
-    numbers.pop_first()
+    match lost.insert(conn, kind) {
+        Ok(_) => Ok(()),
+        Err(_) => Err(AllocError),
+    }
+}
+
+/// Forgets that a connection was lost.
+fn forget_loss(lost: &mut BTreeMap<u64, Kind, Global>, conn: u64)
+    ensures forgotten { IsLostAs lost.old conn None lost.new }
+    ensures len { btree_map_len lost.new ≤ btree_map_len lost.old }
+{
+    lost.remove(&conn);
+}
+
+/// Takes the lost connection with the lowest number out.
+pub(crate) fn take_lowest(lost: &mut BTreeMap<u64, Kind, Global>) -> Option<(u64, Kind)>
+    ensures variant { IsSome result ↔ (0 < btree_map_len lost.old) }
+    ensures member { IfSome result (λ first. lost_at lost.old first.0 ≡ Some first.1) }
+    ensures least { IfSome result (λ first. IsLowerBound nat_cmp lost.old first.0) }
+    ensures updates { IfSome result (λ first. Updates nat_cmp lost.old lost.new first.0 None) }
+    ensures unchanged { IfNone result (IsUnchanged lost.old lost.new) }
+    ensures len { btree_map_len lost.new + (if is_some result then 1 else 0) ≡ btree_map_len lost.old }
+{
+    lost.pop_first()
 }
 
 impl<W: Wire> Board<W> {
@@ -68,12 +91,12 @@ impl<W: Wire> Board<W> {
     pub(crate) fn lose(&mut self, conn: u64) -> Result<(), AllocError>
         ensures { OnOk result (Loses W.is_after conn self.old self.new) }
     {
-        let was_open = self.seats.is_open(conn);
+        let open = self.seats.open_kind(conn);
         self.end(conn);
-        if was_open {
-            note(&mut self.lost, conn)?;
+        match open {
+            Some(kind) => note_loss(&mut self.lost, conn, kind),
+            None => Ok(()),
         }
-        Ok(())
     }
 
     /// A line goes to a connection's outbox. Where others wait there, the connection is noted by now, or the turn is about to write to it. Where
@@ -95,7 +118,7 @@ impl<W: Wire> Board<W> {
         ensures carries { Carries W.is_after [] self.old (end_of conn ∷ []) self.new }
         ensures marks { KeepsMarks self.old self.new }
     {
-        forget(&mut self.lost, conn);
+        forget_loss(&mut self.lost, conn);
         self.seats.shut(conn);
         if self.seats.is_done(conn) {
             self.end(conn);
@@ -110,8 +133,12 @@ impl<W: Wire> Board<W> {
         match out {
             Out::Line(conn, line) => self.send(conn, line),
             Out::LinkLine(link, line) => self.send(link, line),
-            Out::Close(number) | Out::LinkClose(number, _) => {
-                self.shut(number);
+            Out::Close(conn) => {
+                self.shut(conn);
+                Ok(())
+            }
+            Out::LinkClose(link, _) => {
+                self.shut(link);
                 Ok(())
             }
         }

@@ -3,19 +3,19 @@ ghost use Rattle.std.specs.Prelude.{◌≡◌, ◌≤◌, true, Ok, [], ◌∷�
 ghost use Rattle.irc_engine.specs.Loops.Counts.{count_of};
 ghost use Rattle.irc_engine.specs.Loops.Desks.{came, moment_of, passed_on, IsNobodyNoted, KeepsOrder, KeepsTold};
 ghost use Rattle.irc_engine.specs.Loops.Boards.{KeepsMarks, KeepsNotes};
-ghost use Rattle.irc_engine.specs.Running.{AllTold, Answers, AsksOnce, Connects, Does, Flushes, PassesOn, Ran, RanOn, Reads, RefusesLink, TellsLosses};
+ghost use Rattle.irc_engine.specs.Running.{AllTold, Answers, AsksOnce, Does, Flushes, PassesOn, Ran, RanOn, Reads, Starts, TellsLosses};
 ghost use Rattle.irc_engine.specs.Hearing.{nothing_of, only_of};
 ghost use Rattle.irc_engine.specs.Turning.{brings_nothing, IsNew, Runs, Taken, Turned};
 
 use crate::board::{Board, take_lowest};
+use crate::kind::Kind;
 use crate::seat::Seats;
 use irc_batch::Batch;
 use irc_line::Line;
-use irc_names::Host;
 use irc_outbox::{Got, IoFault, Ready, Wire};
 use irc_server::{Event, Server, ServerFault};
 use std::alloc::{AllocError, Global};
-use std::collections::BTreeSet;
+use std::collections::{BTreeMap, BTreeSet};
 use std::mem::replace;
 use thiserror::Error;
 
@@ -36,14 +36,20 @@ pub enum EngineFault {
     Device,
 }
 
+/// How many bytes an outbox holds.
+#[derive(Clone, Copy, Drop)]
+pub struct Rooms {
+    /// That of a client.
+    pub client: usize,
+    /// That of a link.
+    pub link: usize,
+}
+
 /// One server and the wire that it runs over.
 #[derive(Drop)]
 pub struct Engine<W: Wire> {
     failed: bool,
-    /// How many bytes the outbox of a client holds.
-    client_room: usize,
-    /// How many bytes that of a link is to hold, once servers can be linked.
-    link_room: usize,
+    rooms: Rooms,
     desk: Desk<W>,
 }
 
@@ -60,8 +66,8 @@ pub(crate) struct Desk<W: Wire> {
 }
 
 impl<W: Wire + Drop> Engine<W> {
-    /// An engine for a server that has no connection, over a wire that has reported nothing. An outbox of a client has room for
-    /// `client_room` bytes. Servers cannot be linked yet, so `link_room` is kept, and has no use.
+    /// An engine for a server that has no connection and no link, over a wire that has reported nothing. An outbox of a client has room for
+    /// `client_room` bytes, and that of a link for `link_room`.
     ///
     /// # Errors
     /// Where memory runs out.
@@ -77,15 +83,17 @@ impl<W: Wire + Drop> Engine<W> {
         let buffer = vec![in alloc; 0u8; READ_SIZE]?;
         Ok(Engine {
             failed: false,
-            client_room,
-            link_room,
+            rooms: Rooms {
+                client: client_room,
+                link: link_room,
+            },
             desk: Desk {
                 server,
                 board: Board {
                     wire,
                     seats: Seats::new(alloc),
                     waiting: BTreeSet::new(alloc),
-                    lost: BTreeSet::new(alloc),
+                    lost: BTreeMap::new(alloc),
                 },
                 out: Batch::new(alloc),
                 buffer,
@@ -115,10 +123,10 @@ impl<W: Wire> Engine<W> {
 
     /// Does what is ready, and writes.
     fn take(&mut self, ready: Ready) -> Result<(), EngineFault>
-        ensures { Taken W.is_after self.old.client_room ready (moment_of self.old.desk) self.new result }
+        ensures { Taken W.is_after self.old.rooms ready (moment_of self.old.desk) self.new result }
     {
         self.failed = true;
-        match self.desk.turn(ready, self.client_room) {
+        match self.desk.turn(ready, self.rooms) {
             Ok(()) => {
                 self.failed = false;
                 Ok(())
@@ -143,54 +151,49 @@ impl<W: Wire> Engine<W> {
 
 impl<W: Wire> Desk<W> {
     /// Does what is ready, and writes.
-    fn turn(&mut self, ready: Ready, client_room: usize) -> Result<(), AllocError>
-        ensures done { OnOk result (Does W.is_after client_room ready (moment_of self.old) (moment_of self.new)) }
+    fn turn(&mut self, ready: Ready, rooms: Rooms) -> Result<(), AllocError>
+        ensures done { OnOk result (Does W.is_after rooms ready (moment_of self.old) (moment_of self.new)) }
         ensures quiet { brings_nothing ready ≡ true → IsNobodyNoted self.old → result ≡ Ok tt }
     {
-        self.answer(ready, client_room)?;
+        self.answer(ready, rooms)?;
         self.flush()
     }
 
     /// Does what is ready.
-    fn answer(&mut self, ready: Ready, client_room: usize) -> Result<(), AllocError>
-        ensures done { OnOk result (Answers W.is_after client_room ready (moment_of self.old) (moment_of self.new)) }
+    fn answer(&mut self, ready: Ready, rooms: Rooms) -> Result<(), AllocError>
+        ensures done { OnOk result (Answers W.is_after rooms ready (moment_of self.old) (moment_of self.new)) }
         ensures told { OnOk result (KeepsTold self.old self.new) }
         ensures notes { OnOk result (KeepsNotes self.old.board self.new.board) }
         ensures quiet { brings_nothing ready ≡ true → (result ≡ Ok tt) × (self.new ≡ self.old) }
     {
         match ready {
             Ready::Idle | Ready::Writable(_) => Ok(()),
-            Ready::Client(conn, host) => self.connect(conn, host, client_room),
-            Ready::Linked(conn, _) => {
-                self.refuse_link(conn);
-                Ok(())
+            Ready::Client(conn, host) => {
+                self.start(
+                    conn,
+                    Kind::Client,
+                    rooms.client,
+                    &Event::Connect(conn, host),
+                )
+            }
+            Ready::Linked(conn, starts) => {
+                self.start(conn, Kind::Link, rooms.link, &Event::LinkUp(conn, starts))
             }
             Ready::Readable(conn) => self.read(conn),
         }
     }
 
-    /// A client has connected. A number that is in use is passed over.
-    fn connect(&mut self, conn: u64, host: Host, client_room: usize) -> Result<(), AllocError>
-        ensures done { OnOk result (Connects W.is_after client_room conn host (moment_of self.old) (moment_of self.new)) }
+    /// A client has connected, or a link is open, and the server is told. A number that is in use is passed over.
+    fn start(&mut self, conn: u64, kind: Kind, room: usize, event: &Event) -> Result<(), AllocError>
+        ensures done { OnOk result (Starts W.is_after kind room conn event.now (moment_of self.old) (moment_of self.new)) }
         ensures told { OnOk result (KeepsTold self.old self.new) }
         ensures notes { OnOk result (KeepsNotes self.old.board self.new.board) }
     {
         if self.board.seats.contains(conn) {
             return Ok(());
         }
-        self.board.seats.give_seat(self.alloc, conn, client_room)?;
-        self.pass(&Event::Connect(conn, host))
-    }
-
-    /// A server is connected. Servers cannot be linked yet, so it is closed at once. A number that is in use is passed over.
-    fn refuse_link(&mut self, conn: u64)
-        ensures done { RefusesLink W.is_after conn (moment_of self.old) (moment_of self.new) }
-        ensures told { KeepsTold self.old self.new }
-        ensures marks { KeepsMarks self.old.board self.new.board }
-    {
-        if !self.board.seats.contains(conn) {
-            self.board.wire.close(conn);
-        }
+        self.board.seats.give_seat(self.alloc, conn, kind, room)?;
+        self.pass(event)
     }
 
     /// A connection has bytes, or has ended. One that the server has closed is read no more.
@@ -220,24 +223,25 @@ impl<W: Wire> Desk<W> {
     {
         let mut used = 0;
         while used < count {
-            let Some((more, line)) = self.board.seats.take(conn, &self.buffer[used..count]) else {
+            let Some((more, kind, line)) = self.board.seats.take(conn, &self.buffer[used..count])
+            else {
                 return Ok(());
             };
             used += more;
-            self.pass_line(conn, line)?;
+            self.pass_line(conn, kind, line)?;
         }
         Ok(())
     }
 
     /// Passes on a line, if there is one.
-    fn pass_line(&mut self, conn: u64, line: Option<Line>) -> Result<(), AllocError>
-        ensures ran { OnOk result (Ran W.is_after [] (passed_on conn line) nothing_of (moment_of self.old) (moment_of self.new)) }
+    fn pass_line(&mut self, conn: u64, kind: Kind, line: Option<Line>) -> Result<(), AllocError>
+        ensures ran { OnOk result (Ran W.is_after [] (passed_on kind conn line) nothing_of (moment_of self.old) (moment_of self.new)) }
         ensures told { OnOk result (KeepsTold self.old self.new) }
         ensures marks { OnOk result (KeepsMarks self.old.board self.new.board) }
         ensures same { self.new.buffer ≡ self.old.buffer }
     {
         match line {
-            Some(line) => self.pass(&Event::Line(conn, line)),
+            Some(line) => self.pass(&kind.line_event(conn, line)),
             None => Ok(()),
         }
     }
@@ -262,8 +266,8 @@ impl<W: Wire> Desk<W> {
         ensures marks { OnOk result (KeepsMarks self.old.board self.new.board) }
         ensures same { self.new.buffer ≡ self.old.buffer }
     {
-        while let Some(conn) = take_lowest(&mut self.board.lost) {
-            self.handle(&Event::Gone(conn))?;
+        while let Some((conn, kind)) = take_lowest(&mut self.board.lost) {
+            self.handle(&kind.end_event(conn))?;
         }
         Ok(())
     }

@@ -4,6 +4,7 @@
 mod board;
 mod boxed_framer;
 mod engine;
+mod kind;
 mod seat;
 
 pub use engine::{Engine, EngineFault};

@@ -1,10 +1,11 @@
 //! The place of each connection that is open: its outbox, and what has come of its next line.
 ghost use Rattle.std.specs.Prelude.{◌≡◌, ℕ, ◌+◌, Ok, Some, None, is_some, length, option_copied, IfOk, OnOk, if◌then◌else◌};
 ghost use Rattle.std.specs.List.{slice_get};
-ghost use Rattle.irc_engine.specs.Loops.Seats.{fresh_seat, has_some_at, is_done_at, is_open_at, seat_count, seat_of, IsSet, IsOffered, IsOfferedAt, IsShutAt, IsWritten, IsWrittenAt, Frames, FramesAt, Within};
+ghost use Rattle.irc_engine.specs.Loops.Seats.{fresh_seat, has_some_at, is_done_at, is_open_at, open_kind_at, seat_count, seat_of, IsSet, IsOffered, IsOfferedAt, IsShutAt, IsWritten, IsWrittenAt, Frames, FramesAt, Within};
 ghost use Rattle.irc_engine.specs.declared.seat.Offered.TheVariants.{Nothing};
 
 use crate::boxed_framer::BoxedFramer;
+use crate::kind::Kind;
 use irc_line::Line;
 use irc_outbox::{IoFault, Outbox, Overflow, Wire};
 use std::alloc::{AllocError, Global};
@@ -18,6 +19,8 @@ const PIECE: usize = 2_097_152;
 /// The place of a connection.
 #[derive(Drop)]
 pub struct Seat {
+    /// Whether it is a client's or a link's.
+    pub kind: Kind,
     /// What is still to be written to it.
     pub outbox: Outbox,
     /// What has come of its next line; none once the server has closed the connection.
@@ -37,12 +40,13 @@ pub(crate) enum Offered {
 
 impl Seat {
     /// That of a connection that has just been made.
-    pub(crate) fn fresh(alloc: Global, room: usize) -> Result<Self, AllocError>
-        ensures { IfOk result (λ seat. seat ≡ fresh_seat room) }
+    pub(crate) fn fresh(alloc: Global, kind: Kind, room: usize) -> Result<Self, AllocError>
+        ensures { IfOk result (λ seat. seat ≡ fresh_seat kind room) }
     {
         let outbox = Outbox::with_capacity(alloc, room)?;
         let framer = BoxedFramer::new(alloc)?;
         Ok(Seat {
+            kind,
             outbox,
             framer: Some(framer),
         })
@@ -53,6 +57,17 @@ impl Seat {
         ensures { result ≡ is_done_at (Some self.now) }
     {
         self.framer.is_none() && self.outbox.len() == 0
+    }
+
+    /// The kind of the connection, unless the server has closed it.
+    fn open_kind(&self) -> Option<Kind>
+        ensures { result ≡ open_kind_at (Some self.now) }
+    {
+        if self.framer.is_some() {
+            Some(self.kind)
+        } else {
+            None
+        }
     }
 
     /// Takes bytes that are to be written, unless the server has closed the connection.
@@ -74,12 +89,16 @@ impl Seat {
         }
     }
 
-    /// Takes bytes that have come, up to the end of the next line; nothing, where the server has closed the connection.
-    fn take(&mut self, piece: &[u8]) -> Option<(usize, Option<Line>)>
+    /// Takes bytes that have come, up to the end of the next line: how many, of which kind the connection is, and that line; nothing, where the server
+    /// has closed the connection.
+    fn take(&mut self, piece: &[u8]) -> Option<(usize, Kind, Option<Line>)>
         ensures { Frames self.old piece.now result self.new }
     {
         match &mut self.framer {
-            Some(framer) => Some(framer.take(piece)),
+            Some(framer) => {
+                let (used, line) = framer.take(piece);
+                Some((used, self.kind, line))
+            }
             None => None,
         }
     }
@@ -133,6 +152,16 @@ impl Seats {
         }
     }
 
+    /// The kind of a connection that has a seat that the server has not closed.
+    pub(crate) fn open_kind(&self, conn: u64) -> Option<Kind>
+        ensures { result ≡ open_kind_at (seat_of self.now conn) }
+    {
+        match self.find(conn) {
+            Some(seat) => seat.open_kind(),
+            None => None,
+        }
+    }
+
     /// Whether a connection is one that the server has closed, with nothing left to write.
     pub(crate) fn is_done(&self, conn: u64) -> bool
         ensures { result ≡ is_done_at (seat_of self.now conn) }
@@ -158,12 +187,13 @@ impl Seats {
         &mut self,
         alloc: Global,
         conn: u64,
+        kind: Kind,
         room: usize,
     ) -> Result<(), AllocError>
-        ensures { OnOk result (IsSet (seat_of self.old) conn (Some (fresh_seat room)) (seat_of self.new)) }
+        ensures { OnOk result (IsSet (seat_of self.old) conn (Some (fresh_seat kind room)) (seat_of self.new)) }
     {
         ask_ahead(alloc, conn as usize, room);
-        let fresh = Seat::fresh(alloc, room)?;
+        let fresh = Seat::fresh(alloc, kind, room)?;
         let next = self.near.len();
         match self.near.get_mut(conn as usize) {
             Some(slot) => {
@@ -241,8 +271,9 @@ impl Seats {
         }
     }
 
-    /// Takes bytes that have come from a connection, up to the end of its next line; nothing, where it is not open.
-    pub(crate) fn take(&mut self, conn: u64, piece: &[u8]) -> Option<(usize, Option<Line>)>
+    /// Takes bytes that have come from a connection, up to the end of its next line: how many, of which kind it is, and that line; nothing, where it is
+    /// not open.
+    pub(crate) fn take(&mut self, conn: u64, piece: &[u8]) -> Option<(usize, Kind, Option<Line>)>
         ensures at { FramesAt conn piece.now self.old result self.new }
         ensures len { seat_count self.new ≡ seat_count self.old }
     {
@@ -293,7 +324,7 @@ fn shut(slot: &mut Option<Seat>)
 }
 
 /// Takes bytes that have come from the connection whose seat this is, if it is one.
-fn take(slot: &mut Option<Seat>, piece: &[u8]) -> Option<(usize, Option<Line>)>
+fn take(slot: &mut Option<Seat>, piece: &[u8]) -> Option<(usize, Kind, Option<Line>)>
     ensures { Within (λ s t. Frames s piece.now result t) (result ≡ None) slot.old slot.new }
 {
     match slot {

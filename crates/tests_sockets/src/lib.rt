@@ -2,9 +2,13 @@
 #![tactic(auto)]
 
 #[cfg(test)]
+mod calling;
+#[cfg(test)]
 mod calls;
 #[cfg(test)]
 mod lent;
+#[cfg(test)]
+mod links;
 #[cfg(test)]
 mod memory;
 #[cfg(test)]

@@ -6,12 +6,26 @@ use irc_engine::Engine;
 use irc_outbox::MemoryWire;
 use std::alloc::Global;
 
+/// The room of a link's outbox, where a test says none.
+const LINK_ROOM: usize = 4096;
+
 /// Whether so many turns are taken over a wire.
 fn runs(alloc: Global, wire: &mut MemoryWire, client_room: usize, turns: u64) -> bool {
+    runs_in(alloc, wire, client_room, LINK_ROOM, turns)
+}
+
+/// Whether so many turns are taken over a wire, with outboxes of these rooms.
+pub(crate) fn runs_in(
+    alloc: Global,
+    wire: &mut MemoryWire,
+    client_room: usize,
+    link_room: usize,
+    turns: u64,
+) -> bool {
     let Some(server) = server(alloc) else {
         return false;
     };
-    match Engine::new(alloc, server, Lent { wire }, client_room, client_room) {
+    match Engine::new(alloc, server, Lent { wire }, client_room, link_room) {
         Ok(mut engine) => engine.run(turns).is_ok(),
         Err(_fault) => false,
     }
@@ -60,7 +74,7 @@ static OVERFLOW: [Step; 8] = [
 ];
 
 /// How many lines of a text are this one.
-fn times(line: &[u8], text: &[u8]) -> usize {
+pub(crate) fn times(line: &[u8], text: &[u8]) -> usize {
     let mut count = 0usize;
     for piece in text.split(|byte| *byte == b'\n') {
         if piece == line {
@@ -131,28 +145,25 @@ fn who_ends_or_fails_is_lost(rt: HostRuntime) {
     assert!(rt; are_lost(rt.alloc()));
 }
 
-/// The server closes al, whose socket takes nothing yet; what comes then is reported, and not read. bo and a server connect behind that.
-static SHUT: [Step; 7] = [
+/// The server closes al, whose socket takes nothing yet; what comes then is reported, and not read. bo connects behind that.
+static SHUT: [Step; 6] = [
     Step::Client(1),
     Step::Bytes(1, b"NICK al\r\nQUIT :bye\r\n"),
     Step::Bytes(1, b"x\r\n"),
     Step::Room(1, 100),
     Step::Bytes(1, b"PING x\r\n"),
     Step::Client(2),
-    Step::Called(3),
 ];
 
-/// Whether al is read and written up to that, and closed, and the server too, which cannot be linked. One turn is taken for each step, but for that
-/// of al when al is closed.
+/// Whether al is read and written up to that, and closed. One turn is taken for each step, but for that of al when al is closed.
 fn is_shut(alloc: Global) -> bool {
     match wire(alloc, &SHUT) {
         Some(mut wire) => {
-            runs(alloc, &mut wire, 4096, 6)
+            runs(alloc, &mut wire, 4096, 5)
                 && wire.taken(1) == b"NICK al\r\nQUIT :bye\r\n".as_slice()
                 && wire.written(1) == b"ERROR :Closing link (bye)\r\n".as_slice()
                 && wire.closed(1)
                 && !wire.closed(2)
-                && wire.closed(3)
         }
         None => false,
     }

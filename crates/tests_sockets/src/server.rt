@@ -2,10 +2,10 @@
 use irc_batch::{Batch, Out};
 use irc_names::{Host, copied};
 use irc_routes::Own;
-use irc_server::{Config, Event, Server};
+use irc_server::{Config, Event, Peer, Server};
 use std::alloc::{AllocError, Global};
 
-/// A server a.net that nobody is connected to.
+/// A server a.net that nobody is connected to. It may be linked to b.net, by the password pw.
 pub(crate) fn server(alloc: Global) -> Option<Server> {
     match config(alloc) {
         Ok(config) => Server::new(alloc, config).ok(),
@@ -14,13 +14,18 @@ pub(crate) fn server(alloc: Global) -> Option<Server> {
 }
 
 fn config(alloc: Global) -> Result<Config, AllocError> {
+    let mut peers = Vec::new(alloc);
+    peers.push(Peer {
+        name: Vec::from_slice(alloc, b"b.net")?,
+        password: Vec::from_slice(alloc, b"pw")?,
+    })?;
     Ok(Config {
         own: Own {
             name: Vec::from_slice(alloc, b"a.net")?,
             info: Vec::from_slice(alloc, b"Test server")?,
             created: Vec::from_slice(alloc, b"2024-01-01")?,
         },
-        peers: Vec::new(alloc),
+        peers,
     })
 }
 

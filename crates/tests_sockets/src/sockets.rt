@@ -24,7 +24,7 @@ const TURNS: u64 = 20;
 /// A wire that listens on a free port of an address.
 fn listens(rt: &HostRuntime, address: &str) -> Option<MioWire> {
     let address = address.parse::<SocketAddr>().ok()?;
-    MioWire::listen(rt, rt.alloc(), address, None).ok()
+    MioWire::listen(rt, rt.alloc(), address, None, Vec::new(rt.alloc())).ok()
 }
 
 /// A socket that has connected there, and said some lines.

@@ -9,9 +9,11 @@ use Rattle.irc_server.specs.declared.event.Event.{Event}
 use Rattle.irc_batch.specs.Batches.{Sent}
 use Rattle.irc_engine.specs.declared.engine.Engine.{Engine}
 use Rattle.irc_engine.specs.declared.engine.EngineFault.{EngineFault}
+use Rattle.irc_engine.specs.declared.engine.Rooms.{Rooms}
+use Rattle.irc_engine.specs.declared.kind.Kind.{Kind}
 use Rattle.irc_engine.specs.declared.seat.Seat.{Seat}
 use Rattle.irc_engine.specs.Carrying.{fresh_seat, has_some_at, is_exchange, owed, Fate}
-use Rattle.irc_engine.specs.Running.{Moment, IsInOrder, Ran, Connects, in_use, takes_seat, RefusesLink, in_use_by_client, closes_it, Reads, not_open, read_once, Answers, Turn}
+use Rattle.irc_engine.specs.Running.{Moment, IsInOrder, Ran, Starts, in_use, takes_seat, Reads, not_open, read_once, Answers, Turn}
 use Rattle.irc_engine.specs.Turning.{Turned, takes_turn, device_failed, wants_memory, has_failed, Turns, no_turn, one_more}
 use Rattle.irc_engine.specs.Writing.{one_if}
 use Rattle.irc_engine.specs.Loops.Desks.{moment_of}
@@ -67,7 +69,7 @@ other_seat : (old new : Option Seat) (seat : Option Seat) (t : Bool) → (t ≡ 
 other_seat old new seat true none set some = cc (sym some ∙ ap has_some_at (none refl))
 other_seat old new seat false none set some = set
 
-module _ {W : Type 0} (is_after : W → List Call → Type 0) (room conn : ℕ) where
+module _ {W : Type 0} (is_after : W → List Call → Type 0) (rooms : Rooms) (conn : ℕ) where
   ran_waits : (exchanges : List Call) (first : List Event) (came : ℕ → List ℕ) (old new : Moment W) → written conn exchanges ≡ []
       → Ran is_after exchanges first came old new
       → has_some_at (old.seats conn) ≡ true → is_some (new.seats conn) ≡ true → has_some_at (new.seats conn) ≡ true
@@ -75,35 +77,30 @@ module _ {W : Type 0} (is_after : W → List Call → Type 0) (room conn : ℕ) 
       still_waits conn (old.seats conn) (new.seats conn) ran.calls ran.outs (ran.fates conn) (written_in conn ran.calls ∙ ap (written conn) ran.exchanged
       ∙ nothing) some there
 
-  connects_waits : (which : ℕ) (host : List ℕ) (old new : Moment W) → Connects is_after room which host old new → has_some_at (old.seats conn) ≡ true
-      → is_some (new.seats conn) ≡ true → has_some_at (new.seats conn) ≡ true
-  connects_waits which host old new (in_use used ran) some there = ran_waits [] [] _ old new refl ran some there
-  connects_waits which host old new (takes_seat between free server wire lost waiting size set ran) some there =
-      let same = other_seat (old.seats conn) (between.seats conn) (Some (fresh_seat room)) (nat_eq which conn)
+  starts_waits : (kind : Kind) (room which : ℕ) (event : Event) (old new : Moment W) → Starts is_after kind room which event old new
+      → has_some_at (old.seats conn) ≡ true → is_some (new.seats conn) ≡ true → has_some_at (new.seats conn) ≡ true
+  starts_waits kind room which event old new (in_use used ran) some there = ran_waits [] [] _ old new refl ran some there
+  starts_waits kind room which event old new (takes_seat between free server wire lost waiting size set ran) some there =
+      let same = other_seat (old.seats conn) (between.seats conn) (Some (fresh_seat kind room)) (nat_eq which conn)
       (λ one. ap old.seats (sym (eqb-true which conn one)) ∙ free) (set conn) some in
       ran_waits [] _ _ between new refl ran (ap has_some_at same ∙ some) there
-
-  refuses_waits : (which : ℕ) (old new : Moment W) → RefusesLink is_after which old new → has_some_at (old.seats conn) ≡ true
-      → is_some (new.seats conn) ≡ true → has_some_at (new.seats conn) ≡ true
-  refuses_waits which old new (in_use_by_client used ran) some there = ran_waits [] [] _ old new refl ran some there
-  refuses_waits which old new (closes_it free account same) some there = ap (λ (now : Moment W). has_some_at (now.seats conn)) same ∙ some
 
   reads_waits : (which : ℕ) (old new : Moment W) → Reads is_after which old new → has_some_at (old.seats conn) ≡ true
       → is_some (new.seats conn) ≡ true → has_some_at (new.seats conn) ≡ true
   reads_waits which old new (not_open shut ran) some there = ran_waits [] [] _ old new refl ran some there
   reads_waits which old new (read_once size answer bytes unshut as_large ran) some there = ran_waits _ [] _ old new refl ran some there
 
-  answers_wait : (report : Ready) (old new : Moment W) → Answers is_after room report old new → has_some_at (old.seats conn) ≡ true
+  answers_wait : (report : Ready) (old new : Moment W) → Answers is_after rooms report old new → has_some_at (old.seats conn) ≡ true
       → is_some (new.seats conn) ≡ true
       → has_some_at (new.seats conn) ≡ true
   answers_wait Idle old new ran some there = ran_waits [] [] _ old new refl ran some there
-  answers_wait (Client which host) old new done some there = connects_waits which host old new done some there
-  answers_wait (Linked which starts) old new done some there = refuses_waits which old new done some there
+  answers_wait (Client which host) old new done some there = starts_waits _ _ which _ old new done some there
+  answers_wait (Linked which starts) old new done some there = starts_waits _ _ which _ old new done some there
   answers_wait (Readable which) old new done some there = reads_waits which old new done some there
   answers_wait (Writable which) old new ran some there = ran_waits [] [] _ old new refl ran some there
 
   -- A connection whose outbox was not empty before a turn, and which the turn does not close, is written to once.
-  pub written_in_turn : (old new : Moment W) (turn : Turn is_after room old new) → IsInOrder old → has_some_at (old.seats conn) ≡ true
+  pub written_in_turn : (old new : Moment W) (turn : Turn is_after rooms old new) → IsInOrder old → has_some_at (old.seats conn) ≡ true
       → is_some (new.seats conn) ≡ true
       → times_written conn turn.does.writes.exchanges ≡ 1
   written_in_turn old new turn order some there =

@@ -2,13 +2,15 @@
 use Rattle.std.specs.Prelude.{◌≡◌, ℕ, ◌+◌, ◌≤◌, Bool, true, false, ◌&&◌, ◌||◌, nat_eq, is_some, Option, Some, None, Result, List, [], ◌∷◌, if◌then◌else◌}
 use Rattle.std.specs.List.{filter}
 use Rattle.std.specs.Ordering.{nat_cmp}
+use Rattle.std.specs.BTreeMap.{BTreeMap, get}
 use Rattle.std.specs.BTreeSet.{BTreeSet, contains}
 use Rattle.irc_outbox.specs.Calls.{Call, writes, closes, is_some_bytes, Adds}
 use Rattle.irc_outbox.specs.declared.wire.IoFault.{IoFault}
 use Rattle.irc_batch.specs.Batches.{Sent}
+use Rattle.irc_engine.specs.declared.kind.Kind.{Kind}
 use Rattle.irc_engine.specs.declared.seat.Seat.{Seat}
 use Rattle.irc_engine.specs.declared.board.Board.{Board}
-use Rattle.irc_engine.specs.Carrying.{AddsAll, Passage, has_some_at, is_done_at, is_exchange, is_open_at}
+use Rattle.irc_engine.specs.Carrying.{AddsAll, Passage, has_some_at, is_done_at, is_exchange, is_open_at, kind_at}
 use Rattle.irc_engine.specs.Loops.Seats.{seat_count, seat_of, IsSet}
 use Rattle.irc_engine.specs.Loops.Counts.{count_of}
 
@@ -19,6 +21,14 @@ has numbers conn = contains nat_cmp numbers conn
 abbrev pub IsNoted : BTreeSet ℕ → ℕ → Bool → BTreeSet ℕ → Type 0
 IsNoted old conn now new = (q : ℕ) → has new q ≡ (if nat_eq conn q then now else has old q)
 
+-- the kind of a connection that was lost
+abbrev pub lost_at : BTreeMap ℕ Kind → ℕ → Option Kind
+lost_at lost conn = get nat_cmp lost conn
+
+-- a connection is among those that were lost, as one of some kind, or is not, from now on
+abbrev pub IsLostAs : BTreeMap ℕ Kind → ℕ → Option Kind → BTreeMap ℕ Kind → Type 0
+IsLostAs old conn now new = (q : ℕ) → lost_at new q ≡ (if nat_eq conn q then now else lost_at old q)
+
 -- a connection ends
 pub record Ends {W : Type 0} (is_after : W → List Call → Type 0) (conn : ℕ) (old new : Board W) : Type 0 where
   pub account : Adds is_after old.wire (closes conn) new.wire
@@ -27,11 +37,15 @@ pub record Ends {W : Type 0} (is_after : W → List Call → Type 0) (conn : ℕ
   pub waiting : IsNoted old.waiting conn false new.waiting
   pub len : seat_count new.seats + (if is_some (seat_of old.seats conn) then 1 else 0) ≡ seat_count old.seats
 
+-- as what a connection is lost, after the one is lost whose seat this was: as of its kind, if it is that one and was open; else as before
+abbrev pub lost_by : Bool → Option Seat → Option Kind → Option Kind
+lost_by it_is seat was = if it_is && is_open_at seat then kind_at seat else was
+
 -- a connection is lost
 pub record Loses {W : Type 0} (is_after : W → List Call → Type 0) (conn : ℕ) (old new : Board W) : Type 0 where
   pub account : Adds is_after old.wire (closes conn) new.wire
   pub seats : IsSet (seat_of old.seats) conn None (seat_of new.seats)
-  pub lost : (q : ℕ) → has new.lost q ≡ (has old.lost q || (nat_eq conn q && is_open_at (seat_of old.seats conn)))
+  pub lost : (q : ℕ) → lost_at new.lost q ≡ lost_by (nat_eq conn q) (seat_of old.seats conn) (lost_at old.lost q)
   pub waiting : IsNoted old.waiting conn false new.waiting
   pub count : count_of new ≤ count_of old
 
@@ -45,7 +59,7 @@ pub data Settles {W : Type 0} (is_after : W → List Call → Type 0) (conn : �
 pub record Carries {W : Type 0} (is_after : W → List Call → Type 0) (exchanges : List Call) (old : Board W) (outs : List Sent) (new : Board W) : Type 0 where
   pub calls : List Call
   pub account : AddsAll is_after old.wire calls new.wire
-  pub passage : (conn : ℕ) → Passage conn (seat_of old.seats conn) (has old.lost conn) calls outs (seat_of new.seats conn) (has new.lost conn)
+  pub passage : (conn : ℕ) → Passage conn (seat_of old.seats conn) (lost_at old.lost conn) calls outs (seat_of new.seats conn) (lost_at new.lost conn)
   pub exchanged : filter is_exchange calls ≡ exchanges
   pub count : count_of new ≤ count_of old
 

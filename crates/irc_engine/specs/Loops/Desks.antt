@@ -6,10 +6,11 @@ use Rattle.irc_outbox.specs.declared.wire.IoFault.{IoFault}
 use Rattle.std.specs.Vec.{vec_len}
 use Rattle.arrayvec.specs.ArrayVec.{ArrayVec}
 use Rattle.irc_server.specs.declared.event.Event.{Event}
-use Rattle.irc_server.specs.declared.event.Event.TheVariants.{Line}
 use Rattle.irc_engine.specs.declared.engine.Desk.{Desk}
+use Rattle.irc_engine.specs.declared.kind.Kind.{Kind}
+use Rattle.irc_engine.specs.Hearing.{line_event_of}
 use Rattle.irc_engine.specs.Running.{Moment, AllTold, IsInOrder}
-use Rattle.irc_engine.specs.Loops.Boards.{has}
+use Rattle.irc_engine.specs.Loops.Boards.{has, lost_at}
 use Rattle.irc_engine.specs.Loops.Seats.{seat_of}
 
 abbrev pub moment_of : {W : Type 0} → Desk W → Moment W
@@ -17,7 +18,7 @@ moment_of desk = record {
   server = desk.server;
   wire = desk.board.wire;
   seats = seat_of desk.board.seats;
-  lost = has desk.board.lost;
+  lost = lost_at desk.board.lost;
   waiting = has desk.board.waiting;
   read_room = vec_len desk.buffer;
 }
@@ -30,9 +31,9 @@ came (Ok End) = None
 came (Err fault) = None
 
 -- the event by which a line is passed on, if there is one
-abbrev pub passed_on : ℕ → Option (ArrayVec ℕ) → List Event
-passed_on conn None = []
-passed_on conn (Some line) = Line conn line ∷ []
+abbrev pub passed_on : Kind → ℕ → Option (ArrayVec ℕ) → List Event
+passed_on kind conn None = []
+passed_on kind conn (Some line) = line_event_of kind conn line ∷ []
 
 -- the server has been told of each connection that was lost, if it had been before
 abbrev pub KeepsTold : {W : Type 0} → Desk W → Desk W → Type 0

@@ -9,11 +9,12 @@ use Rattle.irc_outbox.specs.declared.outbox.Overflow.{Overflow}
 use Rattle.irc_outbox.specs.declared.wire.IoFault.{IoFault}
 use Rattle.irc_outbox.specs.Calls.{Call, is_some_bytes}
 use Rattle.irc_outbox.specs.Outboxes.{holding, WritesSome}
+use Rattle.irc_engine.specs.declared.kind.Kind.{Kind}
 use Rattle.irc_engine.specs.declared.seat.Seat.{Seat}
 use Rattle.irc_engine.specs.declared.seat.Seats.{Seats}
 use Rattle.irc_engine.specs.declared.seat.Offered.{Offered}
 use Rattle.irc_engine.specs.declared.seat.Offered.TheVariants.{Nothing, First, More}
-pub use Rattle.irc_engine.specs.Carrying.{fresh_seat, has_some_at, is_done_at, is_open_at}
+pub use Rattle.irc_engine.specs.Carrying.{fresh_seat, has_some_at, is_done_at, is_open_at, open_kind_at}
 
 -- a number among the near ones has the seat that is there, and another that of the other map
 abbrev pub seat_at : Option (Option Seat) → Option Seat → Option Seat
@@ -66,8 +67,9 @@ IsOfferedAt conn bytes old result new = Through conn (λ s t. IsOffered s bytes 
 abbrev pub IsShutAt : ℕ → Seats → Seats → Type 0
 IsShutAt conn old new = Through conn (λ s t. t ≡ record s { framer = None }) (Unit {0}) old new
 
--- a framer takes bytes of a piece up to the end of the next line
-pub record FramesSome (old : Seat) (piece : List ℕ) (used : ℕ) (line : Option (ArrayVec ℕ)) (new : Seat) : Type 0 where
+-- a framer takes bytes of a piece up to the end of the next line, and the kind is told
+pub record FramesSome (old : Seat) (piece : List ℕ) (used : ℕ) (kind : Kind) (line : Option (ArrayVec ℕ)) (new : Seat) : Type 0 where
+  pub kind_is : kind ≡ old.kind
   pub before : Begun
   pub behind : Begun
   pub was : old.framer ≡ Some before
@@ -77,18 +79,18 @@ pub record FramesSome (old : Seat) (piece : List ℕ) (used : ℕ) (line : Optio
   pub some : 0 < length piece → 0 < used
   pub whole : IsNone line → used ≡ length piece
 
-abbrev pub Frames : Seat → List ℕ → Option (ℕ × Option (ArrayVec ℕ)) → Seat → Type 0
-Frames old piece (Some taken) new = FramesSome old piece taken.0 taken.1 new
+abbrev pub Frames : Seat → List ℕ → Option (ℕ × Kind × Option (ArrayVec ℕ)) → Seat → Type 0
+Frames old piece (Some taken) new = FramesSome old piece taken.0 taken.1 taken.2 new
 Frames old piece None new = (old.framer ≡ None) × (new ≡ old)
 
-abbrev pub FramesAt : ℕ → List ℕ → Seats → Option (ℕ × Option (ArrayVec ℕ)) → Seats → Type 0
+abbrev pub FramesAt : ℕ → List ℕ → Seats → Option (ℕ × Kind × Option (ArrayVec ℕ)) → Seats → Type 0
 FramesAt conn piece old result new = Through conn (λ s t. Frames s piece result t) (result ≡ None) old new
 
 -- a write from the front of its outbox
 pub record IsWritten {W : Type 0} (is_after : W → List Call → Type 0) (conn : ℕ) (old : Seat) (wire : W) (result : Result ℕ IoFault) (new : Seat) (wire_after : W)
     : Type 0 where
   pub writes_some : WritesSome is_after conn old.outbox wire result new.outbox wire_after
-  pub same_framer : new.framer ≡ old.framer
+  pub same : new ≡ record old { outbox = new.outbox }
 
 abbrev pub IsWrittenAt : {W : Type 0} → (W → List Call → Type 0) → ℕ → Seats → W → Result ℕ IoFault → Seats → W → Type 0
 IsWrittenAt is_after conn old wire result new wire_after =

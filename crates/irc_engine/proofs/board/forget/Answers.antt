@@ -3,5 +3,5 @@ use Rattle.irc_engine.specs.Loops.Boards.{has}
 use Rattle.irc_engine.proofs.SeatLaws.{set_at}
 use Rattle.irc_engine.proofs.board.forget.Goals as goal
 
-pub returns-clause-forgotten : goal.returns-clause-forgotten
-returns-clause-forgotten c = λ q. c.remove.ensures.updates.0 q ∙ set_at (has c.args.numbers.now) false c.args.conn q
+pub returns : goal.returns
+returns c = λ q. c.remove.ensures.updates.0 q ∙ set_at (has c.args.numbers.now) false c.args.conn q

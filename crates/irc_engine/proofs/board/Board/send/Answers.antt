@@ -8,13 +8,13 @@ use Rattle.irc_engine.proofs.board.Board.send.Goals as goal
 pub returns-in-Ok-First-clause-carries : goal.returns-in-Ok-First-clause-carries
 returns-in-Ok-First-clause-carries g c =
     on_ok c.note.result _ _ (λ noted. line_taken _ _ _ _ _ refl refl (omega (arith, c.offer.ensures.len))
-    (queued_first _ _ _ _ c.offer.result (c.in-Ok-First.is ∙ ap Ok c.in-Ok-First.field-0-is) c.offer.ensures.at)) c.note.ensures.noted
+    (queued_first _ _ _ _ c.offer.result (c.in-Ok-First.is ∙ ap Ok c.in-Ok-First.field-0-is) c.offer.ensures.at)) c.note.ensures
 
 pub returns-in-Ok-First-clause-marks : goal.returns-in-Ok-First-clause-marks
 returns-in-Ok-First-clause-marks g c =
     on_ok c.note.result _ _ (λ noted. marks_first _ c.args.self.now
     (record c.args.self.now { seats = c.offer.new.self; waiting = c.note.new.numbers }) _ c.offer.result
-    (c.in-Ok-First.is ∙ ap Ok c.in-Ok-First.field-0-is) c.offer.ensures.at noted) c.note.ensures.noted
+    (c.in-Ok-First.is ∙ ap Ok c.in-Ok-First.field-0-is) c.offer.ensures.at noted) c.note.ensures
 
 pub returns-in-Ok-More-clause-carries : goal.returns-in-Ok-More-clause-carries
 returns-in-Ok-More-clause-carries g c =

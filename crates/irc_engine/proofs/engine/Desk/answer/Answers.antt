@@ -6,8 +6,5 @@ use Rattle.irc_engine.proofs.engine.Desk.answer.Goals as goal
 pub returns-in-Idle-clause-done : goal.returns-in-Idle-clause-done
 returns-in-Idle-clause-done g c = nothing_to_do _ _ _ _ c.in-Idle.is
 
-pub returns-in-Linked-clause-notes : goal.returns-in-Linked-clause-notes
-returns-in-Linked-clause-notes g c = λ q. c.refuse_link.ensures.marks q false
-
 pub returns-in-Readable-clause-notes : goal.returns-in-Readable-clause-notes
 returns-in-Readable-clause-notes g c = on_ok c.read.result _ _ (λ marks q. marks q false) c.read.ensures.marks

@@ -5,4 +5,4 @@ pub returns-in-Some-clause-told : goal.returns-in-Some-clause-told
 returns-in-Some-clause-told g c = on_ok c.pass.result _ _ (λ told before. told) c.pass.ensures.told
 
 pub returns-in-None-clause-ran : goal.returns-in-None-clause-ran
-returns-in-None-clause-ran g c = ran_no_line _ _ _ _ c.in-None.is
+returns-in-None-clause-ran g c = ran_no_line _ _ _ _ _ c.in-None.is

@@ -2,6 +2,7 @@ use Rattle.std.proofs.Common.{refl, sym, ◌∙◌, ap}
 use Rattle.std.specs.Ordering.{nat_cmp}
 use Rattle.std.specs.List.{list_any}
 use Rattle.std.specs.BTreeMap.{is_at}
+use Rattle.std.specs.Map.{lookup}
 use Rattle.irc_engine.specs.Carrying.{has_some_at, is_done_at}
 use Rattle.irc_engine.proofs.engine.Engine.new.Goals as goal
 
@@ -10,11 +11,10 @@ returns g c = record {
   serves = refl;
   server_is = refl;
   wire_is = refl;
-  room_is = refl;
-  link_room_is = refl;
+  rooms_are = refl;
   no_seats = c.new.ensures;
   in_order = record {
-    all_told = λ conn. ap (list_any (is_at (nat_cmp conn))) c.new-3.ensures.empty;
+    all_told = λ conn. ap (lookup (is_at (nat_cmp conn))) c.new-3.ensures.empty;
     noted = λ conn. ap (list_any (is_at (nat_cmp conn))) c.new-2.ensures.empty ∙ sym (ap has_some_at (c.new.ensures conn));
     none_done = λ conn. ap is_done_at (c.new.ensures conn);
   };

@@ -14,7 +14,7 @@ returns-in-Some-clause-len g c =
 
 pub returns-in-Some-get_mut-clause-at : goal.returns-in-Some-get_mut-clause-at
 returns-in-Some-get_mut-clause-at g c =
-    far_through _ _ _ _ _ _ _ (no_slot _ _ c.in-None.ensures.item.3) c.in-Some-get_mut.ensures.value refl (c.get_mut-in-None.follows.holds _).3 (record { writes_some = c.write_some.ensures; same_framer = refl })
+    far_through _ _ _ _ _ _ _ (no_slot _ _ c.in-None.ensures.item.3) c.in-Some-get_mut.ensures.value refl (c.get_mut-in-None.follows.holds _).3 (record { writes_some = c.write_some.ensures; same = refl })
 
 pub returns-in-None-get_mut-clause-at : goal.returns-in-None-get_mut-clause-at
 returns-in-None-get_mut-clause-at g c =
