@@ -7,6 +7,9 @@ use std::io;
 use std::io::ErrorKind;
 use std::net::{Net, SocketAddr};
 
+/// How many connections are taken at a door before those that are there, and the other door, have their turn again.
+const ARRIVALS_A_ROUND: usize = 16;
+
 /// A listening socket. It is asked for connections only while some may wait there.
 #[derive(Drop)]
 pub(crate) struct Door {
@@ -14,6 +17,8 @@ pub(crate) struct Door {
     /// Where it was asked to listen.
     pub asked: SocketAddr,
     may_have: bool,
+    /// How many connections are left of this round.
+    left: usize,
     /// Whether a connection could not be taken, as where the process has no descriptor left: asking again at once would spin.
     is_resting: bool,
 }
@@ -37,6 +42,7 @@ impl Door {
             listener,
             asked: address,
             may_have: false,
+            left: 0,
             is_resting: false,
         })
     }
@@ -49,9 +55,14 @@ impl Door {
         self.listener.local_addr()
     }
 
-    /// Whether connections may wait.
+    /// Whether connections may wait that are to be taken in this round.
     pub fn may_have(&self) -> bool {
-        self.may_have
+        self.may_have && self.left > 0
+    }
+
+    /// A round begins.
+    pub fn begin_round(&mut self) {
+        self.left = ARRIVALS_A_ROUND;
     }
 
     /// Connections may wait.
@@ -67,6 +78,7 @@ impl Door {
 
     /// The next connection, and where it comes from, if one waits and can be taken.
     pub fn accept(&mut self) -> Option<(TcpStream, SocketAddr)> {
+        self.left = self.left.saturating_sub(1);
         match self.listener.accept() {
             Ok(taken) => Some(taken),
             Err(error) => {

@@ -1,9 +1,11 @@
 //! TCP sockets as a wire.
 #![tactic(auto)]
 
+mod calls;
 mod door;
 mod host;
 mod mio_wire;
 mod sockets;
 
+pub use calls::Callee;
 pub use mio_wire::MioWire;

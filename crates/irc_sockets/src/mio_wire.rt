@@ -1,8 +1,9 @@
 //! A wire of TCP sockets.
-ghost use Rattle.std.specs.Prelude.{⊤, ◌≤◌, length, IfOk};
+ghost use Rattle.std.specs.Prelude.{◌≡◌, ⊤, ◌≤◌, length, IfOk};
 ghost use Rattle.irc_outbox.specs.Calls.{Call, asks, reads, writes, closes, bytes_got, Adds, FitsIn};
 ghost use Rattle.irc_sockets.specs.Listening.{ListensAt};
 
+use crate::calls::{Callee, Calls};
 use crate::door::Door;
 use crate::host::host_of;
 use crate::sockets::Sockets;
@@ -20,17 +21,17 @@ const WAIT: u64 = 100;
 /// How many things the system reports at once.
 const EVENTS: usize = 1024;
 
-/// How many connections are taken before those that are there have their turn again.
-const ARRIVALS_A_ROUND: usize = 16;
-
-/// Under which numbers the system reports the doors; behind these, the sockets.
+/// Under which numbers the system reports the doors, and the calls that are under way; behind these, the sockets.
 const CLIENTS: usize = 0;
 
 const LINKS: usize = 1;
 
-const FIRST_SOCKET: usize = 2;
+const CALLS: usize = 2;
 
-/// TCP sockets: one that listens for clients, one that may listen for links, and one for each connection.
+const FIRST_SOCKET: usize = 3;
+
+/// TCP sockets: one that listens for clients, one that may listen for links, and one for each connection; and one for each call of a server that
+/// is under way, which becomes a connection, and gets its number, once it is through.
 ///
 /// What is ready is served in rounds. In each a few new connections are taken, and then each socket that is ready is reported once; only then is
 /// the system asked again. So one who sends without end, or many who connect, keep nobody else waiting for more than a round.
@@ -40,26 +41,29 @@ pub struct MioWire {
     events: Events,
     clients: Door,
     links: Option<Door>,
+    calls: Calls,
     sockets: Sockets,
-    /// How many sockets and how many arrivals are left of this round.
+    /// How many sockets are left of this round.
     reports: usize,
-    arrivals: usize,
     /// Whether bytes may wait though nothing is in their way, by the writes since the last report: then no wait is due.
     has_more: bool,
 }
 
 impl MioWire {
-    /// Listens for clients, and for links if there is an address for them.
+    /// Listens for clients, and for links if there is an address for them, and then calls each of these servers once. One that cannot be reached
+    /// is passed over, and no call is waited for.
     ///
     /// # Errors
-    /// Where the system refuses; where memory runs out.
+    /// Where the system does not let it listen; where memory runs out.
     pub fn listen<T: Net>(
         net: &T,
         alloc: Global,
         clients: SocketAddr,
         links: Option<SocketAddr>,
+        callees: Vec<Callee, Global>,
     ) -> io::Result<Self>
-        ensures { IfOk result (λ wire. ListensAt clients links wire) }
+        ensures listens { IfOk result (λ wire. ListensAt clients links wire) }
+        ensures callees { IfOk result (λ wire. wire.calls.asked ≡ callees) }
     {
         let poll = Poll::new(net)?;
         let events = Events::with_capacity(alloc, EVENTS)?;
@@ -68,14 +72,15 @@ impl MioWire {
             Some(address) => Some(Door::open(net, address, poll.registry(), Token(LINKS))?),
             None => None,
         };
+        let calls = Calls::begin(net, alloc, callees, poll.registry(), Token(CALLS))?;
         Ok(MioWire {
             poll,
             events,
             clients,
             links,
+            calls,
             sockets: Sockets::new(alloc),
             reports: 0,
-            arrivals: 0,
             has_more: false,
         })
     }
@@ -88,11 +93,23 @@ impl MioWire {
         self.clients.address()
     }
 
+    /// The address on which it listens for links, if it does.
+    ///
+    /// # Errors
+    /// Where the system does not tell.
+    pub fn address_for_links(&self) -> io::Result<Option<SocketAddr>> {
+        match &self.links {
+            Some(links) => Ok(Some(links.address()?)),
+            None => Ok(None),
+        }
+    }
+
     /// Begins a round. It waits only where nothing is left to be done.
     ///
     /// # Errors
     /// Where the system fails.
     fn begin_round(&mut self) -> io::Result<()> {
+        self.begin_arrivals();
         let is_busy = self.sockets.waiting() > 0 || self.has_arrivals() || self.has_more;
         let wait = Duration::from_millis(if is_busy { 0 } else { WAIT });
         self.poll.poll(&mut self.events, Some(wait))?;
@@ -103,19 +120,32 @@ impl MioWire {
             match event.token() {
                 Token(CLIENTS) => self.clients.knock(),
                 Token(LINKS) => knock(&mut self.links),
+                Token(CALLS) => self.calls.knock(),
                 Token(number) => self
                     .sockets
                     .note(number.saturating_sub(FIRST_SOCKET), event),
             }
         }
         self.reports = self.sockets.waiting();
-        self.arrivals = ARRIVALS_A_ROUND;
         Ok(())
     }
 
-    /// Whether connections may wait at a door.
+    /// A round of arrivals begins at the doors.
+    fn begin_arrivals(&mut self) {
+        self.clients.begin_round();
+        if let Some(links) = &mut self.links {
+            links.begin_round();
+        }
+    }
+
+    /// Whether connections may wait that are to be taken in this round.
     fn has_arrivals(&self) -> bool {
-        self.clients.may_have() || self.links.as_ref().is_some_and(Door::may_have)
+        self.calls.may_have() || self.clients.may_have() || self.has_links()
+    }
+
+    /// Whether servers may wait at the door for links.
+    fn has_links(&self) -> bool {
+        self.links.as_ref().is_some_and(Door::may_have)
     }
 
     fn wake_doors(&mut self) {
@@ -127,11 +157,12 @@ impl MioWire {
 
     /// The report of the next arrival of this round.
     fn arrival(&mut self) -> Option<Ready> {
-        self.arrivals = self.arrivals.checked_sub(1)?;
-        if self.clients.may_have() {
-            self.client()
-        } else if self.has_arrivals() {
+        if self.calls.may_have() {
+            self.called()
+        } else if self.has_links() {
             self.link()
+        } else if self.clients.may_have() {
+            self.client()
         } else {
             None
         }
@@ -150,6 +181,15 @@ impl MioWire {
         let (stream, _) = self.links.as_mut()?.accept()?;
         let number = self.admit(stream)?;
         Some(Ready::Linked(number, None))
+    }
+
+    /// The report of a server that was called and is reached, likewise.
+    fn called(&mut self) -> Option<Ready> {
+        let (mut stream, name) = self.calls.next()?;
+        // from now on the system is to report it as a connection, under its number
+        self.poll.registry().deregister(&mut stream).ok()?;
+        let number = self.admit(stream)?;
+        Some(Ready::Linked(number, Some(name)))
     }
 
     /// Takes a connection in, and gives it a number.
@@ -196,7 +236,7 @@ impl Wire for MioWire {
     ghost is_after = { λ wire calls. ⊤ };
 
     fn ready(&mut self) -> Result<Ready, IoFault> {
-        let is_over = self.reports == 0 && (self.arrivals == 0 || !self.has_arrivals());
+        let is_over = self.reports == 0 && !self.has_arrivals();
         if is_over && self.begin_round().is_err() {
             return Err(IoFault::Failed);
         }

@@ -1,5 +1,6 @@
 -- What settings set up, or why they set up nothing.
-use Rattle.std.proofs.Common.{◌≡◌, ◌∙◌, ℕ, Option, Some, None, Result, Ok, Err, IsErrAnd, List, [], ◌∷◌, length, is_some, option_map, string_bytes, String, Bor, refl, ap, sym, subst}
+use Rattle.std.proofs.Common.{◌≡◌, ◌∙◌, ℕ, Option, Some, None, Result, Ok, Err, IsErrAnd, List, [], ◌∷◌, ◌++◌, append_assoc, append-nil, length, is_some, option_map, option_to_list, string_bytes, String, Vec, Bor, refl, ap, sym, subst}
+use Rattle.std.specs.declared.alloc.Global.{Global}
 use Rattle.std.specs.Option.{option_copied}
 use Rattle.std.specs.declared.net.socket_addr.SocketAddr.{SocketAddr}
 use Rattle.std.proofs.lemmas.List.{nil_from_length}
@@ -10,17 +11,19 @@ use Rattle.irc_server.specs.Configuring.{IsMade}
 use Rattle.irc_settings.specs.declared.settings.Settings.{Settings}
 use Rattle.irc_settings.specs.declared.settings.PeerSettings.{PeerSettings}
 use Rattle.irc_settings.specs.Configuration.{IsReadAs}
+use Rattle.irc_sockets.specs.declared.calls.Callee.{Callee}
 use Rattle.irc_endings.specs.declared.fault.Stop.{Stop}
 use Rattle.irc_endings.specs.declared.fault.Stop.TheVariants.{Usage, BadScript, BadConfiguration, Failed}
 use Rattle.ircd.specs.declared.setup.Setup.{Setup}
-use Rattle.ircd.specs.Loops.SettingUp.{ChecksCalls, FindsOptional}
+use Rattle.ircd.specs.Loops.SettingUp.{FindsCallee, FindsCallees, FindsName, FindsOptional}
 use Rattle.ircd.specs.Serving.{AreCalled, Configures, IsAddress, IsNoAddress, IsReadSetup, IsRefused, IsSomeUncalled, SetsUp}
-use Rattle.ircd.specs.Serving.{nobody, somebody, this, later, links, server, refused}
+use Rattle.ircd.specs.Serving.{nobody, uncalled, called, no_address, no_name, this, later, links, server, refused}
+use Rattle.ircd.specs.Serving.IsRefused.{called as uncallable}
 use Rattle.irc_endings.specs.Statuses.{stop_of_config}
 
--- all can be called where those that are left can, and one cannot where one of these cannot
-pub record Left (rest all : List PeerSettings) : Type 0 where
-  pub called : AreCalled rest → AreCalled all
+-- what the calls of those that are left are, behind the calls so far, those of all are; and one of all cannot be called where one of these cannot
+pub record Left (rest all : List PeerSettings) (so_far : List Callee) : Type 0 where
+  pub called : (more : List Callee) → AreCalled rest more → AreCalled all (so_far ++ more)
   pub uncalled : IsSomeUncalled rest → IsSomeUncalled all
 
 -- a text that may be left out, behind a borrow and as it stands
@@ -44,39 +47,87 @@ pub not_found : (text : Option (List ℕ)) (stop : Stop) → FindsOptional text 
 not_found (Some written) stop found = record { stop_is = found.0; written = written; written_is = refl; is_none = found.1 }
 not_found None stop found = absurd found
 
-pub left_behind : (rest all more : List PeerSettings) (first : PeerSettings) (address : Option SocketAddr)
-    → rest ≡ first ∷ more → IsAddress (option_map string_bytes first.connect) address → Left rest all → Left more all
-left_behind rest all more first address is writes left =
-    let behind : Left (first ∷ more) all = subst (λ these. Left these all) is left in
-    record { called = λ some. behind.called (somebody address writes some); uncalled = λ some. behind.uncalled (later some) }
+-- one more, called or not
+one_more : (first : PeerSettings) (rest : List PeerSettings) (call : Option Callee) (more : List Callee) → FindsCallee first (Ok call) → AreCalled rest more
+    → AreCalled (first ∷ rest) (option_to_list call ++ more)
+one_more first rest None more found called_rest = uncalled found called_rest
+one_more first rest (Some call) more found called_rest = called found called_rest
 
-pub left_here : (rest all more : List PeerSettings) (first : PeerSettings) (r : Result (Unit {0}) Stop) (stop : Stop)
-    → rest ≡ first ∷ more → FindsOptional (option_map string_bytes first.connect) (Err stop) → Left rest all → IsErrAnd r (λ e. e ≡ stop) → ChecksCalls all r
-left_here rest all more first (Ok _) stop is found left failed = absurd failed
-left_here rest all more first (Err e) stop is found left failed =
-    let behind : Left (first ∷ more) all = subst (λ these. Left these all) is left in
-    let none : NotFound (option_map string_bytes first.connect) stop = not_found (option_map string_bytes first.connect) stop found in
-    (failed ∙ none.stop_is, behind.uncalled (this none.written_is none.is_none))
+pub left_behind : (rest all more : List PeerSettings) (first : PeerSettings) (call : Option Callee) (before now : List Callee)
+    → rest ≡ first ∷ more → FindsCallee first (Ok call) → now ≡ before ++ option_to_list call → Left rest all before → Left more all now
+left_behind rest all more first call before now is found added left =
+    let behind : Left (first ∷ more) all before = subst (λ these. Left these all before) is left in
+    record {
+      called = λ others some.
+          subst (AreCalled all) (sym (append_assoc before (option_to_list call) others) ∙ ap (λ calls. calls ++ others) (sym added))
+          (behind.called (option_to_list call ++ others) (one_more first more call others found some));
+      uncalled = λ some. behind.uncalled (later some);
+    }
 
-pub left_nobody : (rest all : List PeerSettings) → length rest ≡ 0 → Left rest all → AreCalled all
-left_nobody rest all is left =
-    let behind : Left [] all = subst (λ these. Left these all) (nil_from_length rest is) left in
-    behind.called nobody
+pub left_here : (rest all more : List PeerSettings) (first : PeerSettings) (before : List Callee) (r : Result (Vec Callee Global) Stop) (stop : Stop)
+    → rest ≡ first ∷ more → FindsCallee first (Err stop) → Left rest all before → IsErrAnd r (λ e. e ≡ stop) → FindsCallees all r
+left_here rest all more first before (Ok _) stop is found left failed = absurd failed
+left_here rest all more first before (Err e) stop is found left failed =
+    let behind : Left (first ∷ more) all before = subst (λ these. Left these all before) is left in
+    subst (λ s. FindsCallees all (Err s)) (sym (failed ∙ found.0)) (behind.uncalled (this found.1))
+
+pub left_nobody : (rest all : List PeerSettings) (calls : List Callee) → length rest ≡ 0 → Left rest all calls → AreCalled all calls
+left_nobody rest all calls is left =
+    let behind : Left [] all calls = subst (λ these. Left these all calls) (nil_from_length rest is) left in
+    subst (AreCalled all) (append-nil calls) (behind.called [] nobody)
+
+pub calls_lost : (all : List PeerSettings) (r : Result (Vec Callee Global) Stop) → IsErrAnd r (λ e. e ≡ Failed) → FindsCallees all r
+calls_lost all (Ok _) failed = absurd failed
+calls_lost all (Err e) failed = subst (λ s. FindsCallees all (Err s)) (sym failed) tt
+
+-- what is found of one peer
+no_address_there : (peer : PeerSettings) (r : Result (Option Callee) Stop) (stop : Stop)
+    → NotFound (option_map string_bytes peer.connect) stop → IsErrAnd r (λ e. e ≡ stop) → FindsCallee peer r
+no_address_there peer (Ok _) stop none failed = absurd failed
+no_address_there peer (Err e) stop none failed = (failed ∙ none.stop_is, no_address none.written_is none.is_none)
+
+pub address_refused : (peer : PeerSettings) (r : Result (Option Callee) Stop) (stop : Stop)
+    → FindsOptional (option_map string_bytes peer.connect) (Err stop) → IsErrAnd r (λ e. e ≡ stop) → FindsCallee peer r
+address_refused peer r stop found failed = no_address_there peer r stop (not_found (option_map string_bytes peer.connect) stop found) failed
+
+-- a text that is an address is one
+pub record Written (text : Option (List ℕ)) : Type 0 where
+  pub written : List ℕ
+  pub written_is : text ≡ Some written
+
+written_so : (text : Option (List ℕ)) (address : SocketAddr) → IsAddress text (Some address) → Written text
+written_so (Some written) address is = record { written = written; written_is = refl }
+written_so None address is = absurd is
+
+pub name_refused : (peer : PeerSettings) (r : Result (Option Callee) Stop) (stop : Stop) (address : SocketAddr)
+    → IsAddress (option_map string_bytes peer.connect) (Some address) → FindsName (string_bytes peer.name) (Err stop)
+    → IsErrAnd r (λ e. e ≡ stop) → FindsCallee peer r
+name_refused peer (Ok _) stop address is found failed = absurd failed
+name_refused peer (Err e) stop address is found failed =
+    let text : Written (option_map string_bytes peer.connect) = written_so (option_map string_bytes peer.connect) address is in
+    (failed ∙ found.0, no_name text.written_is found.1)
 
 -- settings that are refused
 refused_by : (settings : Settings) (r : Result Setup Stop) (stop : Stop) → IsErrAnd r (λ e. e ≡ stop) → stop ≡ BadConfiguration → IsRefused settings → SetsUp settings r
 refused_by settings (Ok _) stop failed is why = absurd failed
 refused_by settings (Err e) stop failed is why = subst (λ s. SetsUp settings (Err s)) (sym (failed ∙ is)) why
 
+memory_out : (settings : Settings) (r : Result Setup Stop) → IsErrAnd r (λ e. e ≡ Failed) → SetsUp settings r
+memory_out settings (Ok _) failed = absurd failed
+memory_out settings (Err e) failed = subst (λ s. SetsUp settings (Err s)) (sym failed) tt
+
+pub calls_refused : (settings : Settings) (r : Result Setup Stop) (stop : Stop)
+    → FindsCallees settings.peers.items (Err stop) → IsErrAnd r (λ e. e ≡ stop) → SetsUp settings r
+calls_refused settings r BadConfiguration found failed = refused_by settings r BadConfiguration failed refl (uncallable found)
+calls_refused settings r Failed found failed = memory_out settings r failed
+calls_refused settings r Usage found failed = absurd found
+calls_refused settings r (BadScript line) found failed = absurd found
+
 pub links_refused : (settings : Settings) (r : Result Setup Stop) (stop : Stop)
     → FindsOptional (option_map string_bytes settings.listen_links) (Err stop) → IsErrAnd r (λ e. e ≡ stop) → SetsUp settings r
 links_refused settings r stop found failed =
     let none : NotFound (option_map string_bytes settings.listen_links) stop = not_found (option_map string_bytes settings.listen_links) stop found in
     refused_by settings r stop failed none.stop_is (links none.written_is none.is_none)
-
-memory_out : (settings : Settings) (r : Result Setup Stop) → IsErrAnd r (λ e. e ≡ Failed) → SetsUp settings r
-memory_out settings (Ok _) failed = absurd failed
-memory_out settings (Err e) failed = subst (λ s. SetsUp settings (Err s)) (sym failed) tt
 
 pub server_refused : (settings : Settings) (config : Config) (r : Result Setup Stop) (fault : ConfigFault)
     → Configures settings config → IsMade config (Err fault) → IsErrAnd r (λ e. e ≡ stop_of_config fault) → SetsUp settings r

@@ -4,6 +4,7 @@ use Rattle.std.specs.Io.KnownBytes.{Appends}
 use Rattle.std.specs.Net.Grammar.{IsSocketText}
 use Rattle.std.specs.declared.net.socket_addr.SocketAddr.{SocketAddr}
 use Rattle.irc_outbox.specs.Calls.{Call}
+use Rattle.irc_names.specs.Names.{IsServer}
 use Rattle.irc_settings.specs.declared.settings.Settings.{Settings}
 use Rattle.irc_settings.specs.declared.settings.PeerSettings.{PeerSettings}
 use Rattle.irc_settings.specs.Configuration.{IsReadAs, is_configuration}
@@ -12,6 +13,7 @@ use Rattle.irc_server.specs.Configuring.{config_fault, made_view}
 use Rattle.irc_stage.specs.View.{KnownPeer, known_peer}
 use Rattle.irc_engine.specs.declared.engine.Engine.{Engine}
 use Rattle.irc_engine.specs.Turning.{IsNew, Turns}
+use Rattle.irc_sockets.specs.declared.calls.Callee.{Callee}
 use Rattle.irc_sockets.specs.declared.mio_wire.MioWire.{MioWire}
 use Rattle.irc_sockets.specs.Listening.{ListensAt}
 use Rattle.irc_endings.specs.declared.fault.Stop.{Stop}
@@ -32,16 +34,27 @@ IsAddress (Some text) (Some address) = IsSocketText text address
 IsAddress None (Some address) = ⊥
 IsAddress (Some text) None = ⊥
 
--- each peer that has an address to be called at has one that is an address
-pub data AreCalled : List PeerSettings → Type 0 where
-  nobody : AreCalled []
-  somebody : {first : PeerSettings} {rest : List PeerSettings} (address : Option SocketAddr)
-      → IsAddress (option_map string_bytes first.connect) address → AreCalled rest → AreCalled (first ∷ rest)
+-- a peer is called by its name, at the address that is written for that
+pub record IsCallee (peer : PeerSettings) (callee : Callee) : Type 0 where
+  pub name : callee.name ≡ string_bytes peer.name
+  pub address : IsAddress (option_map string_bytes peer.connect) (Some callee.address)
 
--- some peer has not
+-- the peers that have an address for it are called, in order, each once, and no other is
+pub data AreCalled : List PeerSettings → List Callee → Type 0 where
+  nobody : AreCalled [] []
+  uncalled : {first : PeerSettings} {rest : List PeerSettings} {callees : List Callee}
+      → IsAddress (option_map string_bytes first.connect) None → AreCalled rest callees → AreCalled (first ∷ rest) callees
+  called : {first : PeerSettings} {rest : List PeerSettings} {callee : Callee} {callees : List Callee}
+      → IsCallee first callee → AreCalled rest callees → AreCalled (first ∷ rest) (callee ∷ callees)
+
+-- a peer is to be called, and its address, or its name, is none
+pub data CannotBeCalled (peer : PeerSettings) : Type 0 where
+  no_address : {text : List ℕ} → option_map string_bytes peer.connect ≡ Some text → IsNoAddress text → CannotBeCalled peer
+  no_name : {text : List ℕ} → option_map string_bytes peer.connect ≡ Some text → ¬ (IsServer (string_bytes peer.name)) → CannotBeCalled peer
+
+-- so is one of these
 pub data IsSomeUncalled : List PeerSettings → Type 0 where
-  this : {first : PeerSettings} {rest : List PeerSettings} {text : List ℕ}
-      → option_map string_bytes first.connect ≡ Some text → IsNoAddress text → IsSomeUncalled (first ∷ rest)
+  this : {first : PeerSettings} {rest : List PeerSettings} → CannotBeCalled first → IsSomeUncalled (first ∷ rest)
   later : {first : PeerSettings} {rest : List PeerSettings} → IsSomeUncalled rest → IsSomeUncalled (first ∷ rest)
 
 -- a peer as the server knows it
@@ -55,7 +68,7 @@ pub record Configures (settings : Settings) (config : Config) : Type 0 where
   pub created : config.own.created.items ≡ string_bytes settings.created
   pub peers : map known_peer config.peers.items ≡ map peer_set settings.peers.items
 
--- The server is made of the settings, without clients; where it listens and how much may wait is theirs; and each peer can be called.
+-- The server is made of the settings, without clients; where it listens, whom it calls and how much may wait is theirs.
 pub record IsSetUp (settings : Settings) (setup : Setup) : Type 0 where
   pub config : Config
   pub configures : Configures settings config
@@ -63,11 +76,11 @@ pub record IsSetUp (settings : Settings) (setup : Setup) : Type 0 where
   pub server_is : setup.server ≡ Some (made_view config)
   pub clients : IsSocketText (string_bytes settings.listen) setup.clients
   pub links : IsAddress (option_map string_bytes settings.listen_links) setup.links
-  pub called : AreCalled settings.peers.items
+  pub called : AreCalled settings.peers.items setup.callees.items
   pub client_room : setup.client_room ≡ settings.client_room
   pub link_room : setup.link_room ≡ settings.link_room
 
--- why nothing is set up by settings: an address that is none, or a server that is refused
+-- why nothing is set up by settings: an address that is none, a peer that cannot be called, or a server that is refused
 pub data IsRefused (settings : Settings) : Type 0 where
   clients : IsNoAddress (string_bytes settings.listen) → IsRefused settings
   links : {text : List ℕ} → option_map string_bytes settings.listen_links ≡ Some text → IsNoAddress text → IsRefused settings
@@ -100,10 +113,11 @@ IsReadSetup text (Err Usage) = ⊥
 IsReadSetup text (Err (BadScript line)) = ⊥
 
 -- An engine is open: it has served nobody, its server is the one that was set up, an outbox has room for as much as was set up, and its wire listens where that
--- was.
+-- was, and calls whom that was to call.
 pub record IsOpened (setup : Setup) (engine : Engine MioWire) : Type 0 where
   pub wire : MioWire
   pub listens : ListensAt setup.clients setup.links wire
+  pub callees : wire.calls.asked ≡ setup.callees
   pub is_new : IsNew setup.server wire setup.client_room setup.link_room engine
 
 -- `ready` was printed, and all turns were taken; else a front of it was, and the program failed

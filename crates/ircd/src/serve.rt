@@ -13,7 +13,8 @@ use std::fs::{Files, read_to_string};
 use std::io::{ErrorKind, Write};
 use std::net::Net;
 
-/// Serves as a file says, for so many turns. Says `ready` as soon as clients can connect.
+/// Serves as a file says, for so many turns. Says `ready` as soon as clients and servers can connect, and the servers that it calls are called,
+/// whether they are reached or not.
 ///
 /// # Errors
 /// - [`Stop::BadConfiguration`] where the file cannot be read, or is no configuration. Then nothing is printed.
@@ -57,11 +58,11 @@ fn serve_text<T: Net, W: Write>(
     run_engine(&mut engine, turns, output)
 }
 
-/// An engine that listens. Whoever connects where servers are listened for is closed by the engine: servers cannot be linked yet.
+/// An engine that listens, and has called whom it is to call.
 fn open<T: Net>(net: &T, alloc: Global, setup: Setup) -> Result<Engine<MioWire>, Stop>
     ensures { Opens setup result }
 {
-    let Ok(wire) = MioWire::listen(net, alloc, setup.clients, setup.links) else {
+    let Ok(wire) = MioWire::listen(net, alloc, setup.clients, setup.links, setup.callees) else {
         return Err(Stop::Failed);
     };
     let engine = Engine::new(

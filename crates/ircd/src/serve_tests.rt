@@ -38,7 +38,7 @@ const READY: &[u8] = b"ready\n";
 /// The file that each configuration is written to.
 const FILE: &str = "serve_tests.toml";
 
-static ROWS: [Row; 24] = [
+static ROWS: [Row; 26] = [
     Row {
         room: ROOM,
         more: "",
@@ -154,6 +154,26 @@ static ROWS: [Row; 24] = [
     Row {
         room: ROOM,
         more: "[[peer]]\nname = \"b.net\"\npassword = \"pw\"\nconnect = \"b.net\"\n",
+        words: &["serve", FILE, "0"],
+        status: 3,
+        output: b"",
+        errors: BAD,
+    },
+    // two that are not there, and one that is not called
+    Row {
+        room: ROOM,
+        more: "[[peer]]\nname = \"b.net\"\npassword = \"pw\"\nconnect = \"127.0.0.1:1\"\n\
+[[peer]]\nname = \"c.net\"\npassword = \"pw\"\n\
+[[peer]]\nname = \"d.net\"\npassword = \"pw\"\nconnect = \"[::1]:1\"\n",
+        words: &["serve", FILE, "3"],
+        status: 0,
+        output: READY,
+        errors: b"",
+    },
+    // one that is called, with a name that is none
+    Row {
+        room: ROOM,
+        more: "[[peer]]\nname = \"bnet\"\npassword = \"pw\"\nconnect = \"127.0.0.1:1\"\n",
         words: &["serve", FILE, "0"],
         status: 3,
         output: b"",

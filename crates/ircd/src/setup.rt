@@ -1,13 +1,15 @@
-//! What a configuration sets up: the server, and where it listens.
-ghost use Rattle.std.specs.Prelude.{◌≡◌, ◌++◌, ◌∷◌, [], IfOk, OnOk, map, option_map, string_bytes};
+//! What a configuration sets up: the server, where it listens, and whom it calls.
+ghost use Rattle.std.specs.Prelude.{◌≡◌, ◌++◌, ◌∷◌, [], IfOk, OnOk, map, option_map, option_to_list, string_bytes};
 ghost use Rattle.irc_stage.specs.View.{known_peer};
 ghost use Rattle.ircd.specs.Serving.{Configures, IsReadSetup, SetsUp, peer_set};
-ghost use Rattle.ircd.specs.Loops.SettingUp.{ChecksCalls, FindsAddress, FindsOptional};
+ghost use Rattle.ircd.specs.Loops.SettingUp.{FindsAddress, FindsCallee, FindsCallees, FindsName, FindsOptional};
 
 use irc_endings::Stop;
+use irc_names::ServerName;
 use irc_routes::Own;
 use irc_server::{Config, Peer, Server};
 use irc_settings::{PeerSettings, Settings, read_settings};
+use irc_sockets::Callee;
 use std::alloc::{AllocError, Global};
 use std::net::SocketAddr;
 
@@ -20,13 +22,15 @@ pub struct Setup {
     pub clients: SocketAddr,
     /// Where it listens for servers, if it does.
     pub links: Option<SocketAddr>,
+    /// The servers that it calls, in the order of its peers.
+    pub callees: Vec<Callee, Global>,
     /// How many bytes may wait for a client.
     pub client_room: usize,
     /// How many bytes may wait for a link.
     pub link_room: usize,
 }
 
-/// What a text sets up. That the peers are to be called is read and not done: servers cannot be linked yet.
+/// What a text sets up.
 ///
 /// # Errors
 /// [`Stop::BadConfiguration`] where the text is no configuration, an address in it is none, or no server is made of it;
@@ -42,8 +46,8 @@ pub fn read_setup(alloc: Global, text: &str) -> Result<Setup, Stop>
 fn set_up(alloc: Global, settings: &Settings) -> Result<Setup, Stop>
     ensures { SetsUp settings.now result }
 {
-    check_calls(&settings.peers)?;
     Ok(Setup {
+        callees: callees(alloc, &settings.peers)?,
         clients: address(settings.listen.as_str())?,
         links: optional_address(settings.listen_links.as_ref())?,
         server: Server::new(alloc, config(alloc, settings)?)?,
@@ -93,16 +97,52 @@ fn peer_of(alloc: Global, settings: &PeerSettings) -> Result<Peer, AllocError>
     })
 }
 
-/// Sees to it that each address at which a peer is called is one.
-fn check_calls(peers: &[PeerSettings]) -> Result<(), Stop>
-    ensures { ChecksCalls peers.now result }
+/// Whom it calls: each peer that has an address for that.
+fn callees(alloc: Global, peers: &[PeerSettings]) -> Result<Vec<Callee, Global>, Stop>
+    ensures { FindsCallees peers.now result }
 {
+    let mut callees = Vec::new(alloc);
     let mut rest = peers;
     while let Some((peer, more)) = rest.split_first() {
-        optional_address(peer.connect.as_ref())?;
+        add_callee(&mut callees, callee_of(peer)?)?;
         rest = more;
     }
-    Ok(())
+    Ok(callees)
+}
+
+fn add_callee(callees: &mut Vec<Callee, Global>, callee: Option<Callee>) -> Result<(), AllocError>
+    ensures { OnOk result (callees.new.items ≡ callees.old.items ++ option_to_list callee) }
+{
+    match callee {
+        Some(callee) => {
+            callees.push(callee)?;
+            Ok(())
+        }
+        None => Ok(()),
+    }
+}
+
+/// A peer as one that is called, if it has an address for that.
+fn callee_of(peer: &PeerSettings) -> Result<Option<Callee>, Stop>
+    ensures { FindsCallee peer.now result }
+{
+    match optional_address(peer.connect.as_ref())? {
+        Some(address) => {
+            let name = server_name(peer.name.as_str())?;
+            Ok(Some(Callee { name, address }))
+        }
+        None => Ok(None),
+    }
+}
+
+/// The server's name that a text is.
+fn server_name(text: &str) -> Result<ServerName, Stop>
+    ensures { FindsName text.now result }
+{
+    match ServerName::read(text.as_bytes()) {
+        Some(name) => Ok(name),
+        None => Err(Stop::BadConfiguration),
+    }
 }
 
 /// The address that a text is, if there is a text.

@@ -1,11 +1,14 @@
 -- What the code finds in settings, part by part.
-use Rattle.std.specs.Prelude.{◌≡◌, ℕ, Option, Result, Ok, Err, List, Some, None}
+use Rattle.std.specs.Prelude.{◌≡◌, ℕ, ⊤, Option, Result, Ok, Err, List, Some, None, Vec, option_map, string_bytes}
+use Rattle.std.specs.declared.alloc.Global.{Global}
 use Rattle.std.specs.Net.Grammar.{IsSocketText}
 use Rattle.std.specs.declared.net.socket_addr.SocketAddr.{SocketAddr}
+use Rattle.irc_names.specs.Names.{IsServer}
 use Rattle.irc_settings.specs.declared.settings.PeerSettings.{PeerSettings}
+use Rattle.irc_sockets.specs.declared.calls.Callee.{Callee}
 use Rattle.irc_endings.specs.declared.fault.Stop.{Stop}
-use Rattle.irc_endings.specs.declared.fault.Stop.TheVariants.{BadConfiguration}
-use Rattle.ircd.specs.Serving.{AreCalled, IsAddress, IsNoAddress, IsSomeUncalled}
+use Rattle.irc_endings.specs.declared.fault.Stop.TheVariants.{Usage, BadScript, BadConfiguration, Failed}
+use Rattle.ircd.specs.Serving.{AreCalled, CannotBeCalled, IsAddress, IsCallee, IsNoAddress, IsSomeUncalled}
 
 -- the address that a text is, or that it is none
 abbrev pub FindsAddress : List ℕ → Result SocketAddr Stop → Type 0
@@ -18,7 +21,21 @@ FindsOptional text (Ok address) = IsAddress text address
 FindsOptional (Some written) (Err stop) = (stop ≡ BadConfiguration) × IsNoAddress written
 FindsOptional None (Err stop) = ⊥
 
--- whether all peers can be called
-abbrev pub ChecksCalls : List PeerSettings → Result (Unit {0}) Stop → Type 0
-ChecksCalls peers (Ok _) = AreCalled peers
-ChecksCalls peers (Err stop) = (stop ≡ BadConfiguration) × IsSomeUncalled peers
+-- the server's name that a text is, or that it is none
+abbrev pub FindsName : List ℕ → Result (List ℕ) Stop → Type 0
+FindsName text (Ok name) = name ≡ text
+FindsName text (Err stop) = (stop ≡ BadConfiguration) × ¬ (IsServer text)
+
+-- a peer as one that is called, that it is not to be called, or that it cannot be
+abbrev pub FindsCallee : PeerSettings → Result (Option Callee) Stop → Type 0
+FindsCallee peer (Ok (Some callee)) = IsCallee peer callee
+FindsCallee peer (Ok None) = IsAddress (option_map string_bytes peer.connect) None
+FindsCallee peer (Err stop) = (stop ≡ BadConfiguration) × CannotBeCalled peer
+
+-- those peers that are called; or one cannot be called, or memory ran out
+abbrev pub FindsCallees : List PeerSettings → Result (Vec Callee Global) Stop → Type 0
+FindsCallees peers (Ok callees) = AreCalled peers callees.items
+FindsCallees peers (Err BadConfiguration) = IsSomeUncalled peers
+FindsCallees peers (Err Failed) = ⊤
+FindsCallees peers (Err Usage) = ⊥
+FindsCallees peers (Err (BadScript line)) = ⊥

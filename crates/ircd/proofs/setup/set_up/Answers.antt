@@ -1,8 +1,15 @@
 use Rattle.std.proofs.Common.{Ok, Err, refl, subst}
 use Rattle.std.specs.Net.Grammar.{IsSocketText}
 use Rattle.ircd.specs.Serving.{AreCalled}
-use Rattle.ircd.proofs.SettingUp.{found_in, links_refused, server_refused}
+use Rattle.ircd.specs.Loops.SettingUp.{FindsCallees}
+use Rattle.ircd.proofs.SettingUp.{calls_refused, found_in, links_refused, server_refused}
 use Rattle.ircd.proofs.setup.set_up.Goals as goal
+
+pub returns-in_err-callees : goal.returns-in_err-callees
+returns-in_err-callees c =
+    calls_refused c.args.settings.now c.from_residual.result c.in_err-callees.field-0.0
+    (subst (λ peers. FindsCallees peers (Err c.in_err-callees.field-0.0)) c.deref.ensures.value c.in_err-callees.ensures)
+    c.from_residual.ensures.1
 
 pub returns-in_err-optional_address : goal.returns-in_err-optional_address
 returns-in_err-optional_address c =
@@ -25,7 +32,7 @@ returns c = record {
   clients = subst (λ text. IsSocketText text c.in_ok-address.field-0) c.as_str.ensures.value c.in_ok-address.ensures;
   links = found_in c.as_ref.result c.args.settings.now.listen_links (Ok c.in_ok-optional_address.field-0) c.as_ref.ensures.value
       c.in_ok-optional_address.ensures;
-  called = subst (λ peers. AreCalled peers) c.deref.ensures.value c.in_ok-check_calls.ensures;
+  called = subst (λ peers. AreCalled peers c.in_ok-callees.field-0.items) c.deref.ensures.value c.in_ok-callees.ensures;
   client_room = refl;
   link_room = refl;
 }
