@@ -1,0 +1,25 @@
+-- What a server knows of the network is what the world has of it.
+use Rattle.std.proofs.Common.{[], count_by, sym, ◌∙◌, ap}
+use Rattle.std.specs.FinMap.{values}
+use Rattle.std.specs.Option.{option_map_or}
+use Rattle.irc_names.specs.Tables.{tabulate}
+use Rattle.irc_world.specs.World.{Setting, has_end, known_from, place_in}
+use Rattle.irc_routes.specs.Place.{alone}
+use Rattle.irc_follow.specs.AtRest.{PlaceIsWorlds}
+use Rattle.irc_follow.proofs.LinksCounted.{links_counted}
+use Rattle.irc_follow.proofs.NamedRows.{names_of}
+use Rattle.irc_follow.proofs.PlacesListed.{found_setting, servers_listed}
+
+pub place_is_worlds : PlaceIsWorlds
+place_is_worlds s links routes t fixed forest ends right among =
+    let setting = found_setting s.settings t (fixed.listed t ∙ among) in
+    let name = sym setting.named in
+    (λ i. record {
+      name = (right.named t among ∙ name) i;
+      info = (right.described t among ∙ ap (λ o. option_map_or (λ (x : Setting). x.info) o []) setting.is) i;
+      created = (right.created t among ∙ ap (λ o. option_map_or (λ (x : Setting). x.created) o []) setting.is) i;
+      links = (links_counted s links routes t forest ends right among ∙ ap (λ n. count_by (has_end n) links) name) i;
+      servers = (servers_listed s links routes t fixed forest ends right among
+          ∙ ap (λ n. values (tabulate (names_of s.settings) (known_from s.settings links n))) name) i;
+    })
+    ∙ sym (ap (λ o. option_map_or (place_in s.settings links) o (alone t [] [])) setting.is)

@@ -1,0 +1,146 @@
+-- Where a user is after an effect: under what fold, and with the home that it had.
+use Rattle.std.proofs.Common.{◌≡◌, ℕ, Bool, true, false, cond, not, ◌||◌, Option, Some, None, List, refl, sym, ◌∙◌, ap, option_map, is_some, if◌then◌else◌}
+use Rattle.std.specs.Prelude.{⊤}
+use Rattle.std.specs.Cmp.Lexicographic.{bytes_decides}
+use Rattle.irc_names.specs.Fold.{key, same}
+use Rattle.irc_names.specs.Tables.{Table, row, alter, moved}
+use Rattle.irc_names.specs.TableLaws.{same_fold, same_fold-refl, one_fold, row-alter, row-moved, row-moved_none}
+use Rattle.irc_users.specs.declared.user.User.{User}
+use Rattle.irc_users.specs.UserTable.{with_nick, with_invisible}
+use Rattle.irc_room.specs.declared.effect.Effect.{Effect}
+use Rattle.irc_room.specs.declared.effect.Effect.TheVariants.{AddUser, Rename, Quit, Join, Part, Kick, ChangeModes, SetTopic, Say, Invite, UserMode}
+use Rattle.irc_room.specs.Room.{Room}
+use Rattle.irc_room.specs.After.{after}
+use Rattle.irc_room.specs.Effects.{brings_free}
+use Rattle.irc_room.specs.Readers.{home_under}
+use Rattle.irc_room.specs.Lemmas.Rows.{same_some}
+
+-- ---- homes that pass a test pass it afterwards
+
+abbrev pub AllPass : (List ℕ → Bool) → Table User → Type 0
+AllPass passes users = (fold : List ℕ) (user : User) → row users fold ≡ Some user → passes user.home ≡ true
+
+abbrev pub NewPasses : (List ℕ → Bool) → Effect → Type 0
+NewPasses passes (AddUser user) = passes user.home ≡ true
+NewPasses passes other = ⊤
+
+module _ (passes : List ℕ → Bool) where
+  altered : (users : Table User) (fold : List ℕ) (change : Option User → Option User) → AllPass passes users
+      → ((user : User) → change (row users fold) ≡ Some user → passes user.home ≡ true) → AllPass passes (alter fold change users)
+  altered users fold change all new q user is = by (same_fold q fold) (sym (row-alter fold change users q) ∙ is)
+    where
+      by : (b : Bool) → cond b (change (row users fold)) (row users q) ≡ Some user → passes user.home ≡ true
+      by true here = new user here
+      by false here = all q user here
+
+  changed : (change : User → User) → ((user : User) → (change user).home ≡ user.home) → (o : Option User)
+      → ((user : User) → o ≡ Some user → passes user.home ≡ true) → (new : User) → option_map change o ≡ Some new → passes new.home ≡ true
+  changed change home None all new is = absurd (cc is)
+  changed change home (Some old) all new is =
+      ap (λ (u : User). passes u.home) (sym (same_some (change old) new is)) ∙ (ap passes (home old) ∙ all old refl)
+
+  put_elsewhere : (users : Table User) (old new nick : List ℕ) → AllPass passes users → (o : Option User) → row users old ≡ o
+      → AllPass passes (moved old new (with_nick nick) users)
+  put_elsewhere users old new nick all None here q user is = all q user (sym (row-moved_none old new (with_nick nick) users here q) ∙ is)
+  put_elsewhere users old new nick all (Some one) here q user is =
+      by (same_fold q new) (same_fold q old) (sym (row-moved old new (with_nick nick) users one here q) ∙ is)
+    where
+      by : (b c : Bool) → cond b (Some (with_nick nick one)) (cond c None (row users q)) ≡ Some user → passes user.home ≡ true
+      by true c there = ap (λ (u : User). passes u.home) (sym (same_some (with_nick nick one) user there)) ∙ all old one here
+      by false true there = absurd (cc there)
+      by false false there = all q user there
+
+  pub pass_after : (room : Room) (effect : Effect) → AllPass passes room.users → NewPasses passes effect → AllPass passes (after room effect).users
+  unfolding after
+  pass_after room (AddUser user) all new = altered room.users (key user.nick) (λ _. Some user) all
+      (λ one is. ap (λ (u : User). passes u.home) (sym (same_some user one is)) ∙ new)
+  pass_after room (Rename nick new) all _ = put_elsewhere room.users (key nick) (key new) new all (row room.users (key nick)) refl
+  pass_after room (Quit nick reason) all _ = altered room.users (key nick) (λ _. None) all (λ one is. absurd (cc is))
+  pass_after room (Join nick channel op) all _ = all
+  pass_after room (Part nick channel reason) all _ = all
+  pass_after room (Kick by channel nick reason) all _ = all
+  pass_after room (ChangeModes by channel changes) all _ = all
+  pass_after room (SetTopic by channel topic) all _ = all
+  pass_after room (Say by notice target words) all _ = all
+  pass_after room (Invite by nick channel) all _ = all
+  pass_after room (UserMode nick invisible) all _ = altered room.users (key nick) (option_map (with_invisible invisible)) all
+      (changed (with_invisible invisible) (λ user. refl) (row room.users (key nick)) (all (key nick)))
+
+-- ---- a user who stays
+
+-- the fold of a user's nickname afterwards, if it stays
+abbrev pub fold_after : Effect → List ℕ → List ℕ
+fold_after (Rename nick new) fold = if same_fold fold (key nick) then key new else fold
+fold_after effect fold = fold
+
+-- whether an effect takes the user of a fold out
+abbrev pub takes_out : Effect → List ℕ → Bool
+takes_out (Quit nick text) fold = same_fold fold (key nick)
+takes_out effect fold = false
+
+user_there : (room : Room) (fold home : List ℕ) → home_under room fold ≡ Some home → is_some (row room.users fold) ≡ true
+user_there room fold home is = by (row room.users fold) is
+  where
+    by : (o : Option User) → option_map (λ (u : User). u.home) o ≡ Some home → is_some o ≡ true
+    by None there = cc there
+    by (Some user) there = refl
+
+home_altered : (room : Room) (at : List ℕ) (change : Option User → Option User) (fold home : List ℕ) → home_under room fold ≡ Some home
+    → ((user : User) → row room.users at ≡ Some user → same_fold fold at ≡ true → option_map (λ (u : User). u.home) (change (Some user)) ≡ Some user.home)
+    → option_map (λ (u : User). u.home) (row (alter at change room.users) fold) ≡ Some home
+home_altered room at change fold home is keeps =
+    ap (option_map (λ (u : User). u.home)) (row-alter at change room.users fold) ∙ by (same_fold fold at) refl
+  where
+    here : same_fold fold at ≡ true → (o : Option User) → row room.users at ≡ o → option_map (λ (u : User). u.home) o ≡ Some home
+        → option_map (λ (u : User). u.home) (change o) ≡ Some home
+    here one None there home_is = cc home_is
+    here one (Some user) there home_is = keeps user there one ∙ home_is
+
+    by : (b : Bool) → same_fold fold at ≡ b → option_map (λ (u : User). u.home) (cond b (change (row room.users at)) (row room.users fold)) ≡ Some home
+    by true one = here one (row room.users at) refl (ap (home_under room) (sym (one_fold fold at one)) ∙ is)
+    by false two = is
+
+-- it has the home that it had
+pub home_stays : (room : Room) (effect : Effect) (fold home : List ℕ) → brings_free room effect ≡ true → takes_out effect fold ≡ false
+    → home_under room fold ≡ Some home → home_under (after room effect) (fold_after effect fold) ≡ Some home
+unfolding after
+home_stays room (AddUser user) fold home free stays is =
+    home_altered room (key user.nick) (λ _. Some user) fold home is (λ other there one. absurd (cc (sym free ∙ ap (λ o. not (is_some o)) there)))
+home_stays room (Rename nick new) fold home free stays is = by (row room.users (key nick)) refl (same_fold fold (key nick)) refl
+  where
+    not_new : same_fold fold (key nick) ≡ false → same_fold fold (key new) ≡ false
+    not_new two = clash (same_fold fold (key new)) refl
+      where
+        clash : (b : Bool) → same_fold fold (key new) ≡ b → b ≡ false
+        clash false apart = refl
+        clash true one =
+            let taken = ap (λ f. is_some (row room.users f)) (sym (one_fold fold (key new) one)) ∙ user_there room fold home is in
+            let own : same nick new ≡ true = sym (ap (λ b. not b || same nick new) taken) ∙ free in
+            absurd (cc (sym two ∙ ap (same_fold fold) ((bytes_decides (key nick) (key new)).0 own) ∙ one))
+
+    by : (o : Option User) → row room.users (key nick) ≡ o → (b : Bool) → same_fold fold (key nick) ≡ b
+        → option_map (λ (u : User). u.home)
+        (row (moved (key nick) (key new) (with_nick new) room.users) (if b then key new else fold)) ≡ Some home
+    by None there true one = absurd (cc (sym (user_there room fold home is) ∙ ap (λ f. is_some (row room.users f)) (one_fold fold (key nick) one) ∙ ap is_some there))
+    by None there false two =
+        ap (option_map (λ (u : User). u.home)) (row-moved_none (key nick) (key new) (with_nick new) room.users there fold) ∙ is
+    by (Some user) there true one =
+        ap (option_map (λ (u : User). u.home)) (row-moved (key nick) (key new) (with_nick new) room.users user there (key new)
+        ∙ ap (λ b. cond b (Some (with_nick new user)) (cond (same_fold (key new) (key nick)) None (row room.users (key new)))) (same_fold-refl (key new)))
+        ∙ sym (ap (option_map (λ (u : User). u.home)) there) ∙ ap (home_under room) (sym (one_fold fold (key nick) one)) ∙ is
+    by (Some user) there false two =
+        ap (option_map (λ (u : User). u.home)) (row-moved (key nick) (key new) (with_nick new) room.users user there fold
+        ∙ ap (λ b. cond b (Some (with_nick new user)) (cond (same_fold fold (key nick)) None (row room.users fold))) (not_new two)
+        ∙ ap (λ b. cond b None (row room.users fold)) two)
+        ∙ is
+home_stays room (Quit nick text) fold home free stays is =
+    home_altered room (key nick) (λ _. None) fold home is (λ other there one. absurd (cc (sym stays ∙ one)))
+home_stays room (Join nick channel op) fold home free stays is = is
+home_stays room (Part nick channel text) fold home free stays is = is
+home_stays room (Kick by channel nick text) fold home free stays is = is
+home_stays room (ChangeModes by channel changes) fold home free stays is = is
+home_stays room (SetTopic by channel text) fold home free stays is = is
+home_stays room (Say by notice target text) fold home free stays is = is
+home_stays room (Invite by nick channel) fold home free stays is = is
+home_stays room (UserMode nick invisible) fold home free stays is =
+    home_altered room (key nick) (option_map (with_invisible invisible)) fold home is (λ user there one. refl)

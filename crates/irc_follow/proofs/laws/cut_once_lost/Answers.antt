@@ -1,0 +1,5 @@
+use Rattle.irc_follow.proofs.SideFlows.{cut_once_lost}
+use Rattle.irc_follow.proofs.laws.cut_once_lost.Goals as goal
+
+pub returns : goal.returns
+returns c = cut_once_lost

@@ -1,0 +1,5 @@
+use Rattle.irc_follow.proofs.SideFlows.{one_side_is_left}
+use Rattle.irc_follow.proofs.laws.one_side_is_left.Goals as goal
+
+pub returns : goal.returns
+returns c = one_side_is_left

@@ -1,0 +1,5 @@
+use Rattle.irc_follow.proofs.ToldServers.{told_are_this_side}
+use Rattle.irc_follow.proofs.laws.told_are_this_side.Goals as goal
+
+pub returns : goal.returns
+returns c = told_are_this_side

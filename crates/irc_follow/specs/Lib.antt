@@ -1,0 +1,9 @@
+pub mod Tree
+pub mod Part
+pub mod Fits
+pub mod Says
+pub mod Laws
+pub mod Examples
+pub mod Relinked
+pub mod SideFlows
+pub mod AtRest
