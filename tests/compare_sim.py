@@ -1,7 +1,7 @@
 #!/usr/bin/env python3
-"""Compares what `ircd sim` prints with what a model prints, on generated scripts of one server.
+"""Compares what `ircd sim` prints with what a model prints, on generated scripts.
 
-    python3 tests/compare_sim.py [--scripts N] [--seed S] [--program PATH]
+    python3 tests/compare_sim.py [--servers K] [--scripts N] [--seed S] [--program PATH]
 
 Not part of the gate. The scripts are those of generate.py, in turn plain, wild (more lines that are not well formed), plain, and
 damaged (one byte changed or a line put in, which often makes a bad script). model.py says what has to be printed, with which
@@ -10,6 +10,12 @@ and an `oracle.py`, named by the environment variable ORACLE. Then `gen.py SEED 
 plain, with `--wild`, with `--clean` (no CR inside a line) and damaged, and `oracle.py --sim --upto=..` the answers.
 
     ORACLE=/path/to/oracle python3 tests/compare_sim.py [--upto=channels] ..
+
+With K servers, more than one, a script is compared client by client: between each two answers to what is asked of the network (a refusal, or
+how many lines were taken) each client receives the same lines in the same order; these answers are the same; and the model sees to it
+that no item takes more lines than it may. In which order lines of two clients stand is compared with --order alone. The other
+generator is then called as `gen.py SEED --servers K`, in turn plain, with `--wild`, with `--deliver` and with both, and what is printed
+is given to `compare.py SCRIPT OUTPUT`, whose status is 0 where all is well.
 
 It prints how many scripts were compared, and the first that differs; the status is 1 where one differs.
 """
@@ -20,7 +26,9 @@ import os
 import pathlib
 import subprocess
 import sys
+import tempfile
 import time
+from typing import NamedTuple
 
 import generate
 import model
@@ -29,6 +37,7 @@ REPOSITORY = pathlib.Path(__file__).resolve().parent.parent
 PROCESSES = 4
 SECONDS = 60
 KINDS = [[], ["--wild"], ["--clean"], []]
+KINDS_OF_NETWORKS = [[], ["--wild"], ["--deliver"], ["--deliver", "--wild"]]
 WILD = 1
 DAMAGED = 3
 
@@ -39,31 +48,76 @@ def ran(command, script):
     return done.returncode, done.stdout, done.stderr
 
 
-def made(oracle, seed):
+class Task(NamedTuple):
+    """What is to be compared: the script of a seed, with so many servers."""
+
+    program: str
+    oracle: str | None
+    upto: str
+    servers: int
+    in_order: bool
+    seed: int
+
+
+def made(task):
     """The script of a seed."""
-    kind = seed % len(KINDS)
-    if oracle:
-        command = [sys.executable, f"{oracle}/gen.py", str(seed), "--servers", "1", "--no-settle", *KINDS[kind]]
+    kind = task.seed % len(KINDS)
+    if task.oracle:
+        options = KINDS[kind] + ["--no-settle"] if task.servers == 1 else KINDS_OF_NETWORKS[kind]
+        command = [sys.executable, f"{task.oracle}/gen.py", str(task.seed), "--servers", str(task.servers), *options]
         script = subprocess.run(command, capture_output=True, timeout=SECONDS, check=True).stdout
     else:
-        script = generate.script(seed, kind == WILD)
-    return generate.damaged(script, seed) if kind == DAMAGED else script
+        script = generate.script(task.seed, kind == WILD, task.servers)
+    is_damaged = kind == DAMAGED and not (task.oracle and task.servers > 1)
+    return generate.damaged(script, task.seed) if is_damaged else script
 
 
-def answered(oracle, upto, script):
+def answered(task, script):
     """What `ircd sim` has to answer to a script."""
-    if not oracle:
+    if not task.oracle:
         return model.answer(script)
-    return ran([sys.executable, f"{oracle}/oracle.py", "--sim"] + ([f"--upto={upto}"] if upto else []), script)
+    return ran([sys.executable, f"{task.oracle}/oracle.py", "--sim"] + ([f"--upto={task.upto}"] if task.upto else []), script)
+
+
+def by_client(output):
+    """What is printed, but for the order of lines of two clients: between each two answers of the network the lines of each client."""
+    stretches, lines = [], {}
+    for row in output.splitlines(keepends=True):
+        client, _, line = row.partition(b" ")
+        if client in (b"!", b"="):
+            stretches += [lines, row]
+            lines = {}
+        else:
+            lines.setdefault(client, []).append(line)
+    return stretches + [lines]
+
+
+def is_same(task, expected, found):
+    if task.servers == 1 or task.in_order:
+        return expected == found
+    return expected[::2] == found[::2] and by_client(expected[1]) == by_client(found[1])
+
+
+def is_passed(task, script, found):
+    """Whether the other model's own comparison finds nothing wrong with what a network printed."""
+    with tempfile.TemporaryDirectory() as folder:
+        names = [pathlib.Path(folder, name) for name in ("script", "output")]
+        for name, text in zip(names, (script, found[1])):
+            name.write_bytes(text)
+        done = ran([sys.executable, f"{task.oracle}/compare.py", *map(str, names)], b"")
+    return done[0] == 0, done
 
 
 def compared(task):
     """The seed, how many lines were printed, and what differs: None, or the script and both answers."""
-    program, oracle, upto, seed = task
-    script = made(oracle, seed)
-    expected = answered(oracle, upto, script)
-    found = ran([program, "sim"], script)
-    return seed, found[1].count(b"\n"), None if found == expected else (script, expected, found)
+    script = made(task)
+    found = ran([task.program, "sim"], script)
+    lines = found[1].count(b"\n")
+    if task.oracle and task.servers > 1:
+        passed, said = is_passed(task, script, found)
+        return task.seed, lines, None if passed else (script, said, found)
+    expected = answered(task, script)
+    return task.seed, lines, None if is_same(task, expected, found) else (script, expected, found)
 
 
 def show(script, expected, found):
@@ -84,9 +138,11 @@ def show(script, expected, found):
 
 
 def main():
-    parser = argparse.ArgumentParser(description="Compares `ircd sim` with a model on generated scripts of one server.")
+    parser = argparse.ArgumentParser(description="Compares `ircd sim` with a model on generated scripts.")
     parser.add_argument("--scripts", type=int, default=2000)
     parser.add_argument("--seed", type=int, default=1)
+    parser.add_argument("--servers", type=int, default=1, choices=range(1, len(generate.SERVERS) + 1), metavar="K")
+    parser.add_argument("--order", action="store_true", help="with several servers, compare the order of all lines")
     parser.add_argument("--upto", default="channels", help="with ORACLE, how far the program is built; empty: whole")
     parser.add_argument("--program", default=str(REPOSITORY / "crates/ircd/out/ircd"))
     options = parser.parse_args()
@@ -96,7 +152,8 @@ def main():
     if not pathlib.Path(options.program).is_file():
         sys.exit(f"no program {options.program}: ./ircd build makes it")
     start = time.monotonic()
-    tasks = [(options.program, oracle, options.upto, seed) for seed in range(options.seed, options.seed + options.scripts)]
+    seeds = range(options.seed, options.seed + options.scripts)
+    tasks = [Task(options.program, oracle, options.upto, options.servers, options.order, seed) for seed in seeds]
     lines = differences = 0
     with multiprocessing.Pool(PROCESSES) as pool:
         for seed, count, difference in pool.imap(compared, tasks, chunksize=8):

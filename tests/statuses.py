@@ -33,11 +33,20 @@ client_room = 4096
 link_room = 8192
 """
 
+LINKS = """\
+listen_links = "127.0.0.1:{port}"
+[[peer]]
+name = "b.net"
+password = "pw"
+connect = "127.0.0.1:1"
+"""
+
 NO_TEXT = b"\xff"
 
 
-def rows(free, taken):
-    """Words, standard input, and the status, output and errors that are wanted. `free` listens on a free port, `taken` on one in use."""
+def rows(free, taken, links_free, links_taken):
+    """Words, standard input, and the status, output and errors that are wanted. `free` listens on a free port, `taken` on one in use; those of links
+    call a server that is not there."""
     return [
         ([], PING, 2, b"", USAGE),
         (["sim", "sim"], PING, 2, b"", USAGE),
@@ -53,6 +62,8 @@ def rows(free, taken):
         (["serve", "no_such_file.toml", "0"], b"", 3, b"", BAD_CONFIGURATION),
         (["serve", free, "0"], b"", 0, b"ready\n", b""),
         (["serve", taken, "0"], b"", 4, b"", FAILED),
+        (["serve", links_free, "3"], b"", 0, b"ready\n", b""),
+        (["serve", links_taken, "0"], b"", 4, b"", FAILED),
     ]
 
 
@@ -88,9 +99,13 @@ def main():
         listener.bind(("127.0.0.1", 0))
         listener.listen()
         files = []
-        for name, port in (("free.toml", 0), ("taken.toml", listener.getsockname()[1])):
-            path = pathlib.Path(folder, name)
-            path.write_text(CONFIGURATION.format(port=port))
+        used = listener.getsockname()[1]
+        for name, text in (("free", CONFIGURATION.format(port=0)),
+                           ("taken", CONFIGURATION.format(port=used)),
+                           ("links_free", CONFIGURATION.format(port=0) + LINKS.format(port=0)),
+                           ("links_taken", CONFIGURATION.format(port=0) + LINKS.format(port=used))):
+            path = pathlib.Path(folder, name + ".toml")
+            path.write_text(text)
             files.append(str(path))
         runs = rows(*files)
         differences = sum(differs(program, row) for row in runs) + is_lost(program)

@@ -1,0 +1,735 @@
+#!/usr/bin/env python3
+"""What daemons that are linked do, on loopback: each part starts its own, by the path of the built program, and ends them by their process ids.
+
+  people   three in a line and four clients across them: register, join, talk, topic, mode, kick, nick, invite, part, quit
+  clash    a nickname on both sides before the link: both holders are gone, and nobody else is
+  lost     the middle one is killed: who is behind it quits on every screen; it is started again, and the one behind it
+  burst    users and channels from before the link are there behind it, with flags, modes and topic
+  wild     a peer that sends wild bytes is closed, and nobody else
+  deaf     a peer that never reads is closed once more waits than its room, and nobody else
+  small    a burst that does not fit into the room of a link closes it, and nobody else
+  liars    peers with a wrong password, an unknown name, a name that is there, or lines out of place are closed
+  doors    a peer at the clients' port stays a client, and a client at the links' port is closed
+  silent   peers that connect and say nothing, or no end of a line, change nothing
+  knocking who connects at the links' door without end keeps nobody waiting, and new clients come in by theirs
+  reset    a peer whose connection is torn down in the middle of a line is a lost link
+  waiting  a call that is under way holds up nobody, and is a link once it is answered
+  refused  servers that cannot be reached are passed over
+  files    the three files of examples/network, on other ports, are a network of three
+
+tests/linked_daemons.py PROGRAM [PART ..]. PROGRAM is crates/ircd/out/ircd, which `./ircd build` makes.
+Exit status: 0 where every part held, 1 where one did not.
+"""
+import os
+import random
+import re
+import select
+import socket
+import subprocess
+import sys
+import tempfile
+import time
+
+TOP = os.path.dirname(os.path.dirname(os.path.abspath(__file__)))
+SECONDS = 20
+# how long nothing has to come where nothing may
+QUIET = 0.3
+PASSWORD = "pw"
+TICKS = os.sysconf("SC_CLK_TCK")
+
+
+def free_ports(count):
+    """Ports that nobody has, all different."""
+    holders = [socket.socket() for _ in range(count)]
+    for holder in holders:
+        holder.bind(("127.0.0.1", 0))
+    ports = [holder.getsockname()[1] for holder in holders]
+    for holder in holders:
+        holder.close()
+    return ports
+
+
+class Daemon:
+    """A server of a network, which may run or not."""
+
+    def __init__(self, program, folder, name, client_room=65536, link_room=262144):
+        self.program = program
+        self.name = name
+        self.port, self.links = free_ports(2)
+        self.rooms = (client_room, link_room)
+        self.peers = []
+        self.path = os.path.join(folder, name + ".toml")
+        self.text = None
+        self.process = None
+
+    def knows(self, name, calls=None):
+        """May be linked to a server of this name, and calls it at this port."""
+        self.peers.append((name, calls))
+
+    def configuration(self):
+        text = (f'name = "{self.name}"\ninfo = "Linked"\ncreated = "2024-01-01"\nlisten = "127.0.0.1:{self.port}"\n'
+                f'listen_links = "127.0.0.1:{self.links}"\nclient_room = {self.rooms[0]}\nlink_room = {self.rooms[1]}\n')
+        for name, calls in self.peers:
+            text += f'[[peer]]\nname = "{name}"\npassword = "{PASSWORD}"\n'
+            if calls is not None:
+                text += f'connect = "127.0.0.1:{calls}"\n'
+        return text
+
+    def start(self):
+        with open(self.path, "w", encoding="ascii") as file:
+            file.write(self.text or self.configuration())
+        self.process = subprocess.Popen([self.program, "serve", self.path], stdout=subprocess.PIPE)
+        if self.process.stdout.readline() != b"ready\n":
+            raise OSError(f"{self.name} does not say ready")
+        return self
+
+    def kill(self):
+        if self.process is not None:
+            self.process.kill()
+            self.process.wait()
+            self.process.stdout.close()
+            self.process = None
+
+    def is_running(self):
+        return self.process is not None and self.process.poll() is None
+
+    def seconds(self):
+        """Processor seconds so far."""
+        with open(f"/proc/{self.process.pid}/stat", encoding="ascii") as file:
+            fields = file.read().rsplit(")", 1)[1].split()
+        return (int(fields[11]) + int(fields[12])) / TICKS
+
+
+class Network:
+    """Daemons, and all sockets to them. Of each pair in `calls` the first calls the second."""
+
+    def __init__(self, program, names, calls, **rooms):
+        self.folder = tempfile.TemporaryDirectory()
+        self.sockets = []
+        self.daemons = {name: Daemon(program, self.folder.name, name, **rooms) for name in names}
+        for caller, called in calls:
+            self.daemons[caller].knows(called, self.daemons[called].links)
+            self.daemons[called].knows(caller)
+
+    def __getitem__(self, name):
+        return self.daemons[name]
+
+    def __enter__(self):
+        return self
+
+    def __exit__(self, *_):
+        for stream in self.sockets:
+            stream.close()
+        for daemon in self.daemons.values():
+            daemon.kill()
+        self.folder.cleanup()
+
+    def keep(self, stream):
+        self.sockets.append(stream)
+        return stream
+
+    def person(self, server, nick):
+        """A registered client."""
+        return Person(self, server, nick)
+
+    def peer(self, server, name, **how):
+        """A server that is none, which has called one of the daemons."""
+        return Peer(self, server, name, **how)
+
+    def see_all(self, server, count):
+        """Waits until a server counts so many servers."""
+        probe = self.person(server, f"p{len(self.sockets)}")
+        end = time.monotonic() + SECONDS
+        while time.monotonic() < end:
+            probe.says("LUSERS")
+            if f" {count} servers" in probe.sees(r" 251 "):
+                probe.leaves()
+                return
+            time.sleep(0.02)
+        raise OSError(f"{server} does not see {count} servers")
+
+    def all_run(self):
+        return all(daemon.process is None or daemon.is_running() for daemon in self.daemons.values())
+
+
+class Stream:
+    """A socket that is read line by line. `seen` are the lines so far, `unseen` those that nobody has looked for yet."""
+
+    def __init__(self, network, port, window=None):
+        self.socket = network.keep(socket.socket())
+        if window is not None:
+            self.socket.setsockopt(socket.SOL_SOCKET, socket.SO_RCVBUF, window)
+        self.socket.settimeout(SECONDS)
+        self.socket.connect(("127.0.0.1", port))
+        self.tail = b""
+        self.seen = []
+        self.unseen = 0
+        self.is_over = False
+
+    def says(self, *lines):
+        self.sends("".join(line + "\r\n" for line in lines).encode("latin-1"))
+
+    def sends(self, data):
+        self.socket.sendall(data)
+
+    def pump(self, wait):
+        """Reads what comes within so many seconds, and tells whether anything did."""
+        if self.is_over or not select.select([self.socket], [], [], wait)[0]:
+            return False
+        try:
+            data = self.socket.recv(65536)
+        except ConnectionError:
+            data = b""
+        self.is_over = not data
+        pieces = (self.tail + data).split(b"\r\n")
+        self.tail = pieces.pop()
+        self.seen += [piece.decode("latin-1") for piece in pieces]
+        return bool(data)
+
+    def sees(self, pattern):
+        """The first line behind the last one that was looked for which has this in it. Those before it are passed over."""
+        end = time.monotonic() + SECONDS
+        while True:
+            for place in range(self.unseen, len(self.seen)):
+                if re.search(pattern, self.seen[place]):
+                    self.unseen = place + 1
+                    return self.seen[place]
+            left = end - time.monotonic()
+            if left < 0 or not self.pump(left) and self.is_over:
+                raise OSError(f"{self} does not see {pattern!r}; its last lines: {self.seen[-4:]}")
+
+    def is_quiet(self):
+        """Whether nothing more comes that was not looked for."""
+        while self.pump(QUIET):
+            pass
+        return self.unseen == len(self.seen) and not self.tail
+
+    def ends(self):
+        """Whether the other end closes it."""
+        end = time.monotonic() + SECONDS
+        while not self.is_over and time.monotonic() < end:
+            self.pump(end - time.monotonic())
+        return self.is_over
+
+    def is_open(self):
+        while self.pump(0):
+            pass
+        return not self.is_over
+
+    def times(self, pattern):
+        return sum(1 for line in self.seen if re.search(pattern, line))
+
+
+class Person(Stream):
+    """A registered client."""
+
+    def __init__(self, network, server, nick):
+        super().__init__(network, network[server].port)
+        self.nick = nick
+        self.server = server
+        self.says(f"NICK {nick}", f"USER {nick} 0 * :{nick}")
+        self.sees(" 422 ")
+
+    def __str__(self):
+        return f"{self.nick} of {self.server}"
+
+    def joins(self, channel):
+        self.says(f"JOIN {channel}")
+        self.sees(" 366 ")
+        return self
+
+    def answers(self):
+        """How many seconds its server takes to answer it."""
+        start = time.monotonic()
+        self.says("PING still")
+        self.sees(r" PONG .*:still")
+        return time.monotonic() - start
+
+    def leaves(self):
+        self.says("QUIT :bye")
+        self.ends()
+
+    def finds(self, nick):
+        """Whether a user of this nickname is there."""
+        self.says(f"ISON {nick}")
+        return nick in self.sees(" 303 ").rsplit(":", 1)[1].split()
+
+
+class Peer(Stream):
+    """One that says it is a server."""
+
+    def __init__(self, network, server, name, password=PASSWORD, window=None, greets=True):
+        super().__init__(network, network[server].links, window)
+        self.name = name
+        if greets:
+            self.says(f"PASS {password} 0210010000 TREE|", f"SERVER {name} 1 1 :A peer")
+
+    def __str__(self):
+        return f"the peer {self.name}"
+
+    def linked(self):
+        """It is taken for a server, and has read the greeting."""
+        self.sees("^PASS ")
+        self.sees("^SERVER ")
+        return self
+
+    def brings(self, nick, channel):
+        """A user of its own comes, and is a member of a channel."""
+        self.says(f"NICK {nick} 1 u peer.example 1 + :{nick}", f":{self.name} NJOIN {channel} :{nick}")
+        return self
+
+
+def in_a_line(program, **rooms):
+    """a.net, b.net and c.net; b.net calls a.net, and c.net calls b.net. All run, and know each other."""
+    network = Network(program, ["a.net", "b.net", "c.net"], [("b.net", "a.net"), ("c.net", "b.net")], **rooms)
+    for name in network.daemons:
+        network[name].start()
+        network.see_all(name, list(network.daemons).index(name) + 1)
+    network.see_all("a.net", 3)
+    return network
+
+
+def told(part, holds, text):
+    print(f"{'ok  ' if holds else 'FAIL'} {part}: {text}", flush=True)
+    return holds
+
+
+def all_see(people, pattern):
+    for person in people:
+        person.sees(pattern)
+
+
+def people(program):
+    with in_a_line(program) as network:
+        al, bo, cy, di = (network.person(server, nick) for server, nick in
+                          [("a.net", "al"), ("b.net", "bo"), ("c.net", "cy"), ("a.net", "di")])
+        four = [al, bo, cy, di]
+        al.joins("#den")
+        for number, person in enumerate(four[1:], 1):
+            person.joins("#den")
+            all_see(four[:number], f"^:{person.nick}!{person.nick}@127.0.0.1 JOIN #den$")
+        cy.says("NAMES #den")
+        names = cy.sees(" 353 ").rsplit(":", 1)[1]
+        for speaker in four:
+            speaker.says(f"PRIVMSG #den :{speaker.nick} speaks")
+            all_see([one for one in four if one is not speaker], f"^:{speaker.nick}![^ ]+ PRIVMSG #den :{speaker.nick} speaks$")
+        cy.says("PRIVMSG al :to you alone")
+        al.sees("^:cy![^ ]+ PRIVMSG al :to you alone$")
+        al.says("NOTICE cy :and back")
+        cy.sees("^:al![^ ]+ NOTICE cy :and back$")
+        al.says("TOPIC #den :tea at four")
+        all_see(four, "^:al![^ ]+ TOPIC #den :tea at four$")
+        al.says("MODE #den +vo bo cy")
+        all_see(four, r"^:al![^ ]+ MODE #den \+vo bo cy$")
+        cy.says("MODE #den +m")
+        all_see(four, r"^:cy![^ ]+ MODE #den \+m$")
+        di.says("PRIVMSG #den :may I")
+        di.sees(" 404 ")
+        bo.says("PRIVMSG #den :I may")
+        all_see([al, cy, di], "^:bo![^ ]+ PRIVMSG #den :I may$")
+        cy.says("KICK #den di :not today")
+        all_see(four, "^:cy![^ ]+ KICK #den di :not today$")
+        bo.says("NICK bob")
+        all_see([al, bo, cy], "^:bo![^ ]+ NICK bob$")
+        cy.says("MODE #den +i")
+        all_see([al, bo, cy], r"^:cy![^ ]+ MODE #den \+i$")
+        di.says("JOIN #den")
+        di.sees(" 473 ")
+        cy.says("INVITE di #den")
+        di.sees("^:cy![^ ]+ INVITE di #den$")
+        di.joins("#den")
+        all_see([al, bo, cy], "^:di![^ ]+ JOIN #den$")
+        di.says("WHOIS cy cy")
+        di.sees(" 312 di cy c.net ")
+        di.says("PART #den :off")
+        all_see(four, "^:di![^ ]+ PART #den :off$")
+        cy.says("QUIT :good night")
+        all_see([al, bo], "^:cy![^ ]+ QUIT :good night$")
+        is_quiet = al.is_quiet() and bo.is_quiet() and di.is_quiet()
+        return told("people", is_quiet and names.split() == ["@al", "bo", "cy", "di"] and network.all_run(),
+                    f"four people on three servers: {len(al.seen)} lines to al, {len(bo.seen)} to bo, {len(cy.seen)} to cy, {len(di.seen)} to di, "
+                    "each what it had to be, and no other")
+
+
+def clash(program):
+    with Network(program, ["a.net", "b.net", "c.net"], [("b.net", "a.net"), ("b.net", "c.net")]) as network:
+        network["a.net"].start()
+        network["c.net"].start()
+        al, here = network.person("a.net", "al").joins("#den"), network.person("a.net", "zed").joins("#den")
+        al.sees("JOIN #den")
+        cy, there = network.person("c.net", "cy").joins("#den"), network.person("c.net", "Zed").joins("#den")
+        cy.sees("JOIN #den")
+        network["b.net"].start()
+        for viewer, killed in [(al, "zed"), (cy, "Zed")]:
+            viewer.sees(f"^:{killed}![^ ]+ QUIT :Killed \\(Nick collision\\)$")
+        for holder in (here, there):
+            holder.sees(r"^ERROR :Closing link \(Killed \(Nick collision\)\)$")
+        al.sees("^:cy![^ ]+ JOIN #den$")
+        cy.sees("^:al![^ ]+ JOIN #den$")
+        al.says("PRIVMSG #den :still here")
+        cy.sees("^:al![^ ]+ PRIVMSG #den :still here$")
+        is_gone = here.ends() and there.ends() and not al.finds("zed") and not cy.finds("zed")
+        return told("clash", is_gone and network.all_run(), "both of one nickname are gone and told why, the two others are in one room")
+
+
+def lost(program):
+    with in_a_line(program) as network:
+        al, bo, cy, di = (network.person(server, nick).joins("#den") for server, nick in
+                          [("a.net", "al"), ("b.net", "bo"), ("c.net", "cy"), ("c.net", "di")])
+        al.sees("^:di![^ ]+ JOIN #den$")
+        network["b.net"].kill()
+        seen = [al.sees("^:[a-z]+![^ ]+ QUIT ") for _ in range(3)]
+        wanted = [f":{nick}!{nick}@127.0.0.1 QUIT :a.net b.net" for nick in ("bo", "cy", "di")]
+        beyond = [cy.sees("^:[a-z]+![^ ]+ QUIT ") for _ in range(2)]
+        wanted_beyond = [f":{nick}!{nick}@127.0.0.1 QUIT :c.net b.net" for nick in ("al", "bo")]
+        all_see([di], "^:bo![^ ]+ QUIT :c.net b.net$")
+        is_lost = bo.ends() and seen == wanted and beyond == wanted_beyond and al.is_quiet()
+        cy.says("PRIVMSG #den :we two")
+        di.sees("^:cy![^ ]+ PRIVMSG #den :we two$")
+        # the one that calls is started again: it is linked to a.net, and c.net, which called it, is not
+        network["b.net"].start()
+        network.see_all("a.net", 2)
+        network.see_all("c.net", 1)
+        is_alone = al.is_quiet() and cy.is_quiet()
+        network["c.net"].kill()
+        is_over = cy.ends() and di.ends()
+        network["c.net"].start()
+        network.see_all("a.net", 3)
+        eve = network.person("c.net", "eve").joins("#den")
+        al.sees("^:eve![^ ]+ JOIN #den$")
+        network["c.net"].kill()
+        # at every server of this side the text is that of the two ends
+        al.sees("^:eve![^ ]+ QUIT :b.net c.net$")
+        return told("lost", is_lost and is_alone and is_over and eve.ends() and network.all_run(),
+                    "three quit on one side and two on the other, with the two names; both servers behind the loss were started again")
+
+
+def burst(program):
+    with Network(program, ["a.net", "b.net"], [("b.net", "a.net")]) as network:
+        network["a.net"].start()
+        al = network.person("a.net", "al").joins("#den")
+        al.says("MODE #den +ntk sesame", "MODE #den +b *!*@*.bad.example", "TOPIC #den :before")
+        al.sees(" TOPIC ")
+        crowd = [network.person("a.net", f"u{number}") for number in range(70)]
+        for member in crowd:
+            member.says("JOIN #den sesame")
+            member.sees(" 366 ")
+        al.says("MODE #den +v u7")
+        al.sees(" MODE #den .v u7$")
+        network["b.net"].start()
+        network.see_all("b.net", 2)
+        bo = network.person("b.net", "bo")
+        bo.says("JOIN #den")
+        bo.sees(" 475 ")
+        bo.says("JOIN #den sesame")
+        bo.sees(" 332 bo #den :before$")
+        names = []
+        while True:
+            line = bo.sees(" (353|366) ")
+            if " 366 " in line:
+                break
+            names += line.rsplit(":", 1)[1].split()
+        bo.says("MODE #den", "MODE #den b")
+        modes = bo.sees(" 324 ").split(" #den ")[1]
+        bo.sees(r" 367 bo #den \*!\*@\*\.bad\.example$")
+        wanted = sorted(["@al", "+u7", "bo"] + [f"u{number}" for number in range(70) if number != 7])
+        return told("burst", sorted(names) == wanted and modes == "+ntk sesame" and network.all_run(),
+                    f"{len(names)} members with their flags, modes {modes}, the ban and the topic came with the link")
+
+
+def with_peer(program, name="w.net", **rooms):
+    """a.net and b.net, which are linked; a.net may also be linked to a peer that is none of ours. al of a.net and bo of b.net share #den."""
+    network = Network(program, ["a.net", "b.net"], [("b.net", "a.net")], **rooms)
+    network["a.net"].knows(name)
+    for server in network.daemons:
+        network[server].start()
+    network.see_all("a.net", 2)
+    al, bo = network.person("a.net", "al").joins("#den"), network.person("b.net", "bo").joins("#den")
+    al.sees("^:bo![^ ]+ JOIN #den$")
+    return network, al, bo
+
+
+def are_well(network, al, bo):
+    """Whether al and bo still hear each other, and both daemons run."""
+    al.says("PRIVMSG #den :are you there")
+    bo.sees("^:al![^ ]+ PRIVMSG #den :are you there$")
+    bo.says("PRIVMSG #den :I am")
+    al.sees("^:bo![^ ]+ PRIVMSG #den :I am$")
+    return network.all_run() and al.times(" bo![^ ]+ QUIT | bo QUIT ") == 0
+
+
+def wild(program):
+    network, al, bo = with_peer(program)
+    chance = random.Random(48)
+    with network:
+        closed = 0
+        for _ in range(30):
+            peer = network.peer("a.net", "w.net").linked().brings("ww", "#den")
+            all_see([al, bo], "^:ww!u@peer.example JOIN #den$")
+            try:
+                peer.sends(bytes(chance.randrange(256) for _ in range(chance.randrange(1, 4000))) + b"\r\nFOO\r\n")
+            except ConnectionError:
+                pass
+            closed += peer.ends()
+            all_see([al, bo], "^:ww!u@peer.example QUIT :a.net w.net$")
+        # bytes before any greeting
+        for _ in range(30):
+            peer = network.peer("a.net", "w.net", greets=False)
+            try:
+                peer.sends(b"\x00\xff" + bytes(chance.randrange(256) for _ in range(600)) + b"\r\nx\r\n")
+            except ConnectionError:
+                pass
+            closed += peer.ends()
+        return told("wild", closed == 60 and are_well(network, al, bo) and al.is_quiet() and bo.is_quiet(),
+                    f"{closed} of 60 links with wild bytes are closed; 30 times its user quits with the two names, once on each screen")
+
+
+# of how many users a peer is told that does not read, and of how many new names at most
+CROWD = 1000
+MOST_NAMES = 400_000
+
+
+def deaf(program):
+    network, al, bo = with_peer(program, link_room=65536)
+    with network:
+        peer = network.peer("a.net", "w.net", window=4096).linked().brings("ww", "#den")
+        all_see([al, bo], "^:ww!u@peer.example JOIN #den$")
+        crowd = [network.person("a.net", f"k{number}") for number in range(CROWD)]
+        lost = "^:ww!u@peer.example QUIT :a.net w.net$"
+        longest = 0.0
+        names = 0
+        while bo.times(lost) == 0 and names < MOST_NAMES:
+            # each name is told to every server
+            for number, one in enumerate(crowd):
+                one.says(f"NICK m{number}", f"NICK k{number}")
+            names += 2 * len(crowd)
+            longest = max(longest, bo.answers())
+            for one in crowd:
+                one.is_open()
+        al.answers()
+        return told("deaf", peer.ends() and longest < 1 and al.times(lost) == 1 and bo.times(lost) == 1 and are_well(network, al, bo),
+                    f"a peer that does not read is closed behind {CROWD} users and {names} new names; nobody else waited more than {longest * 1000:.1f} ms")
+
+
+def small(program):
+    network, al, bo = with_peer(program, link_room=4096)
+    with network:
+        crowd = [network.person("a.net", f"k{number}") for number in range(200)]
+        peer = network.peer("a.net", "w.net")
+        is_over = peer.ends()
+        bo.says("LUSERS")
+        servers = bo.sees(" 251 ")
+        return told("small", is_over and " 2 servers" in servers and are_well(network, al, bo) and crowd[0].answers() < 1,
+                    "a burst of 200 users does not fit into 4,096 bytes: that link is closed, and the link of b.net is not")
+
+
+def liars(program):
+    network, al, bo = with_peer(program)
+    with network:
+        true = network.peer("a.net", "w.net").linked()
+        greeting = f"PASS {PASSWORD} 0210010000 TREE|"
+        rows = {
+            "a wrong password": ["PASS wrong 0210010000 TREE|", "SERVER w.net 1 1 :W"],
+            "a name that is no peer's": [greeting, "SERVER x.net 1 1 :X"],
+            "a name that is linked": [greeting, "SERVER b.net 1 1 :B"],
+            "a name that another peer has": [greeting, "SERVER w.net 1 1 :W"],
+            "the name of the server itself": [greeting, "SERVER a.net 1 1 :A"],
+            "no PASS": ["SERVER w.net 1 1 :W"],
+            "another version": [f"PASS {PASSWORD} 0210 IRC|", "SERVER w.net 1 1 :W"],
+            "a user before SERVER": [greeting, "NICK nn 1 u h 1 + :N"],
+        }
+        still_open = []
+        for what, lines in rows.items():
+            liar = network.peer("a.net", "none", greets=False)
+            liar.says(*lines)
+            if not liar.ends() or liar.seen:
+                still_open.append(what)
+        # behind a greeting that is right: what is not this peer's to say
+        true.says(":bo PRIVMSG #den :I am bo")
+        is_caught = true.ends()
+        return told("liars", not still_open and is_caught and bo.times("I am bo") == 0 and are_well(network, al, bo) and al.is_quiet(),
+                    f"{len(rows)} greetings are refused without a word, and who speaks for another server's user is closed; not closed: {still_open or 'none'}")
+
+
+def doors(program):
+    network, al, bo = with_peer(program)
+    with network:
+        lost_peer = Stream(network, network["a.net"].port)
+        lost_peer.says(f"PASS {PASSWORD} 0210010000 TREE|", "SERVER w.net 1 1 :W", "NICK ww 1 u h 1 + :W")
+        lost_peer.sees(" (421|451) .*")
+        al.says("LUSERS")
+        servers = al.sees(" 251 ")
+        astray = Stream(network, network["a.net"].links)
+        astray.says("NICK astray", "USER astray 0 * :Astray")
+        is_closed = astray.ends() and not astray.seen
+        return told("doors", lost_peer.is_open() and " 2 servers" in servers and is_closed and not al.finds("astray") and are_well(network, al, bo),
+                    "a peer at the clients' port is no server and stays a client; a client at the links' port is closed without a word")
+
+
+def silent(program):
+    network, al, bo = with_peer(program)
+    with network:
+        mute = [network.peer("a.net", "w.net", greets=False) for _ in range(50)]
+        endless = network.peer("a.net", "w.net", greets=False)
+        endless.sends(b"x" * 1_000_000)
+        time.sleep(QUIET)
+        before = network["a.net"].seconds()
+        time.sleep(1)
+        busy = network["a.net"].seconds() - before
+        is_open = all(one.is_open() for one in mute) and endless.is_open()
+        endless.sends(b"\r\n")
+        return told("silent", is_open and endless.ends() and busy < 0.05 and are_well(network, al, bo) and al.is_quiet(),
+                    f"50 that say nothing and a line of a million bytes without an end wait, and cost {busy * 100:.0f} of 100 of a processor; its end closes the last one")
+
+
+KNOCKER = """
+import socket, sys
+while True:
+    crowd = []
+    for _ in range(100):
+        one = socket.socket()
+        one.setblocking(False)
+        one.connect_ex(("127.0.0.1", int(sys.argv[1])))
+        crowd.append(one)
+    for one in crowd:
+        one.close()
+"""
+
+
+def knocking(program):
+    network, al, bo = with_peer(program)
+    with network:
+        # another process, so that it does not share this one's time
+        knocker = subprocess.Popen([sys.executable, "-c", KNOCKER, str(network["a.net"].links)])
+        try:
+            time.sleep(QUIET)
+            before = network["a.net"].seconds()
+            start = time.monotonic()
+            for number in range(50):
+                network.person("a.net", f"n{number}")
+            took = time.monotonic() - start
+            longest = max(al.answers() for _ in range(100))
+            busy = network["a.net"].seconds() - before
+            is_knocking = knocker.poll() is None
+        finally:
+            knocker.kill()
+            knocker.wait()
+        return told("knocking", is_knocking and took < 5 and longest < 0.5 and are_well(network, al, bo) and al.is_quiet(),
+                    f"50 clients come in in {took:.2f} s, and a PING takes {longest * 1000:.1f} ms at most; {busy:.2f} s of the daemon")
+
+
+def reset(program):
+    network, al, bo = with_peer(program)
+    with network:
+        for _ in range(10):
+            peer = network.peer("a.net", "w.net").linked().brings("ww", "#den")
+            all_see([al, bo], "^:ww!u@peer.example JOIN #den$")
+            peer.sends(b":w.net NJOIN #den :@w")
+            # no rest of the line: the connection is torn down
+            peer.socket.setsockopt(socket.SOL_SOCKET, socket.SO_LINGER, b"\1\0\0\0\0\0\0\0")
+            peer.socket.close()
+            all_see([al, bo], "^:ww!u@peer.example QUIT :a.net w.net$")
+        return told("reset", are_well(network, al, bo) and al.is_quiet() and bo.is_quiet(), "ten links torn down in the middle of a line, each seen once on each screen")
+
+
+SYN_SENT = "02"
+
+
+def is_calling(daemon, port):
+    """Whether a daemon has a call under way to a port."""
+    folder = f"/proc/{daemon.process.pid}/fd"
+    own = {os.readlink(os.path.join(folder, name)) for name in os.listdir(folder)}
+    with open("/proc/net/tcp", encoding="ascii") as table:
+        rows = [line.split() for line in list(table)[1:]]
+    return any(row[2].endswith(f":{port:04X}") and row[3] == SYN_SENT and f"socket:[{row[9]}]" in own for row in rows)
+
+
+def waiting(program):
+    with Network(program, ["a.net", "b.net"], [("b.net", "a.net")]) as network, socket.socket() as door:
+        # a door that takes nobody: who knocks behind the first few is not answered, and asks again by and by
+        port = network["a.net"].links
+        door.bind(("127.0.0.1", port))
+        door.listen(0)
+        knocking = [network.keep(socket.socket()) for _ in range(4)]
+        for one in knocking:
+            one.setblocking(False)
+            one.connect_ex(("127.0.0.1", port))
+        start = time.monotonic()
+        network["b.net"].start()
+        took = time.monotonic() - start
+        bo = network.person("b.net", "bo")
+        longest = max(bo.answers() for _ in range(100))
+        is_under_way = is_calling(network["b.net"], port)
+        # the door opens: all that wait are taken, and one of them greets
+        taken = []
+        greeting = b""
+        end = time.monotonic() + SECONDS
+        while not greeting and time.monotonic() < end:
+            for one in select.select([door] + taken, [], [], 0.1)[0]:
+                if one is door:
+                    taken.append(network.keep(door.accept()[0]))
+                else:
+                    greeting += one.recv(65536)
+        return told("waiting", took < 1 and longest < 0.2 and is_under_way and greeting.startswith(b"PASS pw 0210010000 TREE|\r\nSERVER b.net 1 1 :"),
+                    f"ready in {took * 1000:.0f} ms, and answers within {longest * 1000:.1f} ms while its call is under way; the call that is taken at last greets")
+
+
+def refused(program):
+    with Network(program, ["a.net", "b.net", "c.net"], [("b.net", "a.net"), ("b.net", "c.net")]) as network:
+        # a.net is not there, c.net is
+        network["c.net"].start()
+        network["b.net"].start()
+        network.see_all("b.net", 2)
+        bo = network.person("b.net", "bo")
+        network["a.net"].start()
+        network.see_all("a.net", 1)
+        network.see_all("c.net", 2)
+        return told("refused", bo.answers() < 1 and bo.is_quiet() and network.all_run(),
+                    "of two servers that are called the one that is there is linked; the other is passed over, and not called again as it comes")
+
+
+def files(program):
+    names = ["a", "b", "c"]
+    texts = {}
+    for name in names:
+        with open(os.path.join(TOP, "examples/network", name + ".toml"), encoding="ascii") as file:
+            texts[name] = file.read()
+    used = sorted(set(re.findall(r"127\.0\.0\.1:(\d+)", "".join(texts.values()))))
+    ports = dict(zip(used, free_ports(len(used))))
+    with Network(program, [name + ".net" for name in names], []) as network:
+        for name in names:
+            daemon = network[name + ".net"]
+            daemon.text = re.sub(r"(127\.0\.0\.1):(\d+)", lambda found: f"{found[1]}:{ports[found[2]]}", texts[name])
+            daemon.port = int(re.search(r'listen = "127.0.0.1:(\d+)"', daemon.text)[1])
+            daemon.start()
+        network.see_all("a.net", 3)
+        al, cy = network.person("a.net", "al").joins("#den"), network.person("c.net", "cy").joins("#den")
+        al.sees("^:cy![^ ]+ JOIN #den$")
+        return told("files", network.all_run() and len(used) == 5, "al of a.net and cy of c.net are in one room")
+
+
+PARTS = [people, clash, lost, burst, wild, deaf, small, liars, doors, silent, knocking, reset, waiting, refused, files]
+
+
+def holds(part, program):
+    try:
+        return part(program)
+    except OSError as error:
+        return told(part.__name__, False, f"{type(error).__name__}: {error}")
+
+
+def main():
+    if len(sys.argv) < 2 or not os.access(sys.argv[1], os.X_OK):
+        print("usage: tests/linked_daemons.py PROGRAM [PART ..]", file=sys.stderr)
+        return 1
+    by_name = {part.__name__: part for part in PARTS}
+    unknown = [name for name in sys.argv[2:] if name not in by_name]
+    if unknown:
+        print(f"linked_daemons: no part {unknown[0]}; there are {', '.join(by_name)}", file=sys.stderr)
+        return 1
+    wanted = [by_name[name] for name in sys.argv[2:]] or PARTS
+    return 0 if all([holds(part, os.path.abspath(sys.argv[1])) for part in wanted]) else 1
+
+
+if __name__ == "__main__":
+    sys.exit(main())
