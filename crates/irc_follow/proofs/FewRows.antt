@@ -9,10 +9,10 @@ use Rattle.irc_relay.specs.Distances.{IsAmong}
 use Rattle.irc_relay.specs.Links.{Name, same}
 use Rattle.irc_relay.specs.Lemmas.TellingNames.{Telling, alike, unlike, tell}
 
-no_rows : {X : Type 0} (table : Table X) → ((q : List ℕ) → row table q ≡ None) → len table ≡ 0
+pub no_rows : {X : Type 0} (table : Table X) → ((q : List ℕ) → row table q ≡ None) → len table ≡ 0
 no_rows {X} table none = ap len (same_table table empty (λ q. none q ∙ sym (get-empty fold_cmp q))) ∙ len-empty fold_cmp X
 
-abbrev AllAmong : {X : Type 0} → List Name → Table X → Type 0
+abbrev pub AllAmong : {X : Type 0} → List Name → Table X → Type 0
 AllAmong {X} names table = (q : List ℕ) (x : X) → row table q ≡ Some x → IsAmong names q
 
 left_among : {X : Type 0} (first : Name) (names : List Name) (table : Table X) → AllAmong (first ∷ names) table → AllAmong names (remove table first)

@@ -64,14 +64,14 @@ pub record HasEnd (view : View) (k : ℕ) (far : Name) : Type 0 where
   pub there : get view.ends k ≡ Some end
   pub named : end.far ≡ Some far
 
-met_end : (view : View) (k : ℕ) (far : Name) → option_map far_of (get view.ends k) ≡ Some (Some far) → HasEnd view k far
+pub met_end : (view : View) (k : ℕ) (far : Name) → option_map far_of (get view.ends k) ≡ Some (Some far) → HasEnd view k far
 met_end view k far is = by (get view.ends k) refl is
   where
     by : (o : Option End) → get view.ends k ≡ o → option_map far_of o ≡ Some (Some far) → HasEnd view k far
     by None there none = cc none
     by (Some end) there some = record { end = end; there = there; named = same_some end.far (Some far) some }
 
-but_none : (links : List ℕ) → but None links ≡ links
+pub but_none : (links : List ℕ) → but None links ≡ links
 but_none [] = refl
 but_none (link ∷ links) = ap (λ l. link ∷ l) (but_none links)
 

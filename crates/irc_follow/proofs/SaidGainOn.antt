@@ -55,7 +55,7 @@ use Rattle.irc_follow.proofs.SaidGain as gain_of
 use Rattle.irc_follow.proofs.TreeGains as tree_of
 
 -- all that is looked at in a SERVER is so
-server_so : (parameters token direction names : Bool) (late : Option CloseReason) (told : List Told) → parameters ≡ true → token ≡ true → direction ≡ true
+pub server_so : (parameters token direction names : Bool) (late : Option CloseReason) (told : List Told) → parameters ≡ true → token ≡ true → direction ≡ true
     → names ≡ true → late ≡ None
     → first_reason (record { parameters = parameters; token = token; direction = direction; names = names; late = late; told = told }) ≡ Ok told
 server_so false token direction names late told a b c d e = cc a
@@ -65,23 +65,23 @@ server_so true true true false late told a b c d e = cc d
 server_so true true true true (Some why) told a b c d e = cc e
 server_so true true true true None told a b c d e = refl
 
-four_so : (a b c d : Bool) → a ≡ true → b ≡ true → c ≡ true → d ≡ true → (a && b && c && d) ≡ true
+pub four_so : (a b c d : Bool) → a ≡ true → b ≡ true → c ≡ true → d ≡ true → (a && b && c && d) ≡ true
 four_so a b c d p q r t = cc
 
-or_true : (b : Bool) → (b || true) ≡ true
+pub or_true : (b : Bool) → (b || true) ≡ true
 or_true true = refl
 or_true false = refl
 
-low_distance : (d n : ℕ) → d < n → n ≤ max_servers → nat_lt d max_number ≡ true
+pub low_distance : (d n : ℕ) → d < n → n ≤ max_servers → nat_lt d max_number ≡ true
 low_distance d n small few = grind (arith, nat_tests)
 
-low_number : (d n : ℕ) → d < n → n ≤ max_servers → d ≤ max_number
+pub low_number : (d n : ℕ) → d < n → n ≤ max_servers → d ≤ max_number
 low_number d n small few = omega arith
 
-low_token_number : (n : ℕ) → n ≤ max_servers → n ≤ max_number
+pub low_token_number : (n : ℕ) → n ≤ max_servers → n ≤ max_number
 low_token_number n few = omega arith
 
-text_no_nul : (bytes : List ℕ) → list_all is_text_byte bytes ≡ true → has_nul bytes ≡ false
+pub text_no_nul : (bytes : List ℕ) → list_all is_text_byte bytes ≡ true → has_nul bytes ≡ false
 text_no_nul [] all = refl
 text_no_nul (byte ∷ bytes) all =
     ap (λ b. b || has_nul bytes) (other_byte is_text_byte 0x00 byte refl (first_so (is_text_byte byte) _ all))
@@ -92,11 +92,11 @@ unfolding is_number
 some_digits [] is = cc is
 some_digits (digit ∷ digits) is = λ e. cc e
 
-number_plain : (n : ℕ) → 1 ≤ n → n ≤ 4294967295 → IsPlainWord (decimal n)
+pub number_plain : (n : ℕ) → 1 ≤ n → n ≤ 4294967295 → IsPlainWord (decimal n)
 number_plain n least most = digits_plain (decimal n) (number_digits n most) (some_digits (decimal n) (number_taken n least most))
 
 -- lines on one link are on no other
-none_on_another : (k link : ℕ) → nat_eq link k ≡ false → (lines : List Written) → lines_on k (on_link link lines) ≡ []
+pub none_on_another : (k link : ℕ) → nat_eq link k ≡ false → (lines : List Written) → lines_on k (on_link link lines) ≡ []
 none_on_another k link apart [] = refl
 none_on_another k link apart (parts ∷ lines) =
     ap (λ b. lines_if b) apart ∙ none_on_another k link apart lines

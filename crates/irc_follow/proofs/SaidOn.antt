@@ -65,7 +65,7 @@ homes_alike room other channel agree =
     ∙ ap (λ test. filter_map (λ nick. home_under other (key nick)) (map (λ (u : User). u.nick) (filter test (values other.users))))
     (fun_ext (λ (u : User). (alike_have_alike room other agree).member u.nick channel))
 
-told_alike : (room other : Room) (effect : Effect) → AreAlike room other → told_homes room effect ≡ told_homes other effect
+pub told_alike : (room other : Room) (effect : Effect) → AreAlike room other → told_homes room effect ≡ told_homes other effect
 told_alike room other (Say by notice (target.Channel channel) text) agree = ap Some (homes_alike room other channel agree)
 told_alike room other (Say by notice (target.User nick) text) agree = ap (λ users. told_homes (record room { users = users }) (Say by notice (target.User nick) text)) agree.users
 told_alike room other (Invite by nick channel) agree = ap (λ users. told_homes (record room { users = users }) (Invite by nick channel)) agree.users
@@ -81,7 +81,7 @@ told_alike room other (UserMode nick invisible) agree = refl
 
 -- ---- what the line of an effect is read as
 
-no_row : (room : Room) (known : Known) (effect : Effect) → of_deeds.row_of (message_of (wire room known effect)).command ≡ None
+pub no_row : (room : Room) (known : Known) (effect : Effect) → of_deeds.row_of (message_of (wire room known effect)).command ≡ None
 no_row room known (AddUser user) = refl
 no_row room known (Rename nick new) = refl
 no_row room known (Quit nick text) = refl
@@ -96,7 +96,7 @@ no_row room known (Invite by nick channel) = refl
 no_row room known (UserMode nick invisible) = refl
 
 -- no server does it
-abbrev IsSendableBy : Effect → Type 0
+abbrev pub IsSendableBy : Effect → Type 0
 IsSendableBy (ChangeModes by.Home channel changes) = ⊥
 IsSendableBy (SetTopic by.Home channel text) = ⊥
 IsSendableBy effect = ⊤
@@ -115,7 +115,7 @@ not_anothers true true is = refl
 not_anothers true false is = cc is
 not_anothers false b is = refl
 
-one_deed : (own : List ℕ) (room : Room) (server : Option (List ℕ)) (effect : Effect) (sent : IsSendableBy effect) → brings_free room effect ≡ true
+pub one_deed : (own : List ℕ) (room : Room) (server : Option (List ℕ)) (effect : Effect) (sent : IsSendableBy effect) → brings_free room effect ≡ true
     → collided own room server effect ≡ does effect ∷ []
 one_deed own room server (AddUser user) sent free = nobody own room user free
 one_deed own room server (Rename nick new) sent free =
@@ -142,7 +142,7 @@ one_deed own room (Some server) (Invite by nick channel) sent free = refl
 one_deed own room None (UserMode nick invisible) sent free = refl
 one_deed own room (Some server) (UserMode nick invisible) sent free = refl
 
-sent_by : (room : Room) (effect : Effect) → IsSendable room effect → IsSendableBy effect
+pub sent_by : (room : Room) (effect : Effect) → IsSendable room effect → IsSendableBy effect
 sent_by room (ChangeModes by.Home channel changes) sent = absurd sent
 sent_by room (SetTopic by.Home channel text) sent = absurd sent
 sent_by room (ChangeModes (by.User nick) channel changes) sent = tt

@@ -22,7 +22,7 @@ use Rattle.irc_follow.proofs.NamedRows.{if_passes, passed_named}
 abbrev key : ServerRow → List ℕ
 key r = (by_distance r).0
 
-before_is : (a b : ServerRow) → is_told_before a b ≡ is_lt (fold_cmp (key a) (key b))
+pub before_is : (a b : ServerRow) → is_told_before a b ≡ is_lt (fold_cmp (key a) (key b))
 before_is a b = by (nat_lt a.distance b.distance) (nat_eq a.distance b.distance) (fold_cmp a.name b.name) refl refl refl
   where
     by : (less tie : Bool) (o : Ordering) → nat_lt a.distance b.distance ≡ less → nat_eq a.distance b.distance ≡ tie → fold_cmp a.name b.name ≡ o

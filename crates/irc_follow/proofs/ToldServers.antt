@@ -30,7 +30,7 @@ module _ (p : ServerRow → Bool) where
   any_inserted [] (suc n) r = refl
   any_inserted (x ∷ rows) (suc n) r = ap (λ b. p x || b) (any_inserted rows n r) ∙ swapped (p x) (p r) (list_any p rows)
 
-  any_told : (told rows : List ServerRow) → list_any p (fold put_among told rows) ≡ (list_any p rows || list_any p told)
+  pub any_told : (told rows : List ServerRow) → list_any p (fold put_among told rows) ≡ (list_any p rows || list_any p told)
   any_told told [] = refl
   any_told told (r ∷ rows) =
       any_told (put_among told r) rows
@@ -43,7 +43,7 @@ module _ (p : ServerRow → Bool) where
       turned false true c = refl
       turned false false c = refl
 
-  any_filtered : (q : ServerRow → Bool) (rows : List ServerRow) → list_any p (filter q rows) ≡ list_any (λ r. q r && p r) rows
+  pub any_filtered : (q : ServerRow → Bool) (rows : List ServerRow) → list_any p (filter q rows) ≡ list_any (λ r. q r && p r) rows
   any_filtered q [] = refl
   any_filtered q (r ∷ rows) = by (q r) (any_filtered q rows)
     where
@@ -52,11 +52,11 @@ module _ (p : ServerRow → Bool) where
       by true rest = ap (λ b. p r || b) rest
       by false rest = rest
 
-or_none : (b : Bool) → (b || false) ≡ b
+pub or_none : (b : Bool) → (b || false) ≡ b
 or_none true = refl
 or_none false = refl
 
-any_named : (test : Name → Bool) (rows : List ServerRow) → list_any test (map (λ (r : ServerRow). r.name) rows) ≡ list_any (λ (r : ServerRow). test r.name) rows
+pub any_named : (test : Name → Bool) (rows : List ServerRow) → list_any test (map (λ (r : ServerRow). r.name) rows) ≡ list_any (λ (r : ServerRow). test r.name) rows
 any_named test [] = refl
 any_named test (r ∷ rows) = ap (λ b. test r.name || b) (any_named test rows)
 

@@ -101,7 +101,7 @@ still_home [] new earlier home is = absurd (cc is)
 still_home (first ∷ homes) new zero home is = is
 still_home (first ∷ homes) new (suc earlier) home is = still_home homes new earlier home is
 
-new_home : (homes : List Name) (new : Name) → slice_get (homes ++ new ∷ []) (length homes) ≡ Some new
+pub new_home : (homes : List Name) (new : Name) → slice_get (homes ++ new ∷ []) (length homes) ≡ Some new
 new_home [] new = refl
 new_home (first ∷ homes) new = new_home homes new
 
