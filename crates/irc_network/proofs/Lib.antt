@@ -1,0 +1,5 @@
+pub mod Kept
+pub mod Places
+pub mod AtRest
+pub mod Taking
+pub mod Parties

@@ -1,0 +1,5 @@
+pub mod Network
+pub mod Refusing
+pub mod Views
+pub mod Laws
+pub mod Loops

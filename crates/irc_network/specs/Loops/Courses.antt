@@ -1,0 +1,73 @@
+-- A network as its code has it while something is done to it.
+use Rattle.std.specs.Prelude.{◌≡◌, ◌<◌, ℕ, zero, suc, Bool, true, false, Option, Some, None, List, [], ◌∷◌, ◌⊎◌, length}
+use Rattle.std.specs.List.{slice_get}
+use Rattle.std.specs.Option.{option_and_then}
+use Rattle.arrayvec.specs.ArrayVec.{ArrayVec}
+use Rattle.irc_batch.specs.Batches.{Sent}
+use Rattle.irc_relay.specs.Links.{Name}
+use Rattle.irc_forest.specs.Forests.{name_at}
+use Rattle.irc_network.specs.declared.receipt.Receipt.{Receipt as KeptReceipt}
+use Rattle.irc_network.specs.declared.network.Ends.{Ends as KeptEnds}
+use Rattle.irc_network.specs.Network.{Course, Direction, Ends, Network, Site, TakesInTurn, delivered, ends_of, is_at_rest, left, max_count, sent_out, waiting, with_site}
+use Rattle.irc_network.specs.Views.{receipts_of}
+
+abbrev pub course : Network → List KeptReceipt → Course
+course net lines = record { net = net; receipts = receipts_of lines }
+
+-- ---- places
+
+abbrev pub ends_now : KeptEnds → Ends
+ends_now kept = record { near = kept.near; far = kept.far }
+
+pub record AreWithin (net : Network) (ends : KeptEnds) : Type 0 where
+  pub near_within : ends.near < length net.names
+  pub far_within : ends.far < length net.names
+
+pub record AreNamed (net : Network) (ends : KeptEnds) (near far : Name) : Type 0 where
+  pub near_named : name_at net.names ends.near ≡ near
+  pub far_named : name_at net.names ends.far ≡ far
+
+abbrev pub inbox_of : Network → ℕ → Option (List (List ℕ))
+inbox_of net zero = None
+inbox_of net (suc earlier) = slice_get net.received earlier
+
+abbrev pub direction_now : ℕ × ℕ → Direction
+direction_now pair = record { from = pair.0; to = pair.1 }
+
+-- ---- what goes its way
+
+-- nothing, where nothing is put out at a place
+abbrev pub sent_at : ℕ → Option Sent → Course → Course
+sent_at place None course = course
+sent_at place (Some sent) course = sent_out place sent course
+
+-- ---- a line is taken
+
+pub record TakesLine (from to : ℕ) (line : List ℕ) (old new : Network) : Type 0 where
+  pub site : Site
+  pub is_site : slice_get old.sites from ≡ Some site
+  pub rest : List (List ℕ)
+  pub waited : waiting site to ≡ line ∷ rest
+  pub new_is : new ≡ with_site from (left to rest site) old
+
+-- no line waits there
+abbrev pub IsEmptyAt : ℕ → Option Site → Type 0
+IsEmptyAt to None = Unit {0}
+IsEmptyAt to (Some site) = waiting site to ≡ []
+
+abbrev pub IsLineTaken : ℕ → ℕ → Option (ArrayVec ℕ) → Network → Network → Type 0
+IsLineTaken from to None old new = IsEmptyAt to (slice_get old.sites from) × (new ≡ old)
+IsLineTaken from to (Some line) old new = TakesLine from to line.items old new
+
+abbrev pub delivery_in : Course → Name → Name → Option Course
+delivery_in course from to = option_and_then (λ (ends : Ends). delivered ends.near ends.far course) (ends_of course.net from to)
+
+-- whether one was taken, and where it comes to
+abbrev pub DeliversAt : Option Course → Bool → Course → Course → Type 0
+DeliversAt None was_taken old new = (was_taken ≡ false) × (new ≡ old)
+DeliversAt (Some course) was_taken old new = (was_taken ≡ true) × (new ≡ course)
+
+-- so many were taken in turn, and none is left, or no more are counted
+pub record SettlesAt (count : ℕ) (old new : Course) : Type 0 where
+  pub takes : TakesInTurn count old new
+  pub ends : (is_at_rest new.net ≡ true) ⊎ (count ≡ max_count)

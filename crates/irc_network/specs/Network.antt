@@ -1,0 +1,219 @@
+-- A network of servers as it runs: each server, the lines that are on their way from one to another, and what each client has received.
+--
+-- a.net and b.net are linked; al is client 1 at a.net, bo client 2 at b.net, both in #c. al says hi:
+--   given      a.net is asked for the line; `:al PRIVMSG #c :hi` waits on the way from a.net to b.net; bo has received nothing yet
+--   delivered  from a.net to b.net: b.net is asked for that line, the oldest that waits there, and bo has received `:al!u@h PRIVMSG #c :hi`
+--   at rest    no line is on its way
+use Rattle.std.specs.Prelude.{◌≡◌, ℕ, zero, suc, ◌+◌, min, Bool, Option, Some, None, List, [], ◌∷◌, ◌++◌, length, unwrap_or}
+use Rattle.std.specs.List.{list_all, slice_get, slice_set}
+use Rattle.std.specs.Option.{option_and_then, option_map, option_map_or}
+use Rattle.irc_batch.specs.Batches.{Sent, line_to, end_of, line_on, end_of_link}
+use Rattle.irc_forest.specs.Forests.{place_in}
+use Rattle.irc_line.specs.Reading.{read_of}
+use Rattle.irc_relay.specs.Links.{Name, Link, links_without}
+use Rattle.irc_stage.specs.Handle.{connects, says, goes}
+use Rattle.irc_stage.specs.View.{View}
+use Rattle.irc_server.specs.Served.{Occurrence, of_client, link_up, link_says, link_down}
+use Rattle.irc_world.specs.Stepping.{Item, connect, line, gone, link, cut}
+use Rattle.irc_world.specs.World.{home_in}
+pub use Rattle.irc_sites.specs.Site.{Reply, Site, body, first_way, is_nothing, is_quiet, is_taken, left, queued, reply, waiting, waits, with_way, without_way}
+
+-- The servers' names in order, and the servers in the order of their names; the links, the newest first; the home of each client, in the order of their
+-- numbers, which begin with 1, and what it has received, whole lines; what was given, in turn; how many lines were taken since.
+pub record Network : Type 0 where
+  pub names : List Name
+  pub sites : List Site
+  pub links : List Link
+  pub homes : List Name
+  pub received : List (List (List ℕ))
+  pub items : List Item
+  pub taken : ℕ
+
+-- a line that a client receives, whole
+pub record Receipt : Type 0 where
+  pub client : ℕ
+  pub text : List ℕ
+
+-- a network while something is done to it, and what clients have received by that so far, in order
+pub record Course : Type 0 where
+  pub net : Network
+  pub receipts : List Receipt
+
+abbrev pub begun : Network → Course
+begun net = record { net = net; receipts = [] }
+
+-- ---- who is where
+
+abbrev pub place_of : Network → Name → Option ℕ
+place_of net name = place_in net.names name
+
+abbrev pub site_at : Network → ℕ → Option Site
+site_at net place = slice_get net.sites place
+
+abbrev pub site_of : Network → Name → Option Site
+site_of net name = option_and_then (site_at net) (place_of net name)
+
+abbrev pub view_of : Network → Name → Option View
+view_of net name = option_and_then (λ (site : Site). site.server) (site_of net name)
+
+-- ---- lines on their way
+
+-- no line is on its way
+abbrev pub is_at_rest : Network → Bool
+is_at_rest net = list_all is_quiet net.sites
+
+-- a server is changed, where there is one at this place
+abbrev pub with_site : ℕ → Site → Network → Network
+with_site place site net = record net { sites = slice_set net.sites place site }
+
+abbrev pub changed_at : ℕ → (Site → Site) → Network → Network
+changed_at place change net = option_map_or (λ site. with_site place (change site) net) (site_at net place) net
+
+-- ---- what a server puts out
+
+abbrev pub receipt : ℕ → List ℕ → Receipt
+receipt client text = record { client = client; text = text }
+
+abbrev pub has_received_at : ℕ → List ℕ → Course → List (List ℕ) → Course
+has_received_at earlier text course lines = record {
+  net = record course.net { received = slice_set course.net.received earlier (lines ++ text ∷ []) };
+  receipts = course.receipts ++ receipt (suc earlier) text ∷ [];
+}
+
+-- behind all that the client has received
+abbrev pub has_received : ℕ → List ℕ → Course → Course
+has_received zero text course = course
+has_received (suc earlier) text course =
+    option_map_or (has_received_at earlier text course) (slice_get course.net.received earlier) course
+
+-- a line to a client is received, one on a link waits there; of an end nothing is left to be done
+abbrev pub sent_out : ℕ → Sent → Course → Course
+sent_out place (line_to client text) course = has_received client text course
+sent_out place (end_of client) course = course
+sent_out place (line_on to text) course = record course { net = changed_at place (queued to text) course.net }
+sent_out place (end_of_link to reason) course = course
+
+abbrev pub all_sent_out : ℕ → List Sent → Course → Course
+all_sent_out place [] course = course
+all_sent_out place (sent ∷ more) course = all_sent_out place more (sent_out place sent course)
+
+abbrev pub with_reply : ℕ → Course → Site → Reply → Course
+with_reply place course site r =
+    all_sent_out place r.out (record course { net = with_site place (record site { server = Some r.view }) course.net })
+
+abbrev pub asked_at : ℕ → Occurrence → Course → Site → Course
+asked_at place occurrence course site =
+    option_map_or (λ (view : View). with_reply place course site (reply view occurrence)) site.server course
+
+-- a server is asked for something that happens, and what it puts out goes its way
+unfoldable pub asked : ℕ → Occurrence → Course → Course
+asked place occurrence course = option_map_or (asked_at place occurrence course) (site_at course.net place) course
+
+-- ---- a line is delivered
+
+-- a count of lines stays at 2^64 - 1 once there
+abbrev pub max_count : ℕ
+max_count = 18446744073709551615
+
+abbrev pub counted : Network → Network
+counted net = record net { taken = min (net.taken + 1) max_count }
+
+abbrev pub taken_of : ℕ → ℕ → Course → Site → List (List ℕ) → Option Course
+taken_of from to course site [] = None
+taken_of from to course site (first ∷ rest) =
+    Some (asked to (link_says from (read_of first)) (record course { net = counted (with_site from (left to rest site) course.net) }))
+
+-- The oldest line from one server to another is taken, and the other is asked for it. None: no line waits there.
+unfoldable pub delivered : ℕ → ℕ → Course → Option Course
+delivered from to course = option_and_then (λ (site : Site). taken_of from to course site (waiting site to)) (site_at course.net from)
+
+pub record Direction : Type 0 where
+  pub from : ℕ
+  pub to : ℕ
+
+abbrev pub direction : ℕ → ℕ → Direction
+direction from to = record { from = from; to = to }
+
+-- the first way on which a line waits, by the place that it is from and then the one where it goes
+abbrev pub first_among : ℕ → List Site → Option Direction
+first_among place [] = None
+first_among place (site ∷ sites) = option_map_or (λ to. Some (direction place to)) (first_way site) (first_among (place + 1) sites)
+
+abbrev pub first_direction : Network → Option Direction
+first_direction net = first_among 0 net.sites
+
+-- So many lines are taken, each time the oldest of the first direction.
+pub data TakesInTurn : ℕ → Course → Course → Type 0 where
+  none_yet : {course : Course} → TakesInTurn 0 course course
+  then_one : {count : ℕ} {course between last : Course} {direction : Direction}
+      → TakesInTurn count course between → first_direction between.net ≡ Some direction
+      → delivered direction.from direction.to between ≡ Some last → TakesInTurn (suc count) course last
+
+-- ---- what is given
+
+-- a client more; its number is the next
+abbrev pub with_client : Name → Network → Network
+with_client home net = record net { homes = net.homes ++ home ∷ []; received = net.received ++ [] ∷ [] }
+
+-- a server is asked, if it is there
+abbrev pub asked_of : Option ℕ → Occurrence → Course → Course
+asked_of None occurrence course = course
+asked_of (Some place) occurrence course = asked place occurrence course
+
+abbrev pub home_place : Network → ℕ → Option ℕ
+home_place net client = option_and_then (place_of net) (home_in net.homes client)
+
+-- where two servers are
+pub record Ends : Type 0 where
+  pub near : ℕ
+  pub far : ℕ
+
+abbrev pub ends_of : Network → Name → Name → Option Ends
+ends_of net near far =
+    option_and_then (λ one. option_map (λ other. record { near = one; far = other }) (place_of net far)) (place_of net near)
+
+-- Two servers are linked, the first connecting; a link between two is lost, at the first of them first.
+abbrev pub made : Name → Name → Network → Ends → Course
+made near far net ends =
+    asked ends.far (link_up ends.near None) (asked ends.near (link_up ends.far (Some far))
+    (begun (changed_at ends.far (with_way ends.near) (changed_at ends.near (with_way ends.far)
+    (record net { links = record { near = near; far = far } ∷ net.links })))))
+
+abbrev pub lost : Name → Name → Network → Ends → Course
+lost near far net ends =
+    asked ends.far (link_down ends.near) (asked ends.near (link_down ends.far)
+    (begun (changed_at ends.far (without_way ends.near) (changed_at ends.near (without_way ends.far)
+    (record net { links = links_without net.links near far })))))
+
+abbrev pub next_client : Network → ℕ
+next_client net = length net.homes + 1
+
+abbrev pub done_by : Item → Network → Course
+done_by (connect server host) net =
+    asked_of (place_of net server) (of_client (connects (next_client net) host)) (begun (with_client server net))
+done_by (line client bytes) net = asked_of (home_place net client) (of_client (says client (read_of bytes))) (begun net)
+done_by (gone client) net = asked_of (home_place net client) (of_client (goes client)) (begun net)
+done_by (link near far) net = option_map_or (made near far net) (ends_of net near far) (begun net)
+done_by (cut near far) net = option_map_or (lost near far net) (ends_of net near far) (begun net)
+
+-- it is kept, and lines are counted anew
+abbrev pub kept : Item → Course → Course
+kept item course = record course { net = record course.net { items = course.net.items ++ item ∷ []; taken = 0 } }
+
+unfoldable pub given : Item → Network → Course
+given item net = kept item (done_by item net)
+
+-- the number that it gives to a client
+abbrev pub number_given : Network → Item → Option ℕ
+number_given net (connect server host) = Some (next_client net)
+number_given net (line client bytes) = None
+number_given net (gone client) = None
+number_given net (link near far) = None
+number_given net (cut near far) = None
+
+-- ---- what a client has received
+
+-- nothing for a number that was never given
+abbrev pub received_by : Network → ℕ → List (List ℕ)
+received_by net zero = []
+received_by net (suc earlier) = unwrap_or (slice_get net.received earlier) []

@@ -1,0 +1,169 @@
+//! A server of a network is asked for something, and what it puts out goes its way.
+ghost use Rattle.std.specs.Prelude.{◌≡◌, ◌≤◌, length, IfOk, OnOk};
+ghost use Rattle.std.specs.List.{slice_get};
+ghost use Rattle.std.specs.Option.{option_map};
+ghost use Rattle.irc_line.specs.Limits.{max_text};
+ghost use Rattle.irc_server.specs.Happening.{occurrence_of};
+ghost use Rattle.irc_network.specs.Loops.Courses.{course, delivery_in, direction_now, sent_at, DeliversAt, IsLineTaken, SettlesAt};
+ghost use Rattle.irc_network.specs.Network.{all_sent_out, asked, changed_at, delivered, first_direction, has_received, queued};
+
+use crate::desk::Desk;
+use crate::network::Network;
+use crate::receipt::Receipt;
+use irc_batch::Out;
+use irc_line::Line;
+use irc_names::{ServerName, copied};
+use irc_server::Event;
+use std::alloc::{AllocError, Global};
+
+impl Network {
+    /// A server is asked for an event, and what it puts out goes its way.
+    ///
+    /// # Errors
+    /// Where memory runs out, here and below.
+    pub(crate) fn ask(
+        &mut self,
+        place: usize,
+        event: &Event,
+        desk: &mut Desk,
+    ) -> Result<(), AllocError>
+        ensures { OnOk result (course self.new desk.new.lines.items ≡ asked place (occurrence_of event.now) (course self.old desk.old.lines.items)) }
+    {
+        desk.out.clear();
+        let Some(site) = self.sites.get_mut(place) else {
+            return Ok(());
+        };
+        site.serve(event, &mut desk.out)?;
+        self.send_out(place, desk)
+    }
+
+    /// What a server has put out goes its way.
+    fn send_out(&mut self, place: usize, desk: &mut Desk) -> Result<(), AllocError>
+        ensures { OnOk result (course self.new desk.new.lines.items ≡ all_sent_out place desk.old.out.outs (course self.old desk.old.lines.items)) }
+    {
+        for at in 0..desk.out.len() {
+            self.send(place, at, desk)?;
+        }
+        Ok(())
+    }
+
+    /// One thing that a server has put out goes its way.
+    fn send(&mut self, place: usize, at: usize, desk: &mut Desk) -> Result<(), AllocError>
+        ensures sent { OnOk result (course self.new desk.new.lines.items ≡ sent_at place (slice_get desk.old.out.outs at) (course self.old desk.old.lines.items)) }
+        ensures out { desk.new.out ≡ desk.old.out }
+    {
+        match desk.out.get(at) {
+            Some(Out::Line(client, text)) => self.receive(client, text, &mut desk.lines),
+            Some(Out::LinkLine(to, text)) => self.queue(place, to, text),
+            _ => Ok(()),
+        }
+    }
+
+    /// A client receives a line, if there ever was a client of its number.
+    fn receive(
+        &mut self,
+        client: u64,
+        text: &[u8],
+        lines: &mut Vec<Receipt, Global>,
+    ) -> Result<(), AllocError>
+        requires fits { length text.now ≤ max_text }
+        ensures { OnOk result (course self.new lines.new.items ≡ has_received client text.now (course self.old lines.old.items)) }
+    {
+        let Some(earlier) = client.checked_sub(1) else {
+            return Ok(());
+        };
+        let Some(inbox) = self.received.get_mut(earlier as usize) else {
+            return Ok(());
+        };
+        inbox.push(text)?;
+        lines.push(Receipt {
+            client,
+            text: copied(text),
+        })?;
+        Ok(())
+    }
+
+    /// A line waits on a way, if there is one.
+    fn queue(&mut self, from: usize, to: u64, text: &[u8]) -> Result<(), AllocError>
+        requires fits { length text.now ≤ max_text }
+        ensures { OnOk result (self.new ≡ changed_at from (queued to text.now) self.old) }
+    {
+        let Some(site) = self.sites.get_mut(from) else {
+            return Ok(());
+        };
+        site.queue(to, text)
+    }
+
+    /// Takes the oldest line from one server to another, if one waits there, and asks the other for it. Answers whether one did.
+    fn deliver(&mut self, from: usize, to: usize, desk: &mut Desk) -> Result<bool, AllocError>
+        ensures { IfOk result (λ was_taken. DeliversAt (delivered from to (course self.old desk.old.lines.items)) was_taken (course self.old desk.old.lines.items) (course self.new desk.new.lines.items)) }
+    {
+        let Some(line) = self.take_line(from, to) else {
+            return Ok(false);
+        };
+        self.taken = self.taken.saturating_add(1);
+        self.ask(to, &Event::LinkLine(from as u64, line), desk)?;
+        Ok(true)
+    }
+
+    /// Takes the oldest line that waits on the way from one server to another, by their names, if one does, and asks the other for it. Answers whether one
+    /// did; what clients receive by it is on the desk, behind what was there.
+    ///
+    /// # Errors
+    /// Where memory runs out: nothing is promised of the network then, and nothing more is to be asked of it.
+    pub fn deliver_between(
+        &mut self,
+        from: &ServerName,
+        to: &ServerName,
+        desk: &mut Desk,
+    ) -> Result<bool, AllocError>
+        ensures { IfOk result (λ was_taken. DeliversAt (delivery_in (course self.old desk.old.lines.items) from.now to.now) was_taken (course self.old desk.old.lines.items) (course self.new desk.new.lines.items)) }
+    {
+        match self.ends_of(from, to) {
+            Some(ends) => self.deliver(ends.near, ends.far, desk),
+            None => Ok(false),
+        }
+    }
+
+    fn take_line(&mut self, from: usize, to: usize) -> Option<Line>
+        ensures { IsLineTaken from to result self.old self.new }
+    {
+        let Some(site) = self.sites.get_mut(from) else {
+            return None;
+        };
+        site.take_line(to as u64)
+    }
+
+    /// The first way on which a line waits, by the place that it is from and then that where it goes.
+    fn first_direction(&self) -> Option<(usize, usize)>
+        ensures { option_map direction_now result ≡ first_direction self.now }
+    {
+        let mut from = 0;
+        let mut rest = self.sites.as_slice();
+        while let Some((site, more)) = rest.split_first() {
+            if let Some(to) = site.first_way() {
+                return Some((from, to as usize));
+            }
+            from += 1;
+            rest = more;
+        }
+        None
+    }
+
+    /// Takes lines, each time the oldest of the first way on which one waits, until none is on its way or 2^64 - 1 were taken. Answers how many were; what
+    /// clients receive by them is on the desk, behind what was there.
+    ///
+    /// # Errors
+    /// Where memory runs out: nothing is promised of the network then, and nothing more is to be asked of it.
+    pub fn settle(&mut self, desk: &mut Desk) -> Result<u64, AllocError>
+        ensures { IfOk result (λ count. SettlesAt count (course self.old desk.old.lines.items) (course self.new desk.new.lines.items)) }
+    {
+        for count in 0..u64::MAX {
+            let Some((from, to)) = self.first_direction() else {
+                return Ok(count);
+            };
+            self.deliver(from, to, desk)?;
+        }
+        Ok(u64::MAX)
+    }
+}

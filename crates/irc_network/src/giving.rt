@@ -1,0 +1,146 @@
+//! What is given to a network.
+ghost use Rattle.std.specs.Prelude.{◌≡◌, [], OnOk};
+ghost use Rattle.irc_server.specs.Happening.{occurrence_of};
+ghost use Rattle.irc_network.specs.Loops.Courses.{course};
+ghost use Rattle.irc_network.specs.Network.{asked_of, changed_at, done_by, given, home_place, with_way, without_way};
+ghost use Rattle.irc_network.specs.Views.{item_of};
+ghost use Rattle.irc_world.specs.Stepping.{connect, cut, line as says_line, link};
+
+use crate::desk::Desk;
+use crate::item::Item;
+use crate::network::Network;
+use irc_line::Line;
+use irc_names::{Host, ServerName, copied};
+use irc_server::Event;
+use irc_sites::Inbox;
+use std::alloc::AllocError;
+
+impl Network {
+    /// An item that is not refused is taken, and kept. What clients receive by it is on the desk, on which nothing is before.
+    ///
+    /// # Errors
+    /// Where memory runs out: nothing is promised of the network then, and nothing more is to be asked of it.
+    pub fn give(&mut self, item: Item, desk: &mut Desk) -> Result<(), AllocError>
+        requires begins { desk.old.lines.items ≡ [] }
+        ensures { OnOk result (course self.new desk.new.lines.items ≡ given (item_of item) self.old) }
+    {
+        self.items.reserve(1)?;
+        self.do_item(&item, desk)?;
+        self.items.push(item)?;
+        self.taken = 0;
+        Ok(())
+    }
+
+    /// What an item does.
+    fn do_item(&mut self, item: &Item, desk: &mut Desk) -> Result<(), AllocError>
+        requires begins { desk.old.lines.items ≡ [] }
+        ensures { OnOk result (course self.new desk.new.lines.items ≡ done_by (item_of item.now) self.old) }
+    {
+        match item {
+            Item::Connect(server, host) => self.connect(server, host, desk),
+            Item::Line(client, line) => self.say(*client, line, desk),
+            Item::Gone(client) => self.ask_home(*client, &Event::Gone(*client), desk),
+            Item::Link(near, far) => self.link(near, far, desk),
+            Item::Cut(near, far) => self.cut(near, far, desk),
+        }
+    }
+
+    /// A client says a line.
+    fn say(&mut self, client: u64, line: &Line, desk: &mut Desk) -> Result<(), AllocError>
+        requires begins { desk.old.lines.items ≡ [] }
+        ensures { OnOk result (course self.new desk.new.lines.items ≡ done_by (says_line client line.now.items) self.old) }
+    {
+        let event = Event::Line(client, copied(line.as_slice()));
+        self.ask_home(client, &event, desk)
+    }
+
+    /// A client connects to a server from a host. Its number is the next.
+    fn connect(
+        &mut self,
+        server: &ServerName,
+        host: &Host,
+        desk: &mut Desk,
+    ) -> Result<(), AllocError>
+        requires begins { desk.old.lines.items ≡ [] }
+        ensures { OnOk result (course self.new desk.new.lines.items ≡ done_by (connect server.now host.now) self.old) }
+    {
+        let client = self.next_client();
+        self.received.reserve(1)?;
+        self.homes.push(server.copy())?;
+        self.received.push(Inbox::new(self.alloc))?;
+        match self.forest.place_of(server) {
+            Some(place) => self.ask(place, &Event::Connect(client, host.copy()), desk),
+            None => Ok(()),
+        }
+    }
+
+    /// The server that a client has connected to is asked for an event.
+    fn ask_home(&mut self, client: u64, event: &Event, desk: &mut Desk) -> Result<(), AllocError>
+        ensures { OnOk result (course self.new desk.new.lines.items ≡ asked_of (home_place self.old client) (occurrence_of event.now) (course self.old desk.old.lines.items)) }
+    {
+        match self.home_place(client) {
+            Some(place) => self.ask(place, event, desk),
+            None => Ok(()),
+        }
+    }
+
+    /// Two servers are linked, the first of them calling.
+    fn link(
+        &mut self,
+        near: &ServerName,
+        far: &ServerName,
+        desk: &mut Desk,
+    ) -> Result<(), AllocError>
+        requires begins { desk.old.lines.items ≡ [] }
+        ensures { OnOk result (course self.new desk.new.lines.items ≡ done_by (link near.now far.now) self.old) }
+    {
+        let Some(ends) = self.ends_of(near, far) else {
+            return Ok(());
+        };
+        self.forest.link(ends.near, ends.far)?;
+        self.open_way(ends.near, ends.far)?;
+        self.open_way(ends.far, ends.near)?;
+        let calls = Event::LinkUp(ends.far as u64, Some(far.copy()));
+        self.ask(ends.near, &calls, desk)?;
+        self.ask(ends.far, &Event::LinkUp(ends.near as u64, None), desk)
+    }
+
+    /// The link between two servers is lost, at the first of them first, with all that is on its way there.
+    fn cut(
+        &mut self,
+        near: &ServerName,
+        far: &ServerName,
+        desk: &mut Desk,
+    ) -> Result<(), AllocError>
+        requires begins { desk.old.lines.items ≡ [] }
+        ensures { OnOk result (course self.new desk.new.lines.items ≡ done_by (cut near.now far.now) self.old) }
+    {
+        let Some(ends) = self.ends_of(near, far) else {
+            return Ok(());
+        };
+        self.forest.cut(ends.near, ends.far);
+        self.close_way(ends.near, ends.far);
+        self.close_way(ends.far, ends.near);
+        self.ask(ends.near, &Event::LinkDown(ends.far as u64), desk)?;
+        self.ask(ends.far, &Event::LinkDown(ends.near as u64), desk)
+    }
+
+    /// A way goes from one server to another.
+    fn open_way(&mut self, from: usize, to: usize) -> Result<(), AllocError>
+        ensures { OnOk result (self.new ≡ changed_at from (with_way to) self.old) }
+    {
+        match self.sites.get_mut(from) {
+            Some(site) => site.open_way(self.alloc, to as u64),
+            None => Ok(()),
+        }
+    }
+
+    /// No way goes from one server to another any more.
+    fn close_way(&mut self, from: usize, to: usize)
+        ensures { self.new ≡ changed_at from (without_way to) self.old }
+    {
+        if let Some(site) = self.sites.get_mut(from) {
+            site.close_way(to as u64);
+        }
+    }
+}

@@ -1,0 +1,13 @@
+//! What holds of any network of servers. Each law is a function that does nothing, and its contract is the law: the check proves it, and a crate above may
+//! cite it.
+ghost use Rattle.irc_network.specs.Laws.{GivenIsKept, RestStays};
+
+/// Where no line is on its way there is none to deliver, and settling changes nothing.
+pub fn rest_stays()
+    ensures { RestStays }
+{}
+
+/// What is given is kept in turn, and lines are counted anew.
+pub fn given_is_kept()
+    ensures { GivenIsKept }
+{}

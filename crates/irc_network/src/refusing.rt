@@ -1,0 +1,155 @@
+//! What a network refuses.
+ghost use Rattle.std.specs.Prelude.{◌≡◌};
+ghost use Rattle.std.specs.Option.{option_and_then, option_copied, option_map};
+ghost use Rattle.irc_world.specs.Refused.{are_equal};
+ghost use Rattle.irc_world.specs.World.{home_in};
+ghost use Rattle.irc_network.specs.Refusing.{are_agreed, client_fault, fault_at_rest, is_there, link_fault, server_fault, way_fault};
+ghost use Rattle.irc_network.specs.Loops.Parties.{kept_for, IsParty, IsPartyOf};
+ghost use Rattle.irc_network.specs.Network.{site_of, view_of};
+ghost use Rattle.irc_network.specs.Views.{item_of, refusal_of};
+
+use crate::item::Item;
+use crate::network::Network;
+use crate::refusal::Refusal;
+use irc_agreement::agree;
+use irc_names::ServerName;
+use irc_room::Room;
+use irc_sites::Site;
+
+/// A server that is to be an end of a link.
+#[derive(Clone, Copy, Drop)]
+struct Party<'a> {
+    name: &'a ServerName,
+    place: usize,
+    site: &'a Site,
+    room: &'a Room,
+}
+
+impl Network {
+    /// Why an item is not taken where no line is on its way, if it is not: the first cause that there is.
+    pub fn refusal(&self, item: &Item) -> Option<Refusal>
+        ensures { option_map refusal_of result ≡ fault_at_rest self.now (item_of item.now) }
+    {
+        match item {
+            Item::Connect(server, _) => self.server_fault(server),
+            Item::Line(client, _) | Item::Gone(client) => self.client_fault(*client),
+            Item::Link(near, far) => self.link_fault(near, far),
+            Item::Cut(near, far) => self.way_refusal(near, far),
+        }
+    }
+
+    /// No server has this name.
+    fn server_fault(&self, server: &ServerName) -> Option<Refusal>
+        ensures { option_map refusal_of result ≡ server_fault self.now server.now }
+    {
+        match self.forest.place_of(server) {
+            Some(_) => None,
+            None => Some(Refusal::NoSuchServer),
+        }
+    }
+
+    /// No client of this number is connected.
+    fn client_fault(&self, client: u64) -> Option<Refusal>
+        ensures { option_map refusal_of result ≡ client_fault self.now client }
+    {
+        if self.is_there(client) {
+            None
+        } else {
+            Some(Refusal::NoSuchClient)
+        }
+    }
+
+    /// Whether a client of this number is connected.
+    pub(crate) fn is_there(&self, client: u64) -> bool
+        ensures { result ≡ is_there self.now client }
+    {
+        match self.home_site(client) {
+            Some(site) => site.has_client(client),
+            None => false,
+        }
+    }
+
+    /// The server that a client has connected to.
+    fn home_site(&self, client: u64) -> Option<&Site>
+        ensures { option_copied result ≡ option_and_then (site_of self.now) (home_in self.now.homes client) }
+    {
+        self.sites.get(self.home_place(client)?)
+    }
+
+    /// Why no line goes from one server to another, if none does: one of them is not there, or no link is between them.
+    pub fn way_refusal(&self, from: &ServerName, to: &ServerName) -> Option<Refusal>
+        ensures { option_map refusal_of result ≡ way_fault self.now from.now to.now }
+    {
+        match self.ends_of(from, to) {
+            Some(ends) if self.forest.are_linked(ends.near, ends.far) => None,
+            Some(_) => Some(Refusal::NotLinked),
+            None => Some(Refusal::NoSuchServer),
+        }
+    }
+
+    /// Two servers are not there, are not to be linked, or disagree.
+    fn link_fault(&self, near: &ServerName, far: &ServerName) -> Option<Refusal>
+        ensures { option_map refusal_of result ≡ link_fault self.now near.now far.now (view_of self.now near.now) (view_of self.now far.now) }
+    {
+        match self.party(near) {
+            Some(one) => match self.party(far) {
+                Some(other) => self.meeting_fault(one, other),
+                None => Some(Refusal::NoSuchServer),
+            },
+            None => Some(Refusal::NoSuchServer),
+        }
+    }
+
+    /// Two servers are in one part, or are no peers; or a channel of both is not the same on both sides.
+    fn meeting_fault(&self, one: Party<'_>, other: Party<'_>) -> Option<Refusal>
+        requires one { IsPartyOf self.now one.name.now one }
+        requires other { IsPartyOf self.now other.name.now other }
+        ensures { option_map refusal_of result ≡ link_fault self.now one.entry.name.now other.entry.name.now (view_of self.now one.entry.name.now) (view_of self.now other.entry.name.now) }
+    {
+        if self.forest.are_joined(one.place, other.place) || !are_peers(one, other) {
+            Some(Refusal::LinkRefused)
+        } else if agree(one.room, other.room) {
+            None
+        } else {
+            Some(Refusal::Disagree)
+        }
+    }
+
+    /// Whether two servers are there, and agree on all channels that both would have if they were linked.
+    pub fn agrees(&self, one: &ServerName, other: &ServerName) -> bool
+        ensures { result ≡ are_agreed (view_of self.now one.now) (view_of self.now other.now) }
+    {
+        match self.party(one) {
+            Some(one) => match self.party(other) {
+                Some(other) => agree(one.room, other.room),
+                None => false,
+            },
+            None => false,
+        }
+    }
+
+    /// A server that is there, with its room.
+    fn party<'a>(&'a self, name: &'a ServerName) -> Option<Party<'a>>
+        ensures { IsParty self.now name.now result }
+    {
+        let place = self.place_of(name)?;
+        let site = self.site_at(place)?;
+        let room = site.room()?;
+        Some(Party {
+            name,
+            place,
+            site,
+            room,
+        })
+    }
+}
+
+/// Whether two servers keep one password for each other.
+fn are_peers(one: Party<'_>, other: Party<'_>) -> bool
+    ensures { result ≡ are_equal (kept_for one.entry.site.now other.entry.name.now) (kept_for other.entry.site.now one.entry.name.now) }
+{
+    match one.site.password_for(other.name.as_bytes()) {
+        Some(password) => other.site.password_for(one.name.as_bytes()) == Some(password),
+        None => false,
+    }
+}

@@ -1,0 +1,4 @@
+pub mod Outcomes
+pub mod Replying
+pub mod Ways
+pub mod Quiet

@@ -1,0 +1,75 @@
+-- A server of a network, and the lines that are on their way from it.
+use Rattle.std.specs.Prelude.{ℕ, ◌-◌, Bool, true, false, not, Option, is_some, is_none, List, [], ◌∷◌, ◌++◌, length, take, unwrap_or, if◌then◌else◌}
+use Rattle.std.specs.FinMap.{FinMap, get, insert, keys, remove}
+use Rattle.std.specs.List.{find, list_any}
+use Rattle.std.specs.Option.{option_map_or}
+use Rattle.std.specs.Ordering.{nat_cmp}
+use Rattle.irc_batch.specs.Batches.{Sent}
+use Rattle.irc_stage.specs.Handle.{connects, says, goes}
+use Rattle.irc_stage.specs.View.{View}
+use Rattle.irc_server.specs.Served.{Occurrence, of_client, link_up, link_says, link_down, served}
+
+-- A server, none once memory ran out for it; and the lines that it has put out on each of its links and that nobody has taken yet, the oldest first, without
+-- their line ends. A link's number at either end is the place of the server at the other.
+pub record Site : Type 0 where
+  pub server : Option View
+  pub queues : FinMap nat_cmp (List (List ℕ))
+
+-- ---- lines on their way
+
+abbrev pub waiting : Site → ℕ → List (List ℕ)
+waiting site to = unwrap_or (get site.queues to) []
+
+abbrev pub is_nothing : List (List ℕ) → Bool
+is_nothing [] = true
+is_nothing (first ∷ rest) = false
+
+-- whether a line waits on the way to a place
+abbrev pub waits : Site → ℕ → Bool
+waits site to = not (is_nothing (waiting site to))
+
+abbrev pub is_quiet : Site → Bool
+is_quiet site = not (list_any (waits site) (keys site.queues))
+
+abbrev pub first_way : Site → Option ℕ
+first_way site = find (waits site) (keys site.queues)
+
+-- a line without its CR LF
+abbrev pub body : List ℕ → List ℕ
+body text = take (length text - 2) text
+
+-- a line waits behind the others, if there is a way
+abbrev pub queued : ℕ → List ℕ → Site → Site
+queued to text site =
+    option_map_or (λ lines. record site { queues = insert site.queues to (lines ++ body text ∷ []) }) (get site.queues to) site
+
+abbrev pub left : ℕ → List (List ℕ) → Site → Site
+left to lines site = record site { queues = insert site.queues to lines }
+
+-- both ends of a way between two servers
+abbrev pub with_way : ℕ → Site → Site
+with_way to site = record site { queues = insert site.queues to [] }
+
+abbrev pub without_way : ℕ → Site → Site
+without_way to site = record site { queues = remove site.queues to }
+
+-- ---- what a server puts out
+
+-- whether a server serves what happens, rather than refusing it: the client or the link is there, or is not there yet
+abbrev pub is_taken : View → Occurrence → Bool
+is_taken view (of_client (connects conn host)) = is_none (get view.clients conn)
+is_taken view (of_client (says conn read)) = is_some (get view.clients conn)
+is_taken view (of_client (goes conn)) = is_some (get view.clients conn)
+is_taken view (link_up number starts) = is_none (get view.ends number)
+is_taken view (link_says number read) = is_some (get view.ends number)
+is_taken view (link_down number) = is_some (get view.ends number)
+
+-- a server after something that happens, and what it puts out; what it refuses changes nothing
+pub record Reply : Type 0 where
+  pub view : View
+  pub out : List Sent
+
+abbrev pub reply : View → Occurrence → Reply
+reply view occurrence =
+    if is_taken view occurrence then record { view = (served view occurrence).view; out = (served view occurrence).out }
+    else record { view = view; out = [] }
