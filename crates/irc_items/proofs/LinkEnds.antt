@@ -1,0 +1,81 @@
+-- What a new link joins: those who were joined to one of its ends with those who were joined to the other.
+use Rattle.std.proofs.Common.{◌≡◌, ◌≢◌, ◌⊎◌, inl, inr, Bool, true, false, ◌||◌, List, ◌∷◌, refl, sym, ◌∙◌, ap}
+use Rattle.std.proofs.lemmas.Bool.{or_left, or_right}
+use Rattle.irc_relay.specs.Links.{Name, Link, part, joined, linked, AreJoined, AreLinked, IsForest, IsMade, within, over, back}
+use Rattle.irc_relay.proofs.TakingOut.{linked_tells, made}
+use Rattle.irc_routes.proofs.DistinctLinks.{both_so}
+use Rattle.irc_follow.proofs.AtRest.{joined_so}
+use Rattle.irc_follow.proofs.BehindLinks.{joined_test}
+
+-- a and b are the two ends
+pub record AreEnds (l : Link) (links : List Link) (a b : Name) : Type 0 where
+  pub linked : AreLinked (l ∷ links) b a
+  pub apart : AreJoined links b a → ⊥
+  pub joined : (x t : Name) → AreJoined links t a → joined (l ∷ links) x t ≡ (joined links x a || joined links x b)
+
+either_true : (b c : Bool) → (b || c) ≡ true → (b ≡ true) ⊎ (c ≡ true)
+either_true true c so = inl refl
+either_true false c so = inr so
+
+module _ (l : Link) (links : List Link) (forest : IsForest links) (apart : part links l.near ≢ part links l.far) where
+  more : IsMade l links
+  more = made l links forest apart
+
+  near_joined : (x t : Name) → AreJoined links t l.near → joined (l ∷ links) x t ≡ (joined links x l.near || joined links x l.far)
+  near_joined x t here = both_so _ _ forth turn
+    where
+      forth : joined (l ∷ links) x t ≡ true → (joined links x l.near || joined links x l.far) ≡ true
+      forth so = elim (more.meets x t (joined_so (l ∷ links) x t so)) [
+        | within one ↦ or_left _ _ (joined_test links x l.near (one ∙ here))
+        | over one other ↦ or_left _ _ (joined_test links x l.near one)
+        | back one other ↦ or_right _ _ (joined_test links x l.far one)
+      ]
+
+      turn : (joined links x l.near || joined links x l.far) ≡ true → joined (l ∷ links) x t ≡ true
+      turn so = elim (either_true _ _ so) [
+        | inl one ↦ joined_test (l ∷ links) x t ((more.kept x t (joined_so links x l.near one ∙ sym here)).joined)
+        | inr other ↦ joined_test (l ∷ links) x t (more.back_joined x t (joined_so links x l.far other) (sym here))
+      ]
+
+  far_joined : (x t : Name) → AreJoined links t l.far → joined (l ∷ links) x t ≡ (joined links x l.far || joined links x l.near)
+  far_joined x t there = both_so _ _ forth turn
+    where
+      forth : joined (l ∷ links) x t ≡ true → (joined links x l.far || joined links x l.near) ≡ true
+      forth so = elim (more.meets x t (joined_so (l ∷ links) x t so)) [
+        | within one ↦ or_left _ _ (joined_test links x l.far (one ∙ there))
+        | over one other ↦ or_right _ _ (joined_test links x l.near one)
+        | back one other ↦ or_left _ _ (joined_test links x l.far one)
+      ]
+
+      turn : (joined links x l.far || joined links x l.near) ≡ true → joined (l ∷ links) x t ≡ true
+      turn so = elim (either_true _ _ so) [
+        | inl one ↦ joined_test (l ∷ links) x t ((more.kept x t (joined_so links x l.far one ∙ sym there)).joined)
+        | inr other ↦ joined_test (l ∷ links) x t (more.over_joined x t (joined_so links x l.near other) (sym there))
+      ]
+
+  pub near_ends : AreEnds l links l.near l.far
+  near_ends = record { linked = inl (inr (refl, refl)); apart = λ one. apart (sym one); joined = near_joined }
+
+  pub far_ends : AreEnds l links l.far l.near
+  far_ends = record { linked = inl (inl (refl, refl)); apart = λ one. apart one; joined = far_joined }
+
+  -- a server that is joined to neither end
+  module _ (t : Name) (not_near : AreJoined links t l.near → ⊥) (not_far : AreJoined links t l.far → ⊥) where
+    pub aside_joined : (x : Name) → joined (l ∷ links) x t ≡ joined links x t
+    aside_joined x = both_so _ _ forth (λ so. joined_test (l ∷ links) x t ((more.kept x t (joined_so links x t so)).joined))
+      where
+        forth : joined (l ∷ links) x t ≡ true → joined links x t ≡ true
+        forth so = elim (more.meets x t (joined_so (l ∷ links) x t so)) [
+          | within one ↦ joined_test links x t one
+          | over one other ↦ absurd (not_far (sym other))
+          | back one other ↦ absurd (not_near (sym other))
+        ]
+
+    pub aside_linked : (x : Name) → AreLinked (l ∷ links) t x → AreLinked links t x
+    aside_linked x (inl (inl (near, far))) = absurd (not_near (ap (part links) (sym near)))
+    aside_linked x (inl (inr (near, far))) = absurd (not_far (ap (part links) (sym far)))
+    aside_linked x (inr linked) = linked
+
+    pub aside_links : (x : Name) → linked (l ∷ links) t x ≡ linked links t x
+    aside_links x = both_so _ _ (λ so. (linked_tells links t x).1 (aside_linked x ((linked_tells (l ∷ links) t x).0 so)))
+        (λ so. (linked_tells (l ∷ links) t x).1 (inr ((linked_tells links t x).0 so)))

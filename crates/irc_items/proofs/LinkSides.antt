@@ -1,0 +1,30 @@
+-- The two sides of a new link, where nobody is registered on either.
+use Rattle.std.specs.Prelude.{List, ◌∷◌, map, if◌then◌else◌}
+use Rattle.irc_merge.specs.Deeds.{Deed, gains}
+use Rattle.irc_relay.specs.Following.{all_done}
+use Rattle.irc_relay.specs.Links.{Name, Link, joined}
+use Rattle.irc_routes.specs.Known.{Known, servers_told}
+use Rattle.irc_routes.specs.declared.server_row.ServerRow.{ServerRow}
+use Rattle.irc_world.specs.World.{World}
+use Rattle.irc_follow.specs.AtRest.{part_of}
+use Rattle.irc_follow.specs.Part.{Fixed, Part, info_in, number}
+use Rattle.irc_follow.specs.Relinked.{relinked}
+use Rattle.irc_follow.specs.Says.{play}
+
+-- the deeds by which the side of t comes to know that of b, which it is being linked to
+abbrev pub deeds_of_link : Fixed → (Name → Known) → Name → Name → List Deed
+deeds_of_link s routes t b = gains t b (info_in s.settings b) ∷ map (λ (r : ServerRow). gains r.uplink r.name r.info) (servers_told (routes b) (number s t))
+
+-- the side of t, as it is when the link is made and nobody of it knows of that
+abbrev pub side_of : Fixed → Link → World → (Name → Known) → Name → Part
+side_of s l world routes t = relinked (l ∷ world.links) (part_of s world routes t)
+
+-- that side, once it knows the other
+abbrev pub side_after : Fixed → Link → World → (Name → Known) → Name → Name → Part
+side_after s l world routes t b = all_done (play s 0) (side_of s l world routes t) (deeds_of_link s routes t b)
+
+-- what each server knows by then
+abbrev pub routes_after : Fixed → Link → World → (Name → Known) → Name → Known
+routes_after s l world routes t =
+    if joined world.links t l.near then (side_after s l world routes l.near l.far).tree.routes t
+    else (if joined world.links t l.far then (side_after s l world routes l.far l.near).tree.routes t else routes t)

@@ -1,0 +1,455 @@
+-- A network is sound once a link is made between two parts in which nobody is registered.
+use Rattle.std.proofs.Common.{◌≡◌, ◌≢◌, ◌⊎◌, ℕ, zero, suc, ◌+◌, ◌*◌, ◌-◌, ◌<◌, ◌≤◌, Bool, true, false, ◌||◌, Option, Some, None, is_some, List, [], ◌∷◌, ◌++◌, length, count_by, refl, sym, ap, subst, ◌∙◌, arith, inl, inr, unwrap_or, if◌then◌else◌}
+use Rattle.std.specs.FinMap.{get}
+use Rattle.std.specs.List.{slice_get, AllByRecursion}
+use Rattle.std.specs.Option.{option_map, option_map_or}
+use Rattle.irc_handshake.specs.GreetingLines.{greeting, pass_parts}
+use Rattle.irc_line.specs.Messages.{line_text}
+use Rattle.std.proofs.lemmas.List.{length-map}
+use Rattle.std.proofs.Math.Nat.{mul-le-mul_right}
+use Rattle.irc_merge.specs.Deeds.{Deed, gains}
+use Rattle.irc_relay.specs.Distances.{IsAmong}
+use Rattle.irc_relay.specs.Following.{Follows, all_done, all_seen}
+use Rattle.irc_relay.specs.Lemmas.TellingNames.{same_when, same_unless}
+use Rattle.irc_relay.specs.Links.{Name, Link, part, has_ends, joined, linked, same, AreJoined, AreLinked, HasEnds}
+use Rattle.irc_relay.specs.Relay.{streams_from, from_other_end, coming, lines_coming, under_way, Covers}
+use Rattle.irc_relay.proofs.GoingToward.{linked_joined, linked_back}
+use Rattle.irc_relay.proofs.TakingOut.{tests_tell}
+use Rattle.irc_routes.specs.Known.{Known, servers_told}
+use Rattle.irc_stage.specs.Lemmas.Numbers.{one_number, same_number, same_number-is}
+use Rattle.irc_stage.specs.View.{End, View, password_for}
+use Rattle.irc_links.specs.Ends.{is_met as has_far}
+use Rattle.irc_merge.specs.Bursts.{burst}
+use Rattle.irc_world.specs.Bounds.{most, part_size}
+use Rattle.irc_world.specs.Bystanders.{OnlyConnectedReceive}
+use Rattle.irc_world.specs.Owed.{owed_by_network, world_of}
+use Rattle.irc_world.specs.Sound.{AreTaken}
+use Rattle.irc_world.specs.Stepping.{Stepped, link, link_made, step}
+use Rattle.irc_world.specs.WithinLimits.{IsItemWithin}
+use Rattle.irc_world.specs.World.{World, home_in, new_world}
+use Rattle.irc_follow.specs.AtRest.{part_of, AreRight}
+use Rattle.irc_follow.specs.Fits.{Fits, far_of}
+use Rattle.irc_follow.specs.Part.{Fixed, Part, number}
+use Rattle.irc_follow.specs.Relinked.{PartAfterLink}
+use Rattle.irc_follow.specs.Says.{machine, play}
+use Rattle.irc_follow.specs.Tree.{place_in}
+use Rattle.irc_follow.proofs.Followed.{IsKnownOfLine}
+use Rattle.irc_follow.proofs.Places.{one_place}
+use Rattle.irc_follow.proofs.SaidShows.{append_nil}
+use Rattle.irc_network.specs.Laws.{RestStays}
+use Rattle.irc_network.specs.Network.{Network, received_by}
+use Rattle.irc_items.specs.Relayed.{fixed_of, is_met_with, relayed, way_at, way_between}
+use Rattle.irc_items.specs.SetUp.{routes_in, settings_of, view_at}
+use Rattle.irc_items.specs.Sound.{most_now, most_of_last, owed_now, world_now, is_met, is_calling, AreCalled, HasCalled, IsPlaceOf, IsSound, IsSoundFrom, IsUnderWay}
+use Rattle.irc_items.proofs.Begun.{begins, none_at_source, IsBegun}
+use Rattle.irc_items.proofs.Counting.{part_counted, sides_most}
+use Rattle.irc_items.proofs.FewLines.{deeper_are_few, next_is_under_way}
+use Rattle.irc_items.proofs.GoodLines.{steady_follow, steady_terms}
+use Rattle.irc_items.proofs.ItemsMore.{each_more, most_more, owed_more, taken_more, world_more}
+use Rattle.irc_items.proofs.LinkBegins.{Takes, at_near, at_far, behind_near, behind_far, apart_from_both, away, deeds, starts, takes, IsToldByLink}
+use Rattle.irc_items.proofs.LinkSide.{apart, covers, meet, fits_begun, fixed_here, forest, has_ends_so, link_fixed, not_ends, old_ends, as_before, IsLinkStep}
+use Rattle.irc_items.proofs.LinkSides.{deeds_of_link, routes_after, side_of}
+use Rattle.irc_items.proofs.LinkWays.{link_lines, to_far, to_near}
+
+pub record AreLinkLaws : Type 0 where
+  pub after_link : PartAfterLink
+  pub quiet : RestStays
+  pub line : IsKnownOfLine
+  pub only_connected : OnlyConnectedReceive
+
+-- where the sides come to, and how many lines that takes
+pub record ComesToOne (laws : AreLinkLaws) (net new : Network) (near far : Name) (given : IsLinkStep net new near far)
+    (tells : IsToldByLink laws.after_link laws.quiet net new near far given) : Type 0 where
+  pub right : AreRight (link_fixed net near far) (record { near = near; far = far } ∷ (world_now net).links)
+      (routes_after (link_fixed net near far) (record { near = near; far = far }) (world_now net) (routes_in net))
+  pub comes : (client : ℕ) (t : Name) (view : View) → IsAmong net.names t → 0 < (link_fixed net near far).streams.depth t
+      → Fits (link_fixed net near far) t
+      (all_done (play (link_fixed net near far) client) (side_of (link_fixed net near far) (record { near = near; far = far }) (world_now net) (routes_in net) t)
+      (deeds laws.after_link laws.quiet net new near far given tells client t)) view
+      → Fits (link_fixed net near far) t (part_of (link_fixed net near far) (link_made (world_now net) near far).world
+      (routes_after (link_fixed net near far) (record { near = near; far = far }) (world_now net) (routes_in net)) t) view
+  pub others : (t : Name) → IsAmong net.names t → (AreJoined (world_now net).links t near → ⊥) → (AreJoined (world_now net).links t far → ⊥)
+      → Fits (link_fixed net near far) t (part_of (link_fixed net near far) (link_made (world_now net) near far).world
+      (routes_after (link_fixed net near far) (record { near = near; far = far }) (world_now net) (routes_in net)) t) (view_at new t)
+  pub seen : (client : ℕ) (t : Name)
+      → all_seen (play (link_fixed net near far) client) t (side_of (link_fixed net near far) (record { near = near; far = far }) (world_now net) (routes_in net) t)
+      (deeds laws.after_link laws.quiet net new near far given tells client t) ≡ []
+  pub nobody_sees : (client : ℕ) → (link_made (world_now net) near far).lines client ≡ []
+  pub near_lines : length (link_lines laws.after_link laws.quiet net new near far given far near)
+      ≤ 2 + length (servers_told (routes_in net far) (number (link_fixed net near far) near))
+  pub far_lines : length (link_lines laws.after_link laws.quiet net new near far given near far)
+      ≤ 2 + length (servers_told (routes_in net near) (number (link_fixed net near far) far))
+  pub near_counted : length (servers_told (routes_in net near) (number (link_fixed net near far) far)) < part_size (settings_of net) (world_now net).links near
+  pub far_counted : length (servers_told (routes_in net far) (number (link_fixed net near far) near)) < part_size (settings_of net) (world_now net).links far
+
+-- one side, of p servers, is told by an end that tells of k servers besides itself, whose part has at least so many
+side_few : (k p q b : ℕ) → k < q → (2 + k) + (p - 1) * (1 + k) ≤ 1 + (1 + ((q - 1) + b)) * (p + 1)
+side_few k zero q b less = by (0 - 1) (omega arith)
+  where
+    by : (none : ℕ) → none ≡ 0 → (2 + k) + none * (1 + k) ≤ 1 + (1 + ((q - 1) + b)) * (0 + 1)
+    by none is = rw is (omega arith)
+side_few k (suc p) q b less = by ((q - 1) + b) (omega arith)
+  where
+    by : (m : ℕ) → k ≤ m → (2 + k) + (suc p - 1) * (1 + k) ≤ 1 + (1 + m) * (suc p + 1)
+    by m few =
+        let grows : (1 + k) * p ≤ (1 + m) * p = mul-le-mul_right p (omega arith) in
+        let less : suc p - 1 ≡ p = omega arith in
+        rw less (omega arith)
+
+allowed : (sum k j count_near count_far near far b c : ℕ)
+    → sum ≤ ((2 + k) + (count_near - 1) * (1 + k)) + ((2 + j) + (count_far - 1) * (1 + j)) → near ≡ count_near → far ≡ count_far → j < near → k < far
+    → sum ≤ 2 + ((1 + ((near - 1) + b)) * (far + 1) + (1 + ((far - 1) + c)) * (near + 1))
+allowed sum k j count_near count_far near far b c most e f few_far few_near =
+    by count_near count_far e f most
+  where
+    added : (sum a b m n : ℕ) → sum ≤ a + b → a ≤ 1 + m → b ≤ 1 + n → sum ≤ 2 + (n + m)
+    added sum a b m n all one two = omega arith
+
+    by : (p q : ℕ) → near ≡ p → far ≡ q → sum ≤ ((2 + k) + (p - 1) * (1 + k)) + ((2 + j) + (q - 1) * (1 + j))
+        → sum ≤ 2 + ((1 + ((near - 1) + b)) * (far + 1) + (1 + ((far - 1) + c)) * (near + 1))
+    by p q e f most =
+        let one : (2 + k) + (p - 1) * (1 + k) ≤ 1 + (1 + ((far - 1) + c)) * (p + 1) = side_few k p far c few_near in
+        let two : (2 + j) + (q - 1) * (1 + j) ≤ 1 + (1 + ((near - 1) + b)) * (q + 1) = side_few j q near b few_far in
+        added sum ((2 + k) + (p - 1) * (1 + k)) ((2 + j) + (q - 1) * (1 + j)) ((1 + ((far - 1) + c)) * (near + 1)) ((1 + ((near - 1) + b)) * (far + 1)) most
+        (subst (λ n. (2 + k) + (p - 1) * (1 + k) ≤ 1 + (1 + ((far - 1) + c)) * (n + 1)) (sym e) one)
+        (subst (λ n. (2 + j) + (q - 1) * (1 + j) ≤ 1 + (1 + ((near - 1) + b)) * (n + 1)) (sym f) two)
+
+module _ (laws : AreLinkLaws) (net new : Network) (near far : Name) (given : IsLinkStep net new near far)
+    (tells : IsToldByLink laws.after_link laws.quiet net new near far given) (comes : ComesToOne laws net new near far given tells) where
+  abbrev s : Fixed
+  s = link_fixed net near far
+
+  abbrev world : World
+  world = world_now net
+
+  abbrev l : Link
+  l = record { near = near; far = far }
+
+  abbrev after : World
+  after = (link_made world near far).world
+
+  abbrev source : Name → Name
+  source = from_other_end world.links near far
+
+  abbrev routes : Name → Known
+  routes = routes_after s l world (routes_in net)
+
+  module _ (client : ℕ) where
+    received_same : received_by new client ≡ owed_now net client
+    received_same = same_received client ∙ given.one.received client
+      where
+        same_received : (client : ℕ) → received_by new client ≡ received_by net client
+        same_received zero = refl
+        same_received (suc n) = ap (λ boxes. unwrap_or (slice_get boxes n) []) given.linked.received
+
+    abbrev sides : Name → Part
+    sides = side_of s l world (routes_in net)
+
+    abbrev acts : Name → List Deed
+    acts = deeds laws.after_link laws.quiet net new near far given tells client
+
+    source_apart : (t : Name) → s.streams.depth t ≡ 0 → (AreJoined world.links t near → ⊥) × (AreJoined world.links t far → ⊥)
+    source_apart t none = by (takes laws.after_link laws.quiet net new near far given tells client t)
+      where
+        by : Takes laws.after_link laws.quiet net new near far given tells client t → (AreJoined world.links t near → ⊥) × (AreJoined world.links t far → ⊥)
+        by (at_near _ one) = absurd (let no : ⊥ = omega arith in no)
+        by (at_far _ one) = absurd (let no : ⊥ = omega arith in no)
+        by (behind_near _ _ deep _) = absurd (let no : ⊥ = omega arith in no)
+        by (behind_far _ _ deep _) = absurd (let no : ⊥ = omega arith in no)
+        by (apart_from_both m n _) = (m, n)
+
+    pub begun : IsBegun s after routes new client (owed_now net client) sides acts
+    begun = record {
+      starts = starts laws.after_link laws.quiet net new near far given tells client;
+      away = away laws.after_link laws.quiet net new near far given tells client;
+      at_source = λ t among none. comes.others t among (source_apart t none).0 (source_apart t none).1;
+      comes_to = λ t view among below fits. comes.comes client t view among below fits;
+      told_source = λ t home none. received_same;
+      told = λ t home below. ap (λ lines. received_by new client ++ lines) (comes.seen client t) ∙ append_nil (received_by new client) ∙ received_same;
+    }
+
+    follow : Follows (machine s client) (play s client) (steady_terms s (l ∷ world.links)) (l ∷ world.links) s.streams
+    follow = steady_follow laws.line s client (fixed_here laws.after_link net new near far given) (l ∷ world.links)
+
+    pub link_under_way : IsUnderWay s after routes new client (owed_now net client)
+    link_under_way = begins s after source routes new client (owed_now net client) sides acts
+        (forest laws.after_link net new near far given) (covers laws.after_link net new near far given) refl follow begun
+
+    -- ---- few lines
+
+    abbrev count : Name → ℕ
+    count t = length (coming (machine s client) s.streams (relayed s new client) t)
+
+    next : (t : Name) → s.streams.depth t ≡ 1 → count t ≡ length (under_way (relayed s new client) (s.streams.parent t) t)
+    next t one = ap (λ (lines : List (List ℕ)). length lines)
+        (next_is_under_way s after source routes new client (owed_now net client) sides acts
+        (forest laws.after_link net new near far given) (covers laws.after_link net new near far given) refl follow begun t one)
+
+    deeper : (t : Name) → 1 < s.streams.depth t → count t ≤ length (acts t)
+    deeper t deep = deeper_are_few s after source routes new client (owed_now net client) sides acts
+        (forest laws.after_link net new near far given) (covers laws.after_link net new near far given) refl follow begun t deep
+
+    none_at : (t : Name) → s.streams.depth t ≡ 0 → count t ≡ 0
+    none_at t none = ap (λ (lines : List (List ℕ)). length lines) (none_at_source (machine s client) s.streams (relayed s new client) t none)
+
+    -- how many servers one end tells the other of, but itself
+    abbrev told_near : ℕ
+    told_near = length (servers_told (routes_in net far) (number s near))
+
+    abbrev told_far : ℕ
+    told_far = length (servers_told (routes_in net near) (number s far))
+
+    near_depth : s.streams.depth near ≡ 1
+    near_depth = (meet laws.after_link net new near far given).near_depth
+
+    at_near_few : count near ≤ 2 + told_near
+    at_near_few =
+        let one = next near near_depth
+        ∙ ap (λ p. length (under_way (relayed s new client) p near)) (meet laws.after_link net new near far given).near_parent
+        ∙ ap (λ (lines : List (List ℕ)). length lines) (to_near laws.after_link laws.quiet net new near far given client) in
+        let few = comes.near_lines in
+        omega arith
+
+    at_far_few : count far ≤ 2 + told_far
+    at_far_few =
+        let one = next far (meet laws.after_link net new near far given).far_depth
+        ∙ ap (λ p. length (under_way (relayed s new client) p far)) (meet laws.after_link net new near far given).far_parent
+        ∙ ap (λ (lines : List (List ℕ)). length lines) (to_far laws.after_link laws.quiet net new near far given client) in
+        let few = comes.far_lines in
+        omega arith
+
+    acts_near : (t : Name) → AreJoined world.links t near → length (acts t) ≡ 1 + told_near
+    acts_near t j = ap (λ b. length (if b then deeds_of_link s (routes_in net) near far else deeds_of_link s (routes_in net) far near)) ((tests_tell world.links t near t).1.1 j)
+        ∙ more (length-map (servers_told (routes_in net far) (number s near)) (λ r. gains r.uplink r.name r.info))
+      where
+        more : {a b : ℕ} → a ≡ b → suc a ≡ 1 + b
+        more e = omega arith
+
+    acts_far : (t : Name) → AreJoined world.links t far → length (acts t) ≡ 1 + told_far
+    acts_far t j = ap (λ b. length (if b then deeds_of_link s (routes_in net) near far else deeds_of_link s (routes_in net) far near))
+        (same_unless (part world.links t) (part world.links near) (λ e. apart laws.after_link net new near far given (sym e ∙ j)))
+        ∙ more (length-map (servers_told (routes_in net near) (number s far)) (λ r. gains r.uplink r.name r.info))
+      where
+        more : {a b : ℕ} → a ≡ b → suc a ≡ 1 + b
+        more e = omega arith
+
+    near_others : (t : Name) → t ≢ near → joined world.links near t ≡ true → count t ≤ 1 + told_near
+    near_others t two so = by (takes laws.after_link laws.quiet net new near far given tells client t)
+      where
+        j : AreJoined world.links t near
+        j = sym ((tests_tell world.links near t t).1.0 so)
+
+        by : Takes laws.after_link laws.quiet net new near far given tells client t → count t ≤ 1 + told_near
+        by (at_near e _) = absurd (two e)
+        by (at_far e _) = absurd (apart laws.after_link net new near far given (sym j ∙ ap (part world.links) e))
+        by (behind_near _ _ deep _) = let few = deeper t deep in let acts = acts_near t j in omega arith
+        by (behind_far k _ _ _) = absurd (apart laws.after_link net new near far given (sym j ∙ k))
+        by (apart_from_both m _ _) = absurd (m j)
+
+    far_others : (t : Name) → t ≢ far → joined world.links far t ≡ true → count t ≤ 1 + told_far
+    far_others t two so = by (takes laws.after_link laws.quiet net new near far given tells client t)
+      where
+        j : AreJoined world.links t far
+        j = sym ((tests_tell world.links far t t).1.0 so)
+
+        by : Takes laws.after_link laws.quiet net new near far given tells client t → count t ≤ 1 + told_far
+        by (at_near e _) = absurd (apart laws.after_link net new near far given (sym (ap (part world.links) e) ∙ j))
+        by (at_far e _) = absurd (two e)
+        by (behind_near k _ _ _) = absurd (apart laws.after_link net new near far given (sym k ∙ j))
+        by (behind_far _ _ deep _) = let few = deeper t deep in let acts = acts_far t j in omega arith
+        by (apart_from_both _ m _) = absurd (m j)
+
+    neither_none : (t : Name) → joined world.links near t ≡ false → joined world.links far t ≡ false → count t ≡ 0
+    neither_none t m n = by (takes laws.after_link laws.quiet net new near far given tells client t)
+      where
+        off : (e : Name) → joined world.links e t ≡ false → AreJoined world.links t e → ⊥
+        off e so j = let no = sym ((tests_tell world.links e t t).1.1 (sym j)) ∙ so in cc no
+
+        by : Takes laws.after_link laws.quiet net new near far given tells client t → count t ≡ 0
+        by (at_near e _) = absurd (off near m (ap (part world.links) e))
+        by (at_far e _) = absurd (off far n (ap (part world.links) e))
+        by (behind_near k _ _ _) = absurd (off near m k)
+        by (behind_far k _ _ _) = absurd (off far n k)
+        by (apart_from_both _ _ none) = none_at t none
+
+    few_come : lines_coming (machine s client) s.streams (relayed s new client) net.names ≤ most (settings_of net) world (link near far)
+    unfolding most
+    few_come =
+        let sum = sides_most net.names (joined world.links near) (joined world.links far) near far (2 + told_near) (1 + told_near) (2 + told_far) (1 + told_far) count
+        (record {
+          there = same_when (part world.links near) (part world.links near) refl;
+          once = given.sound.set_up.once near given.meeting.near_among;
+          most = at_near_few;
+          others = λ t among two so. near_others t two so;
+        })
+        (record {
+          there = same_when (part world.links far) (part world.links far) refl;
+          once = given.sound.set_up.once far given.meeting.far_among;
+          most = at_far_few;
+          others = λ t among two so. far_others t two so;
+        }) (λ t among m n. neither_none t m n) in
+        allowed (lines_coming (machine s client) s.streams (relayed s new client) net.names) told_near told_far
+        (count_by (joined world.links near) net.names) (count_by (joined world.links far) net.names)
+        (part_size (settings_of net) world.links near) (part_size (settings_of net) world.links far)
+        (length (burst near (world.hall near).room)) (length (burst far (world.hall far).room)) sum
+        (part_counted net given.sound.set_up world.links near) (part_counted net given.sound.set_up world.links far) comes.near_counted comes.far_counted
+
+  -- ---- the network afterwards
+
+  same_settings : settings_of new ≡ settings_of net
+  same_settings = given.linked.settings
+
+  same_links : new.links ≡ l ∷ world.links
+  same_links = given.linked.links ∙ ap (λ links. l ∷ links) given.sound.links
+
+  fixed_same : fixed_of new (streams_from new.links source) ≡ s
+  fixed_same i = record {
+    settings = same_settings i;
+    names = given.linked.names i;
+    homes = given.linked.homes i;
+    streams = streams_from (same_links i) source;
+  }
+
+  stepped : step (settings_of net) world (link near far) ≡ link_made world near far
+  unfolding step
+  stepped = refl
+
+  world_is : world_now new ≡ after
+  world_is =
+      ap (λ settings. world_of settings new.items) same_settings ∙ ap (λ items. world_of (settings_of net) items) given.linked.items
+      ∙ world_more (settings_of net) net.items (link near far) ∙ ap (λ (st : Stepped). st.world) stepped
+
+  owed_is : (client : ℕ) → owed_now new client ≡ owed_now net client
+  owed_is client =
+      ap (λ settings. owed_by_network settings new.items client) same_settings
+      ∙ ap (λ items. owed_by_network (settings_of net) items client) given.linked.items
+      ∙ owed_more (settings_of net) net.items (link near far) client
+      ∙ ap (λ (st : Stepped). owed_now net client ++ st.lines client) stepped
+      ∙ ap (λ lines. owed_now net client ++ lines) (comes.nobody_sees client)
+      ∙ append_nil (owed_now net client)
+
+  most_is : most_now new ≡ most (settings_of net) world (link near far)
+  most_is =
+      ap (λ settings. most_of_last settings new_world new.items) same_settings ∙ ap (λ items. most_of_last (settings_of net) new_world items) given.linked.items
+      ∙ most_more (settings_of net) net.items (link near far)
+
+  few_now : (client : ℕ) → new.taken + lines_coming (machine s client) s.streams (relayed s new client) new.names ≤ most_now new
+  few_now client =
+      let here = few_come client in
+      let none = given.linked.taken in
+      let names = ap (λ names. lines_coming (machine s client) s.streams (relayed s new client) names) given.linked.names in
+      let most = most_is in
+      omega arith
+
+  pass_line : List ℕ
+  pass_line = line_text (pass_parts (unwrap_or (password_for (view_at net near) far) []))
+
+  -- the near end calls: its SERVER is behind its PASS
+  calling : HasCalled s new near far
+  unfolding pass_line
+  calling = is_calling (pass_line ∷ []) []
+      (given.linked.calls
+      ∙ ap (λ k. Some (pass_line ∷ line_text (greeting k) ∷ []))
+      (sym (as_before laws.after_link net new near far given (λ v. v.routes) (λ k starts view. refl) near)))
+
+  met_on_side : (x y : Name) → IsAmong net.names x → IsAmong net.names y → AreLinked world.links x y → is_met_with s (view_at new y) x ≡ true
+  met_on_side x y x_among y_among linked_so = by (get (view_at new y).ends (number s x)) refl
+    where
+      back : AreLinked world.links y x
+      back = linked_back world.links x y linked_so
+
+      end_is : option_map far_of (get (view_at new y).ends (number s x)) ≡ Some (Some x)
+      end_is = (fits_begun laws.after_link net new near far given y y_among).ends x x_among
+          ∙ ap (λ b. if b then Some (if joined world.links x y then Some x else None) else None) ((tests_tell (l ∷ world.links) y x x).2.1 (inr back))
+          ∙ ap (λ b. Some (if b then Some x else None)) ((tests_tell world.links x y y).1.1 (linked_joined world.links x y linked_so))
+
+      far_some : (end : End) → Some (far_of end) ≡ Some (Some x) → has_far end ≡ true
+      far_some end e = ap (λ (o : Option (Option Name)). option_map_or is_some o false) e
+
+      by : (o : Option End) → get (view_at new y).ends (number s x) ≡ o → is_met_with s (view_at new y) x ≡ true
+      by None is = cc (sym (ap (option_map far_of) is) ∙ end_is)
+      by (Some end) is = ap (λ o. option_map_or has_far o false) is ∙ far_some end (sym (ap (option_map far_of) is) ∙ end_is)
+
+  called : AreCalled s new
+  called x y l_xy = by (subst (λ links. AreLinked links x y) same_links l_xy)
+    where
+      by : HasEnds l x y ⊎ AreLinked world.links x y → HasCalled s new x y ⊎ HasCalled s new y x
+      by (inl (inl (e, f))) = inl (subst (λ v. HasCalled s new v y) e (subst (λ v. HasCalled s new near v) f calling))
+      by (inl (inr (e, f))) = inr (subst (λ v. HasCalled s new y v) f (subst (λ v. HasCalled s new v far) e calling))
+      by (inr linked_so) = inl (is_met (met_on_side x y (old_ends laws.after_link net new near far given x y linked_so)
+          (old_ends laws.after_link net new near far given y x (linked_back world.links x y linked_so)) linked_so))
+
+  coming_now : IsSoundFrom source routes new s
+  coming_now = record {
+    covers = subst (λ links. Covers links source) (sym same_links) (covers laws.after_link net new near far given);
+    right = subst (λ links. AreRight s links routes) (sym same_links) comes.right;
+    called = called;
+    under_way = λ client. subst (λ w. IsUnderWay s w routes new client (owed_now new client)) (sym world_is)
+        (subst (IsUnderWay s after routes new client) (sym (owed_is client)) (link_under_way client));
+    few = few_now;
+  }
+
+  same_place : (y : Name) → place_in new.names y ≡ number s y
+  same_place y = ap (λ names. place_in names y) given.linked.names
+
+  ways_now : (x y : Name) → is_some (way_between new x y) ≡ linked new.links x y
+  ways_now x y = by (has_ends l x y) refl ∙ ap (λ links. linked links x y) (sym same_links)
+    where
+      at_ends : HasEnds l x y → is_some (way_between new x y) ≡ true
+      at_ends (inl (e, f)) = ap is_some (ap (λ v. way_between new v y) (sym e) ∙ ap (λ v. way_between new near v) (sym f) ∙ given.linked.calls)
+      at_ends (inr (e, f)) = ap is_some (ap (λ v. way_between new v y) (sym f) ∙ ap (λ v. way_between new far v) (sym e) ∙ given.linked.waits)
+
+      by : (b : Bool) → has_ends l x y ≡ b → is_some (way_between new x y) ≡ (has_ends l x y || linked world.links x y)
+      by true e = at_ends (has_ends_so laws.after_link net new near far given x y e) ∙ sym (ap (λ b. b || linked world.links x y) e)
+      by false e =
+          ap (λ place. is_some (way_at new x place)) (same_place y)
+          ∙ ap is_some (given.linked.other_ways x (number s y)
+          (λ n same. none (inl (sym n, one_place net.names far y given.meeting.far_among (sym same))))
+          (λ n same. none (inr (one_place net.names near y given.meeting.near_among (sym same), sym n))))
+          ∙ given.sound.ways x y ∙ ap (λ links. linked links x y) given.sound.links ∙ sym (ap (λ b. b || linked world.links x y) e)
+        where
+          none : HasEnds l x y → ⊥
+          none = not_ends laws.after_link net new near far given x y e
+
+  to_servers_now : (x : Name) (place : ℕ) → is_some (way_at new x place) ≡ true → IsPlaceOf new place
+  to_servers_now x place is = by (same_number place (number s far)) refl (same_number place (number s near)) refl
+    where
+      there : (b : Name) → IsAmong net.names b → same_number place (number s b) ≡ true → IsPlaceOf new place
+      there b among e = record {
+        server = b;
+        among = subst (λ names. IsAmong names b) (sym given.linked.names) among;
+        is = same_place b ∙ sym (one_number place (number s b) e);
+      }
+
+      other : (b : Name) → same_number place (number s b) ≡ false → place ≡ number s b → ⊥
+      other b e same = let no = sym (same_number-is place (number s b) same) ∙ e in cc no
+
+      old : IsPlaceOf net place → IsPlaceOf new place
+      old p = record {
+        server = p.server;
+        among = subst (λ names. IsAmong names p.server) (sym given.linked.names) p.among;
+        is = ap (λ names. place_in names p.server) given.linked.names ∙ p.is;
+      }
+
+      by : (a : Bool) → same_number place (number s far) ≡ a → (b : Bool) → same_number place (number s near) ≡ b → IsPlaceOf new place
+      by true e b f = there far given.meeting.far_among e
+      by false e true f = there near given.meeting.near_among f
+      by false e false f = old (given.sound.to_servers x place
+          (sym (ap is_some (given.linked.other_ways x place (λ n same. other far e same) (λ n same. other near f same))) ∙ is))
+
+  pub link_sound : IsSound new
+  link_sound = record {
+    set_up = given.linked.set_up;
+    taken = subst (λ settings. AreTaken settings new_world new.items) (sym same_settings)
+        (subst (AreTaken (settings_of net) new_world) (sym given.linked.items) (taken_more (settings_of net) net.items (link near far) given.sound.taken given.not_refused));
+    within = subst (AllByRecursion IsItemWithin) (sym given.linked.items) (each_more IsItemWithin net.items (link near far) given.sound.within tt);
+    links = same_links ∙ sym (ap (λ (w : World). w.links) world_is);
+    homes = given.linked.homes ∙ given.sound.homes ∙ sym (ap (λ (w : World). w.homes) world_is);
+    inboxes = ap (λ (boxes : List (List (List ℕ))). length boxes) given.linked.received ∙ given.sound.inboxes ∙ ap (λ (homes : List Name). length homes) (sym given.linked.homes);
+    ways = ways_now;
+    to_servers = to_servers_now;
+    nobody = λ client none. owed_is client ∙ given.sound.nobody client (ap (λ homes. home_in homes client) (sym given.linked.homes) ∙ none);
+    source = source;
+    routes = routes;
+    coming = subst (IsSoundFrom source routes new) (sym fixed_same) coming_now;
+  }

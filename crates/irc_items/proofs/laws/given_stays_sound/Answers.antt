@@ -1,0 +1,88 @@
+use Rattle.irc_items.proofs.ClientItems.{AreItemLaws}
+use Rattle.irc_items.proofs.GivenStaysSound.{given_stays_sound}
+use Rattle.irc_items.proofs.HomeEvents.{AreDecisionLaws}
+use Rattle.irc_items.proofs.HomeTells.{tells_from_home, AreTellingLaws}
+use Rattle.irc_items.proofs.LinkItem.{AreLinkItemLaws}
+use Rattle.irc_follow.proofs.Followed.{IsKnownOfLine}
+use Rattle.irc_items.proofs.laws.given_stays_sound.Goals as goal
+
+pub returns : goal.returns
+returns c = given_stays_sound (record { rest = c.rest_is_one_room.ensures; world = c.taken_make_world.ensures; client = client; link = link })
+  where
+    line : IsKnownOfLine
+    line = record {
+      fits = c.said_deed_fits.ensures;
+      shows = c.said_deed_shows.ensures;
+      goes_on = c.said_deed_goes_on.ensures;
+      aside = c.aside_stays.ensures;
+      passed = c.passed_by_stays.ensures;
+    }
+
+    decisions : AreDecisionLaws
+    decisions = record {
+      decided_at_home = c.decided_at_home.ensures;
+      registering_at_home = c.registering_at_home.ensures;
+      decided_possible = c.decided_is_possible.ensures;
+      registering_possible = c.registering_is_possible.ensures;
+      by_itself = c.decided_by_itself.ensures;
+      added = c.registered_is_added.ensures;
+      unchanging = c.unregistered_changes_nothing.ensures;
+    }
+
+    telling : AreTellingLaws
+    telling = record {
+      spoken = record {
+        decisions = decisions;
+        does = c.decided_does.ensures;
+        decided_sendable = c.decided_is_sendable.ensures;
+        registering_sendable = c.registering_is_sendable.ensures;
+        words = c.words_are_of_the_line.ensures.words;
+      };
+      read_back = c.each_is_read_back.ensures;
+      line = line;
+      done = c.done_stays_sound.ensures;
+      source = c.source_tells.ensures;
+      far = c.behind_source_is_far.ensures;
+    }
+
+    client : AreItemLaws
+    client = record {
+      client = record {
+        events = record {
+          decisions = record {
+            decided_possible = c.decided_is_possible.ensures;
+            registering_possible = c.registering_is_possible.ensures;
+            stays = c.who_stays_is_user.ensures;
+            closes = c.who_is_closed_quits.ensures;
+            added = c.registered_is_added.ensures;
+            unchanging = c.unregistered_changes_nothing.ensures;
+          };
+          at_rest = c.part_at_rest_is_sound.ensures;
+        };
+        line = line;
+        quiet = c.rest_stays.ensures;
+        other_parts = c.other_parts_stay.ensures;
+        only_connected = c.only_connected_receive.ensures;
+      };
+      home = record { decisions = decisions; sound = c.part_at_rest_is_sound.ensures };
+      tells = λ s world routes h view happening fixed forest streams among is_world of_world right fits place due.
+          tells_from_home telling s world routes h view happening fixed forest streams is_world of_world right fits place due;
+      place = c.place_is_worlds.ensures;
+      kept = c.keeps_its_setting.ensures;
+      step_keeps = c.step_keeps_world.ensures;
+      refusals = c.refusals_are_the_worlds.ensures;
+    }
+
+    link : AreLinkItemLaws
+    link = record {
+      link = record { after_link = c.part_after_link.ensures; quiet = c.rest_stays.ensures; line = line; only_connected = c.only_connected_receive.ensures };
+      handshakes = record {
+        lines = record { written = c.written_is_read.ensures; alone = c.every_line_is_read.ensures.alone; names = c.names_are_line_words.ensures };
+        passwords = c.lines_fit.ensures.passwords;
+        names = c.lines_fit.ensures.names;
+      };
+      links = record { at_rest = c.part_at_rest_is_sound.ensures; merged = c.merge_has_nothing_new.ensures };
+      kept = c.keeps_its_setting.ensures;
+      step_keeps = c.step_keeps_world.ensures;
+      refusals = c.refusals_are_the_worlds.ensures;
+    }

@@ -1,0 +1,5 @@
+use Rattle.irc_items.proofs.KeptSound.{settling_keeps_sound}
+use Rattle.irc_items.proofs.laws.settling_keeps_sound.Goals as goal
+
+pub returns : goal.returns
+returns c = settling_keeps_sound c.delivery_keeps_settings.ensures c.delivery_stays_sound.ensures

@@ -1,0 +1,47 @@
+-- What holds of networks of servers, whatever the order in which lines are delivered.
+use Rattle.std.specs.Prelude.{◌≡◌, ℕ, true, Some, None}
+use Rattle.irc_relay.specs.Relay.{IsFront}
+use Rattle.irc_world.specs.Refused.{refused}
+use Rattle.irc_world.specs.Stepping.{Item}
+use Rattle.irc_world.specs.WithinLimits.{IsItemWithin}
+use Rattle.irc_network.specs.Network.{Course, Network, delivered, given, is_at_rest, received_by}
+use Rattle.irc_network.specs.Refusing.{fault_at_rest}
+use Rattle.irc_items.specs.OneRoom.{IsOneRoom}
+use Rattle.irc_items.specs.SetUp.{settings_of, IsNew}
+use Rattle.irc_items.specs.Sound.{owed_now, world_now, IsSound}
+use Rattle.irc_items.specs.Steady.{IsSteady}
+
+abbrev pub NewNetworkIsSound : Type 0
+NewNetworkIsSound = (net : Network) → IsNew net → IsSound net
+
+-- an item of these kinds that is taken
+pub record IsGivenAtRest (net : Network) (item : Item) : Type 0 where
+  pub at_rest : is_at_rest net ≡ true
+  pub taken : fault_at_rest net item ≡ None
+  pub within : IsItemWithin item
+  pub steady : IsSteady (world_now net) item
+
+abbrev pub GivenStaysSound : Type 0
+GivenStaysSound = (net : Network) (item : Item) → IsSound net → IsGivenAtRest net item → IsSound (given item net).net
+
+abbrev pub DeliveryStaysSound : Type 0
+DeliveryStaysSound = (from to : ℕ) (old new : Course) → IsSound old.net → delivered from to old ≡ Some new → IsSound new.net
+
+abbrev pub RestIsOneRoom : Type 0
+RestIsOneRoom = (net : Network) → IsSound net → is_at_rest net ≡ true → IsOneRoom net
+
+-- At every moment what a client has received is a front of what it is owed.
+abbrev pub ReceivedIsFront : Type 0
+ReceivedIsFront = (net : Network) (client : ℕ) → IsSound net → IsFront (received_by net client) (owed_now net client)
+
+-- A network at rest refuses just what its world refuses.
+abbrev pub RefusalsAreTheWorlds : Type 0
+RefusalsAreTheWorlds = (net : Network) (item : Item) → IsSound net → is_at_rest net ≡ true
+    → fault_at_rest net item ≡ refused (settings_of net) (world_now net) item
+
+-- What servers are configured to be stays.
+abbrev pub GivenKeepsSettings : Type 0
+GivenKeepsSettings = (net : Network) (item : Item) → settings_of (given item net).net ≡ settings_of net
+
+abbrev pub DeliveryKeepsSettings : Type 0
+DeliveryKeepsSettings = (from to : ℕ) (old new : Course) → delivered from to old ≡ Some new → settings_of new.net ≡ settings_of old.net
