@@ -1,10 +1,10 @@
 -- What comes of a call, from what the network has done.
-use Rattle.std.proofs.Common.{◌≡◌, ◌∙◌, ◌⊎◌, ◌+◌, ◌++◌, ◌∷◌, ℕ, zero, suc, take, drop, length, ◌≤◌, arith, Bool, true, false, Option, Some, None, Result, Ok, Err, IsErrAnd, List, [], refl, sym, subst, ap, if◌then◌else◌}
+use Rattle.std.proofs.Common.{◌≡◌, ◌+◌, ◌++◌, ◌∷◌, ℕ, zero, suc, take, drop, length, ◌≤◌, arith, Bool, true, false, Option, Some, None, Result, Ok, Err, IsErrAnd, List, [], refl, sym, subst, ap, if◌then◌else◌}
 use Rattle.std.specs.List.{slice_get}
 use Rattle.irc_relay.specs.Links.{Name}
 use Rattle.irc_world.specs.Stepping.{Item}
 use Rattle.irc_net.specs.declared.answer.Answer.{Answer}
-use Rattle.irc_net.specs.declared.answer.Receipt.{Receipt as KeptReceipt}
+use Rattle.irc_network.specs.declared.receipt.Receipt.{Receipt as KeptReceipt}
 use Rattle.irc_net.specs.declared.fault.NetFault.{NetFault}
 use Rattle.irc_net.specs.declared.fault.NetFault.TheVariants.{Memory}
 use Rattle.irc_net.specs.declared.step.Step.{Step}
@@ -14,9 +14,10 @@ use Rattle.irc_room.specs.Lemmas.Rows.{same_some}
 use Rattle.irc_net.specs.Calls.{ArePlayed, Breaks, Delivers, IsDelivered, IsGiven, IsSettled, IsStep, IsStepDone, NetView, Plays, Settles, StopsAt, standing, step_refused, then_one}
 use Rattle.irc_net.specs.Calls as calls
 use Rattle.irc_net.specs.Faults.{deliver_fault, is_refusal, item_fault}
-use Rattle.irc_net.specs.Loops.Courses.{DeliversAt, SettlesAt, course}
-use Rattle.irc_net.specs.Network.{Course, Network, Receipt, begun}
-use Rattle.irc_net.specs.Views.{answers_now, delivered_now, receipts_of, settled_now}
+use Rattle.irc_network.specs.Loops.Courses.{DeliversAt, SettlesAt, course}
+use Rattle.irc_network.specs.Network.{Course, Network, begun}
+use Rattle.irc_net.specs.Views.{answers_now, delivered_now, settled_now}
+use Rattle.irc_network.specs.Views.{receipts_of}
 use Rattle.std.specs.Global.{Vec}
 
 -- ---- memory runs out

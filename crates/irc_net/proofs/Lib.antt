@@ -1,11 +1,5 @@
-pub mod Outcomes
-pub mod Replying
-pub mod Ways
-pub mod Kept
-pub mod Places
-pub mod AtRest
-pub mod Taking
 pub mod Ordered
 pub mod Named
-pub mod Parties
 pub mod Calling
+pub mod NewNet
+pub mod StaysOneRoom

@@ -40,17 +40,25 @@ all_named (config ∷ configs) good = by (is_bad config) refl (all_named configs
 abbrev fault_by : Bool → Bool → Bool → Option NetConfigFault
 fault_by bad twice many = if bad then Some BadName else (if twice then Some DoubleName else (if many then Some TooMany else None))
 
-none_then : (bad twice many : Bool) → fault_by bad twice many ≡ None → (bad ≡ false) × (many ≡ false)
-none_then true twice many none = cc none
-none_then false true many none = cc none
-none_then false false true none = cc none
-none_then false false false none = (refl, refl)
+-- no cause of a fault is there
+pub record AreNone (bad double twice many : Bool) : Type 0 where
+  pub bad_none : bad ≡ false
+  pub twice_none : twice ≡ false
+  pub many_none : many ≡ false
 
-without_fault : (configs : List Config) → configs_fault configs ≡ None → (list_any is_bad configs ≡ false) × (nat_lt 256 (length configs) ≡ false)
-without_fault configs none = none_then (list_any is_bad configs) (list_any is_double configs || has_name_twice configs) (nat_lt 256 (length configs)) none
+none_then : (bad double twice many : Bool) → fault_by bad (double || twice) many ≡ None → AreNone bad double twice many
+none_then true double twice many none = cc none
+none_then false true twice many none = cc none
+none_then false false true many none = cc none
+none_then false false false true none = cc none
+none_then false false false false none = record { bad_none = refl; twice_none = refl; many_none = refl }
+
+pub without_fault : (configs : List Config) → configs_fault configs ≡ None
+    → AreNone (list_any is_bad configs) (list_any is_double configs) (has_name_twice configs) (nat_lt 256 (length configs))
+without_fault configs none = none_then (list_any is_bad configs) (list_any is_double configs) (has_name_twice configs) (nat_lt 256 (length configs)) none
 
 pub ordered_named : (configs ordered : List Config) → configs_fault configs ≡ None → IsPermutation configs ordered → AllByRecursion IsNamed ordered
-ordered_named configs ordered none same = all_named ordered (sym (list_any-IsPermutation is_bad configs ordered same) ∙ (without_fault configs none).0)
+ordered_named configs ordered none same = all_named ordered (sym (list_any-IsPermutation is_bad configs ordered same) ∙ (without_fault configs none).bad_none)
 
 pub ordered_few : (configs ordered : List Config) → configs_fault configs ≡ None → IsPermutation configs ordered → length ordered ≤ 256
-ordered_few configs ordered none same = subst (λ n. n ≤ 256) (sym (length_permutation configs ordered same)) (ltb-false 256 (length configs) (without_fault configs none).1)
+ordered_few configs ordered none same = subst (λ n. n ≤ 256) (sym (length_permutation configs ordered same)) (ltb-false 256 (length configs) (without_fault configs none).many_none)

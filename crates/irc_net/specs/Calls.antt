@@ -1,5 +1,5 @@
 -- What comes of each call of a network. Where memory ran out nothing is promised of it but that it refuses everything from then on.
-use Rattle.std.specs.Prelude.{◌≡◌, ⊤, ℕ, min, Bool, true, false, Option, Some, None, Result, Ok, Err, List, [], ◌∷◌, ◌++◌, ◌⊎◌, if◌then◌else◌}
+use Rattle.std.specs.Prelude.{◌≡◌, ⊤, ℕ, Bool, true, false, Option, Some, None, Result, Ok, Err, List, [], ◌∷◌, ◌++◌, ◌⊎◌, if◌then◌else◌}
 use Rattle.std.specs.List.{AllByRecursion}
 use Rattle.std.specs.Option.{option_and_then}
 use Rattle.irc_line.specs.Carried.{IsCarried}
@@ -13,8 +13,8 @@ use Rattle.irc_net.specs.declared.step.Step.TheVariants.{Give, Deliver, Settle}
 use Rattle.irc_net.specs.declared.step.StepAnswer.{StepAnswer}
 use Rattle.irc_net.specs.declared.step.StepAnswer.TheVariants.{Given, Delivered, Settled, Refused}
 use Rattle.irc_net.specs.Faults.{deliver_fault, is_refusal, item_fault}
-use Rattle.irc_net.specs.Network.{Course, Ends, Network, Receipt, TakesInTurn, begun, delivered, ends_of, given, is_at_rest, max_count, number_given}
-use Rattle.irc_net.specs.Views.{item_of, receipts_of}
+use Rattle.irc_network.specs.Network.{Course, Ends, Network, Receipt, TakesInTurn, begun, delivered, ends_of, given, is_at_rest, max_count, number_given}
+use Rattle.irc_network.specs.Views.{item_of, receipts_of}
 
 -- a network, and whether memory ran out for it
 pub record NetView : Type 0 where

@@ -1,17 +1,13 @@
 -- Why what is given to a network is not taken, in the order in which causes are looked for: by what is there alone.
-use Rattle.std.specs.Prelude.{ℕ, Bool, true, false, not, ◌||◌, Option, Some, None, is_some, if◌then◌else◌}
-use Rattle.std.specs.FinMap.{get}
-use Rattle.std.specs.Option.{option_and_then, option_map, option_map_or}
-use Rattle.irc_merge.specs.Agreeing.{agree}
-use Rattle.irc_relay.specs.Links.{Name, joined}
-use Rattle.irc_relay.specs.Links.{linked as are_linked}
-use Rattle.irc_stage.specs.View.{View, password_for}
-use Rattle.irc_world.specs.Refused.{Refusal, are_equal, disagree, link_refused, no_such_client, no_such_server, not_linked}
-use Rattle.irc_world.specs.Stepping.{Item, connect, line, gone, link, cut}
-use Rattle.irc_world.specs.World.{home_in}
+use Rattle.std.specs.Prelude.{Bool, true, false, Option, Some, if◌then◌else◌}
+use Rattle.std.specs.Option.{option_map}
+use Rattle.irc_relay.specs.Links.{Name}
+use Rattle.irc_world.specs.Refused.{Refusal, disagree, link_refused, no_such_client, no_such_server, not_linked}
+use Rattle.irc_world.specs.Stepping.{Item}
 use Rattle.irc_net.specs.declared.fault.NetFault.{NetFault}
 use Rattle.irc_net.specs.declared.fault.NetFault.TheVariants as fault
-use Rattle.irc_net.specs.Network.{Network, is_at_rest, place_of, view_of}
+use Rattle.irc_network.specs.Network.{Network, is_at_rest}
+pub use Rattle.irc_network.specs.Refusing.{are_agreed, fault_at_rest, way_fault}
 
 abbrev pub fault_by : Refusal → NetFault
 fault_by no_such_server = fault.NoSuchServer
@@ -20,60 +16,12 @@ fault_by not_linked = fault.NotLinked
 fault_by link_refused = fault.LinkRefused
 fault_by disagree = fault.Disagree
 
--- whether a client is connected
-abbrev pub has_client : ℕ → View → Bool
-has_client client view = is_some (get view.clients client)
-
-abbrev pub is_there : Network → ℕ → Bool
-is_there net client = option_map_or (has_client client) (option_and_then (view_of net) (home_in net.homes client)) false
-
-abbrev pub client_fault : Network → ℕ → Option Refusal
-client_fault net client = if is_there net client then None else Some no_such_client
-
--- whether two servers keep one password for each other
-abbrev pub are_peers : Name → Name → View → View → Bool
-are_peers one other one_view other_view = are_equal (password_for one_view other) (password_for other_view one)
-
--- The two are in one part, or are no peers; or a channel of both is not the same on both sides.
-abbrev pub meeting_fault : Network → Name → Name → View → View → Option Refusal
-meeting_fault net near far near_view far_view =
-    if joined net.links near far || not (are_peers near far near_view far_view) then Some link_refused
-    else (if agree near_view.room far_view.room then None else Some disagree)
-
-abbrev pub link_fault : Network → Name → Name → Option View → Option View → Option Refusal
-link_fault net near far (Some near_view) (Some far_view) = meeting_fault net near far near_view far_view
-link_fault net near far near_view far_view = Some no_such_server
-
-abbrev pub is_server : Network → Name → Bool
-is_server net name = is_some (place_of net name)
-
-abbrev pub server_fault : Network → Name → Option Refusal
-server_fault net server = if is_server net server then None else Some no_such_server
-
--- Two servers are not there, or no link is between them.
-abbrev pub way_fault : Network → Name → Name → Option Refusal
-way_fault net from to =
-    if not (is_server net from) || not (is_server net to) then Some no_such_server
-    else (if are_linked net.links from to then None else Some not_linked)
-
-abbrev pub fault_at_rest : Network → Item → Option Refusal
-fault_at_rest net (connect server host) = server_fault net server
-fault_at_rest net (line client bytes) = client_fault net client
-fault_at_rest net (gone client) = client_fault net client
-fault_at_rest net (link near far) = link_fault net near far (view_of net near) (view_of net far)
-fault_at_rest net (cut near far) = way_fault net near far
-
 -- Nothing is taken while a line is on its way.
 unfoldable pub item_fault : Network → Item → Option NetFault
 item_fault net item = if is_at_rest net then option_map fault_by (fault_at_rest net item) else Some fault.NotAtRest
 
 unfoldable pub deliver_fault : Network → Name → Name → Option NetFault
 deliver_fault net from to = option_map fault_by (way_fault net from to)
-
--- whether two servers are there, and agree
-abbrev pub are_agreed : Option View → Option View → Bool
-are_agreed (Some one) (Some other) = agree one.room other.room
-are_agreed one other = false
 
 -- a refusal is the answer to a step; want of memory is none
 abbrev pub is_refusal : NetFault → Bool

@@ -1,7 +1,6 @@
-pub mod Network
 pub mod Views
 pub mod Faults
 pub mod Calls
 pub mod Making
-pub mod Laws
 pub mod Loops
+pub mod OneRoom

@@ -1,7 +1,3 @@
 -- Words of this crate's code alone. No rule stands here.
-pub mod Queues
 pub mod Codes
-pub mod Sites
-pub mod Courses
-pub mod Parties
 pub mod Ordering

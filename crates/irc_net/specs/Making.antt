@@ -12,8 +12,8 @@ use Rattle.irc_server.specs.declared.config.ConfigFault.{ConfigFault}
 use Rattle.irc_server.specs.declared.config.ConfigFault.TheVariants as one
 use Rattle.irc_net.specs.declared.making.NetConfigFault.{NetConfigFault}
 use Rattle.irc_net.specs.declared.making.NetConfigFault.TheVariants.{BadName, DoubleName, TooMany, Memory}
-use Rattle.irc_net.specs.Calls.{NetView, standing}
-use Rattle.irc_net.specs.Network.{Network, Site}
+use Rattle.irc_net.specs.Calls.{NetView}
+use Rattle.irc_network.specs.Network.{Network, Site}
 
 abbrev pub name_of : Config → Name
 name_of config = config.own.name.items

@@ -2,6 +2,7 @@
 ghost use Rattle.std.specs.Prelude.{◌≡◌};
 ghost use Rattle.irc_net.specs.Faults.{is_refusal};
 
+use irc_network::Refusal;
 use std::alloc::AllocError;
 use thiserror::Error;
 
@@ -43,6 +44,24 @@ impl From<AllocError> for NetFault {
 
     fn from(_: AllocError) -> Self {
         NetFault::Memory
+    }
+}
+
+impl From<Refusal> for NetFault {
+    ghost use Rattle.std.specs.Prelude.{◌≡◌};
+    ghost use Rattle.irc_net.specs.Faults.{fault_by};
+    ghost use Rattle.irc_network.specs.Views.{refusal_of};
+
+    ghost from_gives = { λ refusal fault. fault ≡ fault_by (refusal_of refusal) };
+
+    fn from(refusal: Refusal) -> Self {
+        match refusal {
+            Refusal::NoSuchServer => NetFault::NoSuchServer,
+            Refusal::NoSuchClient => NetFault::NoSuchClient,
+            Refusal::NotLinked => NetFault::NotLinked,
+            Refusal::LinkRefused => NetFault::LinkRefused,
+            Refusal::Disagree => NetFault::Disagree,
+        }
     }
 }
 

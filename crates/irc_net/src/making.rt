@@ -7,10 +7,10 @@ ghost use Rattle.std.specs.Ordering.{nat_cmp};
 ghost use Rattle.irc_net.specs.Making.{configs_fault, has_name_twice, is_bad, is_double, is_named, name_of, new_site};
 ghost use Rattle.irc_net.specs.Loops.Ordering.{IsNamed};
 
-use crate::site::Site;
 use irc_forest::{Forest, MAX_SERVERS};
 use irc_names::ServerName;
 use irc_server::{Config, ConfigFault, Server, config_fault};
+use irc_sites::Site;
 use std::alloc::{AllocError, Global};
 use std::cmp::Ordering;
 use thiserror::Error;

@@ -1,22 +1,25 @@
 //! A network of servers, as those above have it.
-ghost use Rattle.std.specs.Prelude.{◌≡◌, [], ◌∷◌, ◌++◌, map, OnOk};
+ghost use Rattle.std.specs.Prelude.{◌≡◌, [], ◌∷◌, ◌++◌, map, IfOk, OnOk};
+ghost use Rattle.std.specs.Option.{option_map};
 ghost use Rattle.irc_net.specs.declared.step.Step.TheVariants.{Deliver, Give, Settle};
 ghost use Rattle.irc_net.specs.Calls.{step_refused, ArePlayable, ArePlayed, IsDelivered, IsGivable, IsGiven, IsPlayable, IsSettled, IsStepDone};
-ghost use Rattle.irc_net.specs.Faults.{are_agreed};
-ghost use Rattle.irc_net.specs.Loops.Queues.{bytes_of};
+ghost use Rattle.irc_net.specs.Faults.{are_agreed, deliver_fault, fault_by, item_fault};
 ghost use Rattle.irc_net.specs.Making.{IsMade};
-ghost use Rattle.irc_net.specs.Network.{is_at_rest, received_by, view_of};
-ghost use Rattle.irc_net.specs.Views.{answers_now, delivered_now, item_of, items_of, settled_now};
+ghost use Rattle.irc_net.specs.OneRoom.{IsOneRoomNet, IsOwed, LeavesRest, RefusesAsTheWorld, TakesFew};
+ghost use Rattle.irc_net.specs.Views.{answers_now, delivered_now, settled_now};
+ghost use Rattle.irc_network.specs.Network.{is_at_rest, received_by, view_of};
+ghost use Rattle.irc_network.specs.Views.{item_of, items_of, refusal_of};
+ghost use Rattle.irc_sites.specs.Loops.Queues.{bytes_of};
+ghost use Rattle.irc_world.specs.WithinLimits.{IsItemWithin};
 
-use crate::answer::{Answer, Receipt};
-use crate::desk::Desk;
+use crate::answer::Answer;
 use crate::fault::NetFault;
-use crate::item::Item;
 use crate::making::{NetConfigFault, configs_fault, forest_of, in_order, sites_of};
-use crate::network::Network;
 use crate::step::{Step, StepAnswer};
+use irc_items::laws;
 use irc_line::Text;
 use irc_names::ServerName;
+use irc_network::{Desk, Item, Network, Receipt, Refusal};
 use irc_server::Config;
 use std::alloc::{AllocError, Global};
 use std::marker::Model;
@@ -32,15 +35,19 @@ pub struct Net {
 
 /// In a clause it is the network, and whether memory ran out for it.
 impl Model for Net {
+    ghost use Rattle.std.specs.Prelude.{◌≡◌, false};
     ghost use Rattle.irc_net.specs.Calls.{NetView};
     ghost use Rattle.irc_net.specs.Loops.Codes.{net_code};
-    ghost use Rattle.irc_net.specs.contracts.network.Network.{the_row as network_row};
+    ghost use Rattle.irc_net.specs.OneRoom.{IsKeptSound};
+    ghost use Rattle.irc_network.specs.contracts.network.Network.{the_row as network_row};
 
     ghost Value = { NetView };
 
     ghost coded = { net_code network_row.coded };
 
     ghost view = { λ net. record { failed = net.failed; network = net.network } };
+
+    ghost invariant = { λ net. net.failed ≡ false → IsKeptSound net.network };
 }
 
 impl Net {
@@ -51,6 +58,7 @@ impl Net {
     pub fn new(alloc: Global, configs: Vec<Config, Global>) -> Result<Self, NetConfigFault>
         ensures { IsMade configs.items result }
     {
+        laws::new_network_is_sound();
         if let Some(fault) = configs_fault(&configs) {
             return Err(fault);
         }
@@ -66,8 +74,11 @@ impl Net {
 
     /// What a client has received, whole lines; also once it is closed. Nothing for a number that was never given.
     pub fn received(&self, client: u64) -> &[Text]
-        ensures { map bytes_of result.now ≡ received_by self.now.network client }
+        ensures lines { map bytes_of result.now ≡ received_by self.now.network client }
+        ensures owed { IsOwed self.now client (map bytes_of result.now) }
     {
+        laws::received_is_front();
+        laws::rest_is_one_room();
         self.network.received(client)
     }
 
@@ -87,8 +98,10 @@ impl Net {
 
     /// How many lines were taken since the last item, at most 2^64 - 1.
     pub fn lines_taken(&self) -> u64
-        ensures { result ≡ self.now.network.taken }
+        ensures taken { result ≡ self.now.network.taken }
+        ensures few { TakesFew self.now result }
     {
+        laws::taken_are_few();
         self.network.lines_taken()
     }
 
@@ -105,12 +118,16 @@ impl Net {
     /// [`NetFault`]s 1 to 6, with nothing changed, and 7 and 8.
     pub fn item(&mut self, item: Item) -> Result<Answer, NetFault>
         requires line { IsGivable (item_of item) }
-        ensures { IsGiven self.old (item_of item) result self.new }
+        ensures given { IsGiven self.old (item_of item) result self.new }
+        ensures refused { RefusesAsTheWorld self.old (item_of item) }
     {
+        laws::given_keeps_sound();
+        laws::refusals_are_the_worlds();
+        keeps_limits(&item);
         if self.failed {
             return Err(NetFault::Failed);
         }
-        if let Some(fault) = self.network.item_fault(&item) {
+        if let Some(fault) = item_fault(&self.network, &item) {
             return Err(fault);
         }
         let client = self.network.number_given(&item);
@@ -136,10 +153,11 @@ impl Net {
     ) -> Result<(bool, Vec<Receipt, Global>), NetFault>
         ensures { IsDelivered self.old from.now to.now (delivered_now result) self.new }
     {
+        laws::delivery_keeps_sound();
         if self.failed {
             return Err(NetFault::Failed);
         }
-        if let Some(fault) = self.network.way_fault(from, to) {
+        if let Some(fault) = deliver_fault(&self.network, from, to) {
             return Err(fault);
         }
         let mut desk = Desk::new(self.alloc);
@@ -155,8 +173,11 @@ impl Net {
     /// # Errors
     /// [`NetFault::Memory`], [`NetFault::Failed`].
     pub fn settle(&mut self) -> Result<(u64, Vec<Receipt, Global>), NetFault>
-        ensures { IsSettled self.old (settled_now result) self.new }
+        ensures settled { IsSettled self.old (settled_now result) self.new }
+        ensures rest { IfOk result (λ _. LeavesRest self.new) }
     {
+        laws::settling_keeps_sound();
+        laws::taken_are_few();
         if self.failed {
             return Err(NetFault::Failed);
         }
@@ -165,6 +186,16 @@ impl Net {
         let count = self.network.settle(&mut desk)?;
         self.failed = false;
         Ok((count, desk.lines))
+    }
+
+    /// At rest a network is one room: each server knows all that its part of the network knows, and each client has received just the lines that it is owed. While lines
+    /// are on their way, that is what it comes to by taking them. All this is promised where memory never ran out and all that was given is of these kinds: clients
+    /// connect, say lines and go, and servers are linked while nobody is registered on either side.
+    pub fn one_room(&self)
+        ensures { IsOneRoomNet self.now }
+    {
+        laws::rest_is_one_room();
+        let _ = &self.network;
     }
 
     /// Does steps one after another. A refusal 1 to 6 is that step's answer.
@@ -227,6 +258,45 @@ impl Net {
             Ok((count, lines)) => Ok(StepAnswer::Settled(count, lines)),
             Err(fault) => Err(fault),
         }
+    }
+}
+
+/// The host from which a client connects is one, and so is the line that a client says.
+fn keeps_limits(item: &Item)
+    requires line { IsGivable (item_of item.now) }
+    ensures { IsItemWithin (item_of item.now) }
+{
+    if let Item::Connect(_, host) = item {
+        let _ = host.as_bytes();
+    }
+}
+
+/// Why an item is not taken, if it is not.
+#[tactic(auto, unfolding(crate::specs::Faults::item_fault))]
+fn item_fault(network: &Network, item: &Item) -> Option<NetFault>
+    ensures { result ≡ item_fault network.now (item_of item.now) }
+{
+    if !network.is_at_rest() {
+        return Some(NetFault::NotAtRest);
+    }
+    fault_of(network.refusal(item))
+}
+
+/// Why no line is delivered from one server to another, if none is.
+#[tactic(auto, unfolding(crate::specs::Faults::deliver_fault))]
+fn deliver_fault(network: &Network, from: &ServerName, to: &ServerName) -> Option<NetFault>
+    ensures { result ≡ deliver_fault network.now from.now to.now }
+{
+    fault_of(network.way_refusal(from, to))
+}
+
+/// A refusal of the network as one of those above.
+fn fault_of(refusal: Option<Refusal>) -> Option<NetFault>
+    ensures { result ≡ option_map fault_by (option_map refusal_of refusal) }
+{
+    match refusal {
+        Some(refusal) => Some(NetFault::from(refusal)),
+        None => None,
     }
 }
 

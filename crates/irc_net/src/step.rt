@@ -1,8 +1,8 @@
 //! What is played on a network.
-use crate::answer::{Answer, Receipt};
+use crate::answer::Answer;
 use crate::fault::NetFault;
-use crate::item::Item;
 use irc_names::ServerName;
+use irc_network::{Item, Receipt};
 use std::alloc::Global;
 
 /// One thing that is asked of a network.

@@ -10,7 +10,7 @@ use Rattle.std.specs.Ordering.{is_lt, nat_cmp}
 use Rattle.std.specs.declared.cmp.Ordering.{Ordering}
 use Rattle.std.specs.declared.cmp.Ordering.TheVariants.{Less, Equal, Greater}
 use Rattle.irc_net.specs.Making.{IsMadeOf, name_of, new_site}
-use Rattle.irc_net.specs.Network.{Network, Site}
+use Rattle.irc_network.specs.Network.{Network, Site}
 use Rattle.irc_relay.specs.Links.{Name}
 use Rattle.irc_routes.specs.Known.{Known, alone_known}
 use Rattle.irc_room.specs.Laws.{no_room}

@@ -2,12 +2,12 @@
 use Rattle.std.proofs.Common.{◌≡◌, ℕ, ◌≤◌, Bool, true, false, cond, Option, Some, None, Result, Ok, Err, IsErr, List, [], ◌∷◌, ap, sym, subst, refl, ◌∙◌}
 use Rattle.std.specs.List.{flat_map}
 use Rattle.irc_net.specs.declared.answer.Answer.{Answer}
-use Rattle.irc_net.specs.declared.answer.Receipt.{Receipt as KeptReceipt}
+use Rattle.irc_network.specs.declared.receipt.Receipt.{Receipt as KeptReceipt}
 use Rattle.irc_net.specs.declared.fault.NetFault.{NetFault}
 use Rattle.irc_net.specs.Calls.{NetView, IsGiven, IsDelivered, Delivers, IsSettled, delivery, given_it, given_refused, given_wants_memory, given_to_failed, delivers_it, delivery_refused, delivery_wants_memory, delivery_by_failed, settles_it}
 use Rattle.irc_net.specs.Faults.{deliver_fault, is_refusal, item_fault}
-use Rattle.irc_net.specs.Network.{Course, Network, Receipt, given, max_count}
-use Rattle.irc_net.specs.Views.{receipts_of}
+use Rattle.irc_network.specs.Network.{Course, Network, Receipt, given, max_count}
+use Rattle.irc_network.specs.Views.{receipts_of}
 use Rattle.irc_relay.specs.Links.{Name}
 use Rattle.irc_world.specs.Stepping.{Item}
 use Rattle.irc_script.specs.declared.fault.Trouble.{Trouble}

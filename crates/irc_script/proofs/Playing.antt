@@ -6,7 +6,7 @@ use Rattle.std.specs.List.{AllByRecursion}
 use Rattle.arrayvec.specs.ArrayVec.{ArrayVec}
 use Rattle.irc_line.specs.Carried.{IsCarried}
 use Rattle.irc_line.specs.Framed.{bytes_of}
-use Rattle.irc_net.specs.Network.{Network}
+use Rattle.irc_network.specs.Network.{Network}
 use Rattle.irc_script.specs.declared.fault.Trouble.{Trouble}
 use Rattle.irc_script.specs.Loops.Steps.{Played, Breaks, IsPlayed, RunWhole, RunInto, HasRun, Begins, to_the_end, partly, further}
 use Rattle.irc_script.specs.Moves.{Move, gives_line, moves_of}

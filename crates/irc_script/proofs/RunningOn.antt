@@ -2,7 +2,7 @@
 use Rattle.std.proofs.Common.{◌≡◌, ℕ, List, [], ◌∷◌, ◌++◌, ap, sym, subst, refl, ◌∙◌, append_assoc}
 use Rattle.irc_net.specs.Calls.{delivery}
 use Rattle.irc_net.specs.Faults.{deliver_fault, item_fault}
-use Rattle.irc_net.specs.Network.{Network}
+use Rattle.irc_network.specs.Network.{Network}
 use Rattle.irc_relay.specs.Links.{Name}
 use Rattle.irc_script.specs.Loops.Steps.{Begins, to_the_end, partly, further}
 use Rattle.irc_script.specs.Moves.{Move, gives, delivers_line, settles_all, moves_of}

@@ -3,8 +3,8 @@ use Rattle.std.proofs.Common.{◌≡◌, ℕ, ◌+◌, ◌<◌, ◌≤◌, zero,
 use Rattle.std.specs.List.{slice_get}
 use Rattle.std.specs.Option.{option_and_then}
 use Rattle.irc_net.specs.Calls.{Settles, standing}
-use Rattle.irc_net.specs.Network.{Course, Direction, Network, Receipt, Site, TakesInTurn, none_yet, then_one, begun, delivered, first_direction, is_at_rest, is_nothing, max_count, taken_of, waiting}
-use Rattle.irc_net.proofs.AtRest.{HasLine, first_has_line, rest_stays, rests}
+use Rattle.irc_network.specs.Network.{Course, Direction, Network, Receipt, Site, TakesInTurn, none_yet, then_one, begun, delivered, first_direction, is_at_rest, is_nothing, max_count, taken_of, waiting}
+use Rattle.irc_network.proofs.AtRest.{HasLine, first_has_line, rest_stays, rests}
 use Rattle.irc_room.specs.Lemmas.Rows.{same_some}
 
 -- ---- one end

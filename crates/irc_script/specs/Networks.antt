@@ -6,7 +6,7 @@ use Rattle.std.specs.List.{filter_map}
 use Rattle.std.specs.Ordering.{nat_cmp}
 use Rattle.std.specs.declared.cmp.Ordering.{Ordering}
 use Rattle.std.specs.declared.cmp.Ordering.TheVariants.{Greater}
-use Rattle.irc_net.specs.Network.{Network, Site}
+use Rattle.irc_network.specs.Network.{Network, Site}
 use Rattle.irc_relay.specs.Links.{Name, same}
 use Rattle.irc_room.specs.Laws.{no_room}
 use Rattle.irc_routes.specs.Known.{alone_known}

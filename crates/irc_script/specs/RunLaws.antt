@@ -2,7 +2,7 @@
 use Rattle.std.specs.Prelude.{◌≡◌, ℕ, Bool, true, not, ◌&&◌, List, [], ◌∷◌}
 use Rattle.std.specs.List.{list_any}
 use Rattle.std.specs.List.Sorted.{IsPermutation}
-use Rattle.irc_net.specs.Network.{Network}
+use Rattle.irc_network.specs.Network.{Network}
 use Rattle.irc_relay.specs.Links.{Name}
 use Rattle.irc_script.specs.Networks.{exceeds, first_network, in_order}
 use Rattle.irc_script.specs.Runs.{Runs}

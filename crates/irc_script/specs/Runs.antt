@@ -5,7 +5,7 @@ use Rattle.std.specs.List.{flat_map}
 use Rattle.irc_net.specs.declared.fault.NetFault.{NetFault}
 use Rattle.irc_net.specs.Calls.{Settles, delivery, standing}
 use Rattle.irc_net.specs.Faults.{deliver_fault, item_fault}
-use Rattle.irc_net.specs.Network.{Course, Network, Receipt, given, max_count}
+use Rattle.irc_network.specs.Network.{Course, Network, Receipt, given, max_count}
 use Rattle.irc_relay.specs.Links.{Name}
 use Rattle.irc_world.specs.Stepping.{Item}
 use Rattle.irc_script.specs.declared.fault.SimFault.{SimFault}

@@ -1,7 +1,7 @@
 //! What is printed.
 ghost use Rattle.std.specs.Prelude.{◌≡◌, ◌++◌};
 ghost use Rattle.std.specs.List.{flat_map};
-ghost use Rattle.irc_net.specs.Views.{receipt_of, receipts_of};
+ghost use Rattle.irc_network.specs.Views.{receipt_of, receipts_of};
 ghost use Rattle.irc_script.specs.Loops.Steps.{IsFaultPrinted};
 ghost use Rattle.irc_script.specs.Printing.{body_of, count_line, printed, printed_line, refusal_line, refusal_number, taken_text};
 ghost use Rattle.irc_script.specs.Sinks.{IsPrinted, sink};

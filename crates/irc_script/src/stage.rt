@@ -1,7 +1,7 @@
 //! The network of a script, and what the script does to it.
 ghost use Rattle.std.specs.Prelude.{◌≡◌, [], ◌∷◌, IfOk};
 ghost use Rattle.irc_net.specs.Calls.{IsGivable};
-ghost use Rattle.irc_net.specs.Views.{item_of};
+ghost use Rattle.irc_network.specs.Views.{item_of};
 ghost use Rattle.irc_script.specs.Loops.Steps.{IsPlayed, taken_count};
 ghost use Rattle.irc_script.specs.Moves.{delivers_line, gives, lines_said, moves_of, settles_all};
 ghost use Rattle.irc_script.specs.Networks.{first_network};

@@ -1,76 +1,8 @@
--- How the parts of a network are stored.
-use Rattle.std.specs.Prelude.{◌≡◌, ◌⊎◌, ℕ, Bool, Option, List, refl}
-use Rattle.std.proofs.Common.{inl, inr}
-use Rattle.std.specs.Coded.{Coded, code_by, coded×, coded⊎, coded_bool, coded_ℕ, coded_list}
-use Rattle.std.specs.FinMap.{FinMap, code}
-use Rattle.std.specs.Ordering.{nat_cmp}
-use Rattle.irc_relay.specs.Links.{Name, Link}
-use Rattle.irc_stage.specs.View.{View}
-use Rattle.irc_world.specs.Stepping.{Item, connect, line, gone, link, cut}
-use Rattle.irc_net.specs.Network.{Network, Site}
+-- How a network is stored with whether memory ran out for it.
+use Rattle.std.specs.Prelude.{Bool, refl}
+use Rattle.std.specs.Coded.{Coded, code_by, coded×, coded_bool}
 use Rattle.irc_net.specs.Calls.{NetView}
-
-abbrev pub text_code : Coded (List ℕ)
-text_code = coded_list coded_ℕ
-
--- as its fields
-abbrev pub site_code : Coded (Option View) → Coded Site
-site_code server =
-    code_by (Option View × FinMap nat_cmp (List (List ℕ))) (coded× server (code coded_ℕ (coded_list text_code))) (λ s. (s.server, s.queues))
-    (λ p. record { server = p.0; queues = p.1 }) (λ _. refl)
-
-abbrev pub link_code : Coded Link
-link_code = code_by (Name × Name) (coded× text_code text_code) (λ l. (l.near, l.far)) (λ p. record { near = p.0; far = p.1 }) (λ _. refl)
-
--- an item, by its kinds in turn
-abbrev pub ItemParts : Type 0
-ItemParts = (List ℕ × List ℕ) ⊎ ((ℕ × List ℕ) ⊎ (ℕ ⊎ ((List ℕ × List ℕ) ⊎ (List ℕ × List ℕ))))
-
-abbrev pub item_parts : Item → ItemParts
-item_parts (connect server host) = inl (server, host)
-item_parts (line client bytes) = inr (inl (client, bytes))
-item_parts (gone client) = inr (inr (inl client))
-item_parts (link near far) = inr (inr (inr (inl (near, far))))
-item_parts (cut near far) = inr (inr (inr (inr (near, far))))
-
-abbrev pub item_made : ItemParts → Item
-item_made (inl p) = connect p.0 p.1
-item_made (inr (inl p)) = line p.0 p.1
-item_made (inr (inr (inl client))) = gone client
-item_made (inr (inr (inr (inl p)))) = link p.0 p.1
-item_made (inr (inr (inr (inr p)))) = cut p.0 p.1
-
-pub made_of_parts : (item : Item) → item_made (item_parts item) ≡ item
-made_of_parts (connect server host) = refl
-made_of_parts (line client bytes) = refl
-made_of_parts (gone client) = refl
-made_of_parts (link near far) = refl
-made_of_parts (cut near far) = refl
-
-abbrev pub names_code : Coded (List ℕ × List ℕ)
-names_code = coded× text_code text_code
-
-abbrev pub item_code : Coded Item
-item_code =
-    code_by ItemParts (coded⊎ names_code (coded⊎ (coded× coded_ℕ text_code) (coded⊎ coded_ℕ (coded⊎ names_code names_code)))) item_parts item_made
-    made_of_parts
-
-abbrev pub network_code : Coded Site → Coded Network
-network_code site =
-    code_by (List Name × (List Site × (List Link × (List Name × (List (List (List ℕ)) × (List Item × ℕ))))))
-    (coded× (coded_list text_code) (coded× (coded_list site) (coded× (coded_list link_code) (coded× (coded_list text_code)
-    (coded× (coded_list (coded_list text_code)) (coded× (coded_list item_code) coded_ℕ))))))
-    (λ n. (n.names, (n.sites, (n.links, (n.homes, (n.received, (n.items, n.taken)))))))
-    (λ p. record {
-      names = p.0;
-      sites = p.1.0;
-      links = p.1.1.0;
-      homes = p.1.1.1.0;
-      received = p.1.1.1.1.0;
-      items = p.1.1.1.1.1.0;
-      taken = p.1.1.1.1.1.1;
-    })
-    (λ _. refl)
+use Rattle.irc_network.specs.Network.{Network}
 
 abbrev pub net_code : Coded Network → Coded NetView
 net_code network =

@@ -1,6 +1,6 @@
 -- What the steps of a run are at: what was played so far, and what of it is printed.
 use Rattle.std.specs.Prelude.{◌≡◌, ℕ, Bool, if◌then◌else◌, Option, Some, None, Result, Ok, Err, IsErr, List, [], ◌∷◌, ◌++◌}
-use Rattle.irc_net.specs.Network.{Network}
+use Rattle.irc_network.specs.Network.{Network}
 use Rattle.irc_script.specs.declared.fault.Trouble.{Trouble}
 use Rattle.irc_script.specs.Moves.{Move, moves_of}
 use Rattle.irc_script.specs.Printing.{refusal_line}

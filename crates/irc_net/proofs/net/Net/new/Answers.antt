@@ -1,8 +1,11 @@
 use Rattle.std.proofs.Common.{◌≡◌, ◌≤◌, ◌∙◌, None, ap, length, subst, sym}
 use Rattle.std.specs.List.{AllByRecursion}
+use Rattle.irc_items.specs.SetUp.{IsNew}
 use Rattle.irc_net.specs.Loops.Ordering.{IsNamed}
 use Rattle.irc_net.specs.Making.{configs_fault}
 use Rattle.irc_net.proofs.Named.{ordered_few, ordered_named}
+use Rattle.irc_net.proofs.NewNet.{made_is_new, network_made}
+use Rattle.irc_net.proofs.StaysOneRoom.{kept_new}
 use Rattle.irc_net.proofs.net.Net.new.Goals as goal
 
 pub forest_of-requires-clause-named : goal.forest_of-requires-clause-named
@@ -16,3 +19,12 @@ forest_of-requires-clause-few c =
     let none : configs_fault c.args.configs.items ≡ None = sym (c.configs_fault.ensures ∙ ap configs_fault c.deref.ensures.value) ∙ c.in_default.is in
     subst (λ configs. length configs ≤ 256) (sym c.deref-2.ensures.value)
     (ordered_few c.args.configs.items c.in_order-ordered.result.items none c.in_order-ordered.ensures.ones)
+
+pub invariant_of-result : goal.invariant_of-result
+invariant_of-result c =
+    let none : configs_fault c.args.configs.items ≡ None = sym (c.configs_fault.ensures ∙ ap configs_fault c.deref.ensures.value) ∙ c.in_default.is in
+    let ordered = c.in_order-ordered.result.items in
+    λ _. kept_new c.new_network_is_sound.ensures c.new.result
+    (subst IsNew (sym (c.new.ensures ∙ network_made ordered c.deref-2.result.now c.in_ok-forest.forest c.in_ok-sites.sites.items c.deref-2.ensures.value
+    c.in_ok-forest.ensures c.in_ok-sites.ensures))
+    (made_is_new c.args.configs.items ordered none c.in_order-ordered.ensures.ones))

@@ -1,6 +1,6 @@
-use Rattle.std.proofs.Common.{◌≡◌, ◌≤◌, ap, sym, arith, length}
+use Rattle.std.proofs.Common.{arith}
 use Rattle.irc_net.proofs.Calling.{all_played, none_played, play_stops, play_wants, plays_on, stops}
-use Rattle.irc_net.proofs.Places.{found_at}
+use Rattle.irc_network.proofs.Places.{found_at}
 use Rattle.irc_net.proofs.net.Net.play.Goals as goal
 
 pub loop-step-init : goal.loop-step-init

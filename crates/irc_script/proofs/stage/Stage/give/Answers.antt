@@ -1,12 +1,12 @@
-use Rattle.irc_net.specs.Views.{item_of}
+use Rattle.irc_network.specs.Views.{item_of}
 use Rattle.irc_script.specs.Sinks.{sink}
 use Rattle.irc_script.proofs.Moving.{given_played, refusal_played}
 use Rattle.irc_script.proofs.stage.Stage.give.Goals as goal
 
 pub returns-in-Ok : goal.returns-in-Ok
 returns-in-Ok g c =
-    given_played _ _ _ (item_of c.args.item) c.in-Ok.answer c.deref.result.now _ _ c.in-Ok.ensures c.deref.ensures.value c.print_receipts.ensures
+    given_played _ _ _ (item_of c.args.item) c.in-Ok.answer c.deref.result.now _ _ c.in-Ok.ensures.given c.deref.ensures.value c.print_receipts.ensures
 
 pub returns-in-Err : goal.returns-in-Err
 returns-in-Err g c =
-    refusal_played _ _ _ (item_of c.args.item) c.in-Err.fault _ _ c.in-Err.ensures c.print_fault.ensures
+    refusal_played _ _ _ (item_of c.args.item) c.in-Err.fault _ _ c.in-Err.ensures.given c.print_fault.ensures

@@ -1,5 +1,0 @@
-use Rattle.irc_net.proofs.AtRest.{given_is_kept}
-use Rattle.irc_net.proofs.laws.given_is_kept.Goals as goal
-
-pub returns : goal.returns
-returns c = given_is_kept

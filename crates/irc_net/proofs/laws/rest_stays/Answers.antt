@@ -1,5 +1,0 @@
-use Rattle.irc_net.proofs.AtRest.{rest_stays}
-use Rattle.irc_net.proofs.laws.rest_stays.Goals as goal
-
-pub returns : goal.returns
-returns c = rest_stays
