@@ -1,5 +1,5 @@
 -- The network that configurations without a fault make is new.
-use Rattle.std.proofs.Common.{◌≡◌, ◌≢◌, ◌≤◌, ◌<◌, ◌+◌, ℕ, zero, suc, Bool, true, false, true≢false, ◌&&◌, ◌||◌, not, cond, Option, Some, None, is_some, unwrap_or, List, [], ◌∷◌, refl, sym, ◌∙◌, ap, subst, arith, length, map, count_by, position, nat_le, nat_lt, if◌then◌else◌}
+use Rattle.std.proofs.Common.{◌≡◌, ◌≤◌, ◌<◌, ◌+◌, ℕ, zero, suc, Bool, true, false, true≢false, ◌&&◌, ◌||◌, not, cond, Option, Some, None, is_some, unwrap_or, List, [], ◌∷◌, refl, sym, ◌∙◌, ap, subst, arith, length, map, count_by, if◌then◌else◌}
 use Rattle.std.proofs.lemmas.Bool.{leb-true, or_parts}
 use Rattle.std.proofs.lemmas.List.{length-map}
 use Rattle.std.proofs.lemmas.List.Quantifiers.{position-Some}
@@ -15,15 +15,15 @@ use Rattle.irc_names.specs.Names.{fits, is_server}
 use Rattle.irc_handshake.specs.Passwords.{is_password}
 use Rattle.irc_relay.specs.Distances.{IsAmong}
 use Rattle.irc_relay.specs.Links.{Name, same}
-use Rattle.irc_relay.specs.Lemmas.TellingNames.{Telling, alike, unlike, tell, same_unless, same_when}
+use Rattle.irc_relay.specs.Lemmas.TellingNames.{Telling, alike, unlike, tell, same_unless}
 use Rattle.irc_routes.specs.Info.{is_info}
 use Rattle.irc_server.specs.Configuring.{has_double, is_among, is_peer, is_some_text, made_view}
 use Rattle.irc_server.specs.declared.config.Config.{Config}
 use Rattle.irc_server.specs.declared.config.ConfigFault.TheVariants as one
 use Rattle.irc_stage.specs.View.{View, known_peer}
 use Rattle.irc_stage.specs.declared.peer.Peer.{Peer}
-use Rattle.irc_network.specs.Network.{Network, Site, place_of, site_at, view_of}
-use Rattle.irc_items.specs.SetUp.{named_at, no_view, view_at, HasPassword, IsConfigured, IsNew, IsNewServer, IsSetUp}
+use Rattle.irc_network.specs.Network.{Network, Site, place_of, site_at}
+use Rattle.irc_items.specs.SetUp.{named_at, no_view, view_at, HasPassword, IsConfigured, IsNew, IsNewServer}
 use Rattle.irc_items.proofs.SetUpFacts.{placed_if}
 use Rattle.irc_net.specs.Making.{configs_fault, has_name_twice, is_bad, is_bad_name, is_named, made_of, name_of, new_site}
 use Rattle.irc_net.proofs.Named.{ordered_few, without_fault}
@@ -118,7 +118,8 @@ configured : (config : Config) → is_bad config ≡ false → IsConfigured (mad
 configured config good = record {
   name = rules.named_so;
   info = rules.known_so;
-  created = leb-true (length config.own.created.items) max_created (both (is_some_text config.own.created.items) (fits max_created config.own.created.items) rules.dated_so).1;
+  created = leb-true (length config.own.created.items) max_created
+      (both (is_some_text config.own.created.items) (fits max_created config.own.created.items) rules.dated_so).1;
   passwords = passwords_kept config.peers.items rules.peered_so;
 }
   where

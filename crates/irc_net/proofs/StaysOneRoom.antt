@@ -1,15 +1,14 @@
 -- What a network keeps, and what it is to its clients then.
-use Rattle.std.proofs.Common.{◌≡◌, ◌⊎◌, inl, inr, ◌+◌, ◌≤◌, min, ℕ, Bool, true, false, Option, Some, None, Result, Ok, Err, IfOk, List, refl, sym, ◌∙◌, ap, subst, arith, if◌then◌else◌}
+use Rattle.std.proofs.Common.{◌≡◌, ◌⊎◌, inl, inr, ◌+◌, ◌≤◌, min, ℕ, Bool, true, false, Option, Some, None, List, refl, sym, ◌∙◌, ap, subst, arith, if◌then◌else◌}
 use Rattle.std.specs.Option.{option_and_then, option_map}
 use Rattle.irc_world.specs.Stepping.{Item}
 use Rattle.irc_world.specs.Refused.{Refusal}
 use Rattle.irc_world.specs.WithinLimits.{IsItemWithin}
 use Rattle.irc_relay.specs.Links.{Name}
 use Rattle.irc_relay.specs.Relay.{IsFront}
-use Rattle.irc_server.specs.declared.config.Config.{Config}
 use Rattle.irc_network.specs.declared.receipt.Receipt.{Receipt as KeptReceipt}
 use Rattle.irc_network.specs.Loops.Courses.{DeliversAt, SettlesAt, course}
-use Rattle.irc_network.specs.Network.{Course, Ends, Network, TakesInTurn, begun, delivered, ends_of, given, is_at_rest, max_count, received_by}
+use Rattle.irc_network.specs.Network.{Course, Ends, Network, begun, delivered, ends_of, given, is_at_rest, max_count, received_by}
 use Rattle.irc_network.specs.Refusing.{fault_at_rest}
 use Rattle.irc_items.specs.Kept.{DeliveryKeepsSound, GivenKeepsSound, KeepsItems, SettlingKeepsSound, TakenAreFew}
 use Rattle.irc_items.specs.Laws.{NewNetworkIsSound, ReceivedIsFront, RefusalsAreTheWorlds, RestIsOneRoom}
@@ -17,10 +16,8 @@ use Rattle.irc_items.specs.Sound.{most_now, owed_now}
 use Rattle.irc_items.specs.SetUp.{IsNew}
 use Rattle.irc_net.specs.Calls.{NetView, delivery}
 use Rattle.irc_net.specs.Faults.{fault_by, item_fault}
-use Rattle.irc_net.specs.declared.fault.NetFault.{NetFault}
 use Rattle.irc_net.specs.declared.fault.NetFault.TheVariants as fault
-use Rattle.irc_net.specs.Making.{made_of}
-use Rattle.irc_net.specs.OneRoom.{IsKeptSound, IsOneRoomNet, IsOwed, IsSteadyNet, LeavesRest, RefusesAsTheWorld, TakesFew}
+use Rattle.irc_net.specs.OneRoom.{IsKeptSound, IsOneRoomNet, IsOwed, LeavesRest, RefusesAsTheWorld, TakesFew}
 
 -- what always holds of a network, while memory is there
 abbrev pub IsKept : NetView → Type 0
@@ -96,7 +93,8 @@ pub kept_delivered : DeliveryKeepsSound → (net new : Network) (from to : Name)
     → DeliversAt (delivery net from to) was_taken (begun net) (course new lines) → IsKeptSound new
 kept_delivered law net new from to lines was_taken kept = by (ends_of net from to)
   where
-    took : (ends : Ends) (o : Option Course) → delivered ends.near ends.far (begun net) ≡ o → DeliversAt o was_taken (begun net) (course new lines) → IsKeptSound new
+    took : (ends : Ends) (o : Option Course) → delivered ends.near ends.far (begun net) ≡ o → DeliversAt o was_taken (begun net) (course new lines)
+        → IsKeptSound new
     took ends None is so = subst IsKeptSound (sym (ap (λ (c : Course). c.net) so.1)) kept
     took ends (Some last) is so =
         subst IsKeptSound (sym (ap (λ (c : Course). c.net) so.1)) (kept_on 1 net last.net (law ends.near ends.far (begun net) last is kept.counted) kept)

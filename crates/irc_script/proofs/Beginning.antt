@@ -1,5 +1,5 @@
 -- The network that is made of a script's configurations is the first one.
-use Rattle.std.proofs.Common.{◌≡◌, ℕ, ◌+◌, ◌<◌, suc, true, false, not, Some, length, arith, slice_index_or, List, [], ◌∷◌, codes, map, ap, sym, subst, refl, ◌∙◌}
+use Rattle.std.proofs.Common.{◌≡◌, ℕ, ◌+◌, ◌<◌, suc, true, false, not, Some, length, arith, slice_index_or, List, [], ◌∷◌, codes, map, ap, subst, refl, ◌∙◌}
 use Rattle.std.proofs.lemmas.List.Elements.{All-from_recursion, recursion_from_All}
 use Rattle.std.proofs.lemmas.List.Sorted.{All-permutation, IsPermutation-map, IsPermutation-sym, IsPermutation-trans}
 use Rattle.std.specs.FinMap.{empty}
@@ -15,8 +15,8 @@ use Rattle.irc_relay.specs.Links.{Name}
 use Rattle.irc_routes.specs.Known.{Known, alone_known}
 use Rattle.irc_room.specs.Laws.{no_room}
 use Rattle.irc_server.specs.declared.config.Config.{Config}
-use Rattle.irc_stage.specs.View.{KnownPeer, View, known_peer}
-use Rattle.irc_script.specs.Loops.Configs.{AreConfigured, IsConfigured, IsOwnConfig}
+use Rattle.irc_stage.specs.View.{KnownPeer, known_peer}
+use Rattle.irc_script.specs.Loops.Configs.{AreConfigured, IsOwnConfig}
 use Rattle.irc_script.specs.Networks.{exceeds, first_network, first_site, in_order, is_greater}
 use Rattle.irc_script.specs.RunLaws.{are_ordered}
 use Rattle.irc_script.proofs.InOrder.{both_so, exceeds_one, is_in_order, neither, none_less, none_less_too, one_order, order_moves, turned}

@@ -5,7 +5,7 @@ use Rattle.irc_net.specs.declared.answer.Answer.{Answer}
 use Rattle.irc_network.specs.declared.receipt.Receipt.{Receipt as KeptReceipt}
 use Rattle.irc_net.specs.declared.fault.NetFault.{NetFault}
 use Rattle.irc_net.specs.Calls.{NetView, IsGiven, IsDelivered, Delivers, IsSettled, delivery, given_it, given_refused, given_wants_memory, given_to_failed, delivers_it, delivery_refused, delivery_wants_memory, delivery_by_failed, settles_it}
-use Rattle.irc_net.specs.Faults.{deliver_fault, is_refusal, item_fault}
+use Rattle.irc_net.specs.Faults.{deliver_fault, is_refusal}
 use Rattle.irc_network.specs.Network.{Course, Network, Receipt, given, max_count}
 use Rattle.irc_network.specs.Views.{receipts_of}
 use Rattle.irc_relay.specs.Links.{Name}

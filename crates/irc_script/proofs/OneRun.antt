@@ -1,5 +1,5 @@
 -- A script runs in one way.
-use Rattle.std.proofs.Common.{◌≡◌, ℕ, List, [], ◌∷◌, ◌++◌, ap, sym, subst, refl, ◌∙◌}
+use Rattle.std.proofs.Common.{◌≡◌, ℕ, List, ◌++◌, ap, sym, subst, refl, ◌∙◌}
 use Rattle.irc_network.specs.Network.{Network}
 use Rattle.irc_script.specs.Moves.{Move, gives, delivers_line, settles_all}
 use Rattle.irc_script.specs.Printing.{taken_text}

@@ -1,6 +1,6 @@
 -- Receipts that are printed in turn.
 use Rattle.std.proofs.Common.{◌≡◌, ℕ, ◌+◌, ◌<◌, List, [], ◌∷◌, ◌++◌, length, take, drop, get_or, ap, sym, ◌∙◌, append-nil}
-use Rattle.std.proofs.lemmas.List.{map-append, take_more, take-append-drop, drop_more}
+use Rattle.std.proofs.lemmas.List.{map-append, take_more, take-append-drop}
 use Rattle.std.proofs.lemmas.Grind.{flat_map-append}
 use Rattle.std.specs.List.{flat_map}
 use Rattle.irc_network.specs.declared.receipt.Receipt.{Receipt}

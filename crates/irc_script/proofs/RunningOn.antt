@@ -1,6 +1,5 @@
 -- What is begun can be run to its end: what was printed then is a front of what the whole script prints.
-use Rattle.std.proofs.Common.{◌≡◌, ℕ, List, [], ◌∷◌, ◌++◌, ap, sym, subst, refl, ◌∙◌, append_assoc}
-use Rattle.irc_net.specs.Calls.{delivery}
+use Rattle.std.proofs.Common.{ℕ, List, [], ◌∷◌, ◌++◌, ap, sym, subst, refl, ◌∙◌, append_assoc}
 use Rattle.irc_net.specs.Faults.{deliver_fault, item_fault}
 use Rattle.irc_network.specs.Network.{Network}
 use Rattle.irc_relay.specs.Links.{Name}

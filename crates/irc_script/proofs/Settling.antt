@@ -1,5 +1,5 @@
 -- Lines that are taken in turn: they come to one end, and to some end.
-use Rattle.std.proofs.Common.{◌≡◌, ℕ, ◌+◌, ◌<◌, ◌≤◌, zero, suc, true, false, not, Option, Some, None, List, [], ◌∷◌, ◌⊎◌, inl, inr, ap, sym, subst, refl, ◌∙◌, arith}
+use Rattle.std.proofs.Common.{◌≡◌, ℕ, ◌+◌, ◌<◌, ◌≤◌, zero, suc, true, not, Option, Some, None, List, [], ◌∷◌, ◌⊎◌, inl, inr, ap, sym, subst, refl, ◌∙◌, arith}
 use Rattle.std.specs.List.{slice_get}
 use Rattle.std.specs.Option.{option_and_then}
 use Rattle.irc_net.specs.Calls.{Settles, standing}

@@ -1,5 +1,5 @@
 -- The configurations of a script's servers, as the code has them.
-use Rattle.std.specs.Prelude.{◌≡◌, ℕ, List, codes, map}
+use Rattle.std.specs.Prelude.{◌≡◌, List, codes, map}
 use Rattle.std.specs.List.{AllByRecursion}
 use Rattle.irc_net.specs.Making.{name_of}
 use Rattle.irc_relay.specs.Links.{Name}

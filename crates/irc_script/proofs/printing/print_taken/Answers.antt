@@ -1,4 +1,3 @@
-use Rattle.irc_network.specs.Views.{receipts_of}
 use Rattle.irc_script.specs.Printing.{count_line}
 use Rattle.irc_script.specs.Lemmas.Sinking.{loses_more, printed_behind, printing_failed}
 use Rattle.irc_script.proofs.Receiving.{text_of}

@@ -1,5 +1,4 @@
 use Rattle.irc_network.specs.Views.{item_of}
-use Rattle.irc_script.specs.Sinks.{sink}
 use Rattle.irc_script.proofs.Moving.{given_played, refusal_played}
 use Rattle.irc_script.proofs.stage.Stage.give.Goals as goal
 
