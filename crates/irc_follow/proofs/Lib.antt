@@ -22,6 +22,7 @@ pub mod Neighbours
 pub mod SaidOn
 pub mod SaidKillOn
 pub mod MemberLines
+pub mod ServerLines
 pub mod SaidServerOn
 pub mod SaidGainOn
 pub mod Followed

@@ -1,5 +1,6 @@
 -- The words of an NJOIN are read as the members that they were written of; and who becomes a member in one room does so in another that is alike.
 use Rattle.std.proofs.Common.{◌≡◌, ℕ, Bool, true, false, not, ◌&&◌, ◌||◌, List, [], ◌∷◌, ◌++◌, map, nat_eq, refl, sym, ◌∙◌, ap, subst, eqb-true, append-nil, if◌then◌else◌}
+use Rattle.std.proofs.lemmas.Bool.{and_from}
 use Rattle.std.proofs.lemmas.List.Folds.{list_any-append}
 use Rattle.std.proofs.lemmas.List.Splits.{slice_split-cons_no, slice_split-cons_yes}
 use Rattle.std.specs.Char.{is_ascii_alphabetic}
@@ -25,7 +26,6 @@ use Rattle.irc_merge.specs.Deeds.{member_comes}
 use Rattle.irc_burst.specs.DeedsMeant.{at_mark, has_mark, is_comma, member_of, members_of, plus_mark, without_mark}
 use Rattle.irc_burst_lines.specs.DeedLines.{member_text, members_text, more_text}
 use Rattle.irc_follow.proofs.DeedEffects.{AllQuiet, members_quiet, users_stay}
-use Rattle.irc_follow.proofs.Neighbours.{both}
 
 -- ---- bytes of a nickname
 
@@ -152,7 +152,7 @@ members_no_nul (member ∷ members) all =
 
 pub all_nicks : (members : List (List ℕ × Flags)) → AreNicks members → list_all (λ (member : List ℕ × Flags). is_nick member.0) members ≡ true
 all_nicks [] all = refl
-all_nicks (member ∷ members) all = both (is_nick member.0) _ all.0 (all_nicks members all.1)
+all_nicks (member ∷ members) all = and_from (is_nick member.0) _ all.0 (all_nicks members all.1)
 
 -- ---- who becomes a member
 
@@ -171,7 +171,7 @@ all_new far users channel [] room other alike of_it each homes = refl
 all_new far users channel (member ∷ members) room other alike of_it each homes =
     let comes = member_comes channel member in
     let new : is_new_member far room channel member ≡ true =
-    both (home_passes far room.users (key member.0)) (not (is_member room member.0 channel))
+    and_from (home_passes far room.users (key member.0)) (not (is_member room member.0 channel))
     (ap (λ table. home_passes far table (key member.0)) of_it ∙ homes.0)
     (ap not ((alike_have_alike room other alike).member member.0 channel ∙ each.now.busy)) in
     ap (λ b. if b then member ∷ new_members far (after_all room comes) channel members else new_members far room channel members) new

@@ -23,14 +23,13 @@ use Rattle.irc_relay.proofs.TakingOut.{tests_tell}
 use Rattle.irc_routes.specs.declared.server_row.ServerRow.{ServerRow}
 use Rattle.irc_routes.specs.Known.{row_of}
 use Rattle.irc_routes.specs.Known as of_known
-use Rattle.irc_burst.specs.DeedsMeant.{Told, a_deed, deeds_meant, first_reason}
-use Rattle.irc_burst.specs.HandshakeMeant.{handshake_meant}
+use Rattle.irc_burst.specs.DeedsMeant.{Told, deeds_meant}
 use Rattle.irc_stage.specs.EffectTold.{Served}
 use Rattle.irc_stage.specs.Linked.{told_on_all}
 use Rattle.irc_stage.specs.View.{View}
-use Rattle.irc_deeds.specs.Heard.{heard, of_met, opened, tells}
+use Rattle.irc_deeds.specs.Heard.{heard, of_met, tells}
 use Rattle.irc_follow.specs.Tree.{shape_in}
-use Rattle.irc_follow.specs.Part.{Fixed, info_in, number, IsFixed, IsSoundPart}
+use Rattle.irc_follow.specs.Part.{Fixed, info_in, number, IsSoundPart}
 use Rattle.irc_follow.specs.Part as of_side
 use Rattle.irc_follow.specs.Fits.{far_end, far_of, Fits}
 use Rattle.irc_follow.specs.Laws.{GoesOn, told}
@@ -39,21 +38,13 @@ use Rattle.irc_follow.proofs.LinesOn.{among_met, but_another, lines_behind, on_t
 use Rattle.irc_follow.proofs.Places.{one_place}
 use Rattle.irc_follow.proofs.ReadNext.{link_of, shape_at}
 use Rattle.irc_follow.proofs.SaidEffect.{far_is_another}
+use Rattle.irc_follow.proofs.ServerLines.{line_heard}
 
 -- what is known of lines and names in the crates below
 pub record IsKnownOfLines : Type 0 where
   pub written : WrittenIsRead
   pub alone : IsReadSoAlone
   pub names : NamesAreLineWords
-
--- all that is looked at in a line of a server is so
-pub all_so : (parameters direction names : Bool) (deeds : List Deed) → parameters ≡ true → direction ≡ true → names ≡ true
-    → first_reason (record { parameters = parameters; token = true; direction = direction; names = names; late = None; told = map a_deed deeds })
-    ≡ Ok (map a_deed deeds)
-all_so false direction names deeds parameters_so direction_so names_so = cc parameters_so
-all_so true false names deeds parameters_so direction_so names_so = cc direction_so
-all_so true true false deeds parameters_so direction_so names_so = cc names_so
-all_so true true true deeds parameters_so direction_so names_so = refl
 
 pub both : (a b : Bool) → a ≡ true → b ≡ true → (a && b) ≡ true
 both a b p q = cc
@@ -166,18 +157,10 @@ module _ (s : Fixed) (p t u : Name) (w : of_side.Part) (view other : View) (take
   -- ---- what a line is heard as
 
   module _ (known : IsKnownOfLines) (parts : Written) (plain : IsPlain parts) (whole : IsWhole parts) where
-    line_back : read_of (line_text parts) ≡ Ok (message_of parts)
-    line_back = sym (known.alone (line_text parts) (Ok (message_of parts)) (known.written parts plain whole))
-
     heard_so : (said : List Told) → deeds_meant other.room other.routes (number s t) (message_of parts) ≡ Ok said
         → heard other (number s t) readers_end.end (read_of (line_text parts)) ≡ tells said
-    unfolding heard
     heard_so said meant =
-        ap (heard other (number s t) readers_end.end) line_back
-        ∙ ap (λ o. if is_some o then of_met (deeds_meant other.room other.routes (number s t) (message_of parts))
-        else opened other readers_end.end (handshake_meant (is_some readers_end.end.password) other.room other.routes (number s t) (message_of parts)))
-        readers_end.named
-        ∙ ap of_met meant
+        line_heard known.written known.alone other (number s t) readers_end.end parts plain whole (ap is_some readers_end.named) ∙ ap of_met meant
 
     -- one line goes there, and says the deed
     pub goes_on : (deed : Deed) (said : List Told) (line : List ℕ) (client : ℕ) → saying s w t u deed ≡ tells said

@@ -38,10 +38,11 @@ use Rattle.irc_follow.specs.Fits.{Fits}
 use Rattle.irc_follow.specs.Laws.{GoesOn, SaidKillGoesOn}
 use Rattle.irc_follow.specs.Says.{asked, lines_on, machine, Says, IsDoableKill}
 use Rattle.irc_follow.proofs.LinesOn.{lines_behind, none_to_viewer, none_to_viewers}
-use Rattle.irc_follow.proofs.Neighbours.{IsKnownOfLines, all_so, both}
+use Rattle.irc_follow.proofs.Neighbours.{IsKnownOfLines, both}
 use Rattle.irc_follow.proofs.Neighbours as beside
 use Rattle.irc_follow.proofs.SaidDeed.{deed_served, there}
 use Rattle.irc_follow.proofs.SaidEffect.{rooms_alike}
+use Rattle.irc_follow.proofs.ServerLines.{all_so}
 
 -- ends of clients go on no link
 none_of_ends : (k : ℕ) (nick : List ℕ) (es : List (ℕ × Client))

@@ -34,13 +34,12 @@ use Rattle.irc_relay.proofs.GoingToward.{linked_back, linked_other, next_hop, to
 use Rattle.irc_routes.specs.declared.server_row.ServerRow.{ServerRow}
 use Rattle.irc_routes.specs.Known.{Known, row_of}
 use Rattle.irc_routes.specs.Known as of_known
-use Rattle.irc_burst.specs.DeedsMeant.{Told, a_deed, collided, deeds_meant, effects_told, kept_prefix, read_row, renamed, server_of, takes_anothers}
+use Rattle.irc_burst.specs.DeedsMeant.{a_deed, collided, deeds_meant, effects_told, read_row, server_of}
 use Rattle.irc_burst.specs.DeedsMeant as of_deeds
-use Rattle.irc_burst.specs.HandshakeMeant.{handshake_meant}
 use Rattle.irc_link_writer.specs.Written.{wire}
 use Rattle.irc_stage.specs.EffectTold.{Served, on_links, shown_at, ways_at}
-use Rattle.irc_stage.specs.View.{View}
-use Rattle.irc_deeds.specs.Heard.{heard, of_met, opened, tells}
+use Rattle.irc_stage.specs.View.{End, View}
+use Rattle.irc_deeds.specs.Heard.{heard, of_met, tells}
 use Rattle.irc_wire.specs.EachReadBack.{EachIsReadBack}
 use Rattle.irc_wire.specs.ReadBack.{IsReadBack}
 use Rattle.irc_follow.specs.Tree.{shape_in}
@@ -55,6 +54,7 @@ use Rattle.irc_follow.proofs.Neighbours as beside
 use Rattle.irc_follow.proofs.Places.{one_place}
 use Rattle.irc_follow.proofs.ReadNext.{agrees, can_be_read, link_of, shape_at}
 use Rattle.irc_follow.proofs.SaidEffect.{effect_served, rooms_alike}
+use Rattle.irc_follow.proofs.ServerLines.{met_heard}
 
 -- ---- toward whom, in rooms that are alike
 
@@ -157,6 +157,24 @@ sent_by room (Say by notice to text) sent = tt
 sent_by room (Invite by nick channel) sent = tt
 sent_by room (UserMode nick invisible) sent = tt
 
+-- what is heard of the line of an effect that is read back
+module _ (room : Room) (known : Known) (view : View) (link : ℕ) (end : End) (effect : Effect)
+    (back : IsReadBack room known view.room view.routes link effect) where
+  effect_meant : IsSendableBy effect → brings_free view.room effect ≡ true
+      → deeds_meant view.room view.routes link (message_of (wire room known effect)) ≡ Ok (a_deed (does effect) ∷ [])
+  unfolding deeds_meant
+  effect_meant sent free =
+      ap (read_row view.room view.routes link (message_of (wire room known effect))) (no_row room known effect)
+      ∙ ap (effects_told view.routes.name view.room (message_of (wire room known effect)).prefix) back.meaning
+      ∙ ap (λ deeds. Ok (map a_deed (deeds ++ [])))
+      (one_deed view.routes.name view.room (server_of (message_of (wire room known effect)).prefix) effect sent free)
+
+  pub effect_heard : IsSendableBy effect → brings_free view.room effect ≡ true → is_some end.far ≡ true
+      → heard view link end (read_of (line_text (wire room known effect))) ≡ tells (a_deed (does effect) ∷ [])
+  effect_heard sent free met =
+      met_heard view link end (line_text (wire room known effect)) (message_of (wire room known effect)) back.line met
+      ∙ ap of_met (effect_meant sent free)
+
 module _ (read_back : EachIsReadBack) (s : Fixed) (fixed : IsFixed s) (p t u : Name) (w : of_side.Part) (view other : View) (takes : TakesFrom s.streams t p)
     (next : TakesFrom s.streams u t) (apart : u ≢ p) (writer : Fits s t w view) (reader : Fits s u w other) (effect : Effect) (doable : IsDoableEffect s w effect) where
   sound : IsSoundPart s w
@@ -186,22 +204,10 @@ module _ (read_back : EachIsReadBack) (s : Fixed) (fixed : IsFixed s) (p t u : N
   free_there : brings_free other.room effect ≡ true
   free_there = (alike_take_alike other.room w.hall.room effect (rooms_alike s t u w other next reader)).free ∙ doable.possible.nick_free
 
-  meant : deeds_meant other.room other.routes (number s t) (message_of parts) ≡ Ok (a_deed (does effect) ∷ [])
-  unfolding deeds_meant
-  meant =
-      ap (read_row other.room other.routes (number s t) (message_of parts)) (no_row view.room view.routes effect)
-      ∙ ap (effects_told other.routes.name other.room (message_of parts).prefix) back.meaning
-      ∙ ap (λ deeds. Ok (map a_deed (deeds ++ [])))
-      (one_deed other.routes.name other.room (server_of (message_of parts).prefix) effect (sent_by w.hall.room effect doable.sendable) free_there)
-
   heard_so : heard other (number s t) readers_end.end (read_of (line_text parts)) ≡ tells (a_deed (does effect) ∷ [])
-  unfolding heard
   heard_so =
-      ap (heard other (number s t) readers_end.end) back.line
-      ∙ ap (λ o. if is_some o then of_met (deeds_meant other.room other.routes (number s t) (message_of parts))
-      else opened other readers_end.end (handshake_meant (is_some readers_end.end.password) other.room other.routes (number s t) (message_of parts)))
-      readers_end.named
-      ∙ ap of_met meant
+      effect_heard view.room view.routes other (number s t) readers_end.end effect back (sent_by w.hall.room effect doable.sendable) free_there
+      (ap is_some readers_end.named)
 
   says_there : Says s t u w other (does effect) (line_text parts)
   says_there = record { end = readers_end.end; is_end = readers_end.there; means = heard_so; doable = doable }
