@@ -14,16 +14,16 @@ use Rattle.irc_follow.specs.Fits.{Fits}
 use Rattle.irc_follow.specs.Part.{Fixed, Part, is_home_of}
 use Rattle.irc_follow.specs.Says.{machine, play}
 use Rattle.irc_network.specs.Network.{Network, received_by}
-use Rattle.irc_items.specs.GoodLines.{IsGoodLine}
+use Rattle.irc_items.specs.GoodLines.{Answering, IsGoodLine}
 use Rattle.irc_items.specs.Relayed.{relayed}
 use Rattle.irc_items.specs.SetUp.{view_at}
 use Rattle.irc_items.specs.Sound.{IsUnderWay}
-use Rattle.irc_items.proofs.GoodLines.{steady_terms}
+use Rattle.irc_items.proofs.GoodLines.{good_terms}
 
 -- as one client sees it: each server that takes lines is told of these deeds from this side on, and comes to the world by them; the others are there already
-pub record IsBegun (s : Fixed) (world : World) (routes : Name → Known) (net : Network) (client : ℕ) (owed : List (List ℕ)) (part : Name → Part)
+pub record IsBegun (s : Fixed) (asks : Answering) (world : World) (routes : Name → Known) (net : Network) (client : ℕ) (owed : List (List ℕ)) (part : Name → Part)
     (deeds : Name → List Deed) : Type 0 where
-  pub starts : Starts (machine s client) (play s client) (steady_terms s world.links) s.streams (relayed s net client) part deeds
+  pub starts : Starts (machine s client) (play s client) (good_terms s asks world routes) s.streams (relayed s net client) part deeds
   pub away : GoesAway s.streams (relayed s net client)
   pub at_source : (t : Name) → IsAmong s.names t → s.streams.depth t ≡ 0 → Fits s t (part_of s world routes t) (view_at net t)
   pub comes_to : (t : Name) (view : View) → IsAmong s.names t → 0 < s.streams.depth t
@@ -38,30 +38,30 @@ pub none_at_source : {State Line Shown : Type 0} (m : Machine State Line Shown) 
 unfolding coming_within
 none_at_source m streams net t none = ap (λ n. coming_within m streams net n t) none
 
-module _ (s : Fixed) (world : World) (source : Name → Name) (routes : Name → Known) (net : Network) (client : ℕ) (owed : List (List ℕ))
+module _ (s : Fixed) (asks : Answering) (world : World) (source : Name → Name) (routes : Name → Known) (net : Network) (client : ℕ) (owed : List (List ℕ))
     (part : Name → Part) (deeds : Name → List Deed) (forest : IsForest world.links) (covers : Covers world.links source)
     (streams : s.streams ≡ streams_from world.links source)
-    (follow : Follows (machine s client) (play s client) (steady_terms s world.links) world.links s.streams)
-    (begun : IsBegun s world routes net client owed part deeds) where
+    (follow : Follows (machine s client) (play s client) (good_terms s asks world routes) world.links s.streams)
+    (begun : IsBegun s asks world routes net client owed part deeds) where
   -- the same, with the streams in full
-  follow_along : Follows (machine s client) (play s client) (steady_terms s world.links) world.links (streams_from world.links source)
-  follow_along = subst (λ from. Follows (machine s client) (play s client) (steady_terms s world.links) world.links from) streams follow
+  follow_along : Follows (machine s client) (play s client) (good_terms s asks world routes) world.links (streams_from world.links source)
+  follow_along = subst (λ from. Follows (machine s client) (play s client) (good_terms s asks world routes) world.links from) streams follow
 
-  starts_along : Starts (machine s client) (play s client) (steady_terms s world.links) (streams_from world.links source) (relayed s net client) part deeds
+  starts_along : Starts (machine s client) (play s client) (good_terms s asks world routes) (streams_from world.links source) (relayed s net client) part deeds
   starts_along =
-      subst (λ from. Starts (machine s client) (play s client) (steady_terms s world.links) from (relayed s net client) part deeds) streams begun.starts
+      subst (λ from. Starts (machine s client) (play s client) (good_terms s asks world routes) from (relayed s net client) part deeds) streams begun.starts
 
   pub follows : (t : Name) → 0 < s.streams.depth t
-      → IsFollowing (machine s client) (play s client) (steady_terms s world.links) s.streams (relayed s net client) (part t) (deeds t) t
+      → IsFollowing (machine s client) (play s client) (good_terms s asks world routes) s.streams (relayed s net client) (part t) (deeds t) t
   follows t below =
-      subst (λ from. IsFollowing (machine s client) (play s client) (steady_terms s world.links) from (relayed s net client) (part t) (deeds t) t) (sym streams)
-      (followed View (List ℕ) (List ℕ) Part Deed (machine s client) (play s client) (steady_terms s world.links) world.links source forest covers
+      subst (λ from. IsFollowing (machine s client) (play s client) (good_terms s asks world routes) from (relayed s net client) (part t) (deeds t) t) (sym streams)
+      (followed View (List ℕ) (List ℕ) Part Deed (machine s client) (play s client) (good_terms s asks world routes) world.links source forest covers
       follow_along (relayed s net client) part deeds starts_along t (subst (λ from. 0 < from.depth t) streams below))
 
-  well : GoesWell (machine s client) s.streams (IsGoodLine s world.links) (relayed s net client)
+  well : GoesWell (machine s client) s.streams (IsGoodLine s asks world routes) (relayed s net client)
   well =
-      subst (λ from. GoesWell (machine s client) from (IsGoodLine s world.links) (relayed s net client)) (sym streams)
-      (all_well View (List ℕ) (List ℕ) Part Deed (machine s client) (play s client) (steady_terms s world.links) world.links source forest covers
+      subst (λ from. GoesWell (machine s client) from (IsGoodLine s asks world routes) (relayed s net client)) (sym streams)
+      (all_well View (List ℕ) (List ℕ) Part Deed (machine s client) (play s client) (good_terms s asks world routes) world.links source forest covers
       follow_along (relayed s net client) part deeds starts_along)
 
   will_fit : (t : Name) → IsAmong s.names t → Fits s t (part_of s world routes t) (final (machine s client) s.streams (relayed s net client) t)
@@ -92,13 +92,13 @@ module _ (s : Fixed) (world : World) (source : Name → Name) (routes : Name →
           ∙ begun.told t home (omega arith)
 
 -- Servers follow along these links from these sources.
-pub begins : (s : Fixed) (world : World) (source : Name → Name) (routes : Name → Known) (net : Network) (client : ℕ) (owed : List (List ℕ))
+pub begins : (s : Fixed) (asks : Answering) (world : World) (source : Name → Name) (routes : Name → Known) (net : Network) (client : ℕ) (owed : List (List ℕ))
     (part : Name → Part) (deeds : Name → List Deed) → IsForest world.links → Covers world.links source → s.streams ≡ streams_from world.links source
-    → Follows (machine s client) (play s client) (steady_terms s world.links) world.links s.streams
-    → IsBegun s world routes net client owed part deeds → IsUnderWay s world routes net client owed
-begins s world source routes net client owed part deeds forest covers streams follow begun = record {
+    → Follows (machine s client) (play s client) (good_terms s asks world routes) world.links s.streams
+    → IsBegun s asks world routes net client owed part deeds → IsUnderWay s asks world routes net client owed
+begins s asks world source routes net client owed part deeds forest covers streams follow begun = record {
   away = begun.away;
-  fits = will_fit s world source routes net client owed part deeds forest covers streams follow begun;
-  told = will_receive s world source routes net client owed part deeds forest covers streams follow begun;
-  well = well s world source routes net client owed part deeds forest covers streams follow begun;
+  fits = will_fit s asks world source routes net client owed part deeds forest covers streams follow begun;
+  told = will_receive s asks world source routes net client owed part deeds forest covers streams follow begun;
+  well = well s asks world source routes net client owed part deeds forest covers streams follow begun;
 }

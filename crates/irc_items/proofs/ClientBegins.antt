@@ -38,22 +38,23 @@ use Rattle.irc_follow.proofs.Followed.{IsKnownOfLine}
 use Rattle.irc_follow.proofs.SaidShows.{append_nil}
 use Rattle.irc_network.specs.Laws.{RestStays}
 use Rattle.irc_network.specs.Network.{Network, received_by}
+use Rattle.irc_items.specs.GoodLines.{no_answers}
 use Rattle.irc_items.specs.Relayed.{owed_at, owed_to, relayed, way_at, way_between}
 use Rattle.irc_items.specs.SetUp.{no_view, routes_in, settings_of, view_at}
 use Rattle.irc_items.specs.Sound.{owed_now, world_now, IsUnderWay}
 use Rattle.irc_items.proofs.Begun.{begins, IsBegun}
 use Rattle.irc_items.proofs.ClientSide.{below_among, fits_here, fixed_here, home_fixed, of_world, right_here, IsClientStep}
-use Rattle.irc_items.proofs.GoodLines.{steady_follow, steady_terms}
+use Rattle.irc_items.proofs.GoodLines.{good_terms, well_follow}
 use Rattle.irc_items.proofs.HomeFits.{DoesAsMachine}
 use Rattle.irc_items.proofs.OtherServers.{comes_to_world, deeds_at, elsewhere_stays, shows_its_clients, IsKnownOfEvents}
 use Rattle.irc_items.proofs.Rest.{nothing_owed, quiet_ways}
 use Rattle.irc_items.proofs.SetUpFacts.{viewed_nowhere}
 use Rattle.irc_items.proofs.SourceFacts.{IsFartherFrom, IsNextTo, at_no_depth, farther, next_to, source_of_farther}
 
--- what is put out on links tells whoever is linked to the client's server of its effects
-pub record IsToldByHome (s : Fixed) (world : World) (routes : Name → Known) (h : Name) (view : View) (happening : Happening) : Type 0 where
+-- what is put out on links tells whoever is linked to the client's server of its effects, and goes well in the world that they make
+pub record IsToldByHome (s : Fixed) (world after : World) (routes : Name → Known) (h : Name) (view : View) (happening : Happening) : Type 0 where
   pub told : (u : Name) (other : View) (client : ℕ) → AreLinked world.links h u → Fits s u (part_of s world routes u) other
-      → Tells (machine s client) (play s client) (steady_terms s world.links) h u (part_of s world routes u) other (deeds_at s world h happening)
+      → Tells (machine s client) (play s client) (good_terms s no_answers after routes) h u (part_of s world routes u) other (deeds_at s world h happening)
       (lines_on (number s u) (client_told view happening).out)
   pub few : (u : Name) (other : View) → AreLinked world.links h u → Fits s u (part_of s world routes u) other
       → length (lines_on (number s u) (client_told view happening).out) ≤ length (effects_at (machine_at s.settings world h) happening)
@@ -63,15 +64,15 @@ served_so : (view : View) (happening : Happening) → served view (of_client hap
 unfolding served
 served_so view happening = refl
 
-owed_by_none : (s : Fixed) (y : Name) → owed_to s no_view y ≡ []
+pub owed_by_none : (s : Fixed) (y : Name) → owed_to s no_view y ≡ []
 owed_by_none s y = ap (λ o. option_map_or (owed_at s no_view y) o []) (get-empty nat_cmp (number s y))
 
-put_behind : (o : Option (List (List ℕ))) (lines : List (List ℕ)) → is_some o ≡ true → unwrap_or o [] ≡ []
+pub put_behind : (o : Option (List (List ℕ))) (lines : List (List ℕ)) → is_some o ≡ true → unwrap_or o [] ≡ []
     → unwrap_or (option_map (λ before. before ++ lines) o) [] ≡ lines
 put_behind None lines there none = cc there
 put_behind (Some before) lines there none = ap (λ b. b ++ lines) none
 
-no_way : (o : Option (List (List ℕ))) (lines : List (List ℕ)) → is_some o ≡ false → unwrap_or (option_map (λ before. before ++ lines) o) [] ≡ []
+pub no_way : (o : Option (List (List ℕ))) (lines : List (List ℕ)) → is_some o ≡ false → unwrap_or (option_map (λ before. before ++ lines) o) [] ≡ []
 no_way None lines none = refl
 no_way (Some before) lines none = cc none
 
@@ -93,7 +94,8 @@ pub record AreClientLaws : Type 0 where
 module _ (laws : AreClientLaws) (net base new : Network) (world : World) (h : Name) (happening : Happening) (item : Item)
     (given : IsClientStep net base new world h happening item)
     (at_home : DoesAsMachine (home_fixed net world h) world (routes_in net) h (view_at net h) happening)
-    (tells : IsToldByHome (home_fixed net world h) world (routes_in net) h (view_at net h) happening) where
+    (tells : IsToldByHome (home_fixed net world h) world (by_machine (settings_of net) world h happening).world (routes_in net) h (view_at net h)
+    happening) where
   abbrev s : Fixed
   s = home_fixed net world h
 
@@ -180,17 +182,20 @@ module _ (laws : AreClientLaws) (net base new : Network) (world : World) (h : Na
         (fits_before t (below_among laws.events.at_rest net base new world h happening item given t below))
 
     told_first : (t : Name) → s.streams.depth t ≡ 1
-        → Tells (machine s client) (play s client) (steady_terms s world.links) (s.streams.parent t) t (part_of s world (routes_in net) t) (view_at new t) deeds
-        (under_way (relayed s new client) (s.streams.parent t) t)
-    told_first t one = subst (λ p. Tells (machine s client) (play s client) (steady_terms s world.links) p t (part_of s world (routes_in net) t) (view_at new t) deeds
-        (under_way (relayed s new client) p t)) (sym near.parent)
-        (subst (Tells (machine s client) (play s client) (steady_terms s world.links) h t (part_of s world (routes_in net) t) (view_at new t) deeds) (sym (from_home t))
+        → Tells (machine s client) (play s client) (good_terms s no_answers after (routes_in net)) (s.streams.parent t) t (part_of s world (routes_in net) t)
+        (view_at new t) deeds (under_way (relayed s new client) (s.streams.parent t) t)
+    told_first t one =
+        subst (λ p. Tells (machine s client) (play s client) (good_terms s no_answers after (routes_in net)) p t (part_of s world (routes_in net) t)
+        (view_at new t) deeds (under_way (relayed s new client) p t)) (sym near.parent)
+        (subst (Tells (machine s client) (play s client) (good_terms s no_answers after (routes_in net)) h t (part_of s world (routes_in net) t)
+        (view_at new t) deeds) (sym (from_home t))
         (tells.told t (view_at new t) client near.linked_to (fits_taker t (omega arith))))
       where
         near : IsNextTo world.links h t
         near = next_to world.links given.holds.sound.forest h t one
 
-    starts : Starts (machine s client) (play s client) (steady_terms s world.links) s.streams (relayed s new client) (part_of s world (routes_in net)) (λ t. deeds)
+    starts : Starts (machine s client) (play s client) (good_terms s no_answers after (routes_in net)) s.streams (relayed s new client)
+        (part_of s world (routes_in net)) (λ t. deeds)
     starts = record {
       first = told_first;
       still = λ t above deeper. from_elsewhere (s.streams.parent t) t (far (s.streams.parent t) above).other;
@@ -280,7 +285,7 @@ module _ (laws : AreClientLaws) (net base new : Network) (world : World) (h : Na
             (sym (given.served.other_views t (λ e. apart (ap (part world.links) e))))
             (elsewhere_stays s world (routes_in net) h t happening (view_at net t) apart (fits_before t among))
 
-    pub begun : IsBegun s after (routes_in net) new client owed (part_of s world (routes_in net)) (λ t. deeds)
+    pub begun : IsBegun s no_answers after (routes_in net) new client owed (part_of s world (routes_in net)) (λ t. deeds)
     begun = record {
       starts = starts;
       away = away;
@@ -293,7 +298,7 @@ module _ (laws : AreClientLaws) (net base new : Network) (world : World) (h : Na
       told = told_others;
     }
 
-    pub client_under_way : IsUnderWay s after (routes_in net) new client owed
-    client_under_way = begins s after (from_one world.links h) (routes_in net) new client owed (part_of s world (routes_in net)) (λ t. deeds)
+    pub client_under_way : IsUnderWay s no_answers after (routes_in net) new client owed
+    client_under_way = begins s no_answers after (from_one world.links h) (routes_in net) new client owed (part_of s world (routes_in net)) (λ t. deeds)
         given.holds.sound.forest (one_covers world.links h) refl
-        (steady_follow laws.line s client (fixed_here laws.events.at_rest net base new world h happening item given) world.links) begun
+        (well_follow laws.line s client (fixed_here laws.events.at_rest net base new world h happening item given) no_answers after (routes_in net)) begun

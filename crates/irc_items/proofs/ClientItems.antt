@@ -41,10 +41,10 @@ use Rattle.irc_items.proofs.SetUpFacts.{listed, servers_named}
 
 -- a client's server tells its neighbours of the effects
 abbrev pub TellsByHome : Type 0
-TellsByHome = (s : Fixed) (world : World) (routes : Name → Known) (h : Name) (view : View) (happening : Happening) → IsFixed s → IsForest world.links
-    → s.streams ≡ streams_from world.links (from_one world.links h) → IsAmong s.names h → IsWorld s.settings world → IsOfWorld s world
+TellsByHome = (s : Fixed) (world after : World) (routes : Name → Known) (h : Name) (view : View) (happening : Happening) → after.links ≡ world.links → IsFixed s
+    → IsForest world.links → s.streams ≡ streams_from world.links (from_one world.links h) → IsAmong s.names h → IsWorld s.settings world → IsOfWorld s world
     → AreRight s world.links routes → Fits s h (part_of s world routes h) view → place_of (routes h) ≡ place_at s.settings world.links h
-    → IsDueAtHome s world h happening → IsToldByHome s world routes h view happening
+    → IsDueAtHome s world h happening → IsToldByHome s world after routes h view happening
 
 pub record AreItemLaws : Type 0 where
   pub client : AreClientLaws
@@ -65,7 +65,8 @@ module _ (laws : AreItemLaws) (net : Network) (sound : IsSound net) (rest : is_a
   item_sound base world h happening item step =
       client_sound laws.client net base (given item net).net world h happening item step
       (does_as_machine laws.home s world (routes_in net) h (view_at net h) happening fixed_so step.among step.holds of_so right_so (fits_so h step.among) step.holds_after place_so step.due)
-      (laws.tells s world (routes_in net) h (view_at net h) happening fixed_so step.holds.sound.forest refl step.among step.holds of_so right_so (fits_so h step.among) place_so step.due)
+      (laws.tells s world (by_machine (settings_of net) world h happening).world (routes_in net) h (view_at net h) happening refl fixed_so
+      step.holds.sound.forest refl step.among step.holds of_so right_so (fits_so h step.among) place_so step.due)
     where
       s : Fixed
       s = home_fixed net world h

@@ -9,7 +9,7 @@ use Rattle.irc_merge.specs.Deeds.{does}
 use Rattle.irc_relay.specs.Following.{Follows}
 use Rattle.irc_relay.specs.Lemmas.TellingNames.{Telling, alike, unlike, tell, same_when}
 use Rattle.irc_relay.specs.Links.{Name, part, same, linked, joined, AreLinked}
-use Rattle.irc_relay.specs.Relay.{streams_from, from_one, Covers, coming, lines_coming, under_way}
+use Rattle.irc_relay.specs.Relay.{streams_from, from_one, Covers, coming, lines_coming, lines_pending, under_way}
 use Rattle.irc_relay.proofs.Flowing.{one_covers}
 use Rattle.irc_relay.proofs.GoingToward.{linked_back, linked_joined}
 use Rattle.irc_relay.proofs.TakingOut.{tests_tell}
@@ -30,6 +30,7 @@ use Rattle.irc_follow.specs.Part.{Fixed, number}
 use Rattle.irc_follow.specs.Says.{lines_on, machine, play}
 use Rattle.irc_follow.specs.Tree.{place_in}
 use Rattle.irc_network.specs.Network.{Network}
+use Rattle.irc_items.specs.GoodLines.{no_answers}
 use Rattle.irc_items.specs.Relayed.{fixed_of, is_met_with, relayed, way_at, way_between}
 use Rattle.irc_items.specs.SetUp.{routes_in, settings_of, view_at}
 use Rattle.irc_items.specs.Sound.{most_now, most_of_last, owed_now, world_now, is_met, AreCalled, IsPlaceOf, IsSound, IsSoundFrom, IsUnderWay}
@@ -39,8 +40,8 @@ use Rattle.irc_items.proofs.ClientGiven.{done_at}
 use Rattle.irc_items.proofs.OtherServers.{deeds_at}
 use Rattle.irc_items.proofs.ClientSide.{ends, fixed_here, home_fixed, right_here, IsClientStep}
 use Rattle.irc_items.proofs.Counting.{part_counted, sum_most_but}
-use Rattle.irc_items.proofs.FewLines.{deeper_are_few, next_is_under_way}
-use Rattle.irc_items.proofs.GoodLines.{steady_follow, steady_terms}
+use Rattle.irc_items.proofs.FewLines.{deeper_are_few, next_is_under_way, none_pending}
+use Rattle.irc_items.proofs.GoodLines.{good_terms, well_follow}
 use Rattle.irc_items.proofs.HomeFits.{DoesAsMachine}
 use Rattle.irc_items.proofs.ItemsMore.{each_more, most_more, owed_more, taken_more, world_more}
 use Rattle.irc_items.proofs.SourceFacts.{apart_depth, home_depth, next_to, IsNextTo}
@@ -72,7 +73,8 @@ turned sum size effects part most same = rw same (omega arith)
 module _ (laws : AreClientLaws) (net base new : Network) (world : World) (h : Name) (happening : Happening) (item : Item)
     (given : IsClientStep net base new world h happening item)
     (at_home : DoesAsMachine (home_fixed net world h) world (routes_in net) h (view_at net h) happening)
-    (tells : IsToldByHome (home_fixed net world h) world (routes_in net) h (view_at net h) happening) where
+    (tells : IsToldByHome (home_fixed net world h) world (by_machine (settings_of net) world h happening).world (routes_in net) h (view_at net h)
+    happening) where
   abbrev s : Fixed
   s = home_fixed net world h
 
@@ -91,10 +93,11 @@ module _ (laws : AreClientLaws) (net base new : Network) (world : World) (h : Na
     abbrev lines : List (List ℕ)
     lines = (by_machine (settings_of net) world h happening).lines client
 
-    follow : Follows (machine s client) (play s client) (steady_terms s world.links) world.links s.streams
-    follow = steady_follow laws.line s client (fixed_here laws.events.at_rest net base new world h happening item given) world.links
+    follow : Follows (machine s client) (play s client) (good_terms s no_answers after (routes_in net)) world.links s.streams
+    follow = well_follow laws.line s client (fixed_here laws.events.at_rest net base new world h happening item given) no_answers after (routes_in net)
 
-    begun_here : IsBegun s after (routes_in net) new client (owed_now net client ++ lines) (part_of s world (routes_in net)) (λ t. deeds_at s world h happening)
+    begun_here : IsBegun s no_answers after (routes_in net) new client (owed_now net client ++ lines) (part_of s world (routes_in net))
+        (λ t. deeds_at s world h happening)
     begun_here = begun laws net base new world h happening item given at_home tells client
 
     abbrev effects : ℕ
@@ -115,15 +118,15 @@ module _ (laws : AreClientLaws) (net base new : Network) (world : World) (h : Na
 
         on_its_way : coming (machine s client) s.streams (relayed s new client) t ≡ lines_on (number s t) (client_told (view_at net h) happening).out
         on_its_way =
-            next_is_under_way s after source (routes_in net) new client (owed_now net client ++ lines) (part_of s world (routes_in net)) (λ t. deeds_at s world h happening)
-            given.holds.sound.forest (one_covers world.links h) refl follow begun_here t one
+            next_is_under_way s no_answers after source (routes_in net) new client (owed_now net client ++ lines) (part_of s world (routes_in net))
+            (λ t. deeds_at s world h happening) given.holds.sound.forest (one_covers world.links h) refl follow begun_here t one
             ∙ ap (λ p. under_way (relayed s new client) p t) near.parent
             ∙ from_home laws net base new world h happening item given at_home tells client t
 
     deeper_few : (t : Name) → 1 < s.streams.depth t → count t ≤ effects
     deeper_few t deep = subst (λ n. count t ≤ n) (length-map (effects_at (machine_at (settings_of net) world h) happening) does)
-        (deeper_are_few s after source (routes_in net) new client (owed_now net client ++ lines) (part_of s world (routes_in net)) (λ t. deeds_at s world h happening)
-        given.holds.sound.forest (one_covers world.links h) refl follow begun_here t deep)
+        (deeper_are_few s no_answers after source (routes_in net) new client (owed_now net client ++ lines) (part_of s world (routes_in net))
+        (λ t. deeds_at s world h happening) given.holds.sound.forest (one_covers world.links h) refl follow begun_here t deep)
 
     others_few : (t : Name) → t ≢ h → joined world.links h t ≡ true → count t ≤ effects
     others_few t two so = by (s.streams.depth t) refl
@@ -185,11 +188,13 @@ module _ (laws : AreClientLaws) (net base new : Network) (world : World) (h : Na
       ap (λ settings. most_of_last settings new_world new.items) same_settings ∙ ap (λ items. most_of_last (settings_of net) new_world items) given.served.items
       ∙ most_more (settings_of net) net.items item
 
-  few_now : (client : ℕ) → new.taken + lines_coming (machine s client) s.streams (relayed s new client) new.names ≤ most_now new
+  few_now : (client : ℕ) → new.taken
+      + lines_pending (machine s client) s.streams (relayed s new client) new.names no_answers.answered no_answers.one no_answers.other ≤ most_now new
   few_now client =
       let here = few_come client in
       let allowed = given.few in
       let none = given.served.taken in
+      let once = none_pending (machine s client) s.streams (relayed s new client) new.names in
       let names = ap (λ names. lines_coming (machine s client) s.streams (relayed s new client) names) given.served.names in
       let most = most_is in
       omega arith
@@ -213,13 +218,14 @@ module _ (laws : AreClientLaws) (net base new : Network) (world : World) (h : Na
           (subst (Fits s y (part_of s world (routes_in net) y)) (sym (given.served.other_views y two))
           (fits_before laws net base new world h happening item given at_home tells y y_among)) x_among back
 
-  coming_now : IsSoundFrom source (routes_in net) new s
+  coming_now : IsSoundFrom source (routes_in net) no_answers new s
   coming_now = record {
     covers = subst (λ links. Covers links source) (sym same_links) (one_covers world.links h);
     right = subst (λ links. AreRight s links (routes_in net)) (sym same_links) (right_here laws.events.at_rest net base new world h happening item given);
     called = called;
-    under_way = λ client. subst (λ w. IsUnderWay s w (routes_in net) new client (owed_now new client)) (sym world_is)
-        (subst (IsUnderWay s after (routes_in net) new client) (sym (owed_is client)) (client_under_way laws net base new world h happening item given at_home tells client));
+    under_way = λ client. subst (λ w. IsUnderWay s no_answers w (routes_in net) new client (owed_now new client)) (sym world_is)
+        (subst (IsUnderWay s no_answers after (routes_in net) new client) (sym (owed_is client))
+        (client_under_way laws net base new world h happening item given at_home tells client));
     few = few_now;
   }
 
@@ -284,5 +290,6 @@ module _ (laws : AreClientLaws) (net base new : Network) (world : World) (h : Na
     nobody = nobody_now;
     source = source;
     routes = routes_in net;
-    coming = subst (IsSoundFrom source (routes_in net) new) (sym fixed_same) coming_now;
+    asks = no_answers;
+    coming = subst (IsSoundFrom source (routes_in net) no_answers new) (sym fixed_same) coming_now;
   }

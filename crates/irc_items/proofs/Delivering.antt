@@ -10,8 +10,8 @@ use Rattle.irc_relay.specs.Distances.{EndsAreAmong, IsAmong}
 use Rattle.irc_relay.specs.Following.{AllAlong}
 use Rattle.irc_relay.specs.Lemmas.TellingNames.{Telling, alike, unlike, tell, same_when, same_unless}
 use Rattle.irc_relay.specs.Links.{Name, distance, linked, same, AreLinked, IsForest}
-use Rattle.irc_relay.specs.Relay.{streams_from, at_source, coming, from_parent, from_source, lines_coming, under_way, ComesInTurn, Covers, Delivers, IsCounted, Relays, SameOutcome, TakesFrom}
-use Rattle.irc_relay.proofs.Counting.{delivery_counts}
+use Rattle.irc_relay.specs.Relay.{streams_from, at_source, coming, from_parent, from_source, final, lines_pending, under_way, ComesInTurn, Covers, Delivers, IsCounted, Relays, SameOutcome, TakesFrom}
+use Rattle.irc_relay.proofs.Counting.{delivery_pending}
 use Rattle.irc_relay.proofs.Delivering.{comes_in_turn}
 use Rattle.irc_relay.proofs.Flowing.{covers_flows, IsFlow}
 use Rattle.irc_relay.proofs.GoingToward.{distance_self, linked_other, next_hop}
@@ -38,8 +38,8 @@ use Rattle.irc_follow.specs.Says.{asked as asked_line, lines_on, machine}
 use Rattle.irc_follow.specs.Tree.{place_in}
 use Rattle.irc_follow.proofs.Places.{one_place}
 use Rattle.irc_follow.proofs.SaidShows.{append_nil}
-use Rattle.irc_network.specs.Network.{Course, Reply, asked, received_by, reply}
-use Rattle.irc_items.specs.GoodLines.{closings, IsGoodLine, IsGoodReply}
+use Rattle.irc_network.specs.Network.{Course, Network, Reply, asked, received_by, reply}
+use Rattle.irc_items.specs.GoodLines.{closings, IsGoodLine, IsGoodReply, IsUnheard}
 use Rattle.irc_items.specs.Laws.{DeliveryStaysSound}
 use Rattle.irc_items.specs.Relayed.{fixed_of, is_met_with, owed_to, relayed, way_at, way_between}
 use Rattle.irc_items.specs.SetUp.{settings_of, view_at, IsConfigured}
@@ -50,6 +50,7 @@ use Rattle.irc_items.proofs.ClientBegins.{home_is}
 use Rattle.irc_items.proofs.ClientSound.{stays_some}
 use Rattle.irc_items.proofs.Delivered.{delivered_between, IsDeliveredTo}
 use Rattle.irc_items.proofs.Greetings.{GreetingIsMet}
+use Rattle.irc_items.proofs.Unheard.{all_go_well, all_harmless}
 
 pub record AreDeliveryLaws : Type 0 where
   pub kept : ServedKeepsItsSetting
@@ -121,13 +122,16 @@ module _ (laws : AreDeliveryLaws) (old new : Course) (sound : IsSound old.net) (
         by (from_source _ is) = record { more = d.rest ++ owed_to s (view_at old.net p) t; is = is ∙ first }
         by (from_parent _ _ is) = begins_in _ is
 
-    goes_well : IsGoodLine s (world_now old.net).links p t view line
+    goes_well : IsGoodLine s sound.asks (world_now old.net) sound.routes p t view line
     goes_well =
-        (subst (λ lines. AllAlong (machine s client) (IsGoodLine s (world_now old.net).links) p t view lines) begins_with.is
-        (subst (λ q. AllAlong (machine s client) (IsGoodLine s (world_now old.net).links) q t view (coming (machine s client) s.streams (relayed s old.net client) t)) takes.parent
+        (subst (λ lines. AllAlong (machine s client) (IsGoodLine s sound.asks (world_now old.net) sound.routes) p t view lines) begins_with.is
+        (subst (λ q. AllAlong (machine s client) (IsGoodLine s sound.asks (world_now old.net) sound.routes) q t view (coming (machine s client) s.streams (relayed s old.net client) t)) takes.parent
         ((sound.coming.under_way client).well t))).0
 
-  good : IsGoodReply s (world_now old.net).links p t view after
+  abbrev back : List (List ℕ)
+  back = (goes_well 0).back
+
+  good : IsGoodReply s (world_now old.net).links p t view after back
   good = (goes_well 0).good
 
   -- ---- what it makes
@@ -241,15 +245,31 @@ module _ (laws : AreDeliveryLaws) (old new : Course) (sound : IsSound old.net) (
             ∙ ap (λ lines. lines ++ lines_on (number s u) after.out) (sym (append_nil (unwrap_or (way_between old.net t u) [])))
             ∙ ap (λ owed. (unwrap_or (way_between old.net t u) [] ++ owed) ++ lines_on (number s u) after.out) (sym e)
 
-    returned : under_way (relayed s new.net client) t p ≡ under_way (relayed s old.net client) t p ++ []
+    returned : under_way (relayed s new.net client) t p ≡ under_way (relayed s old.net client) t p ++ back
     returned =
         ap (λ lines. lines ++ owed_to s (view_at new.net t) p) (queue_taker p)
         ∙ ap (λ v. (unwrap_or (way_between old.net t p) [] ++ lines_on (number s p) after.out) ++ owed_to s v p) view_taker
         ∙ append_both (unwrap_or (way_between old.net t p) []) (lines_on (number s p) after.out) (owed_to s after.view p)
         ∙ ap (λ lines. unwrap_or (way_between old.net t p) [] ++ lines) good.pays
-        ∙ sym (append_nil (unwrap_or (way_between old.net t p) [] ++ owed_to s view p))
+        ∙ sym (append_both (unwrap_or (way_between old.net t p) []) (owed_to s view p) back)
 
-    delivers : Delivers (machine s client) p t line [] (relayed s old.net client) (relayed s new.net client)
+    -- what goes back does nothing where it comes to
+    abbrev at_end : View
+    at_end = final (machine s client) s.streams (relayed s old.net client) p
+
+    unheard : AllByRecursion (IsUnheard s t at_end) back
+    unheard = (goes_well 0).answer.unheard at_end ((sound.coming.under_way client).fits p d.p_among)
+
+    returns_well : AllAlong (machine s client) (IsGoodLine s sound.asks (world_now old.net) sound.routes) (s.streams.parent p) p at_end back
+    returns_well = by back refl
+      where
+        by : (lines : List (List ℕ)) → back ≡ lines → AllAlong (machine s client) (IsGoodLine s sound.asks (world_now old.net) sound.routes) (s.streams.parent p) p at_end back
+        by [] none = subst (AllAlong (machine s client) (IsGoodLine s sound.asks (world_now old.net) sound.routes) (s.streams.parent p) p at_end) (sym none) tt
+        by (next ∷ lines) is =
+            subst (λ q. AllAlong (machine s client) (IsGoodLine s sound.asks (world_now old.net) sound.routes) q p at_end back)
+            (sym ((goes_well 0).answer.to_end next lines is).0) (all_go_well s t p at_end client sound.asks (world_now old.net) sound.routes back unheard)
+
+    delivers : Delivers (machine s client) p t line back (relayed s old.net client) (relayed s new.net client)
     delivers = record {
       took = ap (λ o. unwrap_or o []) d.waited ∙ ap (λ lines. line ∷ lines) (sym queue_left);
       moved = view_taker;
@@ -262,12 +282,12 @@ module _ (laws : AreDeliveryLaws) (old new : Course) (sound : IsSound old.net) (
       other_shown = λ u n. shown_other u n (is_home_of s.homes u client) refl;
     }
 
-    relays : Relays (machine s client) old.net.links s.streams p t line [] (relayed s old.net client)
+    relays : Relays (machine s client) old.net.links s.streams p t line back (relayed s old.net client)
     relays = record {
       no_echo = ap (λ b. if b then [] else lines_on (number s p) after.out) (same_when p p refl);
       to_linked = λ u next lines is. by u next lines (tell u p) is;
-      back_to_end = λ next lines is. absurd (cc is);
-      back_harmless = tt;
+      back_to_end = (goes_well 0).answer.to_end;
+      back_harmless = all_harmless s t p at_end client back unheard;
     }
       where
         by : (u : Name) (next : List ℕ) (lines : List (List ℕ)) → Telling u p → (if same u p then [] else lines_on (number s u) after.out) ≡ next ∷ lines → AreLinked old.net.links t u
@@ -306,39 +326,41 @@ module _ (laws : AreDeliveryLaws) (old new : Course) (sound : IsSound old.net) (
           ∙ distance_self old.net.links (sound.source u) in omega arith)).linked
 
   module _ (client : ℕ) where
-    under : IsUnderWay s (world_now old.net) sound.routes old.net client (owed_now old.net client)
+    under : IsUnderWay s sound.asks (world_now old.net) sound.routes old.net client (owed_now old.net client)
     under = sound.coming.under_way client
 
     outcome : SameOutcome (machine s client) s.streams (relayed s old.net client) (relayed s new.net client)
-    outcome = delivery_outcome (machine s client) old.net.links s.streams p t line [] (relayed s old.net client) (relayed s new.net client) flow under.away
+    outcome = delivery_outcome (machine s client) old.net.links s.streams p t line back (relayed s old.net client) (relayed s new.net client) flow under.away
         (delivers client) (relays client)
 
-    under_way_now : IsUnderWay s (world_now old.net) sound.routes new.net client (owed_now old.net client)
+    under_way_now : IsUnderWay s sound.asks (world_now old.net) sound.routes new.net client (owed_now old.net client)
     under_way_now = record {
-      away = delivery_away (machine s client) old.net.links s.streams p t line [] (relayed s old.net client) (relayed s new.net client) flow under.away (delivers client) (relays client);
+      away = delivery_away (machine s client) old.net.links s.streams p t line back (relayed s old.net client) (relayed s new.net client) flow under.away (delivers client) (relays client);
       fits = λ u among. subst (Fits s u (part_of s (world_now old.net) sound.routes u)) (sym (outcome.same_final u)) (under.fits u among);
       told = λ home is. outcome.same_told home ∙ under.told home is;
-      well = delivery_goes_well (machine s client) old.net.links sound.source p t line [] (relayed s old.net client) (relayed s new.net client)
-          (IsGoodLine s (world_now old.net).links) forest sound.coming.covers under.away (delivers client) (relays client) under.well tt;
+      well = delivery_goes_well (machine s client) old.net.links sound.source p t line back (relayed s old.net client) (relayed s new.net client)
+          (IsGoodLine s sound.asks (world_now old.net) sound.routes) forest sound.coming.covers under.away (delivers client) (relays client) under.well (returns_well client);
     }
 
-    few_now : new.net.taken + lines_coming (machine s client) s.streams (relayed s new.net client) new.net.names ≤ most_now new.net
+    abbrev pending : Network → List Name → ℕ
+    pending net names = lines_pending (machine s client) s.streams (relayed s net client) names sound.asks.answered sound.asks.one sound.asks.other
+
+    few_now : new.net.taken + pending new.net new.net.names ≤ most_now new.net
     few_now =
-        let counts = delivery_counts (machine s client) old.net.links s.streams p t line [] (relayed s old.net client) (relayed s new.net client) old.net.names flow under.away
-        counted_once (delivers client) (relays client) in
-        let names = ap (λ names. lines_coming (machine s client) s.streams (relayed s new.net client) names) names_same in
+        let counts = delivery_pending (machine s client) old.net.links s.streams sound.asks.answered sound.asks.one sound.asks.other p t line back (relayed s old.net client)
+        (relayed s new.net client) old.net.names flow under.away counted_once (delivers client) (relays client) (goes_well 0).answer.once in
+        let names = ap (pending new.net) names_same in
         let most = by_items (λ settings items. most_of_last settings new_world items) in
         let few = sound.coming.few client in
         let taken = answered.taken ∙ d.counted_is in
-        bound old.net.taken new.net.taken (lines_coming (machine s client) s.streams (relayed s old.net client) old.net.names)
-        (lines_coming (machine s client) s.streams (relayed s new.net client) old.net.names)
-        (lines_coming (machine s client) s.streams (relayed s new.net client) new.net.names) (most_now old.net) (most_now new.net) counts names most few
+        bound old.net.taken new.net.taken (pending old.net old.net.names) (pending new.net old.net.names) (pending new.net new.net.names) (most_now old.net)
+        (most_now new.net) counts names most few
         (subst (λ n. n ≤ old.net.taken + 1) (sym taken) (min_less (old.net.taken + 1) 18446744073709551615))
       where
         min_less : (a b : ℕ) → min a b ≤ a
         min_less a b = omega arith
 
-        bound : (taken taken_now before now at_names most most_same : ℕ) → before + 0 ≡ suc now → at_names ≡ now → most_same ≡ most → taken + before ≤ most
+        bound : (taken taken_now before now at_names most most_same : ℕ) → now < before → at_names ≡ now → most_same ≡ most → taken + before ≤ most
             → taken_now ≤ taken + 1 → taken_now + at_names ≤ most_same
         bound taken taken_now before now at_names most most_same one names same few less = omega arith
 
@@ -441,13 +463,13 @@ module _ (laws : AreDeliveryLaws) (old new : Course) (sound : IsSound old.net) (
       by (inl c) = inl (called_now x y c)
       by (inr c) = inr (called_now y x c)
 
-  coming_now : IsSoundFrom sound.source sound.routes new.net s
+  coming_now : IsSoundFrom sound.source sound.routes sound.asks new.net s
   coming_now = record {
     covers = subst (λ links. Covers links sound.source) (sym links_same) sound.coming.covers;
     right = subst (λ links. AreRight s links sound.routes) (sym links_same) sound.coming.right;
     called = called;
-    under_way = λ client. subst (λ w. IsUnderWay s w sound.routes new.net client (owed_now new.net client)) (sym world_is)
-        (subst (IsUnderWay s (world_now old.net) sound.routes new.net client) (sym (by_items (λ settings items. owed_by_network settings items client))) (under_way_now client));
+    under_way = λ client. subst (λ w. IsUnderWay s sound.asks w sound.routes new.net client (owed_now new.net client)) (sym world_is)
+        (subst (IsUnderWay s sound.asks (world_now old.net) sound.routes new.net client) (sym (by_items (λ settings items. owed_by_network settings items client))) (under_way_now client));
     few = few_now;
   }
 
@@ -479,7 +501,8 @@ module _ (laws : AreDeliveryLaws) (old new : Course) (sound : IsSound old.net) (
         ∙ sound.nobody client (ap (λ homes. home_in homes client) (sym homes_same) ∙ none);
     source = sound.source;
     routes = sound.routes;
-    coming = subst (IsSoundFrom sound.source sound.routes new.net) (sym fixed_same) coming_now;
+    asks = sound.asks;
+    coming = subst (IsSoundFrom sound.source sound.routes sound.asks new.net) (sym fixed_same) coming_now;
   }
     where
       placed : (place : ℕ) → IsPlaceOf old.net place → IsPlaceOf new.net place

@@ -1,22 +1,24 @@
 -- How many lines come to servers while an item is under way: next to the source those that are under way, further on no more than there are deeds.
-use Rattle.std.proofs.Common.{◌≡◌, ◌≢◌, ℕ, zero, suc, ◌<◌, ◌≤◌, List, [], ◌∷◌, ◌++◌, length, refl, sym, ap, subst, ◌∙◌, arith}
+use Rattle.std.proofs.Common.{◌≡◌, ◌≢◌, ℕ, zero, suc, ◌<◌, ◌≤◌, List, [], ◌∷◌, ◌++◌, length, count_by, ◌+◌, false, refl, sym, ap, subst, ◌∙◌, arith}
 use Rattle.irc_merge.specs.Deeds.{Deed}
 use Rattle.irc_relay.specs.Following.{Follows, Play, SaysOn, sends, keeps, Tells, nothing, by_line, aside_line, passing_by, Terms}
 use Rattle.irc_relay.specs.Links.{Name, Link, IsForest, AreLinked, distance, toward}
-use Rattle.irc_relay.specs.Relay.{ComesInTurn, at_source, from_source, from_parent, Machine, Streams, TakesFrom, streams_from, Covers, passed_on, under_way, coming}
+use Rattle.irc_relay.specs.Relay.{ComesInTurn, at_source, from_source, from_parent, Machine, Net, Streams, TakesFrom, streams_from, Covers, passed_on, under_way, coming, lines_coming, lines_pending}
 use Rattle.irc_relay.proofs.Delivering.{comes_in_turn}
 use Rattle.irc_relay.proofs.Flowing.{covers_flows}
 use Rattle.irc_relay.proofs.GoingToward.{distance_self, linked_back, next_hop}
 use Rattle.irc_relay.proofs.TellingOn.{no_return}
 use Rattle.irc_routes.specs.Known.{Known}
+use Rattle.irc_stage.specs.View.{View}
 use Rattle.irc_world.specs.World.{World}
 use Rattle.irc_follow.specs.Part.{Fixed, Part}
 use Rattle.irc_follow.specs.Says.{machine, play}
 use Rattle.irc_network.specs.Network.{Network}
+use Rattle.irc_items.specs.GoodLines.{no_answers, Answering}
 use Rattle.irc_items.specs.Relayed.{relayed}
 use Rattle.irc_items.specs.SetUp.{view_at}
 use Rattle.irc_items.proofs.Begun.{follows, none_at_source as nothing_at_source, IsBegun}
-use Rattle.irc_items.proofs.GoodLines.{steady_terms}
+use Rattle.irc_items.proofs.GoodLines.{good_terms}
 
 -- ---- any machine
 
@@ -71,11 +73,11 @@ onward links source forest covers t k above deep = record {
 
 -- ---- an item that is begun
 
-module _ (s : Fixed) (world : World) (source : Name → Name) (routes : Name → Known) (net : Network) (client : ℕ) (owed : List (List ℕ))
+module _ (s : Fixed) (asks : Answering) (world : World) (source : Name → Name) (routes : Name → Known) (net : Network) (client : ℕ) (owed : List (List ℕ))
     (part : Name → Part) (deeds : Name → List Deed) (forest : IsForest world.links) (covers : Covers world.links source)
     (streams : s.streams ≡ streams_from world.links source)
-    (follow : Follows (machine s client) (play s client) (steady_terms s world.links) world.links s.streams)
-    (begun : IsBegun s world routes net client owed part deeds) where
+    (follow : Follows (machine s client) (play s client) (good_terms s asks world routes) world.links s.streams)
+    (begun : IsBegun s asks world routes net client owed part deeds) where
   in_turn : (t : Name) → ComesInTurn (machine s client) s.streams (relayed s net client) t
   in_turn t =
       subst (λ from. ComesInTurn (machine s client) from (relayed s net client) t) (sym streams)
@@ -108,15 +110,15 @@ module _ (s : Fixed) (world : World) (source : Name → Name) (routes : Name →
   few_from_above : (t : Name) (k : ℕ) → s.streams.depth (s.streams.parent t) ≡ suc k → s.streams.depth t ≡ suc (suc k)
       → length (from_above t) ≤ length (deeds (s.streams.parent t))
   few_from_above t k above deep =
-      told_most (machine s client) (play s client) (steady_terms s world.links) world.links s.streams follow (s.streams.parent (s.streams.parent t))
+      told_most (machine s client) (play s client) (good_terms s asks world routes) world.links s.streams follow (s.streams.parent (s.streams.parent t))
       (s.streams.parent t) t (onward_here t k above deep).linked (record { parent = refl; below = below })
       (record { parent = refl; below = omega arith }) (onward_here t k above deep).apart
       (part (s.streams.parent t)) (view_at net (s.streams.parent t)) (view_at net t) (deeds (s.streams.parent t))
       (coming (machine s client) s.streams (relayed s net client) (s.streams.parent t))
       (begun.starts.fits (s.streams.parent t) below)
-      (subst (λ w. (steady_terms s world.links).fits t w (view_at net t)) (begun.starts.one_world t below next) (begun.starts.fits t (omega arith)))
+      (subst (λ w. (good_terms s asks world routes).fits t w (view_at net t)) (begun.starts.one_world t below next) (begun.starts.fits t (omega arith)))
       (begun.starts.meets t below next)
-      (follows s world source routes net client owed part deeds forest covers streams follow begun (s.streams.parent t) below).tells
+      (follows s asks world source routes net client owed part deeds forest covers streams follow begun (s.streams.parent t) below).tells
     where
       below : 0 < s.streams.depth (s.streams.parent t)
       below = omega arith
@@ -140,3 +142,15 @@ module _ (s : Fixed) (world : World) (source : Name → Name) (routes : Name →
           let told = few (s.streams.depth (s.streams.parent t)) refl below deeper in
           let list = ap length (begun.starts.one_list t below deeper) in
           omega arith
+
+-- where no line is answered, none counts twice
+pub none_answered : (lines : List (List ℕ)) → count_by (λ line. false) lines ≡ 0
+none_answered [] = refl
+none_answered (line ∷ lines) = none_answered lines
+
+pub none_pending : (m : Machine View (List ℕ) (List ℕ)) (streams : Streams) (net : Net View (List ℕ) (List ℕ)) (names : List Name)
+    → lines_pending m streams net names no_answers.answered no_answers.one no_answers.other ≡ lines_coming m streams net names
+none_pending m streams net names = both (lines_coming m streams net names) (none_answered (coming m streams net []))
+  where
+    both : (n : ℕ) {a : ℕ} → a ≡ 0 → n + a + a ≡ n
+    both n {a} none = omega (none, arith)

@@ -1,9 +1,10 @@
--- A network stays sound by each item of the proved kinds that is taken.
+-- A network stays sound by each item that is taken.
 use Rattle.irc_world.specs.Stepping.{connect, cut, gone, line, link}
 use Rattle.irc_world.specs.WorldHolds.{TakenMakeWorld}
 use Rattle.irc_items.specs.Laws.{GivenStaysSound, RestIsOneRoom}
 use Rattle.irc_items.proofs.AtRest.{holds_now}
 use Rattle.irc_items.proofs.ClientItems.{connect_sound, gone_sound, line_sound, AreItemLaws}
+use Rattle.irc_items.proofs.CutItem.{cut_item_sound, AreCutItemLaws}
 use Rattle.irc_items.proofs.LinkItem.{link_item_sound, AreLinkItemLaws}
 
 pub record AreGivenLaws : Type 0 where
@@ -11,6 +12,7 @@ pub record AreGivenLaws : Type 0 where
   pub world : TakenMakeWorld
   pub client : AreItemLaws
   pub link : AreLinkItemLaws
+  pub cut : AreCutItemLaws
 
 pub given_stays_sound : AreGivenLaws → GivenStaysSound
 given_stays_sound laws net (connect server host) sound given =
@@ -20,5 +22,6 @@ given_stays_sound laws net (line client bytes) sound given =
 given_stays_sound laws net (gone client) sound given =
     gone_sound laws.client net sound given.at_rest (laws.rest net sound given.at_rest) (holds_now laws.world net sound) client given.taken
 given_stays_sound laws net (link near far) sound given =
-    link_item_sound laws.link net sound given.at_rest (laws.rest net sound given.at_rest) (holds_now laws.world net sound) near far given.taken given.steady.0 given.steady.1
-given_stays_sound laws net (cut near far) sound given = absurd given.steady
+    link_item_sound laws.link net sound given.at_rest (laws.rest net sound given.at_rest) (holds_now laws.world net sound) near far given.taken
+given_stays_sound laws net (cut near far) sound given =
+    cut_item_sound laws.cut net sound given.at_rest (laws.rest net sound given.at_rest) (holds_now laws.world net sound) near far given.taken

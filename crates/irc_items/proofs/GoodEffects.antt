@@ -40,7 +40,7 @@ use Rattle.irc_follow.proofs.SaidEffect.{client_here, effect_served}
 use Rattle.irc_follow.proofs.SaidShows.{but_links}
 use Rattle.irc_items.specs.GoodLines.{closings, IsGoodReply}
 use Rattle.irc_items.specs.Relayed.{owed_to}
-use Rattle.irc_items.proofs.MetEnds.{among_linked, good_reply, met_known, owes_none, ways_linked, IsAnswer, IsLaterSide}
+use Rattle.irc_items.proofs.MetEnds.{among_linked, good_reply, met_known, owes_none, ways_linked, AreLinkedAlike, IsAnswer, IsLaterSide}
 use Rattle.irc_items.proofs.PutOut.{closed_behind, none_back, none_closed_by_effect, none_closed_on_links}
 
 -- ---- only a server that has named itself tells of something
@@ -70,9 +70,9 @@ teller_is_met view k end (Err fault.HasNul) told later is = cc is
 -- ----
 
 module _ (s : Fixed) (links : List Link) (p t : Name) (w : of_side.Part) (view : View) (takes : TakesFrom s.streams t p) (fits : Fits s t w view)
-    (forest : w.tree.forest ≡ links) where
+    (forest : AreLinkedAlike links w.tree.forest t) where
   pub linked_to_p : AreLinked links t p
-  linked_to_p = subst (λ those. AreLinked those t p) forest (fits.sound.parents t p takes)
+  linked_to_p = forest.back p (fits.sound.parents t p takes)
 
   -- the end by which it came is that of p
   pub on_arrival : (u : Name) → nat_eq (number s p) (number s u) ≡ true → AreLinked links t u
@@ -140,7 +140,7 @@ module _ (s : Fixed) (links : List Link) (p t : Name) (w : of_side.Part) (view :
       knows_p = met_known s links t w view fits forest p says.end says.is_end
           (teller_is_met view (number s p) says.end (read_of line) (a_deed (does effect)) [] says.means)
 
-      later : IsLaterSide links w (done s w (does effect))
+      later : IsLaterSide links t w (done s w (does effect))
       unfolding done
       later = record { forest = forest; knows = λ u known. known }
 
@@ -155,6 +155,6 @@ module _ (s : Fixed) (links : List Link) (p t : Name) (w : of_side.Part) (view :
       }
 
       pub effect_goes_well : Fits s t (done s w (does effect)) (asked s p view line).view
-          → ((u : Name) → AreLinked links t u → u ≢ p → w.tree.knows u ≡ true) → IsGoodReply s links p t view (asked s p view line)
+          → ((u : Name) → AreLinked links t u → u ≢ p → w.tree.knows u ≡ true) → IsGoodReply s links p t view (asked s p view line) []
       effect_goes_well after known =
           good_reply s links p t w (done s w (does effect)) view (asked s p view line) fits after forest known later (answer after)

@@ -32,7 +32,7 @@ use Rattle.irc_follow.proofs.SaidShows.{but_links}
 use Rattle.irc_items.specs.GoodLines.{closings, IsGoodReply}
 use Rattle.irc_items.specs.Relayed.{owed_at, owed_to}
 use Rattle.irc_items.proofs.GoodEffects.{on_arrival, teller_is_met}
-use Rattle.irc_items.proofs.MetEnds.{far_is, good_reply, met_known, met_linked, owes_none, IsAnswer, IsLaterSide}
+use Rattle.irc_items.proofs.MetEnds.{far_is, good_reply, met_known, met_linked, owes_none, AreLinkedAlike, IsAnswer, IsLaterSide}
 use Rattle.irc_items.proofs.PutOut.{all_on_it, closed_behind, none_back, none_closed_on_link, none_closed_on_links, none_to_clients}
 
 -- What is put out goes on the link of arrival, and then on all others that count. The first is just what is owed there.
@@ -51,7 +51,7 @@ gained_there k uplink name distance token info before is =
     ap (λ b. if b then gain_told k uplink name info (record before { view = with_row k uplink name distance token info before.view }) else before) is
 
 module _ (s : Fixed) (links : List Link) (p t : Name) (w : of_side.Part) (view : View) (takes : TakesFrom s.streams t p) (fits : Fits s t w view)
-    (forest : w.tree.forest ≡ links) where
+    (forest : AreLinkedAlike links w.tree.forest t) where
   -- ---- of what is told on
 
   module _ (after : Served) (told : IsToldOn s p view after) where
@@ -78,7 +78,7 @@ module _ (s : Fixed) (links : List Link) (p t : Name) (w : of_side.Part) (view :
         ∙ ap (λ l. owed_to s view p ++ l) (none_back (number s p) (met_links after.view.ends) told.parts)
         ∙ append-nil (owed_to s view p)
 
-    module _ (later : of_side.Part) (stays : IsLaterSide links w later) (fits_after : Fits s t later after.view) where
+    module _ (later : of_side.Part) (stays : IsLaterSide links t w later) (fits_after : Fits s t later after.view) where
       to_linked : (u : Name) (line : List ℕ) (lines : List (List ℕ)) → lines_on (number s u) after.out ≡ line ∷ lines → AreLinked links t u
       to_linked u line lines is = by (nat_eq (number s p) (number s u)) refl
         where
@@ -120,7 +120,7 @@ module _ (s : Fixed) (links : List Link) (p t : Name) (w : of_side.Part) (view :
     abbrev later_side : of_side.Part
     later_side = done s w (gains uplink name words)
 
-    later : IsLaterSide links w later_side
+    later : IsLaterSide links t w later_side
     unfolding done
     later = record { forest = forest; knows = λ u known. ap (λ b. b || same u name) known }
 
@@ -212,7 +212,7 @@ module _ (s : Fixed) (links : List Link) (p t : Name) (w : of_side.Part) (view :
         (says.means ∙ ap heard_as other)))
 
     pub gain_goes_well : Fits s t (done s w (gains uplink name words)) (asked s p view line).view
-        → ((u : Name) → AreLinked links t u → u ≢ p → w.tree.knows u ≡ true) → IsGoodReply s links p t view (asked s p view line)
+        → ((u : Name) → AreLinked links t u → u ≢ p → w.tree.knows u ≡ true) → IsGoodReply s links p t view (asked s p view line) []
     gain_goes_well after known =
         good_reply s links p t w later_side view (asked s p view line) fits after forest known later
         (told_answer (asked s p view line) (told_on (tell name p)) later_side later after (knows_p (tell name p)))

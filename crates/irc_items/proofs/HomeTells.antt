@@ -38,9 +38,11 @@ use Rattle.irc_follow.specs.Relinked.{BehindSourceIsFar}
 use Rattle.irc_follow.specs.Says.{asked, lines_on, machine, play, ComesFar, IsDoableEffect, IsFar}
 use Rattle.irc_follow.specs.SideFlows.{IsToldOf, SourceTells}
 use Rattle.irc_follow.proofs.Followed.{IsKnownOfLine}
+use Rattle.irc_items.specs.GoodLines.{no_answers}
 use Rattle.irc_items.proofs.ClientBegins.{IsToldByHome}
 use Rattle.irc_items.proofs.Due.{IsDueAtHome}
-use Rattle.irc_items.proofs.GoodLines.{steady_terms, IsWithinSide}
+use Rattle.irc_items.proofs.GoodLines.{good_terms, IsWithinSide}
+use Rattle.irc_items.proofs.MetEnds.{linked_as_itself}
 use Rattle.irc_items.proofs.HomeAlong.{few_along, in_room, lines_along, told_along}
 use Rattle.irc_items.proofs.HomeDoable.{effects_told, same_effects, AreSpokenLaws, IsClientWithin, IsOwnTold, IsSaidWell}
 use Rattle.irc_items.proofs.HomeEffects.{room_now, KnowsWays}
@@ -129,7 +131,7 @@ module _ (laws : AreTellingLaws) (s : Fixed) (fixed : IsFixed s) (links : List L
     };
     far = telling.far;
     everybody = telling.everybody;
-    side = record { forest = telling.side.forest; here = telling.side.here };
+    side = record { alike = telling.side.alike; here = telling.side.here };
     ways = telling.ways;
   }
 
@@ -145,11 +147,11 @@ module _ (laws : AreTellingLaws) (s : Fixed) (fixed : IsFixed s) (links : List L
       nobody : RoomMachine
       nobody = record { place = place_of view.routes; clients = empty; room = w.hall.room }
 
-  -- ---- a neighbour that takes its lines
+  -- ---- a neighbour that takes its lines, in a world that has the same links
 
-  module _ (client : ℕ) (u : Name) (next : TakesFrom s.streams u h) where
+  module _ (later : World) (same_links : later.links ≡ links) (routes : Name → Known) (client : ℕ) (u : Name) (next : TakesFrom s.streams u h) where
     abbrev AreToldTo : of_side.Part → View → List Deed → List (List ℕ) → Type 0
-    AreToldTo w other deeds lines = Tells (machine s client) (play s client) (steady_terms s links) h u w other deeds lines
+    AreToldTo w other deeds lines = Tells (machine s client) (play s client) (good_terms s no_answers later routes) h u w other deeds lines
 
     one_more : (w : of_side.Part) (other : View) (effect : Effect) (deeds : List Deed) (first more : List (List ℕ)) → IsWithinSide s links w → Fits s u w other
         → GoesOn s h u w other (does effect) first
@@ -157,7 +159,7 @@ module _ (laws : AreTellingLaws) (s : Fixed) (fixed : IsFixed s) (links : List L
         → AreToldTo w other (does effect ∷ deeds) (first ++ more)
     one_more w other effect deeds first more side reader (told line is said) rest =
         subst (λ lines. AreToldTo w other (does effect ∷ deeds) (lines ++ more)) (sym is)
-        (by_line (record { says = said; steady = tt; side = side })
+        (by_line (record { says = said; may = tt; side = subst (λ all. IsWithinSide s all w) (sym same_links) side })
         (rest (asked s h other line).view (laws.line.fits s h u w other (does effect) line fixed next reader said)))
     one_more w other effect deeds first more side reader (passed is passes) rest =
         subst (λ lines. AreToldTo w other (does effect ∷ deeds) (lines ++ more)) (sym is)
@@ -224,7 +226,7 @@ module _ (laws : AreTellingLaws) (s : Fixed) (world : World) (routes : Name → 
     far = λ t p there takes. laws.far s here world.links (from_one world.links h) h forest behind.along behind.behind t p there (taking t p takes);
     everybody = joined_here;
     side = record {
-      forest = refl;
+      alike = λ t p there takes. linked_as_itself world.links t;
       here = λ t p u there takes linked apart.
           same_when (part world.links u) (part world.links h)
           (sym (linked_joined world.links t u linked) ∙ (tests_tell world.links t h t).1.0 there);
@@ -262,12 +264,12 @@ module _ (laws : AreTellingLaws) (s : Fixed) (world : World) (routes : Name → 
       ∙ (λ i. lines_along k view (fits.room i)
       (same_effects laws.spoken h (is_home_of s.homes h) (λ x. joined world.links x h) view (machine_at s.settings world h) home happening mine i))
 
-  tells_next : (client : ℕ) (u : Name) (other : View) → AreLinked world.links h u → Fits s u here other
-      → Tells (machine s client) (play s client) (steady_terms s world.links) h u here other (map does effects)
+  tells_next : (later : World) → later.links ≡ world.links → (client : ℕ) (u : Name) (other : View) → AreLinked world.links h u → Fits s u here other
+      → Tells (machine s client) (play s client) (good_terms s no_answers later routes) h u here other (map does effects)
       (lines_on (number s u) (client_told view happening).out)
-  tells_next client u other there reader =
-      subst (Tells (machine s client) (play s client) (steady_terms s world.links) h u here other (map does effects)) (sym (lines_so (number s u)))
-      (tells_along laws s fixed world.links h view client u
+  tells_next later same_links client u other there reader =
+      subst (Tells (machine s client) (play s client) (good_terms s no_answers later routes) h u here other (map does effects)) (sym (lines_so (number s u)))
+      (tells_along laws s fixed world.links h view later same_links routes client u
       (subst (λ (st : Streams). TakesFrom st u h) (sym streams) (next_takes world.links h u forest there)) effects here other begins reader each)
 
   same_part : (u : Name) → AreJoined world.links u h → part_of s world routes h ≡ part_of s world routes u
@@ -291,19 +293,19 @@ module _ (laws : AreTellingLaws) (s : Fixed) (world : World) (routes : Name → 
 
 -- ----
 
-pub told_by_home : AreTellingLaws → (s : Fixed) (world : World) (routes : Name → Known) (h u : Name) (view other : View) (happening : Happening) (client : ℕ)
-    → IsFixed s → IsForest world.links → s.streams ≡ streams_from world.links (from_one world.links h) → AreLinked world.links h u
-    → IsWorld s.settings world → IsOfWorld s world → AreRight s world.links routes
+pub told_by_home : AreTellingLaws → (s : Fixed) (world later : World) (routes : Name → Known) (h u : Name) (view other : View) (happening : Happening)
+    (client : ℕ) → later.links ≡ world.links → IsFixed s → IsForest world.links → s.streams ≡ streams_from world.links (from_one world.links h)
+    → AreLinked world.links h u → IsWorld s.settings world → IsOfWorld s world → AreRight s world.links routes
     → Fits s h (part_of s world routes h) view → Fits s u (part_of s world routes u) other
     → place_of (routes h) ≡ place_at s.settings world.links h → IsDueAtHome s world h happening
-    → Tells (machine s client) (play s client) (steady_terms s world.links) h u (part_of s world routes u) other
+    → Tells (machine s client) (play s client) (good_terms s no_answers later routes) h u (part_of s world routes u) other
     (map does (effects_at (machine_at s.settings world h) happening)) (lines_on (number s u) (client_told view happening).out)
-told_by_home laws s world routes h u view other happening client fixed forest streams there is_world of_world right fits reader place due =
+told_by_home laws s world later routes h u view other happening client same_links fixed forest streams there is_world of_world right fits reader place due =
     let one = same_part laws s world routes h view happening fixed forest streams is_world fits place due u
     (linked_joined world.links u h (linked_back world.links h u there)) in
-    subst (λ w. Tells (machine s client) (play s client) (steady_terms s world.links) h u w other
+    subst (λ w. Tells (machine s client) (play s client) (good_terms s no_answers later routes) h u w other
     (map does (effects_at (machine_at s.settings world h) happening)) (lines_on (number s u) (client_told view happening).out)) one
-    (tells_next laws s world routes h view happening fixed forest streams is_world fits place due client u other there
+    (tells_next laws s world routes h view happening fixed forest streams is_world fits place due later same_links client u other there
     (subst (λ w. Fits s u w other) (sym one) reader))
 
 pub few_by_home : AreTellingLaws → (s : Fixed) (world : World) (routes : Name → Known) (h : Name) (view : View) (happening : Happening)
@@ -321,13 +323,14 @@ unlinked_by_home laws s world routes h view happening fixed forest streams is_wo
     none_elsewhere laws s world routes h view happening fixed forest streams is_world fits place due
 
 -- all of it, as the network begins to follow
-pub tells_from_home : AreTellingLaws → (s : Fixed) (world : World) (routes : Name → Known) (h : Name) (view : View) (happening : Happening)
-    → IsFixed s → IsForest world.links → s.streams ≡ streams_from world.links (from_one world.links h) → IsWorld s.settings world → IsOfWorld s world
-    → AreRight s world.links routes → Fits s h (part_of s world routes h) view → place_of (routes h) ≡ place_at s.settings world.links h
-    → IsDueAtHome s world h happening → IsToldByHome s world routes h view happening
-tells_from_home laws s world routes h view happening fixed forest streams is_world of_world right fits place due = record {
+pub tells_from_home : AreTellingLaws → (s : Fixed) (world later : World) (routes : Name → Known) (h : Name) (view : View) (happening : Happening)
+    → later.links ≡ world.links → IsFixed s → IsForest world.links → s.streams ≡ streams_from world.links (from_one world.links h) → IsWorld s.settings world
+    → IsOfWorld s world → AreRight s world.links routes → Fits s h (part_of s world routes h) view → place_of (routes h) ≡ place_at s.settings world.links h
+    → IsDueAtHome s world h happening → IsToldByHome s world later routes h view happening
+tells_from_home laws s world later routes h view happening same_links fixed forest streams is_world of_world right fits place due = record {
   told = λ u other client there reader.
-      told_by_home laws s world routes h u view other happening client fixed forest streams there is_world of_world right fits reader place due;
+      told_by_home laws s world later routes h u view other happening client same_links fixed forest streams there is_world of_world right fits reader place
+      due;
   few = λ u other there reader. few_by_home laws s world routes h view happening fixed forest streams is_world fits place due u;
   unlinked = unlinked_by_home laws s world routes h view happening fixed forest streams is_world fits place due;
 }

@@ -1,39 +1,17 @@
--- What the calls of a network keep.
-use Rattle.std.proofs.Common.{◌≡◌, ℕ, zero, suc, ◌+◌, ◌≤◌, min, Option, Some, None, List, [], ◌∷◌, ◌++◌, refl, sym, ap, subst, ◌∙◌, arith}
+-- What the deliveries of a network keep.
+use Rattle.std.proofs.Common.{◌≡◌, ℕ, zero, suc, ◌+◌, ◌≤◌, min, Option, Some, None, List, [], ◌∷◌, refl, sym, ap, subst, ◌∙◌, arith}
 use Rattle.std.specs.Option.{option_and_then, option_map_or}
 use Rattle.irc_line.specs.Reading.{read_of}
 use Rattle.irc_stage.specs.View.{View}
 use Rattle.irc_server.specs.Served.{Occurrence, link_says}
-use Rattle.irc_world.specs.Owed.{after_items}
-use Rattle.irc_world.specs.Stepping.{Item, step}
-use Rattle.irc_world.specs.World.{Setting, World, new_world}
-use Rattle.irc_network.specs.Network.{Course, Network, Reply, Site, asked, asked_at, counted, delivered, given, left, max_count, none_yet, reply, site_at, taken_of, then_one, waiting, with_reply, with_site}
-use Rattle.irc_items.specs.Kept.{DeliveryKeepsSound, GivenKeepsSound, SettlingKeepsSound, TakenAreFew}
-use Rattle.irc_items.specs.Laws.{DeliveryKeepsSettings, DeliveryStaysSound, GivenKeepsSettings, GivenStaysSound}
+use Rattle.irc_world.specs.World.{new_world}
+use Rattle.irc_network.specs.Network.{Course, Network, Reply, Site, asked, asked_at, counted, delivered, left, max_count, none_yet, reply, site_at, taken_of, then_one, waiting, with_reply, with_site}
+use Rattle.irc_items.specs.Kept.{DeliveryKeepsSound, SettlingKeepsSound, TakenAreFew}
+use Rattle.irc_items.specs.Laws.{DeliveryKeepsSettings, DeliveryStaysSound}
 use Rattle.irc_items.specs.SetUp.{settings_of}
 use Rattle.irc_items.specs.Sound.{most_of_last}
 use Rattle.irc_items.proofs.SentOut.{all_sent, IsSentOut}
 use Rattle.irc_items.proofs.SiteChanged.{set_there}
-use Rattle.irc_items.specs.Steady.{AreSteady, IsSteady, IsSteadyNetwork}
-
--- ---- one item more
-
-steady_first : (settings : List Setting) (world : World) (items : List Item) (item : Item) → AreSteady settings world (items ++ item ∷ []) → AreSteady settings world items
-steady_first settings world [] item all = tt
-steady_first settings world (first ∷ items) item all = (all.0, steady_first settings (step settings world first).world items item all.1)
-
-steady_last : (settings : List Setting) (world : World) (items : List Item) (item : Item) → AreSteady settings world (items ++ item ∷ [])
-    → IsSteady (after_items settings world items) item
-steady_last settings world [] item all = all.0
-steady_last settings world (first ∷ items) item all = steady_last settings (step settings world first).world items item all.1
-
-pub given_keeps_sound : GivenKeepsSettings → GivenStaysSound → ((item : Item) (net : Network) → (given item net).net.items ≡ net.items ++ item ∷ []) → GivenKeepsSound
-given_keeps_sound settings stays kept net item sound rest taken within steady =
-    stays net item (sound (steady_first (settings_of net) new_world net.items item before))
-    (record { at_rest = rest; taken = taken; within = within; steady = steady_last (settings_of net) new_world net.items item before })
-  where
-    before : AreSteady (settings_of net) new_world (net.items ++ item ∷ [])
-    before = subst (AreSteady (settings_of net) new_world) (kept item net) (subst (λ s. AreSteady s new_world (given item net).net.items) (settings net item) steady)
 
 -- ---- lines that are delivered
 
@@ -69,7 +47,7 @@ pub record IsOneMore (old new : Network) : Type 0 where
   pub items : new.items ≡ old.items
   pub taken : new.taken ≡ min (old.taken + 1) max_count
 
-delivered_one : (from to : ℕ) (old new : Course) → delivered from to old ≡ Some new → IsOneMore old.net new.net
+pub delivered_one : (from to : ℕ) (old new : Course) → delivered from to old ≡ Some new → IsOneMore old.net new.net
 unfolding delivered
 delivered_one from to old new is = by (site_at old.net from) refl
   where
@@ -90,9 +68,7 @@ delivered_one from to old new is = by (site_at old.net from) refl
 module _ (settings : DeliveryKeepsSettings) (stays : DeliveryStaysSound) where
   pub delivery_keeps_sound : DeliveryKeepsSound
   delivery_keeps_sound from to old new is few = record {
-    sound = λ sound steady. stays from to old new (sound (back steady)) is;
-    steady = λ steady. subst (λ items. AreSteady (settings_of new.net) new_world items) (sym one.items)
-        (subst (λ s. AreSteady s new_world old.net.items) (sym (settings from to old new is)) steady);
+    sound = λ sound. stays from to old new sound is;
     most = ap (λ s. most_of_last s new_world new.net.items) (settings from to old new is) ∙ ap (most_of_last (settings_of old.net) new_world) one.items;
     taken = one.taken;
   }
@@ -100,14 +76,11 @@ module _ (settings : DeliveryKeepsSettings) (stays : DeliveryStaysSound) where
       one : IsOneMore old.net new.net
       one = delivered_one from to old new is
 
-      back : IsSteadyNetwork new.net → IsSteadyNetwork old.net
-      back steady = subst (AreSteady (settings_of old.net) new_world) one.items (subst (λ s. AreSteady s new_world new.net.items) (settings from to old new is) steady)
-
   at_most : (a b : ℕ) → min a b ≤ b
   at_most a b = omega arith
 
   pub settling_keeps_sound : SettlingKeepsSound
-  settling_keeps_sound zero old new none_yet few = record { sound = λ sound. sound; steady = λ steady. steady; most = refl; taken = none old.net.taken few }
+  settling_keeps_sound zero old new none_yet few = record { sound = λ sound. sound; most = refl; taken = none old.net.taken few }
     where
       none : (taken : ℕ) → taken ≤ max_count → taken ≡ min (taken + 0) max_count
       none taken few = omega arith
@@ -116,7 +89,6 @@ module _ (settings : DeliveryKeepsSettings) (stays : DeliveryStaysSound) where
       let last = delivery_keeps_sound way.from way.to mid new is (subst (λ n. n ≤ max_count) (sym first.taken) (at_most (old.net.taken + count) max_count)) in
       record {
         sound = λ sound. last.sound (first.sound sound);
-        steady = λ steady. last.steady (first.steady steady);
         most = last.most ∙ first.most;
         taken = added old.net.taken mid.net.taken new.net.taken count first.taken last.taken;
       }

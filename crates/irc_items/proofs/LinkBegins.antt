@@ -3,14 +3,16 @@ use Rattle.std.proofs.Common.{◌≡◌, ◌≢◌, ℕ, ◌<◌, Bool, true, fa
 use mathlib.Core.Path.{fun_ext}
 use Rattle.irc_merge.specs.Deeds.{Deed}
 use Rattle.irc_relay.specs.Distances.{IsAmong}
-use Rattle.irc_relay.specs.Following.{Starts, Tells}
+use Rattle.irc_relay.specs.Following.{Starts, Tells, Terms}
 use Rattle.irc_relay.specs.Lemmas.TellingNames.{Telling, alike, unlike, tell, same_unless}
 use Rattle.irc_relay.specs.Links.{Name, Link, part, has_ends, joined, distance, toward, AreJoined, HasEnds}
 use Rattle.irc_relay.specs.Relay.{from_other_end, under_way, GoesAway, MeetOver, TakesFrom}
 use Rattle.irc_relay.proofs.GoingToward.{distance_self, next_hop}
 use Rattle.irc_relay.proofs.TakingOut.{tests_tell}
+use Rattle.irc_stage.specs.View.{View}
+use Rattle.irc_world.specs.Stepping.{link_made}
 use Rattle.irc_world.specs.World.{World}
-use Rattle.irc_follow.specs.Part.{Fixed}
+use Rattle.irc_follow.specs.Part.{Fixed, Part}
 use Rattle.irc_follow.specs.Relinked.{PartAfterLink}
 use Rattle.irc_follow.specs.Says.{machine, play}
 use Rattle.irc_follow.proofs.AtRest.{joined_alike, joined_among}
@@ -19,23 +21,30 @@ use Rattle.irc_network.specs.Network.{Network}
 use Rattle.irc_items.specs.Relayed.{relayed}
 use Rattle.irc_items.specs.SetUp.{routes_in, view_at}
 use Rattle.irc_items.specs.Sound.{world_now}
-use Rattle.irc_items.proofs.GoodLines.{steady_terms}
+use Rattle.irc_items.proofs.Collisions.{answers_of}
+use Rattle.irc_items.proofs.GoodLines.{good_terms}
 use Rattle.irc_items.proofs.LinkSide.{fits_begun, has_ends_so, link_fixed, meet, not_ends, apart, old_ends, IsLinkStep}
-use Rattle.irc_items.proofs.LinkSides.{deeds_of_link, side_of}
+use Rattle.irc_items.proofs.LinkSides.{deeds_of_link, routes_after, side_of}
 use Rattle.irc_items.proofs.LinkWays.{link_lines, nothing_else, to_far, to_near}
+
+-- how the servers' lines are about their sides, while a link is made
+abbrev pub terms_of_link : Network → Name → Name → Terms View (List ℕ) Part Deed
+terms_of_link net near far =
+    good_terms (link_fixed net near far) (answers_of (record { near = near; far = far })) (link_made (world_now net) near far).world
+    (routes_after (link_fixed net near far) (record { near = near; far = far }) (world_now net) (routes_in net))
 
 -- what the two ends tell each other, and where that brings the sides
 pub record IsToldByLink (after_link : PartAfterLink) (quiet : RestStays) (net new : Network) (near far : Name) (given : IsLinkStep net new near far) : Type 0 where
   pub near_told : (client : ℕ)
       → Tells (machine (link_fixed net near far) client) (play (link_fixed net near far) client)
-      (steady_terms (link_fixed net near far) (record { near = near; far = far } ∷ (world_now net).links)) far near
+      (terms_of_link net near far) far near
       (side_of (link_fixed net near far) (record { near = near; far = far }) (world_now net) (routes_in net) near) (view_at new near)
-      (deeds_of_link (link_fixed net near far) (routes_in net) near far) (link_lines after_link quiet net new near far given far near)
+      (deeds_of_link (link_fixed net near far) (world_now net) (routes_in net) near far) (link_lines after_link quiet net new near far given far near)
   pub far_told : (client : ℕ)
       → Tells (machine (link_fixed net near far) client) (play (link_fixed net near far) client)
-      (steady_terms (link_fixed net near far) (record { near = near; far = far } ∷ (world_now net).links)) near far
+      (terms_of_link net near far) near far
       (side_of (link_fixed net near far) (record { near = near; far = far }) (world_now net) (routes_in net) far) (view_at new far)
-      (deeds_of_link (link_fixed net near far) (routes_in net) far near) (link_lines after_link quiet net new near far given near far)
+      (deeds_of_link (link_fixed net near far) (world_now net) (routes_in net) far near) (link_lines after_link quiet net new near far given near far)
 
 -- which side a server is on
 pub data Side (links : List Link) (near far t : Name) : Type 0 where
@@ -67,13 +76,14 @@ module _ (after_link : PartAfterLink) (quiet : RestStays) (net new : Network) (n
 
   -- the deeds by which a server comes to know the other side
   abbrev pub deeds : Name → List Deed
-  deeds t = if joined world.links t near then deeds_of_link s (routes_in net) near far else deeds_of_link s (routes_in net) far near
+  deeds t = if joined world.links t near then deeds_of_link s world (routes_in net) near far else deeds_of_link s world (routes_in net) far near
 
-  deeds_near : (t : Name) → AreJoined world.links t near → deeds t ≡ deeds_of_link s (routes_in net) near far
-  deeds_near t j = ap (λ b. if b then deeds_of_link s (routes_in net) near far else deeds_of_link s (routes_in net) far near) ((tests_tell world.links t near t).1.1 j)
+  deeds_near : (t : Name) → AreJoined world.links t near → deeds t ≡ deeds_of_link s world (routes_in net) near far
+  deeds_near t j = ap (λ b. if b then deeds_of_link s world (routes_in net) near far else deeds_of_link s world (routes_in net) far near)
+      ((tests_tell world.links t near t).1.1 j)
 
-  deeds_far : (t : Name) → AreJoined world.links t far → deeds t ≡ deeds_of_link s (routes_in net) far near
-  deeds_far t j = ap (λ b. if b then deeds_of_link s (routes_in net) near far else deeds_of_link s (routes_in net) far near)
+  deeds_far : (t : Name) → AreJoined world.links t far → deeds t ≡ deeds_of_link s world (routes_in net) far near
+  deeds_far t j = ap (λ b. if b then deeds_of_link s world (routes_in net) near far else deeds_of_link s world (routes_in net) far near)
       (same_unless (part world.links t) (part world.links near) (λ e. apart after_link net new near far given (sym e ∙ j)))
 
   one_side : (t p : Name) → AreJoined world.links t p → side_of s l world (routes_in net) t ≡ side_of s l world (routes_in net) p
@@ -120,7 +130,7 @@ module _ (after_link : PartAfterLink) (quiet : RestStays) (net new : Network) (n
 
   abbrev IsTold : Name → Name → List Deed → List (List ℕ) → Type 0
   IsTold p t acts lines =
-      Tells (machine s client) (play s client) (steady_terms s (l ∷ world.links)) p t (side_of s l world (routes_in net) t) (view_at new t) acts lines
+      Tells (machine s client) (play s client) (terms_of_link net near far) p t (side_of s l world (routes_in net) t) (view_at new t) acts lines
 
   abbrev IsToldFirst : Name → Type 0
   IsToldFirst t = IsTold (s.streams.parent t) t (deeds t) (under_way (relayed s new client) (s.streams.parent t) t)
@@ -129,13 +139,15 @@ module _ (after_link : PartAfterLink) (quiet : RestStays) (net new : Network) (n
   told_near =
       subst (λ p. IsTold p near (deeds near) (under_way (relayed s new client) p near)) (sym meets.near_parent)
       (subst (λ acts. IsTold far near acts (under_way (relayed s new client) far near)) (sym (deeds_near near refl))
-      (subst (IsTold far near (deeds_of_link s (routes_in net) near far)) (sym (to_near after_link quiet net new near far given client)) (tells.near_told client)))
+      (subst (IsTold far near (deeds_of_link s world (routes_in net) near far)) (sym (to_near after_link quiet net new near far given client))
+      (tells.near_told client)))
 
   told_far : IsToldFirst far
   told_far =
       subst (λ p. IsTold p far (deeds far) (under_way (relayed s new client) p far)) (sym meets.far_parent)
       (subst (λ acts. IsTold near far acts (under_way (relayed s new client) near far)) (sym (deeds_far far refl))
-      (subst (IsTold near far (deeds_of_link s (routes_in net) far near)) (sym (to_far after_link quiet net new near far given client)) (tells.far_told client)))
+      (subst (IsTold near far (deeds_of_link s world (routes_in net) far near)) (sym (to_far after_link quiet net new near far given client))
+      (tells.far_told client)))
 
   first : (t : Name) → s.streams.depth t ≡ 1 → IsToldFirst t
   first t one = by (takes t)
@@ -193,7 +205,7 @@ module _ (after_link : PartAfterLink) (quiet : RestStays) (net new : Network) (n
       by (behind_far j _ _ _) = ends t far j given.meeting.far_among
       by (apart_from_both _ _ none) = absurd (let no : ⊥ = omega arith in no)
 
-  pub starts : Starts (machine s client) (play s client) (steady_terms s (l ∷ world.links)) s.streams (relayed s new client) (side_of s l world (routes_in net)) deeds
+  pub starts : Starts (machine s client) (play s client) (terms_of_link net near far) s.streams (relayed s new client) (side_of s l world (routes_in net)) deeds
   starts = record {
     first = first;
     still = λ t above deeper. still t (omega arith);

@@ -1,29 +1,28 @@
--- What the sides of a new link come to, once each knows the other, where nobody is registered on either: each server is what it has to be in the world with that
--- link, and no client has seen anything of it.
-use Rattle.std.proofs.Common.{◌≡◌, ◌≢◌, inl, inr, ℕ, true, false, not, ◌&&◌, Option, Some, None, is_some, List, [], ◌∷◌, refl, sym, ◌∙◌, ap, subst, if◌then◌else◌}
+-- What the sides of a new link come to, once each knows the other: each server is what it has to be in the world with that link, and each client has seen
+-- what it receives by it. Whoever has a nickname that is on both sides is killed, on both.
+use Rattle.std.proofs.Common.{◌≡◌, ◌≢◌, inl, inr, ℕ, true, false, not, ◌&&◌, Some, None, List, [], ◌∷◌, refl, sym, ◌∙◌, ap, subst, if◌then◌else◌}
 use Rattle.std.specs.Cmp.Lexicographic.{bytes_decides}
 use Rattle.std.specs.FinMap.{get, retain_keys}
-use Rattle.std.specs.Option.{option_map_or}
-use Rattle.irc_merge.specs.Laws.{MergeHasNothingNew}
+use Rattle.std.specs.List.{AllByRecursion}
+use Rattle.irc_merge.specs.Agreeing.{agree, AgreeTells}
+use Rattle.irc_merge.specs.Deeds.{after_deeds}
+use Rattle.irc_merge.specs.Laws.{BurstReadIsMerge, MergeIsEven, ShownIsMergeShown}
+use Rattle.irc_merge.specs.LimitLaws.{WithinLimitsIsTold}
 use Rattle.irc_relay.specs.Distances.{EndsAreAmong, IsAmong}
 use Rattle.irc_relay.specs.Following.{all_done, all_seen}
 use Rattle.irc_relay.specs.Links.{Name, Link, part, joined, linked, same, AreJoined, AreLinked, IsForest, within, over, back}
 use Rattle.irc_relay.specs.Lemmas.TellingNames.{Telling, alike, unlike, tell, same_unless}
-use Rattle.irc_relay.specs.Relay.{Streams, from_other_end, streams_from}
+use Rattle.irc_relay.specs.Relay.{Streams}
 use Rattle.irc_relay.proofs.GoingToward.{linked_joined}
 use Rattle.irc_relay.proofs.JoiningParts.{joined_within}
 use Rattle.irc_relay.proofs.TakingOut.{made}
 use Rattle.irc_room.specs.Invitations.{of_home}
-use Rattle.irc_room.specs.Laws.{no_room}
-use Rattle.irc_room.specs.Room.{IsWellFormed}
 use Rattle.irc_routes.specs.declared.server_row.ServerRow.{ServerRow}
 use Rattle.irc_routes.specs.Known.{Known, row_of, token_out}
-use Rattle.irc_stage.specs.declared.clients.Client.{Client}
 use Rattle.irc_stage.specs.View.{View}
 use Rattle.irc_world.specs.Stepping.{link_made, merged}
 use Rattle.irc_world.specs.World.{Hall, World}
 use Rattle.irc_world.specs.WorldHolds.{IsWorld}
-use Rattle.irc_world.proofs.StaysSound.{first_of}
 use Rattle.irc_follow.specs.AtRest.{part_of, AreRight, IsOfWorld, PartAtRestIsSound}
 use Rattle.irc_follow.specs.Fits.{Fits}
 use Rattle.irc_follow.specs.Part.{Fixed, info_in, is_home_of, IsFixed, IsSoundPart}
@@ -32,15 +31,16 @@ use Rattle.irc_follow.specs.Tree.{place_in, shape_in}
 use Rattle.irc_follow.proofs.AtRest.{ends_there}
 use Rattle.irc_follow.proofs.BehindLinks.{joined_test}
 use Rattle.irc_follow.proofs.NewLink.{kept_row, shape_stays}
-use Rattle.irc_items.specs.Steady.{HasNobody}
 use Rattle.irc_items.proofs.LinkEnds.{AreEnds, aside_joined, aside_links, far_ends, near_ends}
-use Rattle.irc_items.proofs.LinkGains.{nothing_seen}
-use Rattle.irc_items.proofs.LinkHalls.{all_survive, nobody_is_no_room, nobody_merged}
-use Rattle.irc_items.proofs.LinkedSide.{IsRightAt, end_tokens, fits_side, linked_side, side_right, side_sound, side_tokens, told_rows}
-use Rattle.irc_items.proofs.LinkSides.{deeds_of_link, routes_after, side_after, side_of}
+use Rattle.irc_items.proofs.LinkGains.{hall_left}
+use Rattle.irc_items.proofs.LinkHalls.{none_there, one_survives, other_survives, room_read, side_survives}
+use Rattle.irc_items.proofs.LinkShown.{aside_receives, far_receives, near_receives, side_seen}
+use Rattle.irc_items.proofs.LinkedSide.{IsRightAt, end_tokens, fits_side, linked_side, side_right, side_sound, side_tokens}
+use Rattle.irc_items.proofs.LinkSides.{IsReadDeed, deeds_of_link, room_deeds, routes_after, side_after, side_of}
 use Rattle.irc_items.proofs.OtherServers.{same_kept}
 
--- the world before a link is made between two parts in which nobody is registered, and the sources from which its lines come then
+-- The world before a link is made between two parts that agree. Each line that the one tells of its room is read at the other as what it says, or as the KILL
+-- of a user there.
 pub record IsLinkedWorld (s : Fixed) (l : Link) (world : World) (routes : Name → Known) : Type 0 where
   pub fixed : IsFixed s
   pub holds : IsWorld s.settings world
@@ -48,35 +48,43 @@ pub record IsLinkedWorld (s : Fixed) (l : Link) (world : World) (routes : Name �
   pub apart : part world.links l.near ≢ part world.links l.far
   pub near_among : IsAmong s.names l.near
   pub far_among : IsAmong s.names l.far
-  pub streams : s.streams ≡ streams_from (l ∷ world.links) (from_other_end world.links l.near l.far)
   pub right : AreRight s world.links routes
-  pub nobody_near : HasNobody (world.hall l.near).room
-  pub nobody_far : HasNobody (world.hall l.far).room
+  pub agreed : agree (world.hall l.near).room (world.hall l.far).room ≡ true
+  pub near_read : AllByRecursion (IsReadDeed l.near) (room_deeds world l.near l.far)
+  pub far_read : AllByRecursion (IsReadDeed l.far) (room_deeds world l.far l.near)
   pub after : IsWorld s.settings (link_made world l.near l.far).world
-  pub near_sound : IsSoundPart s (side_after s l world routes l.near l.far)
-  pub far_sound : IsSoundPart s (side_after s l world routes l.far l.near)
+  pub near_sound : IsSoundPart s (all_done (play s 0) (side_of s l world routes l.near) (deeds_of_link s world routes l.near l.far))
+  pub far_sound : IsSoundPart s (all_done (play s 0) (side_of s l world routes l.far) (deeds_of_link s world routes l.far l.near))
 
--- Once a server has followed the deeds of the link, it is what it has to be in the world with that link. Those of other parts are it as they are, wherever lines came
--- from before.
+-- Once a server has followed the deeds of the link, it is what it has to be in the world with that link, and each of its clients has seen what it receives.
+-- Servers of other parts are it as they are, wherever lines came from before, and their clients receive nothing.
 pub record ComesToLinked (s : Fixed) (l : Link) (world : World) (routes : Name → Known) : Type 0 where
   pub right : AreRight s (l ∷ world.links) (routes_after s l world routes)
   pub near_comes : (client : ℕ) (t : Name) (view : View) → IsAmong s.names t → AreJoined world.links t l.near
-      → Fits s t (all_done (play s client) (side_of s l world routes t) (deeds_of_link s routes l.near l.far)) view
+      → Fits s t (all_done (play s client) (side_of s l world routes t) (deeds_of_link s world routes l.near l.far)) view
       → Fits s t (part_of s (link_made world l.near l.far).world (routes_after s l world routes) t) view
   pub far_comes : (client : ℕ) (t : Name) (view : View) → IsAmong s.names t → AreJoined world.links t l.far
-      → Fits s t (all_done (play s client) (side_of s l world routes t) (deeds_of_link s routes l.far l.near)) view
+      → Fits s t (all_done (play s client) (side_of s l world routes t) (deeds_of_link s world routes l.far l.near)) view
       → Fits s t (part_of s (link_made world l.near l.far).world (routes_after s l world routes) t) view
   pub others : (streams : Streams) (t : Name) (view : View) → IsAmong s.names t → (AreJoined world.links t l.near → ⊥)
       → (AreJoined world.links t l.far → ⊥) → Fits (record s { streams = streams }) t (part_of s world routes t) view
       → Fits s t (part_of s (link_made world l.near l.far).world (routes_after s l world routes) t) view
-  pub near_seen : (client : ℕ) (t : Name)
-      → all_seen (play s client) t (side_of s l world routes t) (deeds_of_link s routes l.near l.far) ≡ []
-  pub far_seen : (client : ℕ) (t : Name)
-      → all_seen (play s client) t (side_of s l world routes t) (deeds_of_link s routes l.far l.near) ≡ []
+  pub near_seen : (client : ℕ) (t : Name) → IsAmong s.names t → AreJoined world.links t l.near → is_home_of s.homes t client ≡ true
+      → all_seen (play s client) t (side_of s l world routes t) (deeds_of_link s world routes l.near l.far)
+      ≡ (link_made world l.near l.far).lines client
+  pub far_seen : (client : ℕ) (t : Name) → IsAmong s.names t → AreJoined world.links t l.far → is_home_of s.homes t client ≡ true
+      → all_seen (play s client) t (side_of s l world routes t) (deeds_of_link s world routes l.far l.near)
+      ≡ (link_made world l.near l.far).lines client
+  pub aside_seen : (client : ℕ) (t : Name) → is_home_of s.homes t client ≡ true → (AreJoined world.links t l.near → ⊥)
+      → (AreJoined world.links t l.far → ⊥) → (link_made world l.near l.far).lines client ≡ []
 
 pub record IsKnownOfLinks : Type 0 where
   pub at_rest : PartAtRestIsSound
-  pub merged : MergeHasNothingNew
+  pub reads : BurstReadIsMerge
+  pub shows : ShownIsMergeShown
+  pub even : MergeIsEven
+  pub agree : AgreeTells
+  pub told : WithinLimitsIsTold
 
 -- where a server is of a new link
 pub data Stands (l : Link) (links : List Link) (t : Name) : Type 0 where
@@ -117,7 +125,8 @@ module _ (s : Fixed) (l : Link) (world : World) (routes : Name → Known) (so : 
   -- ---- what each server knows by then
 
   near_is : (t : Name) → AreJoined world.links t l.near → routes_now t ≡ near_routes t
-  near_is t here = ap (λ b. if b then near_routes t else (if joined world.links t l.far then far_routes t else routes t)) (joined_test world.links t l.near here)
+  near_is t here =
+      ap (λ b. if b then near_routes t else (if joined world.links t l.far then far_routes t else routes t)) (joined_test world.links t l.near here)
 
   not_near : (t : Name) → (AreJoined world.links t l.near → ⊥) → routes_now t ≡ (if joined world.links t l.far then far_routes t else routes t)
   not_near t two =
@@ -156,9 +165,9 @@ module _ (s : Fixed) (l : Link) (world : World) (routes : Name → Known) (so : 
   right_at : (t : Name) → IsAmong s.names t → IsRightAt s (l ∷ world.links) t (routes_now t)
   right_at t among = elim (stands l world.links t) [
     | at_near here ↦ subst (IsRightAt s (l ∷ world.links) t) (sym (near_is t here))
-        (side_right s l world routes l.near l.far forest ends so.right near_are so.far_among so.near_sound t among here)
+        (side_right s l world routes l.near l.far forest ends so.right near_are so.far_among so.near_read so.near_sound t among here)
     | at_far there ↦ subst (IsRightAt s (l ∷ world.links) t) (sym (far_is t there))
-        (side_right s l world routes l.far l.near forest ends so.right far_are so.near_among so.far_sound t among there)
+        (side_right s l world routes l.far l.near forest ends so.right far_are so.near_among so.far_read so.far_sound t among there)
     | aside two other ↦ subst (IsRightAt s (l ∷ world.links) t) (sym (aside_is t two other)) (aside_right t among two other)
   ]
 
@@ -172,23 +181,23 @@ module _ (s : Fixed) (l : Link) (world : World) (routes : Name → Known) (so : 
   at_far_end : OneNumber l.near l.far
   at_far_end x r there link =
       ap (λ known. token_out known x) (near_is l.near refl)
-      ∙ end_tokens s l world routes l.far l.near forest ends so.right far_are so.near_among so.far_sound x r
+      ∙ end_tokens s l world routes l.far l.near forest ends so.right far_are so.near_among so.far_read so.far_sound x r
       (number_known (routes_now l.far) (far_routes l.far) x r (far_is l.far refl) there) link
 
   at_near_end : OneNumber l.far l.near
   at_near_end x r there link =
       ap (λ known. token_out known x) (far_is l.far refl)
-      ∙ end_tokens s l world routes l.near l.far forest ends so.right near_are so.far_among so.near_sound x r
+      ∙ end_tokens s l world routes l.near l.far forest ends so.right near_are so.far_among so.near_read so.near_sound x r
       (number_known (routes_now l.near) (near_routes l.near) x r (near_is l.near refl) there) link
 
   old_link : (t u : Name) → IsAmong s.names u → AreLinked world.links t u → Stands l world.links u → OneNumber t u
   old_link t u among linked (at_near here) x r there link =
       ap (λ known. token_out known x) (near_is t (linked_joined world.links t u linked ∙ here))
-      ∙ side_tokens s l world routes l.near l.far forest ends so.right near_are so.far_among so.near_sound t u x r here (inr linked)
+      ∙ side_tokens s l world routes l.near l.far forest ends so.right near_are so.far_among so.near_read so.near_sound t u x r here (inr linked)
       (number_known (routes_now u) (near_routes u) x r (near_is u here) there) link
   old_link t u among linked (at_far far) x r there link =
       ap (λ known. token_out known x) (far_is t (linked_joined world.links t u linked ∙ far))
-      ∙ side_tokens s l world routes l.far l.near forest ends so.right far_are so.near_among so.far_sound t u x r far (inr linked)
+      ∙ side_tokens s l world routes l.far l.near forest ends so.right far_are so.near_among so.far_read so.far_sound t u x r far (inr linked)
       (number_known (routes_now u) (far_routes u) x r (far_is u far) there) link
   old_link t u among linked (aside two other) x r there link =
       let together = linked_joined world.links t u linked in
@@ -222,7 +231,7 @@ module _ (s : Fixed) (l : Link) (world : World) (routes : Name → Known) (so : 
   of_world : IsOfWorld s now
   of_world = record {
     homes = so.homes;
-    parents = (side_sound s l world routes l.near l.far forest ends so.right near_are so.far_among so.near_sound).parents;
+    parents = (side_sound s l world routes l.near l.far forest ends so.right near_are so.far_among so.near_read so.near_sound).parents;
   }
 
   hall_now : (t : Name) → AreJoined (l ∷ world.links) t l.near → now.hall t ≡ both
@@ -234,54 +243,42 @@ module _ (s : Fixed) (l : Link) (world : World) (routes : Name → Known) (so : 
   hall_far : (t : Name) → AreJoined world.links t l.far → now.hall t ≡ both
   hall_far t there = hall_now t (joined_within l world.links t l.far there ∙ sym (made l world.links forest so.apart).joined)
 
-  -- a client is in no hall but that of its home's part
-  none_there : (server t : Name) (q : ℕ) → (AreJoined world.links t server → ⊥) → is_home_of s.homes t q ≡ true → get (world.hall server).clients q ≡ None
-  none_there server t q apart home = by (get (world.hall server).clients q) refl
-    where
-      by : (o : Option Client) → get (world.hall server).clients q ≡ o → o ≡ None
-      by None is = refl
-      by (Some client) is =
-          let at = so.holds.sound.clients_home server q (ap is_some is) in
-          let home_is : same t at.home ≡ true =
-          sym (ap (λ o. option_map_or (same t) o false) at.is_home) ∙ ap (λ homes. is_home_of homes t q) (sym so.homes) ∙ home in
-          absurd (apart (ap (part world.links) ((bytes_decides t at.home).0 home_is) ∙ at.joined))
-
-  first_alone : (o p : Option Client) → p ≡ None → o ≡ first_of o p
-  first_alone (Some client) p none = refl
-  first_alone None p none = sym none
-
-  survive : (q : ℕ) → get both.clients q ≡ first_of (get (world.hall l.near).clients q) (get (world.hall l.far).clients q)
-  survive q = all_survive (world.hall l.near) (world.hall l.far) so.nobody_near so.nobody_far q
+  none_at : (server t : Name) (q : ℕ) → (AreJoined world.links t server → ⊥) → is_home_of s.homes t q ≡ true → get (world.hall server).clients q ≡ None
+  none_at = none_there s.settings world so.holds s.homes so.homes
 
   near_kept : (t : Name) → AreJoined world.links t l.near → (q : ℕ) → is_home_of s.homes t q ≡ true
-      → get (world.hall l.near).clients q ≡ get both.clients q
+      → get (hall_left (room_deeds world l.near l.far) (world.hall l.near)).clients q ≡ get both.clients q
   near_kept t here q home =
-      first_alone (get (world.hall l.near).clients q) (get (world.hall l.far).clients q)
-      (none_there l.far t q (λ there. so.apart (sym here ∙ there)) home)
-      ∙ sym (survive q)
+      side_survives s.settings world so.holds l.near l.far q
+      ∙ sym (one_survives (world.hall l.near) (world.hall l.far) q (none_at l.far t q (λ there. so.apart (sym here ∙ there)) home))
 
   far_kept : (t : Name) → AreJoined world.links t l.far → (q : ℕ) → is_home_of s.homes t q ≡ true
-      → get (world.hall l.far).clients q ≡ get both.clients q
+      → get (hall_left (room_deeds world l.far l.near) (world.hall l.far)).clients q ≡ get both.clients q
   far_kept t there q home =
-      sym (survive q
-      ∙ ap (λ o. first_of o (get (world.hall l.far).clients q)) (none_there l.near t q (λ here. so.apart (sym here ∙ there)) home))
+      side_survives s.settings world so.holds l.far l.near q
+      ∙ sym (other_survives (world.hall l.near) (world.hall l.far) q (none_at l.near t q (λ here. so.apart (sym here ∙ there)) home))
 
   -- ---- one end's side
 
   module _ (known : IsKnownOfLinks) where
-    both_room : both.room ≡ no_room
-    both_room =
-        nobody_is_no_room both.room (subst (λ (hall : Hall). IsWellFormed hall.room) (hall_near l.near refl) (so.after.sound.well_formed l.near))
-        (nobody_merged known.merged (world.hall l.near).room (world.hall l.far).room (so.holds.sound.well_formed l.near)
-        (so.holds.sound.well_formed l.far) so.nobody_near so.nobody_far)
+    -- what each side's servers have of the room by then is what they have to have of the room of both
+    near_room : (t : Name) → AreJoined world.links t l.near
+        → of_home t (after_deeds (world.hall l.near).room (room_deeds world l.near l.far)) ≡ of_home t both.room
+    near_room t here = room_read s.settings world so.holds l.near l.far near_are.apart known.reads known.told t here
 
-    same_room : (server : Name) → HasNobody (world.hall server).room → (world.hall server).room ≡ both.room
-    same_room server nobody = nobody_is_no_room (world.hall server).room (so.holds.sound.well_formed server) nobody ∙ sym both_room
+    far_room : (t : Name) → AreJoined world.links t l.far
+        → of_home t (after_deeds (world.hall l.far).room (room_deeds world l.far l.near)) ≡ of_home t both.room
+    far_room t there =
+        room_read s.settings world so.holds l.far l.near far_are.apart known.reads known.told t there
+        ∙ ap (of_home t)
+        (sym (known.even (world.hall l.near).room (world.hall l.far).room (so.holds.sound.well_formed l.near) (so.holds.sound.well_formed l.far)
+        ((known.agree (world.hall l.near).room (world.hall l.far).room).0 so.agreed)))
 
     module _ (a b t : Name) (view : View) (among : IsAmong s.names t) (here : AreJoined world.links t a) (are_ends : AreEnds l world.links a b) where
       comes : (side_after s l world routes a b).tree.routes t ≡ routes_now t → now.hall t ≡ both
-          → ((q : ℕ) → is_home_of s.homes t q ≡ true → get (world.hall a).clients q ≡ get both.clients q)
-          → (world.hall a).room ≡ both.room → Fits s t (linked_side s l world routes a b) view → Fits s t (part_of s now routes_now t) view
+          → ((q : ℕ) → is_home_of s.homes t q ≡ true → get (hall_left (room_deeds world a b) (world.hall a)).clients q ≡ get both.clients q)
+          → of_home t (after_deeds (world.hall a).room (room_deeds world a b)) ≡ of_home t both.room → Fits s t (linked_side s l world routes a b) view
+          → Fits s t (part_of s now routes_now t) view
       comes routes_are hall_is kept room_is fits = record {
         here = joined_test (l ∷ world.links) t t refl;
         sound = known.at_rest s now routes_now t so.fixed of_world so.after right_now among;
@@ -291,25 +288,25 @@ module _ (s : Fixed) (l : Link) (world : World) (routes : Name → Known) (so : 
             ∙ ap (λ c. if linked (l ∷ world.links) t x then Some (if c then Some x else None) else None) (sym (are_ends.joined x t here));
         no_others = fits.no_others;
         clients = fits.clients
-            ∙ same_kept s.homes t (world.hall a).clients both.clients kept
+            ∙ same_kept s.homes t (hall_left (room_deeds world a b) (world.hall a)).clients both.clients kept
             ∙ ap (λ (hall : Hall). retain_keys hall.clients (is_home_of s.homes t)) (sym hall_is);
-        room = fits.room ∙ ap (of_home t) (room_is ∙ ap (λ (hall : Hall). hall.room) (sym hall_is));
+        room = fits.room ∙ room_is ∙ ap (λ (hall : Hall). of_home t hall.room) (sym hall_is);
       }
 
     near_comes : (client : ℕ) (t : Name) (view : View) → IsAmong s.names t → AreJoined world.links t l.near
-        → Fits s t (all_done (play s client) (side_of s l world routes t) (deeds_of_link s routes l.near l.far)) view
+        → Fits s t (all_done (play s client) (side_of s l world routes t) (deeds_of_link s world routes l.near l.far)) view
         → Fits s t (part_of s now routes_now t) view
     near_comes client t view among here fits =
-        comes l.near l.far t view among here near_are (sym (near_is t here)) (hall_near t here) (near_kept t here) (same_room l.near so.nobody_near)
-        (fits_side s l world routes l.near l.far forest ends so.right near_are so.far_among client t view here
+        comes l.near l.far t view among here near_are (sym (near_is t here)) (hall_near t here) (near_kept t here) (near_room t here)
+        (fits_side s l world routes l.near l.far forest ends so.right near_are so.far_among so.near_read client t view here
         (so.holds.sound.one_hall t l.near here) fits)
 
     far_comes : (client : ℕ) (t : Name) (view : View) → IsAmong s.names t → AreJoined world.links t l.far
-        → Fits s t (all_done (play s client) (side_of s l world routes t) (deeds_of_link s routes l.far l.near)) view
+        → Fits s t (all_done (play s client) (side_of s l world routes t) (deeds_of_link s world routes l.far l.near)) view
         → Fits s t (part_of s now routes_now t) view
     far_comes client t view among there fits =
-        comes l.far l.near t view among there far_are (sym (far_is t there)) (hall_far t there) (far_kept t there) (same_room l.far so.nobody_far)
-        (fits_side s l world routes l.far l.near forest ends so.right far_are so.near_among client t view there
+        comes l.far l.near t view among there far_are (sym (far_is t there)) (hall_far t there) (far_kept t there) (far_room t there)
+        (fits_side s l world routes l.far l.near forest ends so.right far_are so.near_among so.far_read client t view there
         (so.holds.sound.one_hall t l.far there) fits)
 
     -- ---- servers of other parts
@@ -347,8 +344,13 @@ module _ (s : Fixed) (l : Link) (world : World) (routes : Name → Known) (so : 
       near_comes = near_comes;
       far_comes = far_comes;
       others = others;
-      near_seen = λ client t. nothing_seen s client t (told_rows s routes l.near l.far) (side_of s l world routes t);
-      far_seen = λ client t. nothing_seen s client t (told_rows s routes l.far l.near) (side_of s l world routes t);
+      near_seen = λ client t among here home.
+          side_seen known.shows s l world routes so.holds l.near l.far near_are.apart so.near_read client t here home
+          ∙ near_receives s world l.near l.far so.holds so.homes client t home (λ there. so.apart (sym here ∙ there));
+      far_seen = λ client t among there home.
+          side_seen known.shows s l world routes so.holds l.far l.near far_are.apart so.far_read client t there home
+          ∙ far_receives s world l.near l.far so.holds so.homes client t home (λ here. so.apart (sym here ∙ there));
+      aside_seen = λ client t home. aside_receives s world l.near l.far so.holds so.homes client t home;
     }
 
 pub link_comes_to : IsKnownOfLinks → (s : Fixed) (l : Link) (world : World) (routes : Name → Known) → IsLinkedWorld s l world routes

@@ -1,11 +1,10 @@
--- How many servers one end of a link tells the other of, and that nobody sees anything of a link where nobody is registered.
-use Rattle.std.proofs.Common.{◌≡◌, ℕ, ◌+◌, ◌<◌, ◌≤◌, Bool, true, false, cond, not, ◌&&◌, ◌||◌, Option, Some, None, is_some, List, [], ◌∷◌, ◌++◌, length, filter, count_by, refl, sym, ap, subst, ◌∙◌, arith, if◌then◌else◌}
+-- How many servers one end of a link tells the other of.
+use Rattle.std.proofs.Common.{◌≡◌, ℕ, ◌+◌, ◌<◌, ◌≤◌, Bool, true, false, cond, not, ◌&&◌, ◌||◌, Some, None, List, [], ◌∷◌, length, filter, count_by, refl, sym, ap, subst, ◌∙◌, arith, if◌then◌else◌}
 use Rattle.std.proofs.lemmas.List.Edits.{length-insert}
 use Rattle.std.proofs.lemmas.List.Sums.{count_by-le-length, length-filter, prefix_len-le-length}
-use Rattle.std.specs.FinMap.{get, len}
+use Rattle.std.specs.FinMap.{len}
 use Rattle.std.specs.List.{fold, list_any, prefix_len}
-use Rattle.std.specs.Option.{option_and_then, option_map}
-use Rattle.irc_names.specs.Fold.{key}
+use Rattle.std.specs.Option.{option_map}
 use Rattle.irc_relay.specs.Distances.{EndsAreAmong, IsAmong}
 use Rattle.irc_relay.specs.Lemmas.TellingNames.{Telling, alike, unlike, tell, same_when}
 use Rattle.irc_relay.specs.Links.{Name, Link, joined, part, same, IsForest}
@@ -13,14 +12,7 @@ use Rattle.irc_relay.proofs.TakingOut.{tests_tell}
 use Rattle.irc_routes.specs.Known.{Known, is_behind, is_told_before, others, put_among, servers_told}
 use Rattle.irc_routes.specs.Lemmas.TableRows.{length-values}
 use Rattle.irc_routes.specs.declared.server_row.ServerRow.{ServerRow}
-use Rattle.irc_room.specs.Readers.{home_under}
-use Rattle.irc_stage.specs.declared.clients.Client.{Client}
-use Rattle.irc_stage.specs.declared.clients.Client.TheVariants.{Registered, Registering}
-use Rattle.irc_world.specs.ClientsUsers.{fold_of}
 use Rattle.irc_world.specs.Bounds.{part_size}
-use Rattle.irc_world.specs.Stepping.{link_made, meeting_lines}
-use Rattle.irc_world.specs.World.{Hall, Setting, World}
-use Rattle.irc_world.specs.WorldHolds.{IsWorld}
 use Rattle.irc_follow.specs.AtRest.{AreRight}
 use Rattle.irc_follow.specs.Part.{Fixed, info_in}
 use Rattle.irc_follow.specs.Tree.{shape, shape_in}
@@ -28,32 +20,7 @@ use Rattle.irc_follow.proofs.AtRest.{joined_among}
 use Rattle.irc_follow.proofs.FewRows.{few_rows, AllAmong}
 use Rattle.irc_network.specs.Network.{Network}
 use Rattle.irc_items.specs.SetUp.{settings_of, IsSetUp}
-use Rattle.irc_items.specs.Steady.{HasNobody}
 use Rattle.irc_items.proofs.Counting.{but, counted_but, part_counted}
-
--- ---- nobody sees it
-
-no_lines : (own other : Hall) (client : ℕ) → HasNobody own.room
-    → ((nick : List ℕ) → get own.clients client ≡ Some (Registered nick) → is_some (home_under own.room (key nick)) ≡ true)
-    → meeting_lines own other (get own.clients client) ≡ []
-no_lines own other client nobody user = by (get own.clients client) refl
-  where
-    by : (o : Option Client) → get own.clients client ≡ o → meeting_lines own other (get own.clients client) ≡ []
-    by None e = ap (meeting_lines own other) e
-    by (Some (Registering pending)) e = ap (meeting_lines own other) e
-    by (Some (Registered nick)) e = absurd (let no = sym (user nick e) ∙ ap (λ o. is_some (option_map (λ u. u.home) o)) (nobody (key nick)) in cc no)
-
-pub nobody_sees : (settings : List Setting) (world : World) (near far : Name) → IsWorld settings world → HasNobody (world.hall near).room
-    → HasNobody (world.hall far).room → (client : ℕ) → (link_made world near far).lines client ≡ []
-nobody_sees settings world near far holds nobody_near nobody_far client =
-    ap (λ lines. lines ++ meeting_lines (world.hall far) (world.hall near) (get (world.hall far).clients client))
-    (no_lines (world.hall near) (world.hall far) client nobody_near (λ nick is. user near nick is))
-    ∙ no_lines (world.hall far) (world.hall near) client nobody_far (λ nick is. user far nick is)
-  where
-    user : (t : Name) (nick : List ℕ) → get (world.hall t).clients client ≡ Some (Registered nick) → is_some (home_under (world.hall t).room (key nick)) ≡ true
-    user t nick is = ap is_some ((holds.clients_users t).registered_is_user client (key nick) (ap (option_and_then fold_of) is)).of_user
-
--- ---- how many are told of
 
 put_one : (told : List ServerRow) (r : ServerRow) → length (put_among told r) ≡ length told + 1
 put_one told r = length-insert told (prefix_len (λ other. is_told_before other r) told) r (prefix_len-le-length (λ other. is_told_before other r) told)
@@ -91,7 +58,8 @@ joined_rows s links routes b right forest ends among q r there = by (joined link
     shown = sym (ap (option_map shape) there) ∙ right.rows b q among
 
     by : (j : Bool) → joined links q b ≡ j → (k : Bool) → same q b ≡ k → Telling b q → IsAmong (filter (but b (joined links b)) s.names) q
-    by false e k f _ = absurd (let no = shown ∙ ap (λ j. if j && not (same q b) then Some (shape_in s.names (info_in s.settings) links b q) else None) e in cc no)
+    by false e k f _ = absurd (let no = shown
+        ∙ ap (λ j. if j && not (same q b) then Some (shape_in s.names (info_in s.settings) links b q) else None) e in cc no)
     by true e true f _ = absurd (let no = shown ∙ ap (λ k. if joined links q b && not k then Some (shape_in s.names (info_in s.settings) links b q) else None) f
         ∙ ap (λ j. if j && false then Some (shape_in s.names (info_in s.settings) links b q) else None) e in cc no)
     by true e false f (alike _ one) = absurd (let no = sym (same_when q b (sym one)) ∙ f in cc no)
@@ -100,7 +68,8 @@ joined_rows s links routes b right forest ends among q r there = by (joined link
         (joined_among s.names links q b forest ends among ((tests_tell links q b b).1.0 e))
 
 pub told_counted : (net : Network) → IsSetUp net → (s : Fixed) → s.names ≡ net.names → (links : List Link) (routes : Name → Known) (b : Name) (link : ℕ)
-    → AreRight s links routes → IsForest links → EndsAreAmong s.names links → IsAmong s.names b → length (servers_told (routes b) link) < part_size (settings_of net) links b
+    → AreRight s links routes → IsForest links → EndsAreAmong s.names links → IsAmong s.names b
+    → length (servers_told (routes b) link) < part_size (settings_of net) links b
 told_counted net set_up s names links routes b link right forest ends among =
     let told = told_at_most (routes b) link in
     let rows = few_rows (filter (but b (joined links b)) s.names) (routes b).rows (joined_rows s links routes b right forest ends among) in

@@ -1,20 +1,26 @@
--- What a side comes to by servers that it gains: it knows them too, each of its servers keeps what it had, and nobody sees anything of it.
-use Rattle.std.proofs.Common.{◌≡◌, ℕ, Bool, true, false, cond, not, ◌&&◌, ◌||◌, Option, Some, None, is_some, List, [], ◌∷◌, ◌++◌, map, refl, sym, ◌∙◌, ap, if◌then◌else◌}
-use Rattle.std.specs.FinMap.{get}
-use Rattle.std.specs.List.{list_any}
+-- What a side comes to by servers that it gains: it knows them too, each of its servers keeps what it had, and nobody sees anything of it; and what it comes
+-- to by the lines of a burst: its room is another, and whoever is killed has no client there.
+use Rattle.std.proofs.Common.{◌≡◌, ℕ, Bool, true, false, cond, not, ◌&&◌, ◌||◌, Option, Some, None, is_some, List, [], ◌∷◌, ◌++◌, map, refl, sym, ◌∙◌, ap, append_assoc, if◌then◌else◌}
+use Rattle.std.specs.FinMap.{get, retain_keys}
+use Rattle.std.specs.List.{list_any, AllByRecursion}
 use Rattle.std.specs.Option.{option_map}
 use Rattle.irc_names.specs.TableLaws.{same_fold, one_fold, row-alter}
-use Rattle.irc_merge.specs.Deeds.{Deed, gains, shown_by}
+use Rattle.irc_merge.specs.Deeds.{Deed, does, gains, kills, brings, sets, tops, after_deed, after_deeds, shown_by}
 use Rattle.irc_relay.specs.Following.{all_done, all_seen}
 use Rattle.irc_relay.specs.Links.{Name, same, toward, distance}
+use Rattle.irc_room.specs.declared.effect.Effect.TheVariants.{AddUser}
 use Rattle.irc_room.specs.Room.{Room}
 use Rattle.irc_routes.specs.Known.{Known, is_itself, is_known, row_of, smallest_free, token_out}
 use Rattle.irc_routes.specs.declared.server_row.ServerRow.{ServerRow}
 use Rattle.irc_stage.specs.declared.clients.Client.{Client}
 use Rattle.irc_stage.specs.declared.clients.Client.TheVariants.{Registering, Registered}
+use Rattle.irc_stage.specs.EffectTold.{is_another}
+use Rattle.irc_stage.specs.RoomMachine.{Clients}
+use Rattle.irc_world.specs.World.{Hall}
 use Rattle.irc_follow.specs.Part.{Fixed, Part, client_sees, done, is_home_of, shown_at}
 use Rattle.irc_follow.specs.Says.{play}
 use Rattle.irc_follow.specs.Tree.{Tree, gained, gained_at, place_in, told_of, told_token}
+use Rattle.irc_items.proofs.LinkSides.{IsReadDeed}
 
 -- ---- what a server keeps
 
@@ -94,11 +100,11 @@ pub record HasGained (rows : List ServerRow) (before after : Part) : Type 0 wher
   pub keeps : (t : Name) → KeepsKnown (before.tree.routes t) (after.tree.routes t)
   pub elsewhere : (t : Name) → before.tree.here t ≡ false → after.tree.routes t ≡ before.tree.routes t
 
-or_none : (b : Bool) → b ≡ (b || false)
+pub or_none : (b : Bool) → b ≡ (b || false)
 or_none true = refl
 or_none false = refl
 
-or_in_turn : (a b c : Bool) → ((a || b) || c) ≡ (a || (b || c))
+pub or_in_turn : (a b c : Bool) → ((a || b) || c) ≡ (a || (b || c))
 or_in_turn true b c = refl
 or_in_turn false b c = refl
 
@@ -150,3 +156,54 @@ module _ (s : Fixed) (client : ℕ) where
   pub same_done : (deeds : List Deed) (w : Part) → all_done (play s client) w deeds ≡ all_done (play s 0) w deeds
   same_done [] w = refl
   same_done (deed ∷ deeds) w = same_done deeds (done s w deed)
+
+-- ---- deeds one after another
+
+module _ (s : Fixed) (client : ℕ) where
+  pub done_in_turn : (first later : List Deed) (w : Part)
+      → all_done (play s client) w (first ++ later) ≡ all_done (play s client) (all_done (play s client) w first) later
+  done_in_turn [] later w = refl
+  done_in_turn (deed ∷ first) later w = done_in_turn first later (done s w deed)
+
+  pub seen_in_turn : (t : Name) (first later : List Deed) (w : Part) → all_seen (play s client) t w (first ++ later)
+      ≡ all_seen (play s client) t w first ++ all_seen (play s client) t (all_done (play s client) w first) later
+  seen_in_turn t [] later w = refl
+  seen_in_turn t (deed ∷ first) later w =
+      ap (λ lines. shown_at s client t w deed ++ lines) (seen_in_turn t first later (done s w deed))
+      ∙ sym (append_assoc (shown_at s client t w deed) (all_seen (play s client) t (done s w deed) first)
+      (all_seen (play s client) t (all_done (play s client) (done s w deed) first) later))
+
+-- ---- the lines of a burst
+
+-- the clients that a deed spares
+abbrev pub clients_spared : Deed → Clients → Clients
+clients_spared (kills server nick) clients = retain_keys clients (is_another clients nick)
+clients_spared deed clients = clients
+
+abbrev pub clients_left : List Deed → Clients → Clients
+clients_left [] clients = clients
+clients_left (deed ∷ deeds) clients = clients_left deeds (clients_spared deed clients)
+
+-- a hall once these deeds are done there
+abbrev pub hall_left : List Deed → Hall → Hall
+hall_left deeds hall = record { clients = clients_left deeds hall.clients; room = after_deeds hall.room deeds }
+
+-- a side with another hall
+abbrev pub in_hall : Hall → Part → Part
+in_hall hall w = record w { hall = hall }
+
+pub read_deed_done : (s : Fixed) (own : Name) (deed : Deed) (w : Part) → IsReadDeed own deed → done s w deed ≡ in_hall (hall_left (deed ∷ []) w.hall) w
+unfolding done after_deed
+read_deed_done s own (does (AddUser user)) w read = refl
+read_deed_done s own (brings server channel members) w read = refl
+read_deed_done s own (sets server channel changes) w read = refl
+read_deed_done s own (tops server channel topic) w read = refl
+read_deed_done s own (kills server nick) w read = refl
+read_deed_done s own other w read = absurd read
+
+pub burst_done : (s : Fixed) (client : ℕ) (own : Name) (deeds : List Deed) (w : Part) → AllByRecursion (IsReadDeed own) deeds
+    → all_done (play s client) w deeds ≡ in_hall (hall_left deeds w.hall) w
+burst_done s client own [] w read = refl
+burst_done s client own (deed ∷ deeds) w read =
+    ap (λ v. all_done (play s client) v deeds) (read_deed_done s own deed w read.0)
+    ∙ burst_done s client own deeds (in_hall (hall_left (deed ∷ []) w.hall) w) read.1

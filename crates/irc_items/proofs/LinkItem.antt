@@ -1,9 +1,9 @@
--- A network is sound once a link is given, where nobody is registered on either side.
-use Rattle.std.proofs.Common.{◌≡◌, ℕ, ◌<◌, Bool, true, false, None, List, ◌∷◌, [], refl, sym, ap, subst, ◌∙◌, arith, if◌then◌else◌}
+-- A network is sound once a link is given, where no nickname is on both sides.
+use Rattle.std.proofs.Common.{◌≡◌, ℕ, ◌<◌, true, None, List, ◌∷◌, refl, sym, ap, subst, ◌∙◌, arith, if◌then◌else◌}
 use Rattle.irc_merge.specs.Deeds.{Deed}
 use Rattle.irc_relay.specs.Distances.{IsAmong}
 use Rattle.irc_relay.specs.Following.{all_done, all_seen, IsFollowing}
-use Rattle.irc_relay.specs.Links.{Name, Link, part, AreJoined, joined}
+use Rattle.irc_relay.specs.Links.{Name, Link, part, AreJoined}
 use Rattle.irc_relay.specs.Relay.{from_other_end, streams_from}
 use Rattle.irc_relay.proofs.TellingOn.{followed}
 use Rattle.irc_relay.proofs.TakingOut.{tests_tell}
@@ -16,7 +16,7 @@ use Rattle.irc_world.specs.World.{World}
 use Rattle.irc_world.specs.WorldHolds.{IsWorld, StepKeepsWorld}
 use Rattle.irc_follow.specs.AtRest.{part_of}
 use Rattle.irc_follow.specs.Fits.{Fits}
-use Rattle.irc_follow.specs.Part.{Fixed, Part, IsSoundPart}
+use Rattle.irc_follow.specs.Part.{Fixed, Part, is_home_of, IsSoundPart}
 use Rattle.irc_follow.specs.Says.{machine, play}
 use Rattle.irc_network.specs.Network.{Network, given, is_at_rest}
 use Rattle.irc_network.specs.Refusing.{fault_at_rest}
@@ -25,30 +25,30 @@ use Rattle.irc_items.specs.OneRoom.{IsOneRoom}
 use Rattle.irc_items.specs.Relayed.{relayed}
 use Rattle.irc_items.specs.SetUp.{routes_in, settings_of, view_at}
 use Rattle.irc_items.specs.Sound.{world_now, IsSound}
-use Rattle.irc_items.specs.Steady.{HasNobody}
-use Rattle.irc_items.proofs.GoodLines.{steady_follow, steady_terms}
-use Rattle.irc_items.proofs.Greetings.{IsKnownOfHandshakes}
-use Rattle.irc_items.proofs.LinkBegins.{Takes, at_near, at_far, behind_near, behind_far, apart_from_both, deeds, starts, takes, IsToldByLink}
+use Rattle.irc_items.proofs.Collisions.{answers_of}
+use Rattle.irc_items.proofs.GoodLines.{well_follow}
+use Rattle.irc_items.proofs.LinkBegins.{Takes, at_near, at_far, behind_near, behind_far, apart_from_both, deeds, starts, takes, terms_of_link, IsToldByLink}
 use Rattle.irc_items.proofs.LinkComing.{link_comes_to, ComesToLinked, IsKnownOfLinks, IsLinkedWorld}
-use Rattle.irc_items.proofs.LinkCount.{nobody_sees, told_counted}
+use Rattle.irc_items.proofs.LinkCount.{told_counted}
 use Rattle.irc_items.proofs.LinkGiven.{link_is_given, meeting}
+use Rattle.irc_items.proofs.LinkRoomTold.{AreRoomLaws}
+use Rattle.irc_items.proofs.LinkRooms.{agreed_so, rooms_meet, AreRooms}
 use Rattle.irc_items.proofs.LinkSide.{apart, covers, fixed_here, forest, meet, link_fixed, old_ends, right_here, IsLinkStep}
 use Rattle.irc_items.proofs.LinkSides.{deeds_of_link, routes_after, side_of}
 use Rattle.irc_items.proofs.LinkSound.{link_sound, AreLinkLaws, ComesToOne}
-use Rattle.irc_items.proofs.LinkTold.{far_lines, near_lines, told_by_link}
+use Rattle.irc_items.proofs.LinkTold.{far_answered, far_lines, near_answered, near_lines, told_by_link}
 use Rattle.irc_items.proofs.SetUpFacts.{servers_named}
 
 pub record AreLinkItemLaws : Type 0 where
   pub link : AreLinkLaws
-  pub handshakes : IsKnownOfHandshakes
+  pub rooms : AreRoomLaws
   pub links : IsKnownOfLinks
   pub kept : ServedKeepsItsSetting
   pub step_keeps : StepKeepsWorld
   pub refusals : RefusalsAreTheWorlds
 
 module _ (laws : AreLinkItemLaws) (net : Network) (sound : IsSound net) (rest : is_at_rest net ≡ true) (one : IsOneRoom net)
-    (holds : IsWorld (settings_of net) (world_now net)) (near far : Name) (taken : fault_at_rest net (link near far) ≡ None)
-    (nobody_near : HasNobody ((world_now net).hall near).room) (nobody_far : HasNobody ((world_now net).hall far).room) where
+    (holds : IsWorld (settings_of net) (world_now net)) (near far : Name) (taken : fault_at_rest net (link near far) ≡ None) where
   abbrev new : Network
   new = (given (link near far) net).net
 
@@ -75,34 +75,40 @@ module _ (laws : AreLinkItemLaws) (net : Network) (sound : IsSound net) (rest : 
     one = one;
     meeting = meeting net sound.set_up near far taken;
     linked = link_is_given laws.kept net sound one near far (meeting net sound.set_up near far taken);
-    nobody_near = nobody_near;
-    nobody_far = nobody_far;
     holds = holds;
     holds_after = subst (λ st. IsWorld (settings_of net) st.world) stepped
         (laws.step_keeps (settings_of net) world (link near far) (servers_named net sound.set_up) holds tt not_refused);
     not_refused = not_refused;
   }
 
+  near_rooms : AreRooms world near far
+  near_rooms = rooms_meet (settings_of net) world holds near far (apart laws.link.after_link net new near far given_so)
+
+  far_rooms : AreRooms world far near
+  far_rooms = rooms_meet (settings_of net) world holds far near (λ j. apart laws.link.after_link net new near far given_so (sym j))
+
   tells : IsToldByLink laws.link.after_link laws.link.quiet net new near far given_so
-  tells = told_by_link laws.handshakes laws.link.after_link laws.link.quiet net new near far given_so
+  tells = told_by_link laws.rooms laws.link.after_link laws.link.quiet net new near far given_so
 
   deeds_near : (client : ℕ) (t : Name) → AreJoined world.links t near
-      → deeds laws.link.after_link laws.link.quiet net new near far given_so tells client t ≡ deeds_of_link s (routes_in net) near far
-  deeds_near client t j = ap (λ b. if b then deeds_of_link s (routes_in net) near far else deeds_of_link s (routes_in net) far near) ((tests_tell world.links t near t).1.1 j)
+      → deeds laws.link.after_link laws.link.quiet net new near far given_so tells client t ≡ deeds_of_link s world (routes_in net) near far
+  deeds_near client t j = ap (λ b. if b then deeds_of_link s world (routes_in net) near far else deeds_of_link s world (routes_in net) far near)
+      ((tests_tell world.links t near t).1.1 j)
 
   deeds_far : (client : ℕ) (t : Name) → AreJoined world.links t far
-      → deeds laws.link.after_link laws.link.quiet net new near far given_so tells client t ≡ deeds_of_link s (routes_in net) far near
-  deeds_far client t j = ap (λ b. if b then deeds_of_link s (routes_in net) near far else deeds_of_link s (routes_in net) far near)
+      → deeds laws.link.after_link laws.link.quiet net new near far given_so tells client t ≡ deeds_of_link s world (routes_in net) far near
+  deeds_far client t j = ap (λ b. if b then deeds_of_link s world (routes_in net) near far else deeds_of_link s world (routes_in net) far near)
       (same_unless (part world.links t) (part world.links near) (λ e. apart laws.link.after_link net new near far given_so (sym e ∙ j)))
 
   -- each end follows its side
   following : (t : Name) → 0 < s.streams.depth t
-      → IsFollowing (machine s 0) (play s 0) (steady_terms s (l ∷ world.links)) s.streams (relayed s new 0) (side_of s l world (routes_in net) t)
+      → IsFollowing (machine s 0) (play s 0) (terms_of_link net near far) s.streams (relayed s new 0) (side_of s l world (routes_in net) t)
       (deeds laws.link.after_link laws.link.quiet net new near far given_so tells 0 t) t
   following t below =
-      followed View (List ℕ) (List ℕ) Part Deed (machine s 0) (play s 0) (steady_terms s (l ∷ world.links)) (l ∷ world.links) (from_other_end world.links near far)
+      followed View (List ℕ) (List ℕ) Part Deed (machine s 0) (play s 0) (terms_of_link net near far) (l ∷ world.links) (from_other_end world.links near far)
       (forest laws.link.after_link net new near far given_so) (covers laws.link.after_link net new near far given_so)
-      (steady_follow laws.link.line s 0 (fixed_here laws.link.after_link net new near far given_so) (l ∷ world.links)) (relayed s new 0)
+      (well_follow laws.link.line s 0 (fixed_here laws.link.after_link net new near far given_so) (answers_of l) (link_made world near far).world
+      (routes_after s l world (routes_in net))) (relayed s new 0)
       (side_of s l world (routes_in net)) (deeds laws.link.after_link laws.link.quiet net new near far given_so tells 0)
       (starts laws.link.after_link laws.link.quiet net new near far given_so tells 0) t below
 
@@ -120,10 +126,10 @@ module _ (laws : AreLinkItemLaws) (net : Network) (sound : IsSound net) (rest : 
     apart = apart laws.link.after_link net new near far given_so;
     near_among = given_so.meeting.near_among;
     far_among = given_so.meeting.far_among;
-    streams = refl;
     right = right_here laws.link.after_link net new near far given_so;
-    nobody_near = nobody_near;
-    nobody_far = nobody_far;
+    agreed = agreed_so (settings_of net) world near far not_refused;
+    near_read = near_rooms.read;
+    far_read = far_rooms.read;
     after = given_so.holds_after;
     near_sound = subst (λ acts. IsSoundPart s (all_done (play s 0) (side_of s l world (routes_in net) near) acts)) (deeds_near 0 near refl) (following near near_below).fits.sound;
     far_sound = subst (λ acts. IsSoundPart s (all_done (play s 0) (side_of s l world (routes_in net) far) acts)) (deeds_far 0 far refl) (following far far_below).fits.sound;
@@ -153,14 +159,37 @@ module _ (laws : AreLinkItemLaws) (net : Network) (sound : IsSound net) (rest : 
       by (behind_far j _ _ _) = far_side j
       by (apart_from_both _ _ none) = absurd (let no : ⊥ = omega arith in no)
 
-  seen_so : (client : ℕ) (t : Name)
-      → all_seen (play s client) t (side_of s l world (routes_in net) t) (deeds laws.link.after_link laws.link.quiet net new near far given_so tells client t) ≡ []
-  seen_so client t = by (joined world.links t near) refl
+  abbrev lines : ℕ → List (List ℕ)
+  lines client = (link_made world near far).lines client
+
+  seen_so : (client : ℕ) (t : Name) → IsAmong net.names t → is_home_of s.homes t client ≡ true → 0 < s.streams.depth t
+      → all_seen (play s client) t (side_of s l world (routes_in net) t) (deeds laws.link.after_link laws.link.quiet net new near far given_so tells client t)
+      ≡ lines client
+  seen_so client t among home below = by (takes laws.link.after_link laws.link.quiet net new near far given_so tells client t)
     where
-      by : (b : Bool) → joined world.links t near ≡ b
-          → all_seen (play s client) t (side_of s l world (routes_in net) t) (if joined world.links t near then deeds_of_link s (routes_in net) near far else deeds_of_link s (routes_in net) far near) ≡ []
-      by true e = ap (λ b. all_seen (play s client) t (side_of s l world (routes_in net) t) (if b then deeds_of_link s (routes_in net) near far else deeds_of_link s (routes_in net) far near)) e ∙ comes_to.near_seen client t
-      by false e = ap (λ b. all_seen (play s client) t (side_of s l world (routes_in net) t) (if b then deeds_of_link s (routes_in net) near far else deeds_of_link s (routes_in net) far near)) e ∙ comes_to.far_seen client t
+      near_side : AreJoined world.links t near
+          → all_seen (play s client) t (side_of s l world (routes_in net) t)
+          (deeds laws.link.after_link laws.link.quiet net new near far given_so tells client t)
+          ≡ lines client
+      near_side j =
+          ap (λ acts. all_seen (play s client) t (side_of s l world (routes_in net) t) acts) (deeds_near client t j) ∙ comes_to.near_seen client t among j home
+
+      far_side : AreJoined world.links t far
+          → all_seen (play s client) t (side_of s l world (routes_in net) t)
+          (deeds laws.link.after_link laws.link.quiet net new near far given_so tells client t)
+          ≡ lines client
+      far_side j =
+          ap (λ acts. all_seen (play s client) t (side_of s l world (routes_in net) t) acts) (deeds_far client t j) ∙ comes_to.far_seen client t among j home
+
+      by : Takes laws.link.after_link laws.link.quiet net new near far given_so tells client t
+          → all_seen (play s client) t (side_of s l world (routes_in net) t)
+          (deeds laws.link.after_link laws.link.quiet net new near far given_so tells client t)
+          ≡ lines client
+      by (at_near e _) = near_side (ap (part world.links) e)
+      by (at_far e _) = far_side (ap (part world.links) e)
+      by (behind_near j _ _ _) = near_side j
+      by (behind_far j _ _ _) = far_side j
+      by (apart_from_both _ _ none) = absurd (let no : ⊥ = omega arith in no)
 
   one_so : ComesToOne laws.link net new near far given_so tells
   one_so = record {
@@ -170,9 +199,13 @@ module _ (laws : AreLinkItemLaws) (net : Network) (sound : IsSound net) (rest : 
         (subst (Fits (record s { streams = streams_from net.links (λ server. server) }) t (part_of s world (routes_in net) t))
         (sym (given_so.linked.other_views t (λ e. m (ap (part world.links) e)) (λ e. n (ap (part world.links) e)))) (one.servers t among));
     seen = seen_so;
-    nobody_sees = nobody_sees (settings_of net) world near far holds nobody_near nobody_far;
-    near_lines = near_lines laws.handshakes laws.link.after_link laws.link.quiet net new near far given_so;
-    far_lines = far_lines laws.handshakes laws.link.after_link laws.link.quiet net new near far given_so;
+    unseen = λ client t home m n. comes_to.aside_seen client t home m n;
+    near_lines = near_lines laws.rooms laws.link.after_link laws.link.quiet net new near far given_so;
+    far_lines = far_lines laws.rooms laws.link.after_link laws.link.quiet net new near far given_so;
+    near_answered = near_answered laws.rooms laws.link.after_link laws.link.quiet net new near far given_so;
+    far_answered = far_answered laws.rooms laws.link.after_link laws.link.quiet net new near far given_so;
+    near_read = near_rooms.few;
+    far_read = far_rooms.few;
     near_counted = told_counted net sound.set_up s refl world.links (routes_in net) near _ (right_here laws.link.after_link net new near far given_so) holds.sound.forest
         (old_ends laws.link.after_link net new near far given_so) given_so.meeting.near_among;
     far_counted = told_counted net sound.set_up s refl world.links (routes_in net) far _ (right_here laws.link.after_link net new near far given_so) holds.sound.forest

@@ -25,7 +25,6 @@ use Rattle.irc_items.specs.OneRoom.{at_rest_of, IsOneRoom}
 use Rattle.irc_items.specs.Relayed.{fixed_of}
 use Rattle.irc_items.specs.SetUp.{routes_in, settings_of, view_at}
 use Rattle.irc_items.specs.Sound.{world_now, IsSound}
-use Rattle.irc_items.specs.Steady.{HasNobody}
 use Rattle.irc_items.proofs.LinkGiven.{IsLinked, IsMeeting}
 use Rattle.irc_items.proofs.LinkSides.{side_of}
 use Rattle.irc_items.proofs.SetUpFacts.{fixed}
@@ -41,8 +40,6 @@ pub record IsLinkStep (net new : Network) (near far : Name) : Type 0 where
   pub one : IsOneRoom net
   pub meeting : IsMeeting net near far
   pub linked : IsLinked net new near far
-  pub nobody_near : HasNobody ((world_now net).hall near).room
-  pub nobody_far : HasNobody ((world_now net).hall far).room
   pub holds : IsWorld (settings_of net) (world_now net)
   pub holds_after : IsWorld (settings_of net) (link_made (world_now net) near far).world
   pub not_refused : refused (settings_of net) (world_now net) (link near far) ≡ None

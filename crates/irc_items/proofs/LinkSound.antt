@@ -1,18 +1,18 @@
--- A network is sound once a link is made between two parts in which nobody is registered.
+-- A network is sound once a link is made between two parts that share no nickname.
 use Rattle.std.proofs.Common.{◌≡◌, ◌≢◌, ◌⊎◌, ℕ, zero, suc, ◌+◌, ◌*◌, ◌-◌, ◌<◌, ◌≤◌, Bool, true, false, ◌||◌, Option, Some, None, is_some, List, [], ◌∷◌, ◌++◌, length, count_by, refl, sym, ap, subst, ◌∙◌, arith, inl, inr, unwrap_or, if◌then◌else◌}
 use Rattle.std.specs.FinMap.{get}
 use Rattle.std.specs.List.{slice_get, AllByRecursion}
-use Rattle.std.specs.Option.{option_map, option_map_or}
+use Rattle.std.specs.Option.{option_and_then, option_map, option_map_or}
 use Rattle.irc_handshake.specs.GreetingLines.{greeting, pass_parts}
 use Rattle.irc_line.specs.Messages.{line_text}
-use Rattle.std.proofs.lemmas.List.{length-map}
+use Rattle.std.proofs.lemmas.List.{length-append, length-map}
 use Rattle.std.proofs.Math.Nat.{mul-le-mul_right}
 use Rattle.irc_merge.specs.Deeds.{Deed, gains}
 use Rattle.irc_relay.specs.Distances.{IsAmong}
 use Rattle.irc_relay.specs.Following.{Follows, all_done, all_seen}
 use Rattle.irc_relay.specs.Lemmas.TellingNames.{same_when, same_unless}
 use Rattle.irc_relay.specs.Links.{Name, Link, part, has_ends, joined, linked, same, AreJoined, AreLinked, HasEnds}
-use Rattle.irc_relay.specs.Relay.{streams_from, from_other_end, coming, lines_coming, under_way, Covers}
+use Rattle.irc_relay.specs.Relay.{streams_from, from_other_end, coming, lines_coming, lines_pending, under_way, Covers}
 use Rattle.irc_relay.proofs.GoingToward.{linked_joined, linked_back}
 use Rattle.irc_relay.proofs.TakingOut.{tests_tell}
 use Rattle.irc_routes.specs.Known.{Known, servers_told}
@@ -29,7 +29,7 @@ use Rattle.irc_world.specs.WithinLimits.{IsItemWithin}
 use Rattle.irc_world.specs.World.{World, home_in, new_world}
 use Rattle.irc_follow.specs.AtRest.{part_of, AreRight}
 use Rattle.irc_follow.specs.Fits.{Fits, far_of}
-use Rattle.irc_follow.specs.Part.{Fixed, Part, number}
+use Rattle.irc_follow.specs.Part.{Fixed, Part, is_home_of, number}
 use Rattle.irc_follow.specs.Relinked.{PartAfterLink}
 use Rattle.irc_follow.specs.Says.{machine, play}
 use Rattle.irc_follow.specs.Tree.{place_in}
@@ -43,12 +43,13 @@ use Rattle.irc_items.specs.SetUp.{routes_in, settings_of, view_at}
 use Rattle.irc_items.specs.Sound.{most_now, most_of_last, owed_now, world_now, is_met, is_calling, AreCalled, HasCalled, IsPlaceOf, IsSound, IsSoundFrom, IsUnderWay}
 use Rattle.irc_items.proofs.Begun.{begins, none_at_source, IsBegun}
 use Rattle.irc_items.proofs.Counting.{part_counted, sides_most}
+use Rattle.irc_items.proofs.Collisions.{answers_of, introduces}
 use Rattle.irc_items.proofs.FewLines.{deeper_are_few, next_is_under_way}
-use Rattle.irc_items.proofs.GoodLines.{steady_follow, steady_terms}
+use Rattle.irc_items.proofs.GoodLines.{well_follow}
 use Rattle.irc_items.proofs.ItemsMore.{each_more, most_more, owed_more, taken_more, world_more}
-use Rattle.irc_items.proofs.LinkBegins.{Takes, at_near, at_far, behind_near, behind_far, apart_from_both, away, deeds, starts, takes, IsToldByLink}
+use Rattle.irc_items.proofs.LinkBegins.{Takes, at_near, at_far, behind_near, behind_far, apart_from_both, away, deeds, starts, taker_among, takes, terms_of_link, IsToldByLink}
 use Rattle.irc_items.proofs.LinkSide.{apart, covers, meet, fits_begun, fixed_here, forest, has_ends_so, link_fixed, not_ends, old_ends, as_before, IsLinkStep}
-use Rattle.irc_items.proofs.LinkSides.{deeds_of_link, routes_after, side_of}
+use Rattle.irc_items.proofs.LinkSides.{deeds_of_link, room_deeds, routes_after, server_deeds, side_of}
 use Rattle.irc_items.proofs.LinkWays.{link_lines, to_far, to_near}
 
 pub record AreLinkLaws : Type 0 where
@@ -56,6 +57,10 @@ pub record AreLinkLaws : Type 0 where
   pub quiet : RestStays
   pub line : IsKnownOfLine
   pub only_connected : OnlyConnectedReceive
+
+-- how many lines an end has for the other, but for those of the handshake
+abbrev told_by : Network → Name → ℕ → ℕ
+told_by net t way = length (servers_told (routes_in net t) way) + length (burst t ((world_now net).hall t).room)
 
 -- where the sides come to, and how many lines that takes
 pub record ComesToOne (laws : AreLinkLaws) (net new : Network) (near far : Name) (given : IsLinkStep net new near far)
@@ -71,48 +76,58 @@ pub record ComesToOne (laws : AreLinkLaws) (net new : Network) (near far : Name)
   pub others : (t : Name) → IsAmong net.names t → (AreJoined (world_now net).links t near → ⊥) → (AreJoined (world_now net).links t far → ⊥)
       → Fits (link_fixed net near far) t (part_of (link_fixed net near far) (link_made (world_now net) near far).world
       (routes_after (link_fixed net near far) (record { near = near; far = far }) (world_now net) (routes_in net)) t) (view_at new t)
-  pub seen : (client : ℕ) (t : Name)
+  pub seen : (client : ℕ) (t : Name) → IsAmong net.names t → is_home_of (link_fixed net near far).homes t client ≡ true
+      → 0 < (link_fixed net near far).streams.depth t
       → all_seen (play (link_fixed net near far) client) t (side_of (link_fixed net near far) (record { near = near; far = far }) (world_now net) (routes_in net) t)
-      (deeds laws.after_link laws.quiet net new near far given tells client t) ≡ []
-  pub nobody_sees : (client : ℕ) → (link_made (world_now net) near far).lines client ≡ []
+      (deeds laws.after_link laws.quiet net new near far given tells client t) ≡ (link_made (world_now net) near far).lines client
+  pub unseen : (client : ℕ) (t : Name) → is_home_of (link_fixed net near far).homes t client ≡ true → (AreJoined (world_now net).links t near → ⊥)
+      → (AreJoined (world_now net).links t far → ⊥) → (link_made (world_now net) near far).lines client ≡ []
   pub near_lines : length (link_lines laws.after_link laws.quiet net new near far given far near)
-      ≤ 2 + length (servers_told (routes_in net far) (number (link_fixed net near far) near))
+      ≤ 2 + told_by net far (number (link_fixed net near far) near)
   pub far_lines : length (link_lines laws.after_link laws.quiet net new near far given near far)
-      ≤ 2 + length (servers_told (routes_in net near) (number (link_fixed net near far) far))
+      ≤ 2 + told_by net near (number (link_fixed net near far) far)
+  pub near_answered : count_by introduces (link_lines laws.after_link laws.quiet net new near far given far near)
+      ≤ 1 + told_by net far (number (link_fixed net near far) near)
+  pub far_answered : count_by introduces (link_lines laws.after_link laws.quiet net new near far given near far)
+      ≤ 1 + told_by net near (number (link_fixed net near far) far)
+  pub near_read : length (room_deeds (world_now net) near far) ≤ length (burst far ((world_now net).hall far).room)
+  pub far_read : length (room_deeds (world_now net) far near) ≤ length (burst near ((world_now net).hall near).room)
   pub near_counted : length (servers_told (routes_in net near) (number (link_fixed net near far) far)) < part_size (settings_of net) (world_now net).links near
   pub far_counted : length (servers_told (routes_in net far) (number (link_fixed net near far) near)) < part_size (settings_of net) (world_now net).links far
 
--- one side, of p servers, is told by an end that tells of k servers besides itself, whose part has at least so many
-side_few : (k p q b : ℕ) → k < q → (2 + k) + (p - 1) * (1 + k) ≤ 1 + (1 + ((q - 1) + b)) * (p + 1)
-side_few k zero q b less = by (0 - 1) (omega arith)
-  where
-    by : (none : ℕ) → none ≡ 0 → (2 + k) + none * (1 + k) ≤ 1 + (1 + ((q - 1) + b)) * (0 + 1)
-    by none is = rw is (omega arith)
-side_few k (suc p) q b less = by ((q - 1) + b) (omega arith)
-  where
-    by : (m : ℕ) → k ≤ m → (2 + k) + (suc p - 1) * (1 + k) ≤ 1 + (1 + m) * (suc p + 1)
-    by m few =
-        let grows : (1 + k) * p ≤ (1 + m) * p = mul-le-mul_right p (omega arith) in
-        let less : suc p - 1 ≡ p = omega arith in
-        rw less (omega arith)
+-- one side, of p servers, is told by an end that has k lines besides its own, of which there are at most m; those that may be answered count twice
+side_few : (k p m : ℕ) → k ≤ m → ((2 + k) + p * (1 + k)) + (1 + k) ≤ 1 + (1 + m) * (suc p + 1)
+side_few k p m few =
+    let grows : (1 + k) * p ≤ (1 + m) * p = mul-le-mul_right p (omega arith) in
+    omega arith
 
-allowed : (sum k j count_near count_far near far b c : ℕ)
-    → sum ≤ ((2 + k) + (count_near - 1) * (1 + k)) + ((2 + j) + (count_far - 1) * (1 + j)) → near ≡ count_near → far ≡ count_far → j < near → k < far
-    → sum ≤ 2 + ((1 + ((near - 1) + b)) * (far + 1) + (1 + ((far - 1) + c)) * (near + 1))
-allowed sum k j count_near count_far near far b c most e f few_far few_near =
-    by count_near count_far e f most
-  where
-    added : (sum a b m n : ℕ) → sum ≤ a + b → a ≤ 1 + m → b ≤ 1 + n → sum ≤ 2 + (n + m)
-    added sum a b m n all one two = omega arith
+-- a list that has a server in it
+less_one : (p : ℕ) → 0 < p → p ≡ suc (p - 1)
+less_one p some = omega arith
 
-    by : (p q : ℕ) → near ≡ p → far ≡ q → sum ≤ ((2 + k) + (p - 1) * (1 + k)) + ((2 + j) + (q - 1) * (1 + j))
-        → sum ≤ 2 + ((1 + ((near - 1) + b)) * (far + 1) + (1 + ((far - 1) + c)) * (near + 1))
+allowed : (sum answered_near answered_far k j count_near count_far near far m n : ℕ)
+    → sum ≤ ((2 + k) + (count_near - 1) * (1 + k)) + ((2 + j) + (count_far - 1) * (1 + j)) → answered_near ≤ 1 + k → answered_far ≤ 1 + j
+    → near ≡ count_near → far ≡ count_far → 0 < near → 0 < far → j ≤ m → k ≤ n
+    → sum + answered_near + answered_far ≤ 2 + ((1 + m) * (far + 1) + (1 + n) * (near + 1))
+allowed sum answered_near answered_far k j count_near count_far near far m n most to_near to_far e f some_near some_far few_far few_near =
+    by (count_near - 1) (count_far - 1) (e ∙ less_one count_near (subst (λ p. 0 < p) e some_near)) (f ∙ less_one count_far (subst (λ p. 0 < p) f some_far)) most
+  where
+    added : (a b c d m n : ℕ) → sum ≤ a + b → a + c ≤ 1 + m → b + d ≤ 1 + n → answered_near ≤ c → answered_far ≤ d → sum + answered_near + answered_far ≤ 2 + (n + m)
+    added a b c d m n all one two three four = omega arith
+
+    by : (p q : ℕ) → near ≡ suc p → far ≡ suc q → sum ≤ ((2 + k) + p * (1 + k)) + ((2 + j) + q * (1 + j))
+        → sum + answered_near + answered_far ≤ 2 + ((1 + m) * (far + 1) + (1 + n) * (near + 1))
     by p q e f most =
-        let one : (2 + k) + (p - 1) * (1 + k) ≤ 1 + (1 + ((far - 1) + c)) * (p + 1) = side_few k p far c few_near in
-        let two : (2 + j) + (q - 1) * (1 + j) ≤ 1 + (1 + ((near - 1) + b)) * (q + 1) = side_few j q near b few_far in
-        added sum ((2 + k) + (p - 1) * (1 + k)) ((2 + j) + (q - 1) * (1 + j)) ((1 + ((far - 1) + c)) * (near + 1)) ((1 + ((near - 1) + b)) * (far + 1)) most
-        (subst (λ n. (2 + k) + (p - 1) * (1 + k) ≤ 1 + (1 + ((far - 1) + c)) * (n + 1)) (sym e) one)
-        (subst (λ n. (2 + j) + (q - 1) * (1 + j) ≤ 1 + (1 + ((near - 1) + b)) * (n + 1)) (sym f) two)
+        added ((2 + k) + p * (1 + k)) ((2 + j) + q * (1 + j)) (1 + k) (1 + j) ((1 + n) * (near + 1)) ((1 + m) * (far + 1)) most
+        (subst (λ r. ((2 + k) + p * (1 + k)) + (1 + k) ≤ 1 + (1 + n) * (r + 1)) (sym e) (side_few k p n few_near))
+        (subst (λ r. ((2 + j) + q * (1 + j)) + (1 + j) ≤ 1 + (1 + m) * (r + 1)) (sym f) (side_few j q m few_far)) to_near to_far
+
+some_more : {n p : ℕ} → n < p → 0 < p
+some_more less = omega (less, arith)
+
+-- fewer servers than there are, and all that a room has
+told_at_most : (servers room size : ℕ) → servers < size → servers + room ≤ (size - 1) + room
+told_at_most servers room size less = omega arith
 
 module _ (laws : AreLinkLaws) (net new : Network) (near far : Name) (given : IsLinkStep net new near far)
     (tells : IsToldByLink laws.after_link laws.quiet net new near far given) (comes : ComesToOne laws net new near far given tells) where
@@ -158,21 +173,35 @@ module _ (laws : AreLinkLaws) (net new : Network) (near far : Name) (given : IsL
         by (behind_far _ _ deep _) = absurd (let no : ⊥ = omega arith in no)
         by (apart_from_both m n _) = (m, n)
 
-    pub begun : IsBegun s after routes new client (owed_now net client) sides acts
+    abbrev lines : List (List ℕ)
+    lines = (link_made world near far).lines client
+
+    abbrev owed : List (List ℕ)
+    owed = owed_now net client ++ lines
+
+    -- whoever takes no lines is of another part
+    told_source : (t : Name) → is_home_of s.homes t client ≡ true → s.streams.depth t ≡ 0 → received_by new client ≡ owed
+    told_source t home none =
+        let apart = source_apart t none in
+        received_same ∙ sym (ap (λ more. owed_now net client ++ more) (comes.unseen client t home apart.0 apart.1) ∙ append_nil (owed_now net client))
+
+    pub begun : IsBegun s (answers_of l) after routes new client owed sides acts
     begun = record {
       starts = starts laws.after_link laws.quiet net new near far given tells client;
       away = away laws.after_link laws.quiet net new near far given tells client;
       at_source = λ t among none. comes.others t among (source_apart t none).0 (source_apart t none).1;
       comes_to = λ t view among below fits. comes.comes client t view among below fits;
-      told_source = λ t home none. received_same;
-      told = λ t home below. ap (λ lines. received_by new client ++ lines) (comes.seen client t) ∙ append_nil (received_by new client) ∙ received_same;
+      told_source = told_source;
+      told = λ t home below. ap (λ shown. shown ++ all_seen (play s client) t (sides t) (acts t)) received_same
+          ∙ ap (λ more. owed_now net client ++ more)
+          (comes.seen client t (taker_among laws.after_link laws.quiet net new near far given tells client t below) home below);
     }
 
-    follow : Follows (machine s client) (play s client) (steady_terms s (l ∷ world.links)) (l ∷ world.links) s.streams
-    follow = steady_follow laws.line s client (fixed_here laws.after_link net new near far given) (l ∷ world.links)
+    follow : Follows (machine s client) (play s client) (terms_of_link net near far) (l ∷ world.links) s.streams
+    follow = well_follow laws.line s client (fixed_here laws.after_link net new near far given) (answers_of l) after routes
 
-    pub link_under_way : IsUnderWay s after routes new client (owed_now net client)
-    link_under_way = begins s after source routes new client (owed_now net client) sides acts
+    pub link_under_way : IsUnderWay s (answers_of l) after routes new client owed
+    link_under_way = begins s (answers_of l) after source routes new client owed sides acts
         (forest laws.after_link net new near far given) (covers laws.after_link net new near far given) refl follow begun
 
     -- ---- few lines
@@ -180,24 +209,27 @@ module _ (laws : AreLinkLaws) (net new : Network) (near far : Name) (given : IsL
     abbrev count : Name → ℕ
     count t = length (coming (machine s client) s.streams (relayed s new client) t)
 
+    next_lines : (t : Name) → s.streams.depth t ≡ 1
+        → coming (machine s client) s.streams (relayed s new client) t ≡ under_way (relayed s new client) (s.streams.parent t) t
+    next_lines t one =
+        next_is_under_way s (answers_of l) after source routes new client owed sides acts
+        (forest laws.after_link net new near far given) (covers laws.after_link net new near far given) refl follow begun t one
+
     next : (t : Name) → s.streams.depth t ≡ 1 → count t ≡ length (under_way (relayed s new client) (s.streams.parent t) t)
-    next t one = ap (λ (lines : List (List ℕ)). length lines)
-        (next_is_under_way s after source routes new client (owed_now net client) sides acts
-        (forest laws.after_link net new near far given) (covers laws.after_link net new near far given) refl follow begun t one)
+    next t one = ap (λ (lines : List (List ℕ)). length lines) (next_lines t one)
 
     deeper : (t : Name) → 1 < s.streams.depth t → count t ≤ length (acts t)
-    deeper t deep = deeper_are_few s after source routes new client (owed_now net client) sides acts
+    deeper t deep = deeper_are_few s (answers_of l) after source routes new client owed sides acts
         (forest laws.after_link net new near far given) (covers laws.after_link net new near far given) refl follow begun t deep
 
     none_at : (t : Name) → s.streams.depth t ≡ 0 → count t ≡ 0
     none_at t none = ap (λ (lines : List (List ℕ)). length lines) (none_at_source (machine s client) s.streams (relayed s new client) t none)
 
-    -- how many servers one end tells the other of, but itself
     abbrev told_near : ℕ
-    told_near = length (servers_told (routes_in net far) (number s near))
+    told_near = told_by net far (number s near)
 
     abbrev told_far : ℕ
-    told_far = length (servers_told (routes_in net near) (number s far))
+    told_far = told_by net near (number s far)
 
     near_depth : s.streams.depth near ≡ 1
     near_depth = (meet laws.after_link net new near far given).near_depth
@@ -218,20 +250,23 @@ module _ (laws : AreLinkLaws) (net new : Network) (near far : Name) (given : IsL
         let few = comes.far_lines in
         omega arith
 
-    acts_near : (t : Name) → AreJoined world.links t near → length (acts t) ≡ 1 + told_near
-    acts_near t j = ap (λ b. length (if b then deeds_of_link s (routes_in net) near far else deeds_of_link s (routes_in net) far near)) ((tests_tell world.links t near t).1.1 j)
-        ∙ more (length-map (servers_told (routes_in net far) (number s near)) (λ r. gains r.uplink r.name r.info))
-      where
-        more : {a b : ℕ} → a ≡ b → suc a ≡ 1 + b
-        more e = omega arith
+    acts_near : (t : Name) → AreJoined world.links t near → length (acts t) ≤ 1 + told_near
+    acts_near t j =
+        let all = ap (λ b. length (if b then deeds_of_link s world (routes_in net) near far else deeds_of_link s world (routes_in net) far near))
+        ((tests_tell world.links t near t).1.1 j)
+        ∙ length-append (server_deeds s (routes_in net) near far) (room_deeds world near far) in
+        let servers = length-map (servers_told (routes_in net far) (number s near)) (λ r. gains r.uplink r.name r.info) in
+        let room = comes.near_read in
+        omega arith
 
-    acts_far : (t : Name) → AreJoined world.links t far → length (acts t) ≡ 1 + told_far
-    acts_far t j = ap (λ b. length (if b then deeds_of_link s (routes_in net) near far else deeds_of_link s (routes_in net) far near))
+    acts_far : (t : Name) → AreJoined world.links t far → length (acts t) ≤ 1 + told_far
+    acts_far t j =
+        let all = ap (λ b. length (if b then deeds_of_link s world (routes_in net) near far else deeds_of_link s world (routes_in net) far near))
         (same_unless (part world.links t) (part world.links near) (λ e. apart laws.after_link net new near far given (sym e ∙ j)))
-        ∙ more (length-map (servers_told (routes_in net near) (number s far)) (λ r. gains r.uplink r.name r.info))
-      where
-        more : {a b : ℕ} → a ≡ b → suc a ≡ 1 + b
-        more e = omega arith
+        ∙ length-append (server_deeds s (routes_in net) far near) (room_deeds world far near) in
+        let servers = length-map (servers_told (routes_in net near) (number s far)) (λ r. gains r.uplink r.name r.info) in
+        let room = comes.far_read in
+        omega arith
 
     near_others : (t : Name) → t ≢ near → joined world.links near t ≡ true → count t ≤ 1 + told_near
     near_others t two so = by (takes laws.after_link laws.quiet net new near far given tells client t)
@@ -272,7 +307,23 @@ module _ (laws : AreLinkLaws) (net new : Network) (near far : Name) (given : IsL
         by (behind_far k _ _ _) = absurd (off far n k)
         by (apart_from_both _ _ none) = none_at t none
 
-    few_come : lines_coming (machine s client) s.streams (relayed s new client) net.names ≤ most (settings_of net) world (link near far)
+    near_answered : count_by introduces (coming (machine s client) s.streams (relayed s new client) near) ≤ 1 + told_near
+    near_answered =
+        let same = ap (count_by introduces) (next_lines near near_depth
+        ∙ ap (λ p. under_way (relayed s new client) p near) (meet laws.after_link net new near far given).near_parent
+        ∙ to_near laws.after_link laws.quiet net new near far given client) in
+        let few = comes.near_answered in
+        omega arith
+
+    far_answered : count_by introduces (coming (machine s client) s.streams (relayed s new client) far) ≤ 1 + told_far
+    far_answered =
+        let same = ap (count_by introduces) (next_lines far (meet laws.after_link net new near far given).far_depth
+        ∙ ap (λ p. under_way (relayed s new client) p far) (meet laws.after_link net new near far given).far_parent
+        ∙ to_far laws.after_link laws.quiet net new near far given client) in
+        let few = comes.far_answered in
+        omega arith
+
+    few_come : lines_pending (machine s client) s.streams (relayed s new client) net.names introduces near far ≤ most (settings_of net) world (link near far)
     unfolding most
     few_come =
         let sum = sides_most net.names (joined world.links near) (joined world.links far) near far (2 + told_near) (1 + told_near) (2 + told_far) (1 + told_far) count
@@ -288,11 +339,19 @@ module _ (laws : AreLinkLaws) (net new : Network) (near far : Name) (given : IsL
           most = at_far_few;
           others = λ t among two so. far_others t two so;
         }) (λ t among m n. neither_none t m n) in
-        allowed (lines_coming (machine s client) s.streams (relayed s new client) net.names) told_near told_far
+        allowed (lines_coming (machine s client) s.streams (relayed s new client) net.names)
+        (count_by introduces (coming (machine s client) s.streams (relayed s new client) near))
+        (count_by introduces (coming (machine s client) s.streams (relayed s new client) far)) told_near told_far
         (count_by (joined world.links near) net.names) (count_by (joined world.links far) net.names)
         (part_size (settings_of net) world.links near) (part_size (settings_of net) world.links far)
-        (length (burst near (world.hall near).room)) (length (burst far (world.hall far).room)) sum
-        (part_counted net given.sound.set_up world.links near) (part_counted net given.sound.set_up world.links far) comes.near_counted comes.far_counted
+        (part_size (settings_of net) world.links near - 1 + length (burst near (world.hall near).room))
+        (part_size (settings_of net) world.links far - 1 + length (burst far (world.hall far).room)) sum near_answered far_answered
+        (part_counted net given.sound.set_up world.links near) (part_counted net given.sound.set_up world.links far)
+        (some_more comes.near_counted) (some_more comes.far_counted)
+        (told_at_most (length (servers_told (routes_in net near) (number s far))) (length (burst near (world.hall near).room))
+        (part_size (settings_of net) world.links near) comes.near_counted)
+        (told_at_most (length (servers_told (routes_in net far) (number s near))) (length (burst far (world.hall far).room))
+        (part_size (settings_of net) world.links far) comes.far_counted)
 
   -- ---- the network afterwards
 
@@ -319,25 +378,23 @@ module _ (laws : AreLinkLaws) (net new : Network) (near far : Name) (given : IsL
       ap (λ settings. world_of settings new.items) same_settings ∙ ap (λ items. world_of (settings_of net) items) given.linked.items
       ∙ world_more (settings_of net) net.items (link near far) ∙ ap (λ (st : Stepped). st.world) stepped
 
-  owed_is : (client : ℕ) → owed_now new client ≡ owed_now net client
+  owed_is : (client : ℕ) → owed_now new client ≡ owed_now net client ++ (link_made world near far).lines client
   owed_is client =
       ap (λ settings. owed_by_network settings new.items client) same_settings
       ∙ ap (λ items. owed_by_network (settings_of net) items client) given.linked.items
       ∙ owed_more (settings_of net) net.items (link near far) client
       ∙ ap (λ (st : Stepped). owed_now net client ++ st.lines client) stepped
-      ∙ ap (λ lines. owed_now net client ++ lines) (comes.nobody_sees client)
-      ∙ append_nil (owed_now net client)
 
   most_is : most_now new ≡ most (settings_of net) world (link near far)
   most_is =
       ap (λ settings. most_of_last settings new_world new.items) same_settings ∙ ap (λ items. most_of_last (settings_of net) new_world items) given.linked.items
       ∙ most_more (settings_of net) net.items (link near far)
 
-  few_now : (client : ℕ) → new.taken + lines_coming (machine s client) s.streams (relayed s new client) new.names ≤ most_now new
+  few_now : (client : ℕ) → new.taken + lines_pending (machine s client) s.streams (relayed s new client) new.names introduces near far ≤ most_now new
   few_now client =
       let here = few_come client in
       let none = given.linked.taken in
-      let names = ap (λ names. lines_coming (machine s client) s.streams (relayed s new client) names) given.linked.names in
+      let names = ap (λ names. lines_pending (machine s client) s.streams (relayed s new client) names introduces near far) given.linked.names in
       let most = most_is in
       omega arith
 
@@ -379,13 +436,13 @@ module _ (laws : AreLinkLaws) (net new : Network) (near far : Name) (given : IsL
       by (inr linked_so) = inl (is_met (met_on_side x y (old_ends laws.after_link net new near far given x y linked_so)
           (old_ends laws.after_link net new near far given y x (linked_back world.links x y linked_so)) linked_so))
 
-  coming_now : IsSoundFrom source routes new s
+  coming_now : IsSoundFrom source routes (answers_of l) new s
   coming_now = record {
     covers = subst (λ links. Covers links source) (sym same_links) (covers laws.after_link net new near far given);
     right = subst (λ links. AreRight s links routes) (sym same_links) comes.right;
     called = called;
-    under_way = λ client. subst (λ w. IsUnderWay s w routes new client (owed_now new client)) (sym world_is)
-        (subst (IsUnderWay s after routes new client) (sym (owed_is client)) (link_under_way client));
+    under_way = λ client. subst (λ w. IsUnderWay s (answers_of l) w routes new client (owed_now new client)) (sym world_is)
+        (subst (IsUnderWay s (answers_of l) after routes new client) (sym (owed_is client)) (link_under_way client));
     few = few_now;
   }
 
@@ -437,6 +494,19 @@ module _ (laws : AreLinkLaws) (net new : Network) (near far : Name) (given : IsL
       by false e false f = old (given.sound.to_servers x place
           (sym (ap is_some (given.linked.other_ways x place (λ n same. other far e same) (λ n same. other near f same))) ∙ is))
 
+  nobody_now : (client : ℕ) → home_in new.homes client ≡ None → owed_now new client ≡ []
+  nobody_now client none =
+      owed_is client
+      ∙ ap (λ more. owed_now net client ++ more) (sym (ap (λ (st : Stepped). st.lines client) stepped) ∙ lines_none)
+      ∙ ap (λ before. before ++ []) (given.sound.nobody client no_home)
+    where
+      no_home : home_in net.homes client ≡ None
+      no_home = ap (λ homes. home_in homes client) (sym given.linked.homes) ∙ none
+
+      lines_none : (step (settings_of net) world (link near far)).lines client ≡ []
+      lines_none = laws.only_connected (settings_of net) world (link near far) client given.holds.sound given.not_refused
+          (ap (option_and_then (λ home. get (world.hall home).clients client)) (ap (λ homes. home_in homes client) (sym given.sound.homes) ∙ no_home))
+
   pub link_sound : IsSound new
   link_sound = record {
     set_up = given.linked.set_up;
@@ -448,8 +518,9 @@ module _ (laws : AreLinkLaws) (net new : Network) (near far : Name) (given : IsL
     inboxes = ap (λ (boxes : List (List (List ℕ))). length boxes) given.linked.received ∙ given.sound.inboxes ∙ ap (λ (homes : List Name). length homes) (sym given.linked.homes);
     ways = ways_now;
     to_servers = to_servers_now;
-    nobody = λ client none. owed_is client ∙ given.sound.nobody client (ap (λ homes. home_in homes client) (sym given.linked.homes) ∙ none);
+    nobody = nobody_now;
     source = source;
     routes = routes;
-    coming = subst (IsSoundFrom source routes new) (sym fixed_same) coming_now;
+    asks = answers_of l;
+    coming = subst (IsSoundFrom source routes (answers_of l) new) (sym fixed_same) coming_now;
   }

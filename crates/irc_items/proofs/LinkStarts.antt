@@ -1,9 +1,11 @@
--- What one end of a new link tells the other, where nobody is registered on either side: the other's side comes to know the servers of this one, one by one.
-use Rattle.std.proofs.Common.{◌≡◌, ◌≢◌, ◌⊎◌, inl, inr, ℕ, ◌+◌, ◌<◌, suc, Bool, true, false, not, ◌&&◌, ◌||◌, Option, Some, None, Ok, Err, List, [], ◌∷◌, ◌++◌, is_some, length, map, nat_eq, refl, sym, ◌∙◌, ap, subst, arith, unwrap_or, option_map, if◌then◌else◌}
+-- What one end of a new link tells the other: the other's side comes to know the servers of this one, one by one, and then what its room has.
+use Rattle.std.proofs.Common.{count_by, ◌≤◌, ◌≡◌, ◌≢◌, ◌⊎◌, inl, inr, ℕ, ◌+◌, ◌<◌, suc, Bool, true, false, not, ◌&&◌, ◌||◌, Option, Some, None, Ok, Err, List, [], ◌∷◌, ◌++◌, is_some, length, map, nat_eq, refl, sym, ◌∙◌, ap, subst, arith, unwrap_or, option_map, if◌then◌else◌}
 use Rattle.std.proofs.lemmas.Bool.{eq-eqb}
-use Rattle.std.proofs.lemmas.List.{length-map}
+use Rattle.std.proofs.lemmas.List.{length-append, length-map}
+use Rattle.std.proofs.Math.Path.{fun_ext}
 use Rattle.std.specs.Cmp.Lexicographic.{bytes_decides}
 use Rattle.std.specs.FinMap.{get}
+use Rattle.std.specs.List.{list_any}
 use Rattle.std.specs.Option.{option_map_or}
 use Rattle.irc_batch.specs.declared.close_reason.CloseReason.TheVariants as reason
 use Rattle.irc_line.specs.Messages.{line_text}
@@ -15,12 +17,16 @@ use Rattle.irc_handshake.specs.Passwords.{is_password}
 use Rattle.irc_handshake.specs.Peers.{not_taken, refusal}
 use Rattle.irc_handshake.specs.declared.openings.Opening.TheVariants as opening
 use Rattle.irc_burst.specs.DeedsMeant.{a_server}
-use Rattle.irc_burst_lines.specs.BurstLines.{burst_parts}
+use Rattle.irc_burst_lines.specs.BurstLines.{burst_parts, is_near}
+use Rattle.irc_burst_lines.specs.DeedLines.{deed_parts}
 use Rattle.irc_link_reader.specs.Reader.{is_behind_link}
 use Rattle.irc_link_writer.specs.Written.{next_distance}
+use Rattle.irc_merge.specs.AsideInvitations.{BurstTellsNoInvitation}
+use Rattle.irc_merge.specs.Bursts.{burst}
 use Rattle.irc_merge.specs.Deeds.{Deed, gains}
+use Rattle.irc_merge.specs.Laws.{WholeSide}
 use Rattle.irc_relay.specs.Distances.{EndsAreAmong, IsAmong}
-use Rattle.irc_relay.specs.Following.{Tells, nothing, by_line, aside_line}
+use Rattle.irc_relay.specs.Following.{Tells, by_line, aside_line}
 use Rattle.irc_relay.specs.Lemmas.TellingNames.{Telling, alike, unlike, tell, same_when, same_unless}
 use Rattle.irc_relay.specs.Links.{Name, Link, part, joined, same, toward, distance, AreJoined, AreLinked, HasEnds, IsForest, IsNextHop}
 use Rattle.irc_relay.specs.Relay.{streams_from, from_other_end, TakesFrom}
@@ -28,7 +34,6 @@ use Rattle.irc_relay.proofs.GoingToward.{distance_back, distance_self, linked_jo
 use Rattle.irc_relay.proofs.ShortWays.{ways_fit_names}
 use Rattle.irc_relay.proofs.TakingOut.{tests_tell}
 use Rattle.irc_room.specs.Invitations.{of_home}
-use Rattle.irc_room.specs.Room.{IsWellFormed}
 use Rattle.irc_routes.specs.Info.{IsInfo}
 use Rattle.irc_routes.specs.Known.{Known, distance_of, is_full, is_itself, is_known, row_of, servers_told, smallest_free, token_in, token_out}
 use Rattle.irc_routes.specs.Known as of_known
@@ -36,7 +41,10 @@ use Rattle.irc_routes.specs.declared.server_row.ServerRow.{ServerRow}
 use Rattle.irc_stage.specs.View.{End, View, password_for}
 use Rattle.irc_deeds.specs.Heard.{heard, meets, met_unless, opened, tells}
 use Rattle.irc_deeds.specs.LinkServed.{opening_parts}
+use Rattle.irc_world.specs.Homes.{HomesPass}
+use Rattle.irc_world.specs.Stepping.{link_made}
 use Rattle.irc_world.specs.World.{Hall, World}
+use Rattle.irc_world.specs.WorldHolds.{IsWorld}
 use Rattle.irc_follow.specs.AtRest.{AreRight}
 use Rattle.irc_follow.specs.Fits.{Fits}
 use Rattle.irc_follow.specs.Part.{Fixed, Part, done, info_in, number, IsFixed, IsSoundPart}
@@ -50,12 +58,17 @@ use Rattle.irc_follow.proofs.ReadNext.{distance_at, link_of, shape_at}
 use Rattle.irc_follow.proofs.SaidGain.{said_gain_fits}
 use Rattle.irc_follow.proofs.SaidGainOn.{low_distance, low_number, low_token_number, or_true}
 use Rattle.irc_follow.proofs.TreeGains as tree_of
-use Rattle.irc_items.specs.Steady.{HasNobody}
-use Rattle.irc_items.proofs.GoodLines.{AsideSteady, IsWithinSide, SaysSteady, steady_terms}
+use Rattle.irc_items.specs.GoodLines.{Answering}
+use Rattle.irc_items.proofs.Collisions.{answers_of, count_but_first, introduces, pass_introduces_nobody}
+use Rattle.irc_items.proofs.GoodLines.{AsideWell, IsWithinSide, SaysWell, good_terms}
 use Rattle.irc_items.proofs.Greetings.{IsKnownOfHandshakes, heard_is}
-use Rattle.irc_items.proofs.LinkOver.{IsOver, over_link}
-use Rattle.irc_items.proofs.LinkSides.{deeds_of_link, side_of}
-use Rattle.irc_items.proofs.NobodyTold.{server_line, servers_alone}
+use Rattle.irc_items.proofs.LinkGains.{or_in_turn, or_none}
+use Rattle.irc_items.proofs.LinkOver.{over_link, way_over, IsOver}
+use Rattle.irc_items.proofs.LinkRooms.{AreRooms}
+use Rattle.irc_items.proofs.LinkServersTold.{told_are_that_side}
+use Rattle.irc_items.proofs.LinkSides.{deeds_of_link, room_deeds, routes_after, side_of}
+use Rattle.irc_items.proofs.BurstWritten.{burst_written, near_all, server_line}
+use Rattle.irc_items.proofs.MetEnds.{linked_as_itself}
 use Rattle.irc_items.proofs.PassLines.{pass_heard, pass_served, with_word, word_kept}
 use Rattle.irc_items.proofs.ServerLines.{IsNewTo, IsWritten, server_heard}
 use Rattle.irc_items.proofs.ToldFirst.{ComeInTurn, IsNext, come_in_turn}
@@ -69,8 +82,8 @@ pub record IsSideOfLink (s : Fixed) (l : Link) (world : World) (routes : Name �
   pub streams : s.streams ≡ streams_from (l ∷ world.links) (from_other_end world.links l.near l.far)
   pub forest : IsForest (l ∷ world.links)
   pub right : AreRight s world.links routes
-  pub nobody_there : HasNobody (world.hall b).room
-  pub well_there : IsWellFormed (world.hall b).room
+  pub holds : IsWorld s.settings world
+  pub rooms : AreRooms world t b
 
 -- the ends of one link
 same_ends : (l : Link) (x u t b : Name) → HasEnds l x u → HasEnds l t b → ((x ≡ t) × (u ≡ b)) ⊎ (x ≡ b)
@@ -79,30 +92,48 @@ same_ends l x u t b (inl (e, f)) (inr (g, h)) = inr (sym e ∙ g)
 same_ends l x u t b (inr (e, f)) (inl (g, h)) = inr (sym f ∙ h)
 same_ends l x u t b (inr (e, f)) (inr (g, h)) = inl (sym f ∙ h, sym e ∙ g)
 
-module _ (laws : IsKnownOfHandshakes) (s : Fixed) (l : Link) (world : World) (routes : Name → Known) (t b : Name) (is : IsSideOfLink s l world routes t b) where
+pub record IsKnownOfSides : Type 0 where
+  pub handshakes : IsKnownOfHandshakes
+  pub whole : WholeSide
+  pub untold : BurstTellsNoInvitation
+
+module _ (known : IsKnownOfSides) (s : Fixed) (l : Link) (world : World) (routes : Name → Known) (t b : Name) (is : IsSideOfLink s l world routes t b) where
+  abbrev laws : IsKnownOfHandshakes
+  laws = known.handshakes
+
   abbrev links : List Link
   links = world.links
 
-  abbrev forest : List Link
+  abbrev pub forest : List Link
   forest = l ∷ world.links
 
   abbrev info : Name → List ℕ
   info = info_in s.settings
 
-  over : IsOver l links s.streams t b
+  -- where both sides come to, and which lines may be answered on the way
+  abbrev pub linked_world : World
+  linked_world = (link_made world l.near l.far).world
+
+  abbrev pub linked_routes : Name → Known
+  linked_routes = routes_after s l world routes
+
+  abbrev pub answers : Answering
+  answers = answers_of l
+
+  pub over : IsOver l links s.streams t b
   over = subst (λ st. IsOver l links st t b) (sym is.streams) (over_link l links is.forest t b is.ends)
 
-  takes_b : TakesFrom s.streams t b
+  pub takes_b : TakesFrom s.streams t b
   takes_b = record { parent = over.parent; below = let one = over.depth in omega arith }
 
-  b_away : joined links b t ≡ false
+  pub b_away : joined links b t ≡ false
   b_away = by (joined links b t) refl
     where
       by : (c : Bool) → joined links b t ≡ c → c ≡ false
       by false e = refl
       by true e = absurd (over.apart (sym (joined_so links b t e)))
 
-  away : (x : Name) → AreJoined links b x → joined links x t ≡ false
+  pub away : (x : Name) → AreJoined links b x → joined links x t ≡ false
   away x j = by (joined links x t) refl
     where
       by : (c : Bool) → joined links x t ≡ c → c ≡ false
@@ -110,15 +141,11 @@ module _ (laws : IsKnownOfHandshakes) (s : Fixed) (l : Link) (world : World) (ro
       by true e = absurd (over.apart (sym (j ∙ joined_so links x t e)))
 
   -- the way to b's side is that by which lines come
-  way : (x : Name) → AreJoined links x t → (v : Name) → AreJoined links b v → toward forest x v ≡ s.streams.parent x
-  way x on v j = by (tell x t)
-    where
-      by : Telling x t → toward forest x v ≡ s.streams.parent x
-      by (alike z e) = over.over x v on j ∙ ap (λ c. if c then b else toward links x t) z ∙ sym (ap s.streams.parent e ∙ over.parent)
-      by (unlike z two) = over.over x v on j ∙ ap (λ c. if c then b else toward links x t) z ∙ sym (over.later x on two)
+  pub way : (x : Name) → AreJoined links x t → (v : Name) → AreJoined links b v → toward forest x v ≡ s.streams.parent x
+  way = way_over l links s.streams t b over
 
   -- this side, by what it knows
-  abbrev moment : (Name → Bool) → (Name → Known) → Hall → Part
+  abbrev pub moment : (Name → Bool) → (Name → Known) → Hall → Part
   moment knows known_at hall = record {
     tree = record { forest = forest; here = λ x. joined links x t; knows = knows; routes = known_at };
     hall = hall;
@@ -128,8 +155,12 @@ module _ (laws : IsKnownOfHandshakes) (s : Fixed) (l : Link) (world : World) (ro
     abbrev w : Part
     w = moment knows known_at hall
 
-    within : IsWithinSide s forest w
-    within = record { forest = refl; here = λ x p u here takes near two. by x p u (joined_so links x t here) takes two near }
+    pub within : IsWithinSide s forest w
+    within = record {
+      alike = λ x p here takes. linked_as_itself forest x;
+      here =
+          λ x p u here takes near two. by x p u (joined_so links x t here) takes two near;
+    }
       where
         by_ends : (x p u : Name) → AreJoined links x t → TakesFrom s.streams x p → u ≢ p → ((x ≡ t) × (u ≡ b)) ⊎ (x ≡ b) → joined links u t ≡ true
         by_ends x p u on takes two (inl (e, f)) = absurd (two (f ∙ sym over.parent ∙ ap s.streams.parent (sym e) ∙ takes.parent))
@@ -218,7 +249,7 @@ module _ (laws : IsKnownOfHandshakes) (s : Fixed) (l : Link) (world : World) (ro
               (is.fixed.servers.named b is.b_among)
               ∙ ap (λ o. met_unless o b (info b)) not_refused
 
-          pub b_says : SaysSteady s forest b t w view (gains t b (info b)) (line_text (greeting (routes b)))
+          pub b_says : SaysWell s answers linked_world linked_routes b t w view (gains t b (info b)) (line_text (greeting (routes b)))
           b_says = record {
             says = record {
               end = end;
@@ -227,7 +258,7 @@ module _ (laws : IsKnownOfHandshakes) (s : Fixed) (l : Link) (world : World) (ro
                   ∙ sym (ap (λ c. if c then meets b (info b) else tells (a_server t b (distance forest t b) (told_token w.tree b b) (info b) ∷ [])) (same_when b b refl));
               doable = b_doable;
             };
-            steady = tt;
+            may = tt;
             side = within;
           }
 
@@ -354,7 +385,7 @@ module _ (laws : IsKnownOfHandshakes) (s : Fixed) (l : Link) (world : World) (ro
             ∙ ap (λ c. if c then Some (if knows b then Some b else None) else None) ((tests_tell forest t b t).2.1 (inl is.ends))
             ∙ ap (λ c. Some (if c then Some b else None)) b_known)
 
-        pub r_says : SaysSteady s forest b t w view (gains r.uplink r.name r.info) (server_line (routes b) r)
+        pub r_says : SaysWell s answers linked_world linked_routes b t w view (gains r.uplink r.name r.info) (server_line (routes b) r)
         r_says = record {
           says = record {
             end = met.end;
@@ -365,14 +396,14 @@ module _ (laws : IsKnownOfHandshakes) (s : Fixed) (l : Link) (world : World) (ro
                 else tells (a_server r.uplink r.name away_from_t (told_token w.tree b r.name) r.info ∷ [])) (same_unless r.name b says_row.apart));
             doable = r_doable;
           };
-          steady = tt;
+          may = tt;
           side = within;
         }
 
   -- ---- line by line
 
-  abbrev AreTold : ℕ → Part → View → List Deed → List (List ℕ) → Type 0
-  AreTold client part view deeds lines = Tells (machine s client) (play s client) (steady_terms s forest) b t part view deeds lines
+  abbrev pub AreTold : ℕ → Part → View → List Deed → List (List ℕ) → Type 0
+  AreTold client part view deeds lines = Tells (machine s client) (play s client) (good_terms s answers linked_world linked_routes) b t part view deeds lines
 
   -- what b keeps stays
   b_stays : (knows : Name → Bool) (known_at : Name → Known) (hall : Hall) (uplink name words : List ℕ) → known_at b ≡ routes b
@@ -381,18 +412,39 @@ module _ (laws : IsKnownOfHandshakes) (s : Fixed) (l : Link) (world : World) (ro
       ap (λ c. if c && not (is_known (known_at b) name) then told_of s.names (moment knows known_at hall).tree uplink name words b else known_at b)
       b_away ∙ at_b
 
+  -- which servers are known, once these are
+  abbrev knows_also : (Name → Bool) → List ServerRow → Name → Bool
+  knows_also knows rows x = knows x || list_any (λ (r : ServerRow). same x r.name) rows
+
+  -- what is told behind the servers, and of which deeds
+  abbrev pub IsToldThen : ℕ → (Name → Bool) → Hall → List Deed → List (List ℕ) → Type 0
+  IsToldThen client knows hall deeds lines =
+      (known_at : Name → Known) (view : View) → known_at b ≡ routes b → Fits s t (moment knows known_at hall) view
+      → AreTold client (moment knows known_at hall) view deeds lines
+
   tell_rows : (client : ℕ) (rows : List ServerRow) (knows : Name → Bool) (known_at : Name → Known) (hall : Hall) (view : View) → known_at b ≡ routes b
       → knows b ≡ true → Fits s t (moment knows known_at hall) view → ComeInTurn (routes b) knows rows
-      → AreTold client (moment knows known_at hall) view (map (λ (r : ServerRow). gains r.uplink r.name r.info) rows) (map (server_line (routes b)) rows)
+      → (deeds : List Deed) (lines : List (List ℕ)) → IsToldThen client (knows_also knows rows) hall deeds lines
+      → AreTold client (moment knows known_at hall) view (map (λ (r : ServerRow). gains r.uplink r.name r.info) rows ++ deeds)
+      (map (server_line (routes b)) rows ++ lines)
   unfolding done
-  tell_rows client [] knows known_at hall view at_b b_known fits next = nothing
-  tell_rows client (r ∷ rows) knows known_at hall view at_b b_known fits next =
+  tell_rows client [] knows known_at hall view at_b b_known fits next deeds lines more =
+      subst (λ now. AreTold client (moment now known_at hall) view deeds lines) none_more
+      (more known_at view at_b (subst (λ now. Fits s t (moment now known_at hall) view) (sym none_more) fits))
+    where
+      none_more : knows_also knows [] ≡ knows
+      none_more = fun_ext (λ x. sym (or_none (knows x)))
+  tell_rows client (r ∷ rows) knows known_at hall view at_b b_known fits next deeds lines more =
       let says = r_says knows known_at hall view fits at_b b_known r next.0 in
       by_line says
       (tell_rows client rows (λ x. knows x || same x r.name) (gained_at s.names (moment knows known_at hall).tree r.uplink r.name r.info) hall
       (asked s b view (server_line (routes b) r)).view (b_stays knows known_at hall r.uplink r.name r.info at_b)
       (ap (λ c. c || same b r.name) b_known)
-      (said_gain_fits s is.fixed b t (moment knows known_at hall) view takes_b fits r.uplink r.name r.info (server_line (routes b) r) says.says) next.1)
+      (said_gain_fits s is.fixed b t (moment knows known_at hall) view takes_b fits r.uplink r.name r.info (server_line (routes b) r) says.says) next.1
+      deeds lines (subst (λ now. IsToldThen client now hall deeds lines) one_more more))
+    where
+      one_more : knows_also knows (r ∷ rows) ≡ knows_also (λ x. knows x || same x r.name) rows
+      one_more = fun_ext (λ x. sym (or_in_turn (knows x) (same x r.name) (list_any (λ (q : ServerRow). same x q.name) rows)))
 
   abbrev knows_first : Name → Bool
   knows_first x = joined links x t
@@ -406,60 +458,98 @@ module _ (laws : IsKnownOfHandshakes) (s : Fixed) (l : Link) (world : World) (ro
   abbrev server_lines : List (List ℕ)
   server_lines = map (server_line (routes b)) (servers_told (routes b) (number s t))
 
+  -- each server of both sides is known
+  abbrev pub knows_all : Name → Bool
+  knows_all x = joined links x t || joined links x b
+
+  abbrev pub room_lines : List (List ℕ)
+  room_lines = map line_text (map (deed_parts (of_home b (world.hall b).room) (routes b)) (burst b (world.hall b).room))
+
   from_greeting : (client : ℕ) (view : View) (word : List ℕ) (end : End) → Fits s t first view → password_for view b ≡ Some word
       → get view.ends (number s b) ≡ Some end → end.far ≡ None → end.password ≡ Some word
-      → AreTold client first view (deeds_of_link s routes t b) (greeting_line ∷ server_lines)
+      → IsToldThen client knows_all (world.hall t) (room_deeds world t b) room_lines
+      → AreTold client first view (deeds_of_link s world routes t b) (greeting_line ∷ (server_lines ++ room_lines))
   unfolding done
-  from_greeting client view word end fits kept is_end not_met given =
+  from_greeting client view word end fits kept is_end not_met given more =
       let says = b_says knows_first routes (world.hall t) view fits refl (away b refl) word kept end is_end not_met given in
       by_line says
       (tell_rows client (servers_told (routes b) (number s t)) (λ x. joined links x t || same x b) (gained_at s.names first.tree t b (info b)) (world.hall t)
       (asked s b view greeting_line).view (b_stays knows_first routes (world.hall t) t b (info b) refl) b_known
       (said_gain_fits s is.fixed b t first view takes_b fits t b (info b) greeting_line says.says)
-      (come_in_turn s links routes b is.forest.1 is.right is.b_among (λ x y near. fits.sound.tree.ends x y (inr near)) t is.t_among over.apart
+      (come_in_turn s links routes b is.forest.1 is.right is.b_among ends_there t is.t_among over.apart
       (λ x. joined links x t || same x b) b_known
-      (λ x j two. ap (λ c. c || same x b) (away x (sym j)) ∙ same_unless x b two)))
+      (λ x j two. ap (λ c. c || same x b) (away x (sym j)) ∙ same_unless x b two))
+      (room_deeds world t b) room_lines (subst (λ now. IsToldThen client now (world.hall t) (room_deeds world t b) room_lines) (sym all_known) more))
     where
+      ends_there : EndsAreAmong s.names links
+      ends_there x y near = fits.sound.tree.ends x y (inr near)
+
       b_known : (joined links b t || same b b) ≡ true
       b_known = ap (λ c. joined links b t || c) (same_when b b refl) ∙ or_true (joined links b t)
+
+      all_known : knows_also (λ x. joined links x t || same x b) (servers_told (routes b) (number s t)) ≡ knows_all
+      all_known = fun_ext (λ x.
+          or_in_turn (joined links x t) (same x b) (list_any (λ (q : ServerRow). same x q.name) (servers_told (routes b) (number s t)))
+          ∙ ap (λ c. joined links x t || c) (told_are_that_side s links routes b t x is.forest.1 ends_there is.right is.b_among (λ j. over.apart (sym j))))
 
   module _ (view other : View) (fits : Fits s t (side_of s l world routes t) view) (other_routes : other.routes ≡ routes b)
       (other_room : other.room ≡ of_home b (world.hall b).room) (word : List ℕ) (is_word : is_password word ≡ true) where
     abbrev pub told_lines : List (List ℕ)
     told_lines = map line_text (opening_parts other t ++ burst_parts other.room other.routes (number s t))
 
-    burst_is : map line_text (burst_parts other.room other.routes (number s t)) ≡ server_lines
+    all_near : HomesPass (is_near (routes b) (number s t)) (world.hall b).room
+    all_near fold user at = ap not (near_all s links routes b t is.forest.1 (λ x y near. fits.sound.tree.ends x y (inr near)) is.right is.b_among is.t_among
+        (λ j. over.apart (sym j)) user.home (joined_so links user.home b (is.holds.homes_joined b fold user at)))
+
+    burst_is : map line_text (burst_parts other.room other.routes (number s t)) ≡ server_lines ++ room_lines
     burst_is =
         ap (λ room. map line_text (burst_parts room other.routes (number s t))) other_room
         ∙ ap (λ k. map line_text (burst_parts (of_home b (world.hall b).room) k (number s t))) other_routes
-        ∙ servers_alone b (world.hall b).room (routes b) (number s t) is.well_there is.nobody_there
+        ∙ burst_written known.whole known.untold b (world.hall b).room (routes b) (number s t) (is.holds.sound.well_formed b)
+        (is.right.named b is.b_among) all_near
 
-    lines_are : password_for other t ≡ Some word → told_lines ≡ line_text (pass_parts word) ∷ greeting_line ∷ server_lines
+    lines_are : password_for other t ≡ Some word → told_lines ≡ line_text (pass_parts word) ∷ greeting_line ∷ (server_lines ++ room_lines)
     lines_are kept =
         ap (λ o. line_text (pass_parts (unwrap_or o [])) ∷ line_text (greeting other.routes) ∷ map line_text (burst_parts other.room other.routes (number s t))) kept
         ∙ ap (λ k. line_text (pass_parts word) ∷ line_text (greeting k) ∷ map line_text (burst_parts other.room other.routes (number s t))) other_routes
         ∙ ap (λ lines. line_text (pass_parts word) ∷ greeting_line ∷ lines) burst_is
 
-    pub lines_of_link : password_for other t ≡ Some word → length told_lines ≡ 2 + length (servers_told (routes b) (number s t))
+    pub lines_of_link : password_for other t ≡ Some word
+        → length told_lines ≡ 2 + (length (servers_told (routes b) (number s t)) + length (burst b (world.hall b).room))
     lines_of_link kept =
-        ap length (lines_are kept)
-        ∙ (let same_long = length-map (servers_told (routes b) (number s t)) (server_line (routes b)) in omega arith)
+        let all = ap length (lines_are kept) in
+        let two = length-append server_lines room_lines in
+        let servers = length-map (servers_told (routes b) (number s t)) (server_line (routes b)) in
+        let written = length-map (map (deed_parts (of_home b (world.hall b).room) (routes b)) (burst b (world.hall b).room)) line_text in
+        let room = length-map (burst b (world.hall b).room) (deed_parts (of_home b (world.hall b).room) (routes b)) in
+        omega arith
 
     abbrev pass_line : List ℕ
     pass_line = line_text (pass_parts word)
 
+    -- PASS is not answered
+    pub answered_of_link : password_for other t ≡ Some word
+        → count_by introduces told_lines ≤ 1 + (length (servers_told (routes b) (number s t)) + length (burst b (world.hall b).room))
+    answered_of_link kept =
+        let all = lines_of_link kept in
+        let lines = ap length (lines_are kept) in
+        let same = ap (count_by introduces) (lines_are kept) in
+        let few = count_but_first introduces pass_line (greeting_line ∷ (server_lines ++ room_lines)) (pass_introduces_nobody word) in
+        omega arith
+
     pub link_tells : (client : ℕ) → password_for view b ≡ Some word → password_for other t ≡ Some word → (end : End)
         → get view.ends (number s b) ≡ Some end → end.far ≡ None → end.password ≡ None
-        → AreTold client (side_of s l world routes t) view (deeds_of_link s routes t b) told_lines
-    link_tells client kept other_kept end is_end not_met no_word =
-        subst (AreTold client first view (deeds_of_link s routes t b)) (sym (lines_are other_kept)) (aside_line aside (
+        → IsToldThen client knows_all (world.hall t) (room_deeds world t b) room_lines
+        → AreTold client (side_of s l world routes t) view (deeds_of_link s world routes t b) told_lines
+    link_tells client kept other_kept end is_end not_met no_word more =
+        subst (AreTold client first view (deeds_of_link s world routes t b)) (sym (lines_are other_kept)) (aside_line aside (
         from_greeting client (asked s b view pass_line).view word (record end { password = Some word }) (aside_stays s b t first view pass_line fits aside.aside).fits
         (ap (λ (v : View). password_for v b) after ∙ kept)
         (ap (λ (v : View). get v.ends (number s b)) after ∙ word_kept laws word is_word view (number s b) end not_met no_word)
-        not_met refl
+        not_met refl more
         ))
       where
-        aside : AsideSteady s forest b t first view pass_line
+        aside : AsideWell s linked_world b t first view pass_line
         aside = record {
           aside = record {
             end = end;

@@ -1,6 +1,8 @@
--- One end's side of a new link, once it knows the other: it is joined to it, and what each of its servers keeps is right.
+-- One end's side of a new link, once it knows the other: it is joined to it, what each of its servers keeps is right, its room has what the other's has, and
+-- whoever is killed has no client there.
 use Rattle.std.proofs.Common.{◌≡◌, ℕ, ◌≤◌, not, ◌&&◌, ◌||◌, Some, None, List, ◌∷◌, refl, sym, ◌∙◌, ap, subst, if◌then◌else◌}
 use Rattle.std.proofs.Math.Path.{fun_ext}
+use Rattle.std.specs.List.{AllByRecursion}
 use Rattle.std.specs.Option.{option_map}
 use Rattle.irc_relay.specs.Distances.{EndsAreAmong, IsAmong}
 use Rattle.irc_relay.specs.Following.{all_done}
@@ -18,8 +20,8 @@ use Rattle.irc_follow.specs.Says.{play}
 use Rattle.irc_follow.specs.Tree.{place_in, shape, shape_in}
 use Rattle.irc_follow.proofs.BehindLinks.{joined_test}
 use Rattle.irc_items.proofs.LinkEnds.{AreEnds}
-use Rattle.irc_items.proofs.LinkGains.{HasGained, KeepsKnown, all_gained, same_done}
-use Rattle.irc_items.proofs.LinkSides.{deeds_of_link, side_after, side_of}
+use Rattle.irc_items.proofs.LinkGains.{HasGained, KeepsKnown, all_gained, burst_done, done_in_turn, hall_left, same_done}
+use Rattle.irc_items.proofs.LinkSides.{IsReadDeed, deeds_of_link, room_deeds, server_deeds, side_after, side_of}
 use Rattle.irc_items.proofs.LinkServersTold.{told_are_that_side}
 
 -- the servers that the side of t is told of, by b and of it
@@ -41,9 +43,9 @@ module _ (s : Fixed) (l : Link) (world : World) (routes : Name → Known) (a b :
   abbrev routes_now : Name → Known
   routes_now = (side_after s l world routes a b).tree.routes
 
-  -- that side
-  abbrev pub linked_side : Part
-  linked_side = record {
+  -- that side, once it knows the other's servers, and none of their users yet
+  abbrev met_side : Part
+  met_side = record {
     tree = record {
       forest = l ∷ world.links;
       here = λ x. joined world.links x a;
@@ -51,6 +53,13 @@ module _ (s : Fixed) (l : Link) (world : World) (routes : Name → Known) (a b :
       routes = routes_now;
     };
     hall = world.hall a;
+  }
+
+  -- and once it has read all that the other tells
+  abbrev pub linked_side : Part
+  linked_side = record {
+    tree = met_side.tree;
+    hall = hall_left (room_deeds world a b) (world.hall a);
   }
 
   side_gained : HasGained (told_rows s routes a b) (side_of s l world routes a) (side_after s l world routes a b)
@@ -82,7 +91,7 @@ module _ (s : Fixed) (l : Link) (world : World) (routes : Name → Known) (a b :
         side_gained.knows x
         ∙ ap (λ c. joined world.links x a || c) (told_are_that_side s world.links routes b a x forest ends right among are_ends.apart)
 
-    pub side_is : side_after s l world routes a b ≡ linked_side
+    side_is : side_after s l world routes a b ≡ met_side
     side_is = λ i. record {
       tree = record {
         forest = side_gained.forest i;
@@ -93,40 +102,45 @@ module _ (s : Fixed) (l : Link) (world : World) (routes : Name → Known) (a b :
       hall = side_gained.hall i;
     }
 
-    -- what fits the side after all deeds
-    pub fits_side : (client : ℕ) (t : Name) (view : View) → AreJoined world.links t a → world.hall t ≡ world.hall a
-        → Fits s t (all_done (play s client) (side_of s l world routes t) (deeds_of_link s routes a b)) view → Fits s t linked_side view
-    fits_side client t view here one_hall fits =
-        subst (λ w. Fits s t w view)
-        (ap (λ w. all_done (play s client) w (deeds_of_link s routes a b)) (side_alike t here one_hall)
-        ∙ same_done s client (deeds_of_link s routes a b) (side_of s l world routes a)
-        ∙ side_is)
-        fits
+    module _ (read : AllByRecursion (IsReadDeed a) (room_deeds world a b)) where
+      side_comes : (client : ℕ) → all_done (play s client) (side_of s l world routes a) (deeds_of_link s world routes a b) ≡ linked_side
+      side_comes client =
+          done_in_turn s client (server_deeds s routes a b) (room_deeds world a b) (side_of s l world routes a)
+          ∙ ap (λ w. all_done (play s client) w (room_deeds world a b)) (same_done s client (server_deeds s routes a b) (side_of s l world routes a) ∙ side_is)
+          ∙ burst_done s client a (room_deeds world a b) met_side read
 
-    module _ (sound : IsSoundPart s (side_after s l world routes a b)) where
-      pub side_sound : IsSoundPart s linked_side
-      side_sound = subst (IsSoundPart s) side_is sound
+      -- what fits the side after all deeds
+      pub fits_side : (client : ℕ) (t : Name) (view : View) → AreJoined world.links t a → world.hall t ≡ world.hall a
+          → Fits s t (all_done (play s client) (side_of s l world routes t) (deeds_of_link s world routes a b)) view → Fits s t linked_side view
+      fits_side client t view here one_hall fits =
+          subst (λ w. Fits s t w view)
+          (ap (λ w. all_done (play s client) w (deeds_of_link s world routes a b)) (side_alike t here one_hall) ∙ side_comes client)
+          fits
 
-      pub side_right : (t : Name) → IsAmong s.names t → AreJoined world.links t a → IsRightAt s (l ∷ world.links) t (routes_now t)
-      side_right t there here = record {
-        named = side_sound.tree.named t there;
-        described = (keeps_known t).info ∙ right.described t there;
-        created = (keeps_known t).created ∙ right.created t there;
-        rows = λ x. side_sound.tree.rows t x (joined_test world.links t a here)
-            ∙ ap (λ c. if c && not (same x t) then Some (shape_in s.names (info_in s.settings) (l ∷ world.links) t x) else None)
-            (sym (are_ends.joined x t here));
-        numbered = side_sound.tree.numbered t there;
-        low = λ x r is. side_sound.tree.low t x r (joined_test world.links t a here) is;
-      }
+      module _ (sound : IsSoundPart s (all_done (play s 0) (side_of s l world routes a) (deeds_of_link s world routes a b))) where
+        pub side_sound : IsSoundPart s linked_side
+        side_sound = subst (IsSoundPart s) (side_comes 0) sound
 
-      -- one number at both ends of a link, where the nearer one is of this side
-      pub side_tokens : (t u x : Name) (r : ServerRow) → AreJoined world.links u a → AreLinked (l ∷ world.links) t u → row_of (routes_now u) x ≡ Some r
-          → r.link ≡ place_in s.names t → token_out (routes_now t) x ≡ Some r.token
-      side_tokens t u x r here linked is link = side_sound.tree.tokens t u x r (joined_test world.links u a here) linked is link
+        pub side_right : (t : Name) → IsAmong s.names t → AreJoined world.links t a → IsRightAt s (l ∷ world.links) t (routes_now t)
+        side_right t there here = record {
+          named = side_sound.tree.named t there;
+          described = (keeps_known t).info ∙ right.described t there;
+          created = (keeps_known t).created ∙ right.created t there;
+          rows = λ x. side_sound.tree.rows t x (joined_test world.links t a here)
+              ∙ ap (λ c. if c && not (same x t) then Some (shape_in s.names (info_in s.settings) (l ∷ world.links) t x) else None)
+              (sym (are_ends.joined x t here));
+          numbered = side_sound.tree.numbered t there;
+          low = λ x r is. side_sound.tree.low t x r (joined_test world.links t a here) is;
+        }
 
-      -- across the new link: the other end had that number from the beginning
-      pub end_tokens : (x : Name) (r : ServerRow) → row_of (routes_now a) x ≡ Some r → r.link ≡ place_in s.names b
-          → token_out ((side_after s l world routes b a).tree.routes b) x ≡ Some r.token
-      end_tokens x r is link =
-          ((all_gained s 0 (told_rows s routes b a) (side_of s l world routes b)).keeps b).tokens x r.token
-          (ap (λ known. token_out known x) (sym (stays_elsewhere b are_ends.apart)) ∙ side_tokens b a x r refl are_ends.linked is link)
+        -- one number at both ends of a link, where the nearer one is of this side
+        pub side_tokens : (t u x : Name) (r : ServerRow) → AreJoined world.links u a → AreLinked (l ∷ world.links) t u → row_of (routes_now u) x ≡ Some r
+            → r.link ≡ place_in s.names t → token_out (routes_now t) x ≡ Some r.token
+        side_tokens t u x r here linked is link = side_sound.tree.tokens t u x r (joined_test world.links u a here) linked is link
+
+        -- across the new link: the other end had that number from the beginning
+        pub end_tokens : (x : Name) (r : ServerRow) → row_of (routes_now a) x ≡ Some r → r.link ≡ place_in s.names b
+            → token_out ((side_after s l world routes b a).tree.routes b) x ≡ Some r.token
+        end_tokens x r is link =
+            ((all_gained s 0 (told_rows s routes b a) (side_of s l world routes b)).keeps b).tokens x r.token
+            (ap (λ known. token_out known x) (sym (stays_elsewhere b are_ends.apart)) ∙ side_tokens b a x r refl are_ends.linked is link)

@@ -1,5 +1,5 @@
 -- The ends of the links of a server that fits its side: each is to a server that it is linked to, and to a known one nothing is owed.
-use Rattle.std.proofs.Common.{◌≡◌, ◌≢◌, inr, ℕ, Bool, true, false, not, ◌&&◌, ◌||◌, Option, Some, None, List, [], ◌∷◌, ◌++◌, filter, map, nat_eq, option_map, is_some, refl, sym, ◌∙◌, ap, subst, if◌then◌else◌}
+use Rattle.std.proofs.Common.{◌≡◌, ◌≢◌, inr, ℕ, Bool, true, false, not, ◌&&◌, ◌||◌, Option, Some, None, List, [], ◌∷◌, ◌++◌, append-nil, filter, map, nat_eq, option_map, is_some, refl, sym, ◌∙◌, ap, subst, if◌then◌else◌}
 use Rattle.std.proofs.lemmas.Bool.{eqb-true}
 use Rattle.std.specs.FinMap.{get}
 use Rattle.std.specs.List.{cons_option, filter_map, list_any}
@@ -31,7 +31,16 @@ use Rattle.irc_items.specs.GoodLines.{closings, IsGoodReply, PaysNothing}
 use Rattle.irc_items.specs.Relayed.{is_met_with, owed_at, owed_to}
 use Rattle.irc_items.proofs.PutOut.{is_on}
 
-module _ (s : Fixed) (links : List Link) (t : Name) (w : of_side.Part) (view : View) (fits : Fits s t w view) (forest : w.tree.forest ≡ links) where
+-- a server has the same neighbours by these links as by those
+pub record AreLinkedAlike (links forest : List Link) (t : Name) : Type 0 where
+  pub there : (u : Name) → AreLinked links t u → AreLinked forest t u
+  pub back : (u : Name) → AreLinked forest t u → AreLinked links t u
+
+pub linked_as_itself : (links : List Link) (t : Name) → AreLinkedAlike links links t
+linked_as_itself links t = record { there = λ u near. near; back = λ u near. near }
+
+module _ (s : Fixed) (links : List Link) (t : Name) (w : of_side.Part) (view : View) (fits : Fits s t w view)
+    (forest : AreLinkedAlike links w.tree.forest t) where
   sound : IsSoundPart s w
   sound = fits.sound
 
@@ -51,7 +60,7 @@ module _ (s : Fixed) (links : List Link) (t : Name) (w : of_side.Part) (view : V
       where
         by : (b : Bool) → linked w.tree.forest t u ≡ b → Some end.far ≡ (if b then Some (if w.tree.knows u then Some u else None) else None)
             → AreLinked links t u
-        by true is found = subst (λ those. AreLinked those t u) forest ((tests_tell w.tree.forest t u t).2.0 is)
+        by true is found = forest.back u ((tests_tell w.tree.forest t u t).2.0 is)
         by false is found = cc found
 
     pub far_is : end.far ≡ (if w.tree.knows u then Some u else None)
@@ -70,7 +79,7 @@ module _ (s : Fixed) (links : List Link) (t : Name) (w : of_side.Part) (view : V
         by false is found = cc (sym met ∙ ap is_some found)
 
   is_linked : (u : Name) → AreLinked links t u → AreLinked w.tree.forest t u
-  is_linked u there = subst (λ those. AreLinked those t u) (sym forest) there
+  is_linked u there = forest.there u there
 
   pub among_linked : (u : Name) → AreLinked links t u → IsAmong s.names u
   among_linked u there = sound.tree.ends u t (linked_back w.tree.forest t u (is_linked u there))
@@ -123,7 +132,7 @@ module _ (s : Fixed) (links : List Link) (t : Name) (w : of_side.Part) (view : V
       to_it known two alike_rows =
           let hop = next_hop w.tree.forest t home sound.tree.forest (sound.tree.joined t home fits.here known) (λ e. two (sym e)) in
           let hop_among = sound.tree.ends (toward w.tree.forest t home) t (linked_back w.tree.forest t (toward w.tree.forest t home) hop.linked) in
-          subst (λ those. AreLinked those t u) forest
+          forest.back u
           (subst (AreLinked w.tree.forest t)
           (one_place s.names (toward w.tree.forest t home) u hop_among (sym (ap (λ (x : Shape). x.link) alike_rows) ∙ is)) hop.linked)
 
@@ -178,20 +187,20 @@ pub record IsAnswer (s : Fixed) (links : List Link) (p t : Name) (view : View) (
   pub pays : lines_on (number s p) after.out ++ owed_to s after.view p ≡ owed_to s view p
 
 -- a side with the same links, that knows all that another does
-pub record IsLaterSide (links : List Link) (w later : of_side.Part) : Type 0 where
-  pub forest : later.tree.forest ≡ links
+pub record IsLaterSide (links : List Link) (t : Name) (w later : of_side.Part) : Type 0 where
+  pub forest : AreLinkedAlike links later.tree.forest t
   pub knows : (u : Name) → w.tree.knows u ≡ true → later.tree.knows u ≡ true
 
 -- the rest is so of each server that fits its side, before and after, where all linked servers but p are known
 pub good_reply : (s : Fixed) (links : List Link) (p t : Name) (w later : of_side.Part) (view : View) (after : Served)
     → Fits s t w view → Fits s t later after.view
-    → w.tree.forest ≡ links → ((u : Name) → AreLinked links t u → u ≢ p → w.tree.knows u ≡ true) → IsLaterSide links w later → IsAnswer s links p t view after
-    → IsGoodReply s links p t view after
+    → AreLinkedAlike links w.tree.forest t → ((u : Name) → AreLinked links t u → u ≢ p → w.tree.knows u ≡ true) → IsLaterSide links t w later → IsAnswer s links p t view after
+    → IsGoodReply s links p t view after []
 good_reply s links p t w later view after fits fits_after forest known stays answer = record {
   closes_none = answer.closes_none;
   to_linked = answer.to_linked;
   to_own = answer.to_own;
-  pays = answer.pays;
+  pays = answer.pays ∙ sym (append-nil (owed_to s view p));
   others = others;
   met_stay = met_stay;
 }

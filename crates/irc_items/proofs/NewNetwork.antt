@@ -9,7 +9,7 @@ use Rattle.irc_relay.specs.Distances.{IsAmong}
 use Rattle.irc_relay.specs.Following.{AllAlong}
 use Rattle.irc_relay.specs.Lemmas.TellingNames.{same_when}
 use Rattle.irc_relay.specs.Links.{Name, Link, part, same, linked, joined, distance, AreLinked}
-use Rattle.irc_relay.specs.Relay.{streams_from, after, coming, lines_coming, under_way, Covers}
+use Rattle.irc_relay.specs.Relay.{streams_from, after, coming, lines_coming, lines_pending, under_way, Covers}
 use Rattle.irc_names.specs.TableLaws.{row-each, same_table}
 use Rattle.irc_room.specs.Invitations.{inviting_only, is_at, of_home}
 use Rattle.irc_room.specs.Laws.{no_room}
@@ -31,12 +31,13 @@ use Rattle.irc_follow.specs.Says.{machine}
 use Rattle.irc_follow.specs.Tree.{place_in, shape, shape_in}
 use Rattle.irc_network.specs.Network.{Network, Site, place_of, site_at}
 use Rattle.irc_items.specs.Laws.{NewNetworkIsSound}
-use Rattle.irc_items.specs.GoodLines.{IsGoodLine}
+use Rattle.irc_items.specs.GoodLines.{no_answers, IsGoodLine}
 use Rattle.irc_items.specs.Relayed.{fixed_of, owed_at, owed_to, relayed, way_at}
 use Rattle.irc_items.specs.SetUp.{no_view, routes_in, settings_of, view_at, IsConfigured, IsNew, IsNewServer}
 use Rattle.irc_items.specs.Sound.{most_now, owed_now, IsSound, IsSoundFrom, IsUnderWay}
 use Rattle.irc_items.proofs.Begun.{none_at_source}
 use Rattle.irc_items.proofs.Counting.{sum_most}
+use Rattle.irc_items.proofs.FewLines.{none_pending}
 use Rattle.irc_items.proofs.SetUpFacts.{fixed, servers_named, setting_there, there, viewed_nowhere}
 
 no_depth : (t : Name) → distance [] t t ≡ 0
@@ -176,17 +177,18 @@ module _ (world_holds : TakenMakeWorld) (side : PartAtRestIsSound) (net : Networ
   no_links : {A : Type 0} (f : List Link → A) → f net.links ≡ f []
   no_links f = ap f new.links
 
-  under_way_now : (client : ℕ) → IsUnderWay s new_world (routes_in net) net client []
+  under_way_now : (client : ℕ) → IsUnderWay s no_answers new_world (routes_in net) net client []
   under_way_now client = record {
     away = λ x y line lines is. absurd (let e = sym (nothing_under_way client x y) ∙ is in cc e);
     fits = λ t among. subst (λ lines. Fits s t (part_of s new_world (routes_in net) t) (after (machine s client) t (s.streams.parent t) (view_at net t) lines))
         (sym (none_comes client t)) (fits t among);
     told = λ home is. absurd (let e = sym is ∙ ap (λ o. option_map_or (same home) o false) (no_home client) in cc e);
-    well = λ t. subst (AllAlong (machine s client) (IsGoodLine s []) (s.streams.parent t) t (view_at net t)) (sym (none_comes client t)) tt;
+    well = λ t. subst (AllAlong (machine s client) (IsGoodLine s no_answers new_world (routes_in net)) (s.streams.parent t) t (view_at net t))
+        (sym (none_comes client t)) tt;
   }
 
-  few_now : (client : ℕ) → net.taken + lines_coming (machine s client) s.streams (relayed s net client) net.names ≤ most_now net
-  few_now client =
+  few_coming : (client : ℕ) → net.taken + lines_coming (machine s client) s.streams (relayed s net client) net.names ≤ most_now net
+  few_coming client =
       let sum = sum_most net.names (λ t. false) 0 (λ t. length (coming (machine s client) s.streams (relayed s net client) t)) (λ t among is. cc is)
       (λ t among is. ap (λ (lines : List (List ℕ)). length lines) (none_comes client t)) in
       let taken = new.taken in
@@ -195,13 +197,21 @@ module _ (world_holds : TakenMakeWorld) (side : PartAtRestIsSound) (net : Networ
       bound : (taken sum many most : ℕ) → taken ≡ 0 → sum ≤ many * 0 → taken + sum ≤ most
       bound taken sum many most none few = let z : many * 0 ≡ 0 = omega arith in omega arith
 
-  coming_now : IsSoundFrom (λ t. t) (routes_in net) net s
+  few_now : (client : ℕ)
+      → net.taken + lines_pending (machine s client) s.streams (relayed s net client) net.names no_answers.answered no_answers.one no_answers.other
+      ≤ most_now net
+  few_now client =
+      let few = few_coming client in
+      let pending = none_pending (machine s client) s.streams (relayed s net client) net.names in
+      omega arith
+
+  coming_now : IsSoundFrom (λ t. t) (routes_in net) no_answers net s
   coming_now = record {
     covers = subst (λ links. Covers links (λ t. t)) (sym new.links) (record { joined = λ t. refl; linked = λ t u l. absurd l });
     right = subst (λ links. AreRight s links (routes_in net)) (sym new.links) right;
     called = λ x y l. absurd (subst (λ links. AreLinked links x y) new.links l);
-    under_way = λ client. subst (λ w. IsUnderWay s w (routes_in net) net client (owed_now net client)) (sym (no_items (world_of (settings_of net))))
-        (subst (IsUnderWay s new_world (routes_in net) net client) (sym (nothing_owed_now client)) (under_way_now client));
+    under_way = λ client. subst (λ w. IsUnderWay s no_answers w (routes_in net) net client (owed_now net client)) (sym (no_items (world_of (settings_of net))))
+        (subst (IsUnderWay s no_answers new_world (routes_in net) net client) (sym (nothing_owed_now client)) (under_way_now client));
     few = few_now;
   }
     where
@@ -221,7 +231,8 @@ module _ (world_holds : TakenMakeWorld) (side : PartAtRestIsSound) (net : Networ
     nobody = λ client none. no_items (λ items. owed_by_network (settings_of net) items client) ∙ nothing_by_none (settings_of net) client;
     source = λ t. t;
     routes = routes_in net;
-    coming = subst (IsSoundFrom (λ t. t) (routes_in net) net) (λ i. fixed_of net (streams_from (sym new.links i) (λ t. t))) coming_now;
+    asks = no_answers;
+    coming = subst (IsSoundFrom (λ t. t) (routes_in net) no_answers net) (λ i. fixed_of net (streams_from (sym new.links i) (λ t. t))) coming_now;
   }
 
 pub new_network_is_sound : TakenMakeWorld → PartAtRestIsSound → NewNetworkIsSound

@@ -36,7 +36,7 @@ none_closed_on_link link (parts ∷ lines) = none_closed_on_link link lines
 abbrev shown_to : Showing → ℕ × Client → Option Sent
 shown_to showing c = if is_client showing.viewer c.1 then Some (line_to c.0 showing.line) else None
 
-none_closed_to_viewer : (showing : Showing) (es : List (ℕ × Client)) → closings (filter_map (shown_to showing) es) ≡ []
+pub none_closed_to_viewer : (showing : Showing) (es : List (ℕ × Client)) → closings (filter_map (shown_to showing) es) ≡ []
 none_closed_to_viewer showing [] = refl
 none_closed_to_viewer showing (e ∷ es) = by (is_client showing.viewer e.1) (none_closed_to_viewer showing es)
   where
@@ -64,7 +64,7 @@ abbrev pub is_on : ℕ → ℕ → Bool
 is_on k link = nat_eq link k
 
 -- the link by which a line came is none of the others
-but_itself : (k : ℕ) (links : List ℕ) → filter (is_on k) (but (Some k) links) ≡ []
+pub but_itself : (k : ℕ) (links : List ℕ) → filter (is_on k) (but (Some k) links) ≡ []
 but_itself k [] = refl
 but_itself k (link ∷ links) = by (nat_eq k link) refl (but_itself k links)
   where

@@ -23,7 +23,7 @@ use Rattle.irc_follow.specs.Part.{Fixed, number}
 use Rattle.irc_follow.specs.Says.{asked, lines_on, machine}
 use Rattle.irc_network.specs.Network.{Network, Site, begun, delivered, is_at_rest, place_of, site_at, taken_of, waiting}
 use Rattle.irc_network.specs.Laws.{RestStays}
-use Rattle.irc_items.specs.GoodLines.{IsGoodLine}
+use Rattle.irc_items.specs.GoodLines.{Answering, IsGoodLine}
 use Rattle.irc_items.specs.Relayed.{fixed_of, is_met_with, owed_at, owed_to, relayed, way_at, way_between}
 use Rattle.irc_items.specs.SetUp.{view_at}
 use Rattle.irc_items.specs.Sound.{IsSound, IsUnderWay, owed_now, world_now, is_met, is_calling, HasCalled}
@@ -78,11 +78,11 @@ module _ (s : Fixed) (world : World) (routes : Name → Known) (t : Name) (view 
           ∙ ap (λ b. cond b [] (map line_text (owed_by view (number s to) to end))) (end_met to end is)
 
 -- what is owed to another stays, line by line from a third
-pub owed_along : (s : Fixed) (links : List Link) (client : ℕ) (p t u : Name) → u ≢ p → (view : View) (lines : List (List ℕ))
-    → AllAlong (machine s client) (IsGoodLine s links) p t view lines → owed_to s (after (machine s client) t p view lines) u ≡ owed_to s view u
-owed_along s links client p t u two view [] all = refl
-owed_along s links client p t u two view (line ∷ lines) all =
-    owed_along s links client p t u two ((machine s client).step t p view line) lines all.1 ∙ (all.0.good.others u two).owes_as_before
+pub owed_along : (s : Fixed) (asks : Answering) (world : World) (routes : Name → Known) (client : ℕ) (p t u : Name) → u ≢ p → (view : View)
+    (lines : List (List ℕ)) → AllAlong (machine s client) (IsGoodLine s asks world routes) p t view lines → owed_to s (after (machine s client) t p view lines) u ≡ owed_to s view u
+owed_along s asks world routes client p t u two view [] all = refl
+owed_along s asks world routes client p t u two view (line ∷ lines) all =
+    owed_along s asks world routes client p t u two ((machine s client).step t p view line) lines all.1 ∙ (all.0.good.others u two).owes_as_before
 
 -- nobody is sent a line back
 passed_back : (s : Fixed) (client : ℕ) (t p : Name) (view : View) (lines : List (List ℕ)) → passed_on (machine s client) t p view lines p ≡ []
@@ -163,7 +163,7 @@ module _ (laws : AreRestLaws) (net : Network) (sound : IsSound net) (rest : is_a
   abbrev s : Fixed
   s = fixed_of net (streams_from net.links sound.source)
 
-  under : IsUnderWay s (world_now net) sound.routes net client (owed_now net client)
+  under : IsUnderWay s sound.asks (world_now net) sound.routes net client (owed_now net client)
   under = sound.coming.under_way client
 
   quiet : (x y : Name) → (relayed s net client).queue x y ≡ []
@@ -211,7 +211,7 @@ module _ (laws : AreRestLaws) (net : Network) (sound : IsSound net) (rest : is_a
 
       by : Telling y (s.streams.parent x) → ⊥
       by (alike _ e) = called e (sound.coming.called x y (linked_back net.links y x (linked_to x y takes)))
-      by (unlike _ two) = cc (sym owes ∙ sym (owed_along s (world_now net).links client (s.streams.parent x) x y two (view_at net x)
+      by (unlike _ two) = cc (sym owes ∙ sym (owed_along s sound.asks (world_now net) sound.routes client (s.streams.parent x) x y two (view_at net x)
           (coming (machine s client) s.streams (relayed s net client) x) (under.well x)) ∙ paid)
 
   pub nothing_under_way : IsAtRest (relayed s net client)

@@ -1,24 +1,11 @@
--- What the calls of a network keep: where all that was given is of the proved kinds, the network is sound.
-use Rattle.std.specs.Prelude.{◌≡◌, ℕ, ◌+◌, ◌≤◌, min, true, Some, None}
-use Rattle.irc_world.specs.Stepping.{Item}
-use Rattle.irc_world.specs.WithinLimits.{IsItemWithin}
-use Rattle.irc_network.specs.Network.{Course, Network, TakesInTurn, delivered, given, is_at_rest, max_count}
-use Rattle.irc_network.specs.Refusing.{fault_at_rest}
+-- What the deliveries of a network keep.
+use Rattle.std.specs.Prelude.{◌≡◌, ℕ, ◌+◌, ◌≤◌, min, Some}
+use Rattle.irc_network.specs.Network.{Course, Network, TakesInTurn, delivered, max_count}
 use Rattle.irc_items.specs.Sound.{most_now, IsSound}
-use Rattle.irc_items.specs.Steady.{IsSteadyNetwork}
-
-abbrev pub IsSoundIfSteady : Network → Type 0
-IsSoundIfSteady net = IsSteadyNetwork net → IsSound net
-
--- an item that is taken
-abbrev pub GivenKeepsSound : Type 0
-GivenKeepsSound = (net : Network) (item : Item) → IsSoundIfSteady net → is_at_rest net ≡ true → fault_at_rest net item ≡ None → IsItemWithin item
-    → IsSoundIfSteady (given item net).net
 
 -- lines that are delivered, one after another
 pub record KeepsItems (count : ℕ) (old new : Network) : Type 0 where
-  pub sound : IsSoundIfSteady old → IsSoundIfSteady new
-  pub steady : IsSteadyNetwork old → IsSteadyNetwork new
+  pub sound : IsSound old → IsSound new
   pub most : most_now new ≡ most_now old
   pub taken : new.taken ≡ min (old.taken + count) max_count
 

@@ -9,17 +9,15 @@ use Rattle.irc_network.specs.Refusing.{fault_at_rest}
 use Rattle.irc_items.specs.OneRoom.{IsOneRoom}
 use Rattle.irc_items.specs.SetUp.{settings_of, IsNew}
 use Rattle.irc_items.specs.Sound.{owed_now, world_now, IsSound}
-use Rattle.irc_items.specs.Steady.{IsSteady}
 
 abbrev pub NewNetworkIsSound : Type 0
 NewNetworkIsSound = (net : Network) → IsNew net → IsSound net
 
--- an item of these kinds that is taken
+-- an item that is taken
 pub record IsGivenAtRest (net : Network) (item : Item) : Type 0 where
   pub at_rest : is_at_rest net ≡ true
   pub taken : fault_at_rest net item ≡ None
   pub within : IsItemWithin item
-  pub steady : IsSteady (world_now net) item
 
 abbrev pub GivenStaysSound : Type 0
 GivenStaysSound = (net : Network) (item : Item) → IsSound net → IsGivenAtRest net item → IsSound (given item net).net

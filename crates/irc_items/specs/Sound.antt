@@ -1,5 +1,5 @@
--- What always holds of a network of servers, whatever is on its way: all that was given was taken; once all lines that are coming to each server are taken, it is what
--- it has to be in the world that the items make, and each client has received just what it is owed.
+-- What always holds of a network of servers, whatever is on its way: all that was given was taken; once all lines that are coming to each server are taken, it
+-- is what it has to be in the world that the items make, and each client has received just what it is owed.
 use Rattle.std.specs.Prelude.{◌≡◌, ◌⊎◌, ℕ, ◌+◌, ◌≤◌, true, Some, None, is_some, List, [], ◌∷◌, ◌++◌, length}
 use Rattle.std.specs.List.{AllByRecursion}
 use Rattle.irc_line.specs.Messages.{line_text}
@@ -7,7 +7,7 @@ use Rattle.irc_handshake.specs.GreetingLines.{greeting}
 use Rattle.irc_relay.specs.Distances.{IsAmong}
 use Rattle.irc_relay.specs.Following.{GoesWell}
 use Rattle.irc_relay.specs.Links.{Name, linked, AreLinked}
-use Rattle.irc_relay.specs.Relay.{streams_from, Covers, GoesAway, final, lines_coming, told}
+use Rattle.irc_relay.specs.Relay.{streams_from, Covers, GoesAway, final, lines_pending, told}
 use Rattle.irc_routes.specs.Known.{Known}
 use Rattle.irc_world.specs.Bounds.{most}
 use Rattle.irc_world.specs.Owed.{owed_by_network, world_of}
@@ -21,7 +21,7 @@ use Rattle.irc_follow.specs.Part.{Fixed, is_home_of}
 use Rattle.irc_follow.specs.Says.{machine}
 use Rattle.irc_follow.specs.Tree.{place_in}
 use Rattle.irc_network.specs.Network.{Network}
-use Rattle.irc_items.specs.GoodLines.{IsGoodLine}
+use Rattle.irc_items.specs.GoodLines.{Answering, IsGoodLine}
 use Rattle.irc_items.specs.Relayed.{fixed_of, is_met_with, relayed, way_at, way_between}
 use Rattle.irc_items.specs.SetUp.{settings_of, view_at, IsSetUp}
 
@@ -55,11 +55,11 @@ WillReceive s net client owed =
     (home : Name) → is_home_of s.homes home client ≡ true → told (machine s client) s.streams (relayed s net client) home ≡ owed
 
 -- as one client sees it
-pub record IsUnderWay (s : Fixed) (world : World) (routes : Name → Known) (net : Network) (client : ℕ) (owed : List (List ℕ)) : Type 0 where
+pub record IsUnderWay (s : Fixed) (asks : Answering) (world : World) (routes : Name → Known) (net : Network) (client : ℕ) (owed : List (List ℕ)) : Type 0 where
   pub away : GoesAway s.streams (relayed s net client)
   pub fits : WillFit s world routes net client
   pub told : WillReceive s net client owed
-  pub well : GoesWell (machine s client) s.streams (IsGoodLine s world.links) (relayed s net client)
+  pub well : GoesWell (machine s client) s.streams (IsGoodLine s asks world routes) (relayed s net client)
 
 -- ---- what always holds
 
@@ -73,13 +73,14 @@ pub data HasCalled (s : Fixed) (net : Network) (x y : Name) : Type 0 where
 abbrev pub AreCalled : Fixed → Network → Type 0
 AreCalled s net = (x y : Name) → AreLinked net.links x y → HasCalled s net x y ⊎ HasCalled s net y x
 
--- Lines come along the links from these sources.
-pub record IsSoundFrom (source : Name → Name) (routes : Name → Known) (net : Network) (s : Fixed) : Type 0 where
+-- Lines come along the links from these sources. Those that may be answered count twice.
+pub record IsSoundFrom (source : Name → Name) (routes : Name → Known) (asks : Answering) (net : Network) (s : Fixed) : Type 0 where
   pub covers : Covers net.links source
   pub right : AreRight s net.links routes
   pub called : AreCalled s net
-  pub under_way : (client : ℕ) → IsUnderWay s (world_now net) routes net client (owed_now net client)
-  pub few : (client : ℕ) → net.taken + lines_coming (machine s client) s.streams (relayed s net client) net.names ≤ most_now net
+  pub under_way : (client : ℕ) → IsUnderWay s asks (world_now net) routes net client (owed_now net client)
+  pub few : (client : ℕ)
+      → net.taken + lines_pending (machine s client) s.streams (relayed s net client) net.names asks.answered asks.one asks.other ≤ most_now net
 
 -- a place at which a server is
 pub record IsPlaceOf (net : Network) (place : ℕ) : Type 0 where
@@ -99,4 +100,5 @@ pub record IsSound (net : Network) : Type 0 where
   pub nobody : (client : ℕ) → home_in net.homes client ≡ None → owed_now net client ≡ []
   pub source : Name → Name
   pub routes : Name → Known
-  pub coming : IsSoundFrom source routes net (fixed_of net (streams_from net.links source))
+  pub asks : Answering
+  pub coming : IsSoundFrom source routes asks net (fixed_of net (streams_from net.links source))

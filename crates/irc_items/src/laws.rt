@@ -1,6 +1,7 @@
 //! What holds of networks of servers, whatever the order in which lines are delivered. Each law is a function that does nothing, and its contract is the law: the
 //! check proves it, and a crate above may cite it.
-ghost use Rattle.irc_items.specs.Kept.{DeliveryKeepsSound, GivenKeepsSound, SettlingKeepsSound, TakenAreFew};
+ghost use Rattle.irc_items.specs.InAnyOrder.{ClashingNicknamesGo, CrossingBurstsMeet, ItemIsReceived, RejoinJoinsTheRooms, SplitPartsTheRoom};
+ghost use Rattle.irc_items.specs.Kept.{DeliveryKeepsSound, SettlingKeepsSound, TakenAreFew};
 ghost use Rattle.irc_items.specs.Laws.{DeliveryKeepsSettings, DeliveryStaysSound, GivenKeepsSettings, GivenStaysSound, NewNetworkIsSound, ReceivedIsFront, RefusalsAreTheWorlds, RestIsOneRoom};
 
 /// A network to which nothing was given is sound.
@@ -11,7 +12,7 @@ pub fn new_network_is_sound()
     irc_follow::laws::part_at_rest_is_sound();
 }
 
-/// It stays so by an item of the proved kinds.
+/// It stays so by each item that is taken.
 pub fn given_stays_sound()
     ensures { GivenStaysSound }
 {
@@ -20,7 +21,14 @@ pub fn given_stays_sound()
     irc_line::laws::words_are_of_the_line();
     irc_room::laws::names_are_line_words();
     irc_handshake::laws::lines_fit();
-    irc_merge::laws::merge_has_nothing_new();
+    irc_merge::laws::merge_is_even();
+    irc_merge::laws::agree_tells();
+    irc_merge::laws::whole_side();
+    irc_merge::laws::burst_tells_no_invitation();
+    irc_merge::laws::burst_read_is_merge();
+    irc_merge::laws::shown_is_merge_shown();
+    irc_merge::laws::squits_split();
+    irc_merge::laws::within_limits_is_told();
     irc_wire::laws::each_is_read_back();
     irc_commands::laws::decided_is_possible();
     irc_commands::laws::registering_is_possible();
@@ -46,7 +54,9 @@ pub fn given_stays_sound()
     irc_follow::laws::aside_stays();
     irc_follow::laws::passed_by_stays();
     irc_follow::laws::part_after_link();
+    irc_follow::laws::tree_after_cut();
     irc_follow::laws::part_at_rest_is_sound();
+    irc_follow::laws::behind_is_that_side();
     irc_follow::laws::place_is_worlds();
     irc_follow::laws::source_tells();
     irc_follow::laws::behind_source_is_far();
@@ -90,6 +100,75 @@ pub fn refusals_are_the_worlds()
     irc_merge::laws::agree_looks_at_no_invitation();
 }
 
+/// By an item each client receives just what one room sends it, in whatever order lines are delivered then.
+pub fn item_is_received()
+    ensures { ItemIsReceived }
+{
+    irc_network::laws::given_is_kept();
+    given_stays_sound();
+    delivery_stays_sound();
+    rest_is_one_room();
+    given_keeps_settings();
+    delivery_keeps_settings();
+}
+
+/// So two bursts that cross, in whatever order they do, show the members of a channel that is on both sides to each other.
+pub fn crossing_bursts_meet()
+    ensures { CrossingBurstsMeet }
+{
+    irc_world::examples::people_meet();
+    irc_network::laws::given_is_kept();
+    given_stays_sound();
+    delivery_stays_sound();
+    rest_is_one_room();
+    refusals_are_the_worlds();
+    given_keeps_settings();
+    delivery_keeps_settings();
+}
+
+/// And a link that is lost parts a room: each side sees those of the other quit, in whatever order the others of its side are told.
+pub fn split_parts_the_room()
+    ensures { SplitPartsTheRoom }
+{
+    irc_world::examples::link_is_lost();
+    irc_network::laws::given_is_kept();
+    given_stays_sound();
+    delivery_stays_sound();
+    rest_is_one_room();
+    refusals_are_the_worlds();
+    given_keeps_settings();
+    delivery_keeps_settings();
+}
+
+/// Once it is back the room is one again.
+pub fn rejoin_joins_the_rooms()
+    ensures { RejoinJoinsTheRooms }
+{
+    irc_world::examples::link_is_back();
+    irc_network::laws::given_is_kept();
+    given_stays_sound();
+    delivery_stays_sound();
+    rest_is_one_room();
+    refusals_are_the_worlds();
+    given_keeps_settings();
+    delivery_keeps_settings();
+}
+
+/// And whose nickname is on both sides of a new link is gone from both, whatever crosses: who shared a channel with one of them sees it quit, and both
+/// are told why.
+pub fn clashing_nicknames_go()
+    ensures { ClashingNicknamesGo }
+{
+    irc_world::examples::nicknames_clash();
+    irc_network::laws::given_is_kept();
+    given_stays_sound();
+    delivery_stays_sound();
+    rest_is_one_room();
+    refusals_are_the_worlds();
+    given_keeps_settings();
+    delivery_keeps_settings();
+}
+
 /// What servers are configured to be stays, whatever is given.
 pub fn given_keeps_settings()
     ensures { GivenKeepsSettings }
@@ -104,16 +183,7 @@ pub fn delivery_keeps_settings()
     irc_server::laws::keeps_its_setting();
 }
 
-/// Where all that was given is of the proved kinds, an item that is taken keeps the network sound.
-pub fn given_keeps_sound()
-    ensures { GivenKeepsSound }
-{
-    irc_network::laws::given_is_kept();
-    given_keeps_settings();
-    given_stays_sound();
-}
-
-/// So does a line that is delivered, and it counts for one.
+/// A line that is delivered keeps a network sound, and it counts for one.
 pub fn delivery_keeps_sound()
     ensures { DeliveryKeepsSound }
 {

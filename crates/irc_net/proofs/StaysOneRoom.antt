@@ -10,8 +10,8 @@ use Rattle.irc_network.specs.declared.receipt.Receipt.{Receipt as KeptReceipt}
 use Rattle.irc_network.specs.Loops.Courses.{DeliversAt, SettlesAt, course}
 use Rattle.irc_network.specs.Network.{Course, Ends, Network, begun, delivered, ends_of, given, is_at_rest, max_count, received_by}
 use Rattle.irc_network.specs.Refusing.{fault_at_rest}
-use Rattle.irc_items.specs.Kept.{DeliveryKeepsSound, GivenKeepsSound, KeepsItems, SettlingKeepsSound, TakenAreFew}
-use Rattle.irc_items.specs.Laws.{NewNetworkIsSound, ReceivedIsFront, RefusalsAreTheWorlds, RestIsOneRoom}
+use Rattle.irc_items.specs.Kept.{DeliveryKeepsSound, KeepsItems, SettlingKeepsSound, TakenAreFew}
+use Rattle.irc_items.specs.Laws.{GivenStaysSound, NewNetworkIsSound, ReceivedIsFront, RefusalsAreTheWorlds, RestIsOneRoom}
 use Rattle.irc_items.specs.Sound.{most_now, owed_now}
 use Rattle.irc_items.specs.SetUp.{IsNew}
 use Rattle.irc_net.specs.Calls.{NetView, delivery}
@@ -31,28 +31,28 @@ at_most a b = omega arith
 pub owed : ReceivedIsFront → RestIsOneRoom → (net : NetView) (client : ℕ) (lines : List (List ℕ)) → IsKept net → lines ≡ received_by net.network client
     → IsOwed net client lines
 owed is_front one_room net client lines kept is = record {
-  front = λ steady. subst (λ ls. IsFront ls (owed_now net.network client)) (sym is) (is_front net.network client ((kept steady.0).sound steady.1));
-  all = λ steady rest. is ∙ (one_room net.network ((kept steady.0).sound steady.1) rest).received client;
+  front = λ whole. subst (λ ls. IsFront ls (owed_now net.network client)) (sym is) (is_front net.network client (kept whole).sound);
+  all = λ whole rest. is ∙ (one_room net.network (kept whole).sound rest).received client;
 }
 
 pub takes_few : TakenAreFew → (net : NetView) (count : ℕ) → IsKept net → count ≡ net.network.taken → TakesFew net count
-takes_few few net count kept is steady = subst (λ n. n ≤ most_now net.network) (sym is) (few net.network ((kept steady.0).sound steady.1))
+takes_few few net count kept is whole = subst (λ n. n ≤ most_now net.network) (sym is) (few net.network (kept whole).sound)
 
 -- of what a network is before a call
 pub refuses : RefusalsAreTheWorlds → (net old : NetView) (item : Item) → IsKept net → net ≡ old → RefusesAsTheWorld old item
 refuses refusals net old item kept is =
-    subst (λ old. RefusesAsTheWorld old item) is (λ steady rest. refusals net.network item ((kept steady.0).sound steady.1) rest)
+    subst (λ old. RefusesAsTheWorld old item) is (λ whole rest. refusals net.network item (kept whole).sound rest)
 
 pub one_room : RestIsOneRoom → (net : NetView) → IsKept net → IsOneRoomNet net
 one_room at_rest net kept = record {
-  coming = λ steady. (kept steady.0).sound steady.1;
-  at_rest = λ steady rest. at_rest net.network ((kept steady.0).sound steady.1) rest;
+  coming = λ whole. (kept whole).sound;
+  at_rest = λ whole rest. at_rest net.network (kept whole).sound rest;
 }
 
 -- ---- a new one
 
 pub kept_new : NewNetworkIsSound → (net : Network) → IsNew net → IsKeptSound net
-kept_new law net new = record { sound = λ _. law net new; counted = subst (λ n. n ≤ max_count) (sym new.taken) (omega arith) }
+kept_new law net new = record { sound = law net new; counted = subst (λ n. n ≤ max_count) (sym new.taken) (omega arith) }
 
 -- ---- an item
 
@@ -74,10 +74,10 @@ given_taken : (net : Network) (item : Item) → (given item net).net.taken ≡ 0
 unfolding given
 given_taken net item = refl
 
-pub kept_given : GivenKeepsSound → (net new : Network) (item : Item) → IsKeptSound net → item_fault net item ≡ None → IsItemWithin item
+pub kept_given : GivenStaysSound → (net new : Network) (item : Item) → IsKeptSound net → item_fault net item ≡ None → IsItemWithin item
     → new ≡ (given item net).net → IsKeptSound new
 kept_given law net new item kept none within is = subst IsKeptSound (sym is) (record {
-  sound = law net item kept.sound (free net item none).at_rest (free net item none).none within;
+  sound = law net item kept.sound (record { at_rest = (free net item none).at_rest; taken = (free net item none).none; within = within });
   counted = subst (λ n. n ≤ max_count) (sym (given_taken net item)) (omega arith);
 })
 
@@ -115,11 +115,11 @@ all_counted a count most is = omega (arith, is)
 
 pub leaves_rest : SettlingKeepsSound → TakenAreFew → (net new : Network) (lines : List KeptReceipt) (count : ℕ) → IsKeptSound net
     → SettlesAt count (begun net) (course new lines) → LeavesRest (record { failed = false; network = new })
-leaves_rest law few net new lines count kept so steady = by so.ends
+leaves_rest law few net new lines count kept so whole = by so.ends
   where
     keeps : KeepsItems count net new
     keeps = law count (begun net) (course new lines) so.takes kept.counted
 
     by : (is_at_rest new ≡ true) ⊎ (count ≡ max_count) → (is_at_rest new ≡ true) ⊎ (max_count ≤ most_now new)
     by (inl rest) = inl rest
-    by (inr all) = inr (subst (λ n. n ≤ most_now new) (keeps.taken ∙ all_counted net.taken count max_count all) (few new (keeps.sound kept.sound steady.1)))
+    by (inr all) = inr (subst (λ n. n ≤ most_now new) (keeps.taken ∙ all_counted net.taken count max_count all) (few new (keeps.sound kept.sound)))

@@ -1,48 +1,41 @@
--- What a network of servers is to its clients, where all that was given to it is of the kinds for which it is proved: one room.
---
--- The kinds: clients connect, say lines and go; servers are linked while nobody is registered on either side. No word is said here of a list in which there is
--- another item, or of a network for which memory ran out.
+-- What a network of servers is to its clients, whatever was given to it and in whatever order its lines were delivered: one room. Nothing is said of a network
+-- for which memory ran out.
 use Rattle.std.specs.Prelude.{◌≡◌, ◌⊎◌, ℕ, ◌≤◌, true, false, List}
 use Rattle.irc_relay.specs.Relay.{IsFront}
 use Rattle.irc_world.specs.Refused.{refused}
 use Rattle.irc_world.specs.Stepping.{Item}
 use Rattle.irc_network.specs.Network.{Network, is_at_rest, max_count}
 use Rattle.irc_network.specs.Refusing.{fault_at_rest}
-use Rattle.irc_items.specs.Kept.{IsSoundIfSteady}
 use Rattle.irc_items.specs.OneRoom.{IsOneRoom}
 use Rattle.irc_items.specs.SetUp.{settings_of}
 use Rattle.irc_items.specs.Sound.{most_now, owed_now, world_now, IsSound}
-use Rattle.irc_items.specs.Steady.{IsSteadyNetwork}
 use Rattle.irc_net.specs.Calls.{NetView}
-
-abbrev pub IsSteadyNet : NetView → Type 0
-IsSteadyNet net = (net.failed ≡ false) × IsSteadyNetwork net.network
 
 -- what always holds while memory is there
 pub record IsKeptSound (network : Network) : Type 0 where
-  pub sound : IsSoundIfSteady network
+  pub sound : IsSound network
   pub counted : network.taken ≤ max_count
 
 -- What a client has received is at every moment a front of what it is owed, and at rest all of it.
 pub record IsOwed (net : NetView) (client : ℕ) (lines : List (List ℕ)) : Type 0 where
-  pub front : IsSteadyNet net → IsFront lines (owed_now net.network client)
-  pub all : IsSteadyNet net → is_at_rest net.network ≡ true → lines ≡ owed_now net.network client
+  pub front : net.failed ≡ false → IsFront lines (owed_now net.network client)
+  pub all : net.failed ≡ false → is_at_rest net.network ≡ true → lines ≡ owed_now net.network client
 
 -- At rest just that is refused which the network as its people know it refuses.
 abbrev pub RefusesAsTheWorld : NetView → Item → Type 0
-RefusesAsTheWorld net item = IsSteadyNet net → is_at_rest net.network ≡ true
+RefusesAsTheWorld net item = net.failed ≡ false → is_at_rest net.network ≡ true
     → fault_at_rest net.network item ≡ refused (settings_of net.network) (world_now net.network) item
 
 -- No more lines were taken since the last item than servers need at most to tell each other of it.
 abbrev pub TakesFew : NetView → ℕ → Type 0
-TakesFew net count = IsSteadyNet net → count ≤ most_now net.network
+TakesFew net count = net.failed ≡ false → count ≤ most_now net.network
 
 -- No line is on its way then, unless servers need 2^64 - 1 lines to tell each other of the last item.
 abbrev pub LeavesRest : NetView → Type 0
-LeavesRest net = IsSteadyNet net → (is_at_rest net.network ≡ true) ⊎ (max_count ≤ most_now net.network)
+LeavesRest net = net.failed ≡ false → (is_at_rest net.network ≡ true) ⊎ (max_count ≤ most_now net.network)
 
--- Whatever is on its way, once all lines that are coming to a server are taken it is what it has to be, and its clients have received what they are owed (IsSound);
--- at rest that is so already (IsOneRoom).
+-- Whatever is on its way, once all lines that are coming to a server are taken it is what it has to be, and its clients have received what they are owed
+-- (IsSound); at rest that is so already (IsOneRoom).
 pub record IsOneRoomNet (net : NetView) : Type 0 where
-  pub coming : IsSteadyNet net → IsSound net.network
-  pub at_rest : IsSteadyNet net → is_at_rest net.network ≡ true → IsOneRoom net.network
+  pub coming : net.failed ≡ false → IsSound net.network
+  pub at_rest : net.failed ≡ false → is_at_rest net.network ≡ true → IsOneRoom net.network

@@ -33,7 +33,7 @@ pub struct Net {
     network: Network,
 }
 
-/// In a clause it is the network, and whether memory ran out for it. Until then a network of which [`Net::one_room`] tells is sound.
+/// In a clause it is the network, and whether memory ran out for it. Until then it is sound.
 impl Model for Net {
     ghost use Rattle.std.specs.Prelude.{◌≡◌, false};
     ghost use Rattle.irc_net.specs.Calls.{NetView};
@@ -72,8 +72,8 @@ impl Net {
         })
     }
 
-    /// What a client has received, whole lines; also once it is closed. Nothing for a number that was never given. Where [`Net::one_room`] tells of the
-    /// network they are the first of the lines that the client is owed, and at rest all of them.
+    /// What a client has received, whole lines; also once it is closed. Nothing for a number that was never given. They are the first of the lines that one
+    /// room machine for its joined part sends it, and at rest all of them.
     pub fn received(&self, client: u64) -> &[Text]
         ensures lines { map bytes_of result.now ≡ received_by self.now.network client }
         ensures owed { IsOwed self.now client (map bytes_of result.now) }
@@ -97,8 +97,7 @@ impl Net {
         self.network.is_at_rest()
     }
 
-    /// How many lines were taken since the last item, at most 2^64 - 1. Where [`Net::one_room`] tells of the network they are no more than servers need
-    /// to tell each other of that item.
+    /// How many lines were taken since the last item, at most 2^64 - 1. They are no more than servers need to tell each other of that item.
     pub fn lines_taken(&self) -> u64
         ensures taken { result ≡ self.now.network.taken }
         ensures few { TakesFew self.now result }
@@ -114,7 +113,7 @@ impl Net {
         self.network.agrees(one, other)
     }
 
-    /// An item is given. Where [`Net::one_room`] tells of the network, just what the network as its people know it refuses is refused at rest.
+    /// An item is given. At rest just that is refused which the network as its people know it refuses.
     ///
     /// # Errors
     /// [`NetFault`]s 1 to 6, with nothing changed, and 7 and 8.
@@ -123,7 +122,7 @@ impl Net {
         ensures given { IsGiven self.old (item_of item) result self.new }
         ensures refused { RefusesAsTheWorld self.old (item_of item) }
     {
-        laws::given_keeps_sound();
+        laws::given_stays_sound();
         laws::refusals_are_the_worlds();
         keeps_limits(&item);
         if self.failed {
@@ -170,8 +169,7 @@ impl Net {
     }
 
     /// Takes lines, each time the oldest on the first way, by the names of its ends, on which one waits, until none is on its way. Answers how many, and
-    /// what clients have received by them. It stops after 2^64 - 1: where [`Net::one_room`] tells of the network, only if servers need as many to tell
-    /// each other of the last item.
+    /// what clients have received by them. It stops after 2^64 - 1, only if servers need as many to tell each other of the last item.
     ///
     /// # Errors
     /// [`NetFault::Memory`], [`NetFault::Failed`].
@@ -192,8 +190,8 @@ impl Net {
     }
 
     /// At rest a network is one room: each server knows all that there is to know in its part of the network, and each client has received just the lines
-    /// that it is owed. While lines are on their way, that is what it comes to once they are taken. This is told of a network for which memory never ran
-    /// out and to which only this was given: clients connect, say lines and go, and servers are linked while nobody is registered on either side.
+    /// that it is owed: those that one room machine for its joined part sends it. While lines are on their way, that is what it comes to once they are taken,
+    /// in whatever order. It is told of every network for which memory never ran out, whatever was given to it.
     pub fn one_room(&self)
         ensures { IsOneRoomNet self.now }
     {

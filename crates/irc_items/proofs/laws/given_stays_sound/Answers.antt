@@ -1,4 +1,5 @@
 use Rattle.irc_items.proofs.ClientItems.{AreItemLaws}
+use Rattle.irc_items.proofs.CutItem.{AreCutItemLaws}
 use Rattle.irc_items.proofs.GivenStaysSound.{given_stays_sound}
 use Rattle.irc_items.proofs.HomeEvents.{AreDecisionLaws}
 use Rattle.irc_items.proofs.HomeTells.{tells_from_home, AreTellingLaws}
@@ -7,7 +8,7 @@ use Rattle.irc_follow.proofs.Followed.{IsKnownOfLine}
 use Rattle.irc_items.proofs.laws.given_stays_sound.Goals as goal
 
 pub returns : goal.returns
-returns c = given_stays_sound (record { rest = c.rest_is_one_room.ensures; world = c.taken_make_world.ensures; client = client; link = link })
+returns c = given_stays_sound (record { rest = c.rest_is_one_room.ensures; world = c.taken_make_world.ensures; client = client; link = link; cut = cut })
   where
     line : IsKnownOfLine
     line = record {
@@ -65,9 +66,25 @@ returns c = given_stays_sound (record { rest = c.rest_is_one_room.ensures; world
         only_connected = c.only_connected_receive.ensures;
       };
       home = record { decisions = decisions; sound = c.part_at_rest_is_sound.ensures };
-      tells = λ s world routes h view happening fixed forest streams among is_world of_world right fits place due.
-          tells_from_home telling s world routes h view happening fixed forest streams is_world of_world right fits place due;
+      tells = λ s world after routes h view happening same_links fixed forest streams among is_world of_world right fits place due.
+          tells_from_home telling s world after routes h view happening same_links fixed forest streams is_world of_world right fits place due;
       place = c.place_is_worlds.ensures;
+      kept = c.keeps_its_setting.ensures;
+      step_keeps = c.step_keeps_world.ensures;
+      refusals = c.refusals_are_the_worlds.ensures;
+    }
+
+    cut : AreCutItemLaws
+    cut = record {
+      cut = record { quiet = c.rest_stays.ensures; line = line; only_connected = c.only_connected_receive.ensures; behind = c.behind_is_that_side.ensures };
+      sides = record {
+        at_rest = c.part_at_rest_is_sound.ensures;
+        behind = c.behind_is_that_side.ensures;
+        after_cut = c.tree_after_cut.ensures;
+        squits = c.squits_split.ensures;
+      };
+      lines = record { written = c.written_is_read.ensures; alone = c.every_line_is_read.ensures.alone; names = c.names_are_line_words.ensures };
+      done = c.done_stays_sound.ensures;
       kept = c.keeps_its_setting.ensures;
       step_keeps = c.step_keeps_world.ensures;
       refusals = c.refusals_are_the_worlds.ensures;
@@ -76,12 +93,27 @@ returns c = given_stays_sound (record { rest = c.rest_is_one_room.ensures; world
     link : AreLinkItemLaws
     link = record {
       link = record { after_link = c.part_after_link.ensures; quiet = c.rest_stays.ensures; line = line; only_connected = c.only_connected_receive.ensures };
-      handshakes = record {
-        lines = record { written = c.written_is_read.ensures; alone = c.every_line_is_read.ensures.alone; names = c.names_are_line_words.ensures };
-        passwords = c.lines_fit.ensures.passwords;
-        names = c.lines_fit.ensures.names;
+      rooms = record {
+        sides = record {
+          handshakes = record {
+            lines = record { written = c.written_is_read.ensures; alone = c.every_line_is_read.ensures.alone; names = c.names_are_line_words.ensures };
+            passwords = c.lines_fit.ensures.passwords;
+            names = c.lines_fit.ensures.names;
+          };
+          whole = c.whole_side.ensures;
+          untold = c.burst_tells_no_invitation.ensures;
+        };
+        line = line;
+        read_back = c.each_is_read_back.ensures;
       };
-      links = record { at_rest = c.part_at_rest_is_sound.ensures; merged = c.merge_has_nothing_new.ensures };
+      links = record {
+        at_rest = c.part_at_rest_is_sound.ensures;
+        reads = c.burst_read_is_merge.ensures;
+        shows = c.shown_is_merge_shown.ensures;
+        even = c.merge_is_even.ensures;
+        agree = c.agree_tells.ensures;
+        told = c.within_limits_is_told.ensures;
+      };
       kept = c.keeps_its_setting.ensures;
       step_keeps = c.step_keeps_world.ensures;
       refusals = c.refusals_are_the_worlds.ensures;

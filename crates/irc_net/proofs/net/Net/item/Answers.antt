@@ -39,7 +39,7 @@ returns-in_err-give-clause-given c =
 
 pub invariant_of-self-2 : goal.invariant_of-self-2
 invariant_of-self-2 c = λ _.
-    kept_given c.given_keeps_sound.ensures c.self.inside.network c.give.new.self (item_of c.args.item) (c.self.invariant c.if-self.false)
+    kept_given c.given_stays_sound.ensures c.self.inside.network c.give.new.self (item_of c.args.item) (c.self.invariant c.if-self.false)
     (sym c.in_default.ensures) c.keeps_limits.ensures (ap (λ (last : Course). last.net) c.in_ok-give.ensures)
 
 pub returns-clause-refused : goal.returns-clause-refused

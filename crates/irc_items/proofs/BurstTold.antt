@@ -1,0 +1,65 @@
+-- What is so of each line of a burst, whoever reads it: it tells of what the room of the server that tells has.
+use Rattle.std.specs.Prelude.{◌≡◌, ◌≢◌, ◌≤◌, ℕ, Bool, true, Some, List, [], length}
+use Rattle.std.specs.List.{flat_map, AllByRecursion}
+use Rattle.irc_channels.specs.declared.flags.Flags.{Flags}
+use Rattle.irc_modes.specs.declared.modes.ModeChange.{ModeChange}
+use Rattle.irc_modes.specs.Readable.{AreReadable}
+use Rattle.irc_names.specs.Fold.{key}
+use Rattle.irc_names.specs.Names.{IsChannel}
+use Rattle.irc_names.specs.Tables.{row}
+use Rattle.irc_users.specs.declared.user.User.{User}
+use Rattle.irc_room.specs.declared.effect.Effect.TheVariants.{AddUser}
+use Rattle.irc_room.specs.InTurn.{EachInTurn}
+use Rattle.irc_room.specs.Limits.{IsBanCarried, IsCarriedText, IsUserWithin, KeepsLimits}
+use Rattle.irc_room.specs.Room.{Room}
+use Rattle.irc_room.specs.Sendable.{IsStoredNick, IsSentChange}
+use Rattle.irc_merge.specs.Bursts.{members_a_line, home_passes}
+use Rattle.irc_merge.specs.CanBeDone.{DoesSomething}
+use Rattle.irc_merge.specs.Deeds.{Deed, does, brings, sets, tops, member_comes}
+
+-- a user of the other room
+pub record IsTheirUser (other : Room) (user : User) : Type 0 where
+  pub there : row other.users (key user.nick) ≡ Some user
+  pub within : IsUserWithin user
+
+-- a member by the nickname that a user of the other room has
+pub record IsTheirMember (other : Room) (member : List ℕ × Flags) : Type 0 where
+  pub user : User
+  pub there : row other.users (key member.0) ≡ Some user
+  pub stored : user.nick ≡ member.0
+
+pub record AreTheirMembers (other : Room) (channel : List ℕ) (members : List (List ℕ × Flags)) : Type 0 where
+  pub named : IsChannel channel
+  pub some : members ≢ []
+  pub few : length members ≤ members_a_line
+  pub each : AllByRecursion (IsTheirMember other) members
+
+-- changes with words that are no nicknames
+pub record AreTheirChanges (channel : List ℕ) (changes : List ModeChange) : Type 0 where
+  pub named : IsChannel channel
+  pub readable : AreReadable changes
+  pub sent : (room : Room) → AllByRecursion (IsSentChange room) changes
+  pub kept : AllByRecursion (λ (c : ModeChange). IsBanCarried c.letter c.word) changes
+
+pub record IsTheirTopic (channel topic : List ℕ) : Type 0 where
+  pub named : IsChannel channel
+  pub carried : IsCarriedText topic
+
+abbrev pub IsTold : List ℕ → Room → Deed → Type 0
+IsTold server other (does (AddUser user)) = IsTheirUser other user
+IsTold server other (brings by channel members) = (by ≡ server) × AreTheirMembers other channel members
+IsTold server other (sets by channel changes) = (by ≡ server) × AreTheirChanges channel changes
+IsTold server other (tops by channel topic) = (by ≡ server) × IsTheirTopic channel topic
+IsTold server other deed = ⊥
+
+-- whoever is far in the room that reads is the user of the other room who has that nickname
+abbrev pub AreTheirs : (List ℕ → Bool) → Room → Room → Type 0
+AreTheirs far other room = (fold : List ℕ) (user : User) → row room.users fold ≡ Some user → far user.home ≡ true → row other.users fold ≡ Some user
+
+-- those of some members who come to a channel
+pub record AreComing (behind : List ℕ → Bool) (room : Room) (channel : List ℕ) (members : List (List ℕ × Flags)) : Type 0 where
+  pub stored : AllByRecursion (λ (m : List ℕ × Flags). IsStoredNick room m.0) members
+  pub far : AllByRecursion (λ (m : List ℕ × Flags). home_passes behind room.users (key m.0) ≡ true) members
+  pub few : length members ≤ members_a_line
+  pub done : EachInTurn DoesSomething room (flat_map (member_comes channel) members)
+  pub within : AllByRecursion KeepsLimits (flat_map (member_comes channel) members)

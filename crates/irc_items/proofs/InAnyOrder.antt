@@ -1,0 +1,89 @@
+-- By an item each client receives what one room sends it, in whatever order lines are delivered.
+use Rattle.std.proofs.Common.{◌≡◌, ℕ, true, [], ◌∷◌, ◌++◌, append-nil, codes, refl, sym, ap, ◌∙◌}
+use Rattle.irc_world.specs.Networks.{als_people, bos_people, three_peers, two_apart, PeopleMeet}
+use Rattle.irc_world.specs.Owed.{owed_by_network}
+use Rattle.irc_world.specs.Refused.{refused}
+use Rattle.irc_world.specs.Stepping.{Item, link, step}
+use Rattle.irc_network.specs.Network.{Network, begun, given, is_at_rest, received_by}
+use Rattle.irc_items.specs.InAnyOrder.{none_yet, one_more, ArePeopleApart, CrossingBurstsMeet, HavePeopleMet, IsReached, IsThrough, ItemIsReceived}
+use Rattle.irc_items.specs.Laws.{DeliveryKeepsSettings, DeliveryStaysSound, GivenKeepsSettings, GivenStaysSound, RefusalsAreTheWorlds, RestIsOneRoom}
+use Rattle.irc_items.specs.SetUp.{settings_of}
+use Rattle.irc_items.specs.Sound.{owed_now, world_now, IsSound}
+use Rattle.irc_items.proofs.ItemsMore.{owed_more}
+use Rattle.irc_items.proofs.KeptSound.{delivered_one}
+
+pub record AreReceivingLaws : Type 0 where
+  pub stays : GivenStaysSound
+  pub delivery : DeliveryStaysSound
+  pub rest : RestIsOneRoom
+  pub given_settings : GivenKeepsSettings
+  pub delivered_settings : DeliveryKeepsSettings
+  pub items : (item : Item) (net : Network) → (given item net).net.items ≡ net.items ++ item ∷ []
+
+-- what is so of a network once lines of it are delivered
+pub record IsLater (first last : Network) : Type 0 where
+  pub sound : IsSound last
+  pub settings : settings_of last ≡ settings_of first
+  pub items : last.items ≡ first.items
+
+module _ (laws : AreReceivingLaws) where
+  pub later : (first last : Network) → IsSound first → IsReached first last → IsLater first last
+  later first last sound none_yet = record { sound = sound; settings = refl; items = refl }
+  later first last sound (one_more {between = mid} {last = course} from to before is) =
+      let so = later first mid sound before in
+      record {
+        sound = laws.delivery from to (begun mid) course so.sound is;
+        settings = laws.delivered_settings from to (begun mid) course is ∙ so.settings;
+        items = (delivered_one from to (begun mid) course is).items ∙ so.items;
+      }
+
+  owed_alike : (one other : Network) (client : ℕ) → settings_of other ≡ settings_of one → other.items ≡ one.items → owed_now other client ≡ owed_now one client
+  owed_alike one other client settings items =
+      ap (λ ss. owed_by_network ss other.items client) settings ∙ ap (λ is. owed_by_network (settings_of one) is client) items
+
+  pub item_is_received : ItemIsReceived
+  item_is_received net new item client through =
+      (laws.rest new after.sound through.rest).received client
+      ∙ owed_alike (given item net).net new client after.settings after.items
+      ∙ ap (λ ss. owed_by_network ss (given item net).net.items client) (laws.given_settings net item)
+      ∙ ap (λ is. owed_by_network (settings_of net) is client) (laws.items item net)
+      ∙ owed_more (settings_of net) net.items item client
+      ∙ ap (λ before. before ++ (step (settings_of net) (world_now net) item).lines client)
+      (sym ((laws.rest net through.sound through.given_so.at_rest).received client))
+    where
+      after : IsLater (given item net).net new
+      after = later (given item net).net new (laws.stays net item through.sound through.given_so) through.reached
+
+-- ---- bursts that cross
+
+module _ (laws : AreReceivingLaws) (refusals : RefusalsAreTheWorlds) (example : PeopleMeet) (net new : Network) (apart : ArePeopleApart net)
+    (reached : IsReached (given (link (codes "a.net") (codes "b.net")) net).net new) (rest : is_at_rest new ≡ true) where
+  abbrev item : Item
+  item = link (codes "a.net") (codes "b.net")
+
+  through : IsThrough net new item
+  through = record {
+    sound = apart.sound;
+    given_so = record {
+      at_rest = apart.rest;
+      taken = refusals net item apart.sound apart.rest ∙ (λ i. refused (apart.settings i) (apart.world i) item) ∙ example.taken;
+      within = tt;
+    };
+    reached = reached;
+    rest = rest;
+  }
+
+  by_link : (client : ℕ) → received_by new client ≡ received_by net client ++ (step three_peers (two_apart als_people bos_people) item).lines client
+  by_link client = item_is_received laws net new item client through
+      ∙ (λ i. received_by net client ++ (step (apart.settings i) (apart.world i) item).lines client)
+
+  pub people_meet : HavePeopleMet net new
+  people_meet = record {
+    to_al = by_link 1 ∙ ap (λ lines. received_by net 1 ++ lines) example.to_al;
+    to_an = by_link 2 ∙ ap (λ lines. received_by net 2 ++ lines) example.to_an ∙ append-nil (received_by net 2);
+    to_bo = by_link 3 ∙ ap (λ lines. received_by net 3 ++ lines) example.to_bo;
+    to_cy = by_link 4 ∙ ap (λ lines. received_by net 4 ++ lines) example.to_cy ∙ append-nil (received_by net 4);
+  }
+
+pub crossing_bursts_meet : AreReceivingLaws → RefusalsAreTheWorlds → PeopleMeet → CrossingBurstsMeet
+crossing_bursts_meet laws refusals example net new apart reached rest = people_meet laws refusals example net new apart reached rest

@@ -1,0 +1,133 @@
+-- In whatever order lines are delivered: a link that is lost parts a room, once it is back the room is one again, and whose nickname is on both sides of a link
+-- is gone.
+use Rattle.std.proofs.Common.{◌≡◌, ℕ, true, None, List, [], ◌∷◌, ◌++◌, codes, sym, ap, ◌∙◌}
+use Rattle.irc_world.specs.Networks.{cut_off, in_a_line, three_people, three_peers, two_apart, with_other_zed, with_zed, LinkIsBack, LinkIsLost, NicknamesClash}
+use Rattle.irc_world.specs.Owed.{world_of}
+use Rattle.irc_world.specs.Refused.{refused}
+use Rattle.irc_world.specs.Stepping.{Item, cut, link, step}
+use Rattle.irc_world.specs.WithinLimits.{IsItemWithin}
+use Rattle.irc_world.specs.World.{Setting, World}
+use Rattle.irc_network.specs.Network.{Network, given, is_at_rest, received_by}
+use Rattle.irc_items.specs.InAnyOrder.{ClashingNicknamesGo, IsReached, RejoinJoinsTheRooms, SplitPartsTheRoom}
+use Rattle.irc_items.specs.Laws.{IsGivenAtRest, RefusalsAreTheWorlds}
+use Rattle.irc_items.specs.SetUp.{settings_of}
+use Rattle.irc_items.specs.Sound.{world_now, IsSound}
+use Rattle.irc_items.proofs.InAnyOrder.{item_is_received, later, AreReceivingLaws, IsLater}
+use Rattle.irc_items.proofs.ItemsMore.{world_more}
+
+-- an item that the world of a network takes, and lines that are delivered then until none is on its way
+record IsThroughIn (settings : List Setting) (world : World) (item : Item) (net new : Network) : Type 0 where
+  sound : IsSound net
+  at_rest : is_at_rest net ≡ true
+  settings_are : settings_of net ≡ settings
+  world_is : world_now net ≡ world
+  taken : refused settings world item ≡ None
+  within : IsItemWithin item
+  reached : IsReached (given item net).net new
+  rest : is_at_rest new ≡ true
+
+-- what is so then
+record IsAfter (settings : List Setting) (world : World) (item : Item) (net new : Network) : Type 0 where
+  sound : IsSound new
+  settings_are : settings_of new ≡ settings
+  world_is : world_now new ≡ (step settings world item).world
+  received : (client : ℕ) → received_by new client ≡ received_by net client ++ (step settings world item).lines client
+
+module _ (laws : AreReceivingLaws) (refusals : RefusalsAreTheWorlds) where
+  by_item : (settings : List Setting) (world : World) (item : Item) (net new : Network) → IsThroughIn settings world item net new
+      → IsAfter settings world item net new
+  by_item settings world item net new through = record {
+    sound = so.sound;
+    settings_are = set;
+    world_is = (λ i. world_of (set i) (new_items i)) ∙ world_more settings net.items item ∙ ap (λ w. (step settings w item).world) old_world;
+    received = λ client. item_is_received laws net new item client (record {
+      sound = through.sound;
+      given_so = given_so;
+      reached = through.reached;
+      rest = through.rest;
+    }) ∙ (λ i. received_by net client ++ (step (through.settings_are i) (through.world_is i) item).lines client);
+  }
+    where
+      given_so : IsGivenAtRest net item
+      given_so = record {
+        at_rest = through.at_rest;
+        taken = refusals net item through.sound through.at_rest ∙ (λ i. refused (through.settings_are i) (through.world_is i) item) ∙ through.taken;
+        within = through.within;
+      }
+
+      so : IsLater (given item net).net new
+      so = later laws (given item net).net new (laws.stays net item through.sound given_so) through.reached
+
+      set : settings_of new ≡ settings
+      set = so.settings ∙ laws.given_settings net item ∙ through.settings_are
+
+      new_items : new.items ≡ net.items ++ item ∷ []
+      new_items = so.items ∙ laws.items item net
+
+      old_world : world_of settings net.items ≡ world
+      old_world = ap (λ ss. world_of ss net.items) (sym through.settings_are) ∙ through.world_is
+
+-- ---- the link is lost
+
+pub split_parts_the_room : AreReceivingLaws → RefusalsAreTheWorlds → LinkIsLost → SplitPartsTheRoom
+split_parts_the_room laws refusals example net new line reached rest = record {
+  to_al = after.received 1 ∙ ap (λ lines. received_by net 1 ++ lines) example.to_al;
+  to_bo = after.received 2 ∙ ap (λ lines. received_by net 2 ++ lines) example.to_bo;
+  to_cy = after.received 3 ∙ ap (λ lines. received_by net 3 ++ lines) example.to_cy;
+  parted = record { sound = after.sound; rest = rest; settings = after.settings_are; world = after.world_is };
+}
+  where
+    after : IsAfter three_peers (in_a_line three_people) (cut (codes "a.net") (codes "b.net")) net new
+    after = by_item laws refusals three_peers (in_a_line three_people) (cut (codes "a.net") (codes "b.net")) net new (record {
+      sound = line.sound;
+      at_rest = line.rest;
+      settings_are = line.settings;
+      world_is = line.world;
+      taken = example.taken;
+      within = tt;
+      reached = reached;
+      rest = rest;
+    })
+
+-- ---- the link is back
+
+pub rejoin_joins_the_rooms : AreReceivingLaws → RefusalsAreTheWorlds → LinkIsBack → RejoinJoinsTheRooms
+rejoin_joins_the_rooms laws refusals example net new parted reached rest = record {
+  to_al = after.received 1 ∙ ap (λ lines. received_by net 1 ++ lines) example.to_al;
+  to_bo = after.received 2 ∙ ap (λ lines. received_by net 2 ++ lines) example.to_bo;
+  to_cy = after.received 3 ∙ ap (λ lines. received_by net 3 ++ lines) example.to_cy;
+}
+  where
+    after : IsAfter three_peers cut_off.world (link (codes "a.net") (codes "b.net")) net new
+    after = by_item laws refusals three_peers cut_off.world (link (codes "a.net") (codes "b.net")) net new (record {
+      sound = parted.sound;
+      at_rest = parted.rest;
+      settings_are = parted.settings;
+      world_is = parted.world;
+      taken = example.taken;
+      within = tt;
+      reached = reached;
+      rest = rest;
+    })
+
+-- ---- a nickname on both sides
+
+pub clashing_nicknames_go : AreReceivingLaws → RefusalsAreTheWorlds → NicknamesClash → ClashingNicknamesGo
+clashing_nicknames_go laws refusals example net new apart reached rest = record {
+  to_al = after.received 1 ∙ ap (λ lines. received_by net 1 ++ lines) example.to_al;
+  to_zed = after.received 2 ∙ ap (λ lines. received_by net 2 ++ lines) example.to_zed;
+  to_bo = after.received 3 ∙ ap (λ lines. received_by net 3 ++ lines) example.to_bo;
+  to_other_zed = after.received 4 ∙ ap (λ lines. received_by net 4 ++ lines) example.to_other_zed;
+}
+  where
+    after : IsAfter three_peers (two_apart with_zed with_other_zed) (link (codes "a.net") (codes "b.net")) net new
+    after = by_item laws refusals three_peers (two_apart with_zed with_other_zed) (link (codes "a.net") (codes "b.net")) net new (record {
+      sound = apart.sound;
+      at_rest = apart.rest;
+      settings_are = apart.settings;
+      world_is = apart.world;
+      taken = example.taken;
+      within = tt;
+      reached = reached;
+      rest = rest;
+    })

@@ -1,0 +1,12 @@
+use Rattle.irc_items.proofs.PartedAndBack.{split_parts_the_room}
+use Rattle.irc_items.proofs.laws.split_parts_the_room.Goals as goal
+
+pub returns : goal.returns
+returns c = split_parts_the_room (record {
+  stays = c.given_stays_sound.ensures;
+  delivery = c.delivery_stays_sound.ensures;
+  rest = c.rest_is_one_room.ensures;
+  given_settings = c.given_keeps_settings.ensures;
+  delivered_settings = c.delivery_keeps_settings.ensures;
+  items = λ item net. (c.given_is_kept.ensures item net).items;
+}) c.refusals_are_the_worlds.ensures c.link_is_lost.ensures
