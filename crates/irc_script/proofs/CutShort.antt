@@ -1,6 +1,7 @@
 -- A run that memory or a device ended.
-use Rattle.std.proofs.Common.{◌≡◌, ℕ, Option, Result, Ok, Err, IsErr, IsErrAnd, List, [], ◌++◌, ap, ◌∙◌, append_assoc}
+use Rattle.std.proofs.Common.{◌≡◌, ℕ, Option, Result, Ok, Err, IsErr, IsErrAnd, List, [], ◌++◌, ap, sym, ◌∙◌, append-nil, append_assoc}
 use Rattle.irc_script.specs.Loops.Steps.{RunInto}
+use Rattle.irc_script.specs.RunLaws.{PrintsOneRoom}
 use Rattle.irc_script.specs.Runs.{IsTextOf, CutShort, EndsEarly, Ran}
 use Rattle.irc_script.specs.Networks.{first_network}
 use Rattle.irc_script.specs.Scripts.{Asked, script_read}
@@ -13,9 +14,9 @@ use Rattle.irc_script.specs.declared.fault.Trouble.{Trouble}
 use Rattle.irc_script.specs.declared.fault.Trouble.TheVariants.{Memory, Device as NoDevice}
 
 -- a run that was broken off
-pub cut_short : (remaining old new : Option (List ℕ)) (text : List ℕ) (asked : Asked) → IsTextOf text remaining → script_read text ≡ Ok asked
+pub cut_short : PrintsOneRoom → (remaining old new : Option (List ℕ)) (text : List ℕ) (asked : Asked) → IsTextOf text remaining → script_read text ≡ Ok asked
     → RunInto (first_network asked.servers) asked.requests (sink old []) (sink new []) → CutShort remaining old new
-cut_short remaining old new text asked is_text read p = let run = run_whole p.begins in record {
+cut_short law remaining old new text asked is_text read p = let run = run_whole p.begins in record {
   text = text;
   is_text = is_text;
   asked = asked;
@@ -23,6 +24,7 @@ cut_short remaining old new text asked is_text read p = let run = run_whole p.be
   last = run.last;
   whole = run.whole;
   runs = run.runs;
+  one_room = law text asked asked.requests [] run.last run.whole read (sym (append-nil asked.requests)) run.runs;
   printed = p.loses.prints.written;
   appended = p.loses.prints.appended;
   front = record {

@@ -13,3 +13,9 @@ pub mod LineBodies
 pub mod LinesSaid
 pub mod Peering
 pub mod Receiving
+pub mod Received
+pub mod EntriesPrinted
+pub mod StaysSound
+pub mod ReadWithin
+pub mod FirstIsNew
+pub mod OneRoomPrinted

@@ -82,7 +82,7 @@ both_none (x ∷ xs) no_nul no_end =
     let second = neither (is_line_end x) (list_any is_line_end xs) no_end in
     ap (λ b. not (b || is_line_end x) && is_carried xs) first.0 ∙ ap (λ b. not b && is_carried xs) second.0 ∙ both_none xs first.1 second.1
 
-line_is_carried : (line : List ℕ) → IsLine line → IsCarried line
+pub line_is_carried : (line : List ℕ) → IsLine line → IsCarried line
 line_is_carried line is = both_none line is.no_nul is.no_end
 
 each_carried : (lines : List (ArrayVec ℕ)) → AllByRecursion IsLine (bytes_of lines) → AllByRecursion IsCarriedLine lines

@@ -7,6 +7,7 @@ pub mod Moves
 pub mod Networks
 pub mod Printing
 pub mod Sinks
+pub mod OneRoom
 pub mod Runs
 pub mod RunLaws
 pub mod Loops

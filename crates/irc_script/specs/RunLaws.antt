@@ -1,12 +1,14 @@
 -- What holds of running scripts.
-use Rattle.std.specs.Prelude.{◌≡◌, ℕ, Bool, true, not, ◌&&◌, List, [], ◌∷◌}
+use Rattle.std.specs.Prelude.{◌≡◌, ◌⊎◌, ℕ, ◌≤◌, Bool, true, not, ◌&&◌, Ok, List, [], ◌∷◌, ◌++◌}
 use Rattle.std.specs.List.{list_any}
 use Rattle.std.specs.List.Sorted.{IsPermutation}
-use Rattle.irc_network.specs.Network.{Network}
+use Rattle.irc_items.specs.Sound.{most_now}
+use Rattle.irc_network.specs.Network.{Network, is_at_rest, max_count}
 use Rattle.irc_relay.specs.Links.{Name}
 use Rattle.irc_script.specs.Networks.{exceeds, first_network, in_order}
+use Rattle.irc_script.specs.OneRoom.{IsPrintedOf}
 use Rattle.irc_script.specs.Runs.{Runs}
-use Rattle.irc_script.specs.Scripts.{Request}
+use Rattle.irc_script.specs.Scripts.{Asked, Request, settles, script_read}
 
 -- what is asked for is run to its end
 pub record RunsToItsEnd (first : Network) (requests : List Request) : Type 0 where
@@ -40,3 +42,14 @@ pub record IsInOrder (names sorted : List Name) : Type 0 where
 -- Names in order are the same names, and none is behind a greater one.
 abbrev pub OrderIsSo : Type 0
 OrderIsSo = (names : List Name) → IsInOrder names (in_order names)
+
+-- So it is of each script, at the end and behind each of its requests.
+abbrev pub PrintsOneRoom : Type 0
+PrintsOneRoom = (text : List ℕ) (asked : Asked) (requests left : List Request) (net : Network) (printed : List ℕ)
+    → script_read text ≡ Ok asked → asked.requests ≡ requests ++ left → Runs (first_network asked.servers) requests net printed → IsPrintedOf net printed
+
+-- Behind a `settle` no line is on its way, unless servers need 2^64 - 1 lines to tell each other of the last item.
+abbrev pub SettlesToRest : Type 0
+SettlesToRest = (text : List ℕ) (asked : Asked) (requests left : List Request) (net : Network) (printed : List ℕ)
+    → script_read text ≡ Ok asked → asked.requests ≡ requests ++ settles ∷ left → Runs (first_network asked.servers) (requests ++ settles ∷ []) net printed
+    → (is_at_rest net ≡ true) ⊎ (max_count ≤ most_now net)

@@ -12,6 +12,7 @@ use Rattle.irc_script.specs.declared.fault.SimFault.{SimFault}
 use Rattle.irc_script.specs.declared.fault.SimFault.TheVariants.{BadScript, Failed, Device}
 use Rattle.irc_script.specs.Moves.{Move, gives, delivers_line, settles_all, moves_of}
 use Rattle.irc_script.specs.Networks.{first_network}
+use Rattle.irc_script.specs.OneRoom.{IsPrintedOf}
 use Rattle.irc_script.specs.Printing.{fault_number, printed, refusal_line, taken_text}
 use Rattle.irc_script.specs.Scripts.{Request, Asked, script_read}
 
@@ -70,7 +71,7 @@ pub data Runs : Network → List Request → Network → List ℕ → Type 0 whe
 abbrev pub IsTextOf : List ℕ → Option (List ℕ) → Type 0
 IsTextOf text remaining = IfSome remaining (λ bytes. text ≡ bytes)
 
--- a script was run to its end
+-- A script was run to its end. What was printed is what its clients receive of one room.
 pub record Finished (remaining old new : Option (List ℕ)) : Type 0 where
   pub text : List ℕ
   pub is_text : IsTextOf text remaining
@@ -79,6 +80,7 @@ pub record Finished (remaining old new : Option (List ℕ)) : Type 0 where
   pub last : Network
   pub printed : List ℕ
   pub runs : Runs (first_network asked.servers) asked.requests last printed
+  pub one_room : IsPrintedOf last printed
   pub appended : Appends old new printed
 
 -- a script was refused for this line, and nothing was printed
@@ -102,6 +104,7 @@ pub record CutShort (remaining old new : Option (List ℕ)) : Type 0 where
   pub last : Network
   pub whole : List ℕ
   pub runs : Runs (first_network asked.servers) asked.requests last whole
+  pub one_room : IsPrintedOf last whole
   pub printed : List ℕ
   pub appended : Appends old new printed
   pub front : IsFront printed whole

@@ -1,7 +1,7 @@
 //! What holds of scripts, and of the constants. Each law is a function that does nothing, and its contract is the law.
 ghost use Rattle.std.specs.Prelude.{◌≡◌};
 ghost use Rattle.irc_script.specs.Limits.{max_reads, max_servers, max_writes, read_size, waiting_room};
-ghost use Rattle.irc_script.specs.RunLaws.{EachRuns, OrderIsSo, RunsOneWay};
+ghost use Rattle.irc_script.specs.RunLaws.{EachRuns, OrderIsSo, PrintsOneRoom, RunsOneWay, SettlesToRest};
 
 use crate::script::MAX_SERVERS;
 use crate::sim::{MAX_READS, READ_SIZE};
@@ -27,3 +27,26 @@ pub fn scripts_run_one_way()
 pub fn servers_are_in_order()
     ensures { OrderIsSo }
 {}
+
+/// Whatever a script asks for, what it prints is what each client receives of one room.
+pub fn scripts_print_one_room()
+    ensures { PrintsOneRoom }
+{
+    irc_items::laws::new_network_is_sound();
+    irc_items::laws::given_stays_sound();
+    irc_items::laws::delivery_keeps_sound();
+    irc_items::laws::settling_keeps_sound();
+    irc_items::laws::received_is_front();
+    irc_items::laws::rest_is_one_room();
+}
+
+/// Behind a `settle` no line is on its way, unless servers need 2^64 - 1 lines to tell each other of the last item.
+pub fn settling_leaves_rest()
+    ensures { SettlesToRest }
+{
+    irc_items::laws::new_network_is_sound();
+    irc_items::laws::given_stays_sound();
+    irc_items::laws::delivery_keeps_sound();
+    irc_items::laws::settling_keeps_sound();
+    irc_items::laws::taken_are_few();
+}

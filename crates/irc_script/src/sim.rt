@@ -10,6 +10,7 @@ ghost use Rattle.irc_script.specs.Sinks.{sink};
 
 use crate::commands::Command;
 use crate::fault::{SimFault, Trouble};
+use crate::laws;
 use crate::script::read_script;
 use crate::sink::{Waiting, flush, write_waiting};
 use crate::stage::Stage;
@@ -25,6 +26,9 @@ pub const READ_SIZE: usize = 4096;
 /// Runs a script on the network of its servers, and prints what comes of it: each line that a client receives, as the client's number
 /// and the line; `= 1` or `= 0` for a delivery, `= K` for a settling, K the lines that were taken; `! NUMBER` for a refusal.
 ///
+/// The network is one room: the lines that are printed for a client are the first of those, in order, that one room machine for its joined part of the network
+/// sends it, and where no line is on its way between servers they are all of them.
+///
 /// # Errors
 /// - [`SimFault::BadScript`] where a line is none that a script can have. Then nothing was run and nothing printed.
 /// - [`SimFault::Failed`] where memory runs out.
@@ -36,6 +40,7 @@ pub fn run_sim<R: Read, W: Write>(
 ) -> Result<(), SimFault>
     ensures { Ran (R.remaining input.old) result (W.contents output.old) (W.contents output.new) }
 {
+    laws::scripts_print_one_room();
     let text = read_text(alloc, input)?;
     let script = read_script(alloc, &text)?;
     let mut stage = Stage::new(alloc, &script.servers)?;

@@ -1,0 +1,38 @@
+-- What the clients of a script see, whatever it asks for: one room.
+use Rattle.std.specs.Prelude.{◌≡◌, ℕ, true, nat_eq, Option, Some, None, List, if◌then◌else◌}
+use Rattle.std.specs.List.{filter_map, flat_map}
+use Rattle.irc_relay.specs.Relay.{IsFront}
+use Rattle.irc_network.specs.Network.{Network, Receipt, is_at_rest, received_by}
+use Rattle.irc_items.specs.Sound.{owed_now, IsSound}
+use Rattle.irc_net.specs.declared.fault.NetFault.{NetFault}
+use Rattle.irc_script.specs.Printing.{count_line, fault_number, printed, refusal_line}
+
+-- What is printed, entry by entry: a line that a client receives; how many lines were taken, `= K`; a refusal, `! NUMBER`.
+pub data Entry : Type 0 where
+  receives : (receipt : Receipt) → Entry
+  counts : (count : ℕ) → Entry
+  refuses : (fault : NetFault) → Entry
+
+abbrev pub entry_text : Entry → List ℕ
+entry_text (receives receipt) = printed receipt
+entry_text (counts count) = count_line count
+entry_text (refuses fault) = refusal_line (fault_number fault)
+
+-- the line of an entry that is one for this client
+abbrev pub line_to : ℕ → Entry → Option (List ℕ)
+line_to client (receives receipt) = if nat_eq receipt.client client then Some receipt.text else None
+line_to client (counts count) = None
+line_to client (refuses fault) = None
+
+-- all that a client receives among these, in turn
+abbrev pub lines_to : ℕ → List Entry → List (List ℕ)
+lines_to client entries = filter_map (line_to client) entries
+
+-- What was printed, by where the network has come to: each client has received a front of what it is owed there, line by line, and at rest all of it.
+pub record IsPrintedOf (net : Network) (text : List ℕ) : Type 0 where
+  pub entries : List Entry
+  pub text_is : text ≡ flat_map entry_text entries
+  pub received : (client : ℕ) → lines_to client entries ≡ received_by net client
+  pub front : (client : ℕ) → IsFront (lines_to client entries) (owed_now net client)
+  pub at_rest : is_at_rest net ≡ true → (client : ℕ) → lines_to client entries ≡ owed_now net client
+  pub sound : IsSound net
