@@ -10,9 +10,8 @@ use Rattle.irc_relay.specs.Distances.{EndsAreAmong, IsAmong}
 use Rattle.irc_relay.specs.Following.{AllAlong}
 use Rattle.irc_relay.specs.Lemmas.TellingNames.{Telling, alike, unlike, tell, same_when, same_unless}
 use Rattle.irc_relay.specs.Links.{Name, distance, linked, same, AreLinked, IsForest}
-use Rattle.irc_relay.specs.Relay.{streams_from, at_source, coming, from_parent, from_source, final, lines_pending, under_way, ComesInTurn, Covers, Delivers, IsCounted, Relays, SameOutcome, TakesFrom}
+use Rattle.irc_relay.specs.Relay.{streams_from, final, lines_pending, under_way, Covers, Delivers, IsCounted, Relays, SameOutcome}
 use Rattle.irc_relay.proofs.Counting.{delivery_pending}
-use Rattle.irc_relay.proofs.Delivering.{comes_in_turn}
 use Rattle.irc_relay.proofs.Flowing.{covers_flows, IsFlow}
 use Rattle.irc_relay.proofs.GoingToward.{distance_self, linked_other, next_hop}
 use Rattle.irc_relay.proofs.GoingWell.{delivery_goes_well}
@@ -49,6 +48,7 @@ use Rattle.irc_items.proofs.AtRest.{ends_now, flowing, forest_now, holds_now}
 use Rattle.irc_items.proofs.ClientBegins.{home_is}
 use Rattle.irc_items.proofs.ClientSound.{stays_some}
 use Rattle.irc_items.proofs.Delivered.{delivered_between, IsDeliveredTo}
+use Rattle.irc_items.proofs.FirstOnWay.{goes_well}
 use Rattle.irc_items.proofs.Greetings.{GreetingIsMet}
 use Rattle.irc_items.proofs.Unheard.{all_go_well, all_harmless}
 
@@ -97,47 +97,19 @@ module _ (laws : AreDeliveryLaws) (old new : Course) (sound : IsSound old.net) (
   two : p ≢ t
   two = linked_other old.net.links p t forest linked_pt
 
-  module _ (client : ℕ) where
-    -- what is coming to t begins with that line
-    takes : TakesFrom s.streams t p
-    takes = (sound.coming.under_way client).away p t line (d.rest ++ owed_to s (view_at old.net p) t)
-        (ap (λ o. unwrap_or o [] ++ owed_to s (view_at old.net p) t) d.waited)
-
-    pub record BeginsWith : Type 0 where
-      pub more : List (List ℕ)
-      pub is : coming (machine s client) s.streams (relayed s old.net client) t ≡ line ∷ more
-
-    begins_with : BeginsWith
-    begins_with = by (comes_in_turn (machine s client) old.net.links s.streams (relayed s old.net client) t flow)
-      where
-        first : under_way (relayed s old.net client) (s.streams.parent t) t ≡ line ∷ (d.rest ++ owed_to s (view_at old.net p) t)
-        first = ap (λ q. under_way (relayed s old.net client) q t) takes.parent ∙ ap (λ o. unwrap_or o [] ++ owed_to s (view_at old.net p) t) d.waited
-
-        begins_in : (more : List (List ℕ)) → coming (machine s client) s.streams (relayed s old.net client) t
-            ≡ under_way (relayed s old.net client) (s.streams.parent t) t ++ more → BeginsWith
-        begins_in more is = record { more = (d.rest ++ owed_to s (view_at old.net p) t) ++ more; is = is ∙ ap (λ lines. lines ++ more) first }
-
-        by : ComesInTurn (machine s client) s.streams (relayed s old.net client) t → BeginsWith
-        by (at_source none _) = absurd (let below = takes.below in let no : ⊥ = omega arith in no)
-        by (from_source _ is) = record { more = d.rest ++ owed_to s (view_at old.net p) t; is = is ∙ first }
-        by (from_parent _ _ is) = begins_in _ is
-
-    goes_well : IsGoodLine s sound.asks (world_now old.net) sound.routes p t view line
-    goes_well =
-        (subst (λ lines. AllAlong (machine s client) (IsGoodLine s sound.asks (world_now old.net) sound.routes) p t view lines) begins_with.is
-        (subst (λ q. AllAlong (machine s client) (IsGoodLine s sound.asks (world_now old.net) sound.routes) q t view (coming (machine s client) s.streams (relayed s old.net client) t)) takes.parent
-        ((sound.coming.under_way client).well t))).0
+  well : IsGoodLine s sound.asks (world_now old.net) sound.routes p t view line
+  well = goes_well old.net sound forest p t line d.rest d.waited 0
 
   abbrev back : List (List ℕ)
-  back = (goes_well 0).back
+  back = well.back
 
   good : IsGoodReply s (world_now old.net).links p t view after back
-  good = (goes_well 0).good
+  good = well.good
 
   -- ---- what it makes
 
   reply_is : reply view (link_says (place_in old.net.names p) (read_of line)) ≡ record { view = after.view; out = after.out }
-  reply_is = ap (λ b. if b then record { view = after.view; out = after.out } else record { view = view; out = [] }) (ap is_some (goes_well 0).is_end)
+  reply_is = ap (λ b. if b then record { view = after.view; out = after.out } else record { view = view; out = [] }) (ap is_some well.is_end)
 
   answered : IsAskedAt t (record { view = after.view; out = after.out }) d.mid new
   answered =
@@ -258,7 +230,7 @@ module _ (laws : AreDeliveryLaws) (old new : Course) (sound : IsSound old.net) (
     at_end = final (machine s client) s.streams (relayed s old.net client) p
 
     unheard : AllByRecursion (IsUnheard s t at_end) back
-    unheard = (goes_well 0).answer.unheard at_end ((sound.coming.under_way client).fits p d.p_among)
+    unheard = well.answer.unheard at_end ((sound.coming.under_way client).fits p d.p_among)
 
     returns_well : AllAlong (machine s client) (IsGoodLine s sound.asks (world_now old.net) sound.routes) (s.streams.parent p) p at_end back
     returns_well = by back refl
@@ -267,7 +239,7 @@ module _ (laws : AreDeliveryLaws) (old new : Course) (sound : IsSound old.net) (
         by [] none = subst (AllAlong (machine s client) (IsGoodLine s sound.asks (world_now old.net) sound.routes) (s.streams.parent p) p at_end) (sym none) tt
         by (next ∷ lines) is =
             subst (λ q. AllAlong (machine s client) (IsGoodLine s sound.asks (world_now old.net) sound.routes) q p at_end back)
-            (sym ((goes_well 0).answer.to_end next lines is).0) (all_go_well s t p at_end client sound.asks (world_now old.net) sound.routes back unheard)
+            (sym (well.answer.to_end next lines is).0) (all_go_well s t p at_end client sound.asks (world_now old.net) sound.routes back unheard)
 
     delivers : Delivers (machine s client) p t line back (relayed s old.net client) (relayed s new.net client)
     delivers = record {
@@ -286,7 +258,7 @@ module _ (laws : AreDeliveryLaws) (old new : Course) (sound : IsSound old.net) (
     relays = record {
       no_echo = ap (λ b. if b then [] else lines_on (number s p) after.out) (same_when p p refl);
       to_linked = λ u next lines is. by u next lines (tell u p) is;
-      back_to_end = (goes_well 0).answer.to_end;
+      back_to_end = well.answer.to_end;
       back_harmless = all_harmless s t p at_end client back unheard;
     }
       where
@@ -348,7 +320,7 @@ module _ (laws : AreDeliveryLaws) (old new : Course) (sound : IsSound old.net) (
     few_now : new.net.taken + pending new.net new.net.names ≤ most_now new.net
     few_now =
         let counts = delivery_pending (machine s client) old.net.links s.streams sound.asks.answered sound.asks.one sound.asks.other p t line back (relayed s old.net client)
-        (relayed s new.net client) old.net.names flow under.away counted_once (delivers client) (relays client) (goes_well 0).answer.once in
+        (relayed s new.net client) old.net.names flow under.away counted_once (delivers client) (relays client) well.answer.once in
         let names = ap (pending new.net) names_same in
         let most = by_items (λ settings items. most_of_last settings new_world items) in
         let few = sound.coming.few client in
@@ -389,21 +361,21 @@ module _ (laws : AreDeliveryLaws) (old new : Course) (sound : IsSound old.net) (
 
   -- the line by which p names itself, at t
   greeted : line ≡ line_text (greeting (view_at old.net p).routes) → is_met_with s after.view p ≡ true
-  greeted is = by (has_far (goes_well 0).end) refl
+  greeted is = by (has_far well.end) refl
     where
-      met_before : has_far (goes_well 0).end ≡ true → is_met_with s view p ≡ true
-      met_before m = ap (λ o. option_map_or has_far o false) (goes_well 0).is_end ∙ m
+      met_before : has_far well.end ≡ true → is_met_with s view p ≡ true
+      met_before m = ap (λ o. option_map_or has_far o false) well.is_end ∙ m
 
       configured : IsConfigured (view_at old.net p)
       configured = sound.set_up.configured p d.p_among
 
-      greeted_line : (l : List ℕ) → l ≡ line_text (greeting (view_at old.net p).routes) → has_far (goes_well 0).end ≡ false
+      greeted_line : (l : List ℕ) → l ≡ line_text (greeting (view_at old.net p).routes) → has_far well.end ≡ false
           → closings (asked_line s p view l).out ≡ [] → is_met_with s (asked_line s p view l).view p ≡ true
       greeted_line l e not_met open_still = subst (λ l. is_met_with s (asked_line s p view l).view p ≡ true) (sym e)
-          (laws.greeting_met view (number s p) (goes_well 0).end (view_at old.net p).routes (goes_well 0).is_end not_met configured.name configured.info
+          (laws.greeting_met view (number s p) well.end (view_at old.net p).routes well.is_end not_met configured.name configured.info
           (subst (λ l. closings (asked_line s p view l).out ≡ []) e open_still))
 
-      by : (b : Bool) → has_far (goes_well 0).end ≡ b → is_met_with s after.view p ≡ true
+      by : (b : Bool) → has_far well.end ≡ b → is_met_with s after.view p ≡ true
       by true e = good.met_stay p (met_before e)
       by false e = greeted_line line is e good.closes_none
 

@@ -16,6 +16,7 @@ pub mod GoodDeeds
 pub mod GoodLines
 pub mod Begun
 pub mod FewLines
+pub mod FirstOnWay
 pub mod Collisions
 pub mod Counting
 pub mod ItemsMore

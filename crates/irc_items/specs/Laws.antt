@@ -1,13 +1,19 @@
 -- What holds of networks of servers, whatever the order in which lines are delivered.
-use Rattle.std.specs.Prelude.{◌≡◌, ℕ, true, Some, None}
+use Rattle.std.specs.Prelude.{◌≡◌, ℕ, true, Some, None, List, [], ◌∷◌}
+use Rattle.irc_follow.specs.Tree.{place_in}
+use Rattle.irc_line.specs.Reading.{read_of}
+use Rattle.irc_relay.specs.Links.{Name}
 use Rattle.irc_relay.specs.Relay.{IsFront}
+use Rattle.irc_server.specs.Served.{link_says, served}
 use Rattle.irc_world.specs.Refused.{refused}
 use Rattle.irc_world.specs.Stepping.{Item}
 use Rattle.irc_world.specs.WithinLimits.{IsItemWithin}
 use Rattle.irc_network.specs.Network.{Course, Network, delivered, given, is_at_rest, received_by}
 use Rattle.irc_network.specs.Refusing.{fault_at_rest}
 use Rattle.irc_items.specs.OneRoom.{IsOneRoom}
-use Rattle.irc_items.specs.SetUp.{settings_of, IsNew}
+use Rattle.irc_items.specs.GoodLines.{closings}
+use Rattle.irc_items.specs.Relayed.{way_between}
+use Rattle.irc_items.specs.SetUp.{settings_of, view_at, IsNew}
 use Rattle.irc_items.specs.Sound.{owed_now, world_now, IsSound}
 
 abbrev pub NewNetworkIsSound : Type 0
@@ -43,3 +49,11 @@ GivenKeepsSettings = (net : Network) (item : Item) → settings_of (given item n
 
 abbrev pub DeliveryKeepsSettings : Type 0
 DeliveryKeepsSettings = (from to : ℕ) (old new : Course) → delivered from to old ≡ Some new → settings_of new.net ≡ settings_of old.net
+
+-- No server closes a link upon the line that it takes next from another.
+abbrev pub ClosesNoLink : Network → Type 0
+ClosesNoLink net = (from to : Name) (line : List ℕ) (rest : List (List ℕ)) → way_between net from to ≡ Some (line ∷ rest)
+    → closings (served (view_at net to) (link_says (place_in net.names from) (read_of line))).out ≡ []
+
+abbrev pub NoLinkIsClosed : Type 0
+NoLinkIsClosed = (net : Network) → IsSound net → ClosesNoLink net

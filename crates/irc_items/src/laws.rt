@@ -2,7 +2,7 @@
 //! check proves it, and a crate above may cite it.
 ghost use Rattle.irc_items.specs.InAnyOrder.{ClashingNicknamesGo, CrossingBurstsMeet, ItemIsReceived, RejoinJoinsTheRooms, SplitPartsTheRoom};
 ghost use Rattle.irc_items.specs.Kept.{DeliveryKeepsSound, SettlingKeepsSound, TakenAreFew};
-ghost use Rattle.irc_items.specs.Laws.{DeliveryKeepsSettings, DeliveryStaysSound, GivenKeepsSettings, GivenStaysSound, NewNetworkIsSound, ReceivedIsFront, RefusalsAreTheWorlds, RestIsOneRoom};
+ghost use Rattle.irc_items.specs.Laws.{DeliveryKeepsSettings, DeliveryStaysSound, GivenKeepsSettings, GivenStaysSound, NewNetworkIsSound, NoLinkIsClosed, ReceivedIsFront, RefusalsAreTheWorlds, RestIsOneRoom};
 
 /// A network to which nothing was given is sound.
 pub fn new_network_is_sound()
@@ -74,6 +74,13 @@ pub fn delivery_stays_sound()
     irc_room::laws::names_are_line_words();
     irc_handshake::laws::lines_fit();
     irc_server::laws::keeps_its_setting();
+    irc_world::laws::taken_make_world();
+}
+
+/// No server closes a link upon the line that it takes next from another.
+pub fn no_link_is_closed()
+    ensures { NoLinkIsClosed }
+{
     irc_world::laws::taken_make_world();
 }
 

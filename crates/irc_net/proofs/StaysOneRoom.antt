@@ -11,7 +11,7 @@ use Rattle.irc_network.specs.Loops.Courses.{DeliversAt, SettlesAt, course}
 use Rattle.irc_network.specs.Network.{Course, Ends, Network, begun, delivered, ends_of, given, is_at_rest, max_count, received_by}
 use Rattle.irc_network.specs.Refusing.{fault_at_rest}
 use Rattle.irc_items.specs.Kept.{DeliveryKeepsSound, KeepsItems, SettlingKeepsSound, TakenAreFew}
-use Rattle.irc_items.specs.Laws.{GivenStaysSound, NewNetworkIsSound, ReceivedIsFront, RefusalsAreTheWorlds, RestIsOneRoom}
+use Rattle.irc_items.specs.Laws.{GivenStaysSound, NewNetworkIsSound, NoLinkIsClosed, ReceivedIsFront, RefusalsAreTheWorlds, RestIsOneRoom}
 use Rattle.irc_items.specs.Sound.{most_now, owed_now}
 use Rattle.irc_items.specs.SetUp.{IsNew}
 use Rattle.irc_net.specs.Calls.{NetView, delivery}
@@ -43,10 +43,11 @@ pub refuses : RefusalsAreTheWorlds → (net old : NetView) (item : Item) → IsK
 refuses refusals net old item kept is =
     subst (λ old. RefusesAsTheWorld old item) is (λ whole rest. refusals net.network item (kept whole).sound rest)
 
-pub one_room : RestIsOneRoom → (net : NetView) → IsKept net → IsOneRoomNet net
-one_room at_rest net kept = record {
+pub one_room : RestIsOneRoom → NoLinkIsClosed → (net : NetView) → IsKept net → IsOneRoomNet net
+one_room at_rest no_link net kept = record {
   coming = λ whole. (kept whole).sound;
   at_rest = λ whole rest. at_rest net.network (kept whole).sound rest;
+  closes_none = λ whole. no_link net.network (kept whole).sound;
 }
 
 -- ---- a new one

@@ -6,6 +6,7 @@ use Rattle.irc_world.specs.Refused.{refused}
 use Rattle.irc_world.specs.Stepping.{Item}
 use Rattle.irc_network.specs.Network.{Network, is_at_rest, max_count}
 use Rattle.irc_network.specs.Refusing.{fault_at_rest}
+use Rattle.irc_items.specs.Laws.{ClosesNoLink}
 use Rattle.irc_items.specs.OneRoom.{IsOneRoom}
 use Rattle.irc_items.specs.SetUp.{settings_of}
 use Rattle.irc_items.specs.Sound.{most_now, owed_now, world_now, IsSound}
@@ -35,7 +36,8 @@ abbrev pub LeavesRest : NetView → Type 0
 LeavesRest net = net.failed ≡ false → (is_at_rest net.network ≡ true) ⊎ (max_count ≤ most_now net.network)
 
 -- Whatever is on its way, once all lines that are coming to a server are taken it is what it has to be, and its clients have received what they are owed
--- (IsSound); at rest that is so already (IsOneRoom).
+-- (IsSound); at rest that is so already (IsOneRoom). And no server closes a link.
 pub record IsOneRoomNet (net : NetView) : Type 0 where
   pub coming : net.failed ≡ false → IsSound net.network
   pub at_rest : net.failed ≡ false → is_at_rest net.network ≡ true → IsOneRoom net.network
+  pub closes_none : net.failed ≡ false → ClosesNoLink net.network

@@ -191,11 +191,12 @@ impl Net {
 
     /// At rest a network is one room: each server knows all that there is to know in its part of the network, and each client has received just the lines
     /// that it is owed: those that one room machine for its joined part sends it. While lines are on their way, that is what it comes to once they are taken,
-    /// in whatever order. It is told of every network for which memory never ran out, whatever was given to it.
+    /// in whatever order, and no server closes a link upon any of them. It is told of every network for which memory never ran out, whatever was given to it.
     pub fn one_room(&self)
         ensures { IsOneRoomNet self.now }
     {
         laws::rest_is_one_room();
+        laws::no_link_is_closed();
         let _ = &self.network;
     }
 
