@@ -15,6 +15,6 @@ DeliveryKeepsSound = (from to : ℕ) (old new : Course) → delivered from to ol
 abbrev pub SettlingKeepsSound : Type 0
 SettlingKeepsSound = (count : ℕ) (old new : Course) → TakesInTurn count old new → old.net.taken ≤ max_count → KeepsItems count old.net new.net
 
--- In a sound network as many lines were taken as servers need for the last item at most.
+-- No more lines were taken in a sound network than servers need at most for the last item.
 abbrev pub TakenAreFew : Type 0
 TakenAreFew = (net : Network) → IsSound net → net.taken ≤ most_now net

@@ -133,7 +133,7 @@ pub fn crossing_bursts_meet()
     delivery_keeps_settings();
 }
 
-/// And a link that is lost parts a room: each side sees those of the other quit, in whatever order the others of its side are told.
+/// And a link that is lost parts a room: each side sees those of the other quit, in whatever order the lines are delivered.
 pub fn split_parts_the_room()
     ensures { SplitPartsTheRoom }
 {
@@ -161,8 +161,8 @@ pub fn rejoin_joins_the_rooms()
     delivery_keeps_settings();
 }
 
-/// And whose nickname is on both sides of a new link is gone from both, whatever crosses: who shared a channel with one of them sees it quit, and both
-/// are told why.
+/// And two users of one nickname, on both sides of a new link, are gone from both, whatever crosses: who shared a channel with one of them sees it quit,
+/// and both are told why.
 pub fn clashing_nicknames_go()
     ensures { ClashingNicknamesGo }
 {
@@ -206,7 +206,7 @@ pub fn settling_keeps_sound()
     delivery_stays_sound();
 }
 
-/// As many lines were taken at most as servers need for the last item.
+/// No more lines were taken than servers need at most for the last item.
 pub fn taken_are_few()
     ensures { TakenAreFew }
 {}

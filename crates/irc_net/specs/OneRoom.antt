@@ -36,7 +36,7 @@ abbrev pub LeavesRest : NetView → Type 0
 LeavesRest net = net.failed ≡ false → (is_at_rest net.network ≡ true) ⊎ (max_count ≤ most_now net.network)
 
 -- Whatever is on its way, once all lines that are coming to a server are taken it is what it has to be, and its clients have received what they are owed
--- (IsSound); at rest that is so already (IsOneRoom). And no server closes a link.
+-- (IsSound); at rest that is so already (IsOneRoom). And no server closes a link upon a line that is delivered.
 pub record IsOneRoomNet (net : NetView) : Type 0 where
   pub coming : net.failed ≡ false → IsSound net.network
   pub at_rest : net.failed ≡ false → is_at_rest net.network ≡ true → IsOneRoom net.network

@@ -72,7 +72,7 @@ impl Net {
         })
     }
 
-    /// What a client has received, whole lines; also once it is closed. Nothing for a number that was never given. They are the first of the lines that one
+    /// What a client has received, whole lines; also once it is closed. Nothing for a number that was never given. They are a front of the lines that one
     /// room machine for its joined part sends it, and at rest all of them.
     pub fn received(&self, client: u64) -> &[Text]
         ensures lines { map bytes_of result.now ≡ received_by self.now.network client }
@@ -191,7 +191,8 @@ impl Net {
 
     /// At rest a network is one room: each server knows all that there is to know in its part of the network, and each client has received just the lines
     /// that it is owed: those that one room machine for its joined part sends it. While lines are on their way, that is what it comes to once they are taken,
-    /// in whatever order, and no server closes a link upon any of them. It is told of every network for which memory never ran out, whatever was given to it.
+    /// in whatever order, and no server closes a link upon one that is delivered. It is told of every network for which memory never ran out, whatever was
+    /// given to it.
     pub fn one_room(&self)
         ensures { IsOneRoomNet self.now }
     {

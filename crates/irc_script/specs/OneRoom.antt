@@ -28,7 +28,7 @@ line_to client (refuses fault) = None
 abbrev pub lines_to : ℕ → List Entry → List (List ℕ)
 lines_to client entries = filter_map (line_to client) entries
 
--- What was printed, by where the network has come to: each client has received a front of what it is owed there, line by line, and at rest all of it.
+-- What is printed by the time the network is this: each client has received a front of what it is owed there, line by line, and at rest all of it.
 pub record IsPrintedOf (net : Network) (text : List ℕ) : Type 0 where
   pub entries : List Entry
   pub text_is : text ≡ flat_map entry_text entries

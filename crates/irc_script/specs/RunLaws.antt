@@ -43,7 +43,7 @@ pub record IsInOrder (names sorted : List Name) : Type 0 where
 abbrev pub OrderIsSo : Type 0
 OrderIsSo = (names : List Name) → IsInOrder names (in_order names)
 
--- So it is of each script, at the end and behind each of its requests.
+-- What a script prints is what its clients receive of one room, at its end and behind each of its requests.
 abbrev pub PrintsOneRoom : Type 0
 PrintsOneRoom = (text : List ℕ) (asked : Asked) (requests left : List Request) (net : Network) (printed : List ℕ)
     → script_read text ≡ Ok asked → asked.requests ≡ requests ++ left → Runs (first_network asked.servers) requests net printed → IsPrintedOf net printed

@@ -267,6 +267,10 @@ const TREE: &str = "\
 > settle
 3 :al!u@h PRIVMSG cy :yo
 = 2
+> link a.net c.net
+! 5
+> deliver a.net c.net
+! 4
 ";
 
 #[test]
