@@ -44,9 +44,11 @@ pub reply_alike : ServedKeepsItsSetting → (view : View) (occurrence : Occurren
 reply_alike kept view occurrence = by (is_taken view occurrence) refl
   where
     by : (b : Bool) → is_taken view occurrence ≡ b → IsSetAlike view (reply view occurrence).view
-    by true e = subst (λ (r : Reply). IsSetAlike view r.view) (sym (ap (λ b. if b then record { view = (served view occurrence).view; out = (served view occurrence).out }
+    by true e = subst (λ (r : Reply). IsSetAlike view r.view)
+        (sym (ap (λ b. if b then record { view = (served view occurrence).view; out = (served view occurrence).out }
         else record { view = view; out = [] }) e)) (kept view occurrence)
-    by false e = subst (λ (r : Reply). IsSetAlike view r.view) (sym (ap (λ b. if b then record { view = (served view occurrence).view; out = (served view occurrence).out }
+    by false e = subst (λ (r : Reply). IsSetAlike view r.view)
+        (sym (ap (λ b. if b then record { view = (served view occurrence).view; out = (served view occurrence).out }
         else record { view = view; out = [] }) e)) (record { peers = refl; name = refl; info = refl; created = refl })
 
 pub setting_alike : (old new : View) → IsSetAlike old new → setting_now new ≡ setting_now old
@@ -74,7 +76,8 @@ module _ (kept : ServedKeepsItsSetting) (old : Course) (set_up : IsSetUp old.net
   alike_site : IsAlikeSite site replied
   alike_site = record {
     named = ap Some (reply_alike kept view occurrence).name ∙ sym (ap (option_map (λ (v : View). v.routes.name)) (there old.net set_up t among).is_view);
-    setting = ap Some (setting_alike view answer.view (reply_alike kept view occurrence)) ∙ sym (ap (option_map setting_now) (there old.net set_up t among).is_view);
+    setting = ap Some (setting_alike view answer.view (reply_alike kept view occurrence))
+        ∙ sym (ap (option_map setting_now) (there old.net set_up t among).is_view);
   }
 
   first_changed : IsSiteChanged place replied old.net mid.net
@@ -113,7 +116,8 @@ module _ (kept : ServedKeepsItsSetting) (old : Course) (set_up : IsSetUp old.net
       by : (o : Option (List (List ℕ))) → slice_get old.net.received earlier ≡ o
           → unwrap_or (option_map (λ lines. lines ++ lines_to (suc earlier) answer.out) (slice_get old.net.received earlier)) []
           ≡ unwrap_or (slice_get old.net.received earlier) [] ++ lines_to (suc earlier) answer.out
-      by (Some lines) e = ap (λ o. unwrap_or (option_map (λ lines. lines ++ lines_to (suc earlier) answer.out) o) []) e ∙ sym (ap (λ o. unwrap_or o [] ++ lines_to (suc earlier) answer.out) e)
+      by (Some lines) e = ap (λ o. unwrap_or (option_map (λ lines. lines ++ lines_to (suc earlier) answer.out) o) []) e
+          ∙ sym (ap (λ o. unwrap_or o [] ++ lines_to (suc earlier) answer.out) e)
       by None e = absurd (let no = sym (beyond old.net.received old.net.homes earlier (sym inboxes) e) ∙ is in cc no)
 
   pub asked_so : length old.net.received ≡ length old.net.homes → IsAskedAt t answer old (all_sent_out place answer.out mid)
@@ -129,10 +133,12 @@ module _ (kept : ServedKeepsItsSetting) (old : Course) (set_up : IsSetUp old.net
     view = then_set_up.view;
     other_views = then_set_up.other_views;
     way = λ to. ap (option_and_then (λ (s : Site). get s.queues to)) then_set_up.site ∙ sent.ways to
-        ∙ sym (ap (λ o. option_map (λ lines. lines ++ lines_on to answer.out) (option_and_then (λ (s : Site). get s.queues to) o)) (site_there old.net set_up t among));
+        ∙ sym (ap (λ o. option_map (λ lines. lines ++ lines_on to answer.out) (option_and_then (λ (s : Site). get s.queues to) o))
+        (site_there old.net set_up t among));
     other_ways = λ u to two. ap (option_and_then (λ (s : Site). get s.queues to)) (then_set_up.other_sites u two);
     received = received_so inboxes;
-    nobody = λ client none. nothing_received (all_sent_out place answer.out mid).net client (sent.inboxes ∙ inboxes ∙ ap (λ (homes : List Name). length homes) (sym changed.homes))
+    nobody = λ client none. nothing_received (all_sent_out place answer.out mid).net client
+        (sent.inboxes ∙ inboxes ∙ ap (λ (homes : List Name). length homes) (sym changed.homes))
         (ap (λ homes. home_in homes client) changed.homes ∙ none);
   }
 
@@ -140,4 +146,5 @@ pub asked_there : ServedKeepsItsSetting → (old : Course) → IsSetUp old.net �
     → IsAmong old.net.names t → (occurrence : Occurrence)
     → IsAskedAt t (reply (view_at old.net t) occurrence) old (asked (place_in old.net.names t) occurrence old)
 asked_there kept old set_up inboxes t among occurrence =
-    subst (IsAskedAt t (reply (view_at old.net t) occurrence) old) (sym (asked_is kept old set_up t among occurrence)) (asked_so kept old set_up t among occurrence inboxes)
+    subst (IsAskedAt t (reply (view_at old.net t) occurrence) old) (sym (asked_is kept old set_up t among occurrence))
+    (asked_so kept old set_up t among occurrence inboxes)

@@ -28,7 +28,8 @@ use Rattle.irc_items.proofs.SetUpFacts.{fixed, listed, servers_named}
 
 -- ---- what a client has received
 
-pub beyond : {A B : Type 0} (homes : List A) (received : List B) (place : ℕ) → length received ≡ length homes → slice_get homes place ≡ None → slice_get received place ≡ None
+pub beyond : {A B : Type 0} (homes : List A) (received : List B) (place : ℕ) → length received ≡ length homes → slice_get homes place ≡ None
+    → slice_get received place ≡ None
 beyond homes [] place long none = refl
 beyond [] (inbox ∷ received) place long none = absurd (cc long)
 beyond (home ∷ homes) (inbox ∷ received) zero long none = absurd (cc none)
@@ -58,13 +59,18 @@ received_is_front net client sound = by (home_in net.homes client) refl
   where
     by : (o : Option Name) → home_in net.homes client ≡ o → IsFront (received_by net client) (owed_now net client)
     by None none = ([], ap (λ lines. lines ++ []) (nothing_received net client sound.inboxes none) ∙ sym (sound.nobody client none))
-    by (Some home) is = (later, ap (λ lines. lines ++ later) (sym (shown_at_home (flowing net sound) net client home at_home)) ∙ (sound.coming.under_way client).told home at_home)
+    by (Some home) is = (
+      later,
+      ap (λ lines. lines ++ later) (sym (shown_at_home (flowing net sound) net client home at_home))
+          ∙ (sound.coming.under_way client).told home at_home,
+    )
       where
         at_home : is_home_of net.homes home client ≡ true
         at_home = is_home net.homes client home is
 
         later : List (List ℕ)
-        later = shown_upon (machine (flowing net sound) client) home ((flowing net sound).streams.parent home) (view_at net home) (coming (machine (flowing net sound) client) (flowing net sound).streams (relayed (flowing net sound) net client) home)
+        later = shown_upon (machine (flowing net sound) client) home ((flowing net sound).streams.parent home) (view_at net home)
+            (coming (machine (flowing net sound) client) (flowing net sound).streams (relayed (flowing net sound) net client) home)
 
 -- ---- one room
 

@@ -21,7 +21,8 @@ use Rattle.irc_items.specs.Sound.{IsUnderWay}
 use Rattle.irc_items.proofs.GoodLines.{good_terms}
 
 -- as one client sees it: each server that takes lines is told of these deeds from this side on, and comes to the world by them; the others are there already
-pub record IsBegun (s : Fixed) (asks : Answering) (world : World) (routes : Name → Known) (net : Network) (client : ℕ) (owed : List (List ℕ)) (part : Name → Part)
+pub record IsBegun (s : Fixed) (asks : Answering) (world : World) (routes : Name → Known) (net : Network) (client : ℕ) (owed : List (List ℕ))
+    (part : Name → Part)
     (deeds : Name → List Deed) : Type 0 where
   pub starts : Starts (machine s client) (play s client) (good_terms s asks world routes) s.streams (relayed s net client) part deeds
   pub away : GoesAway s.streams (relayed s net client)
@@ -54,7 +55,8 @@ module _ (s : Fixed) (asks : Answering) (world : World) (source : Name → Name)
   pub follows : (t : Name) → 0 < s.streams.depth t
       → IsFollowing (machine s client) (play s client) (good_terms s asks world routes) s.streams (relayed s net client) (part t) (deeds t) t
   follows t below =
-      subst (λ from. IsFollowing (machine s client) (play s client) (good_terms s asks world routes) from (relayed s net client) (part t) (deeds t) t) (sym streams)
+      subst (λ from. IsFollowing (machine s client) (play s client) (good_terms s asks world routes) from (relayed s net client) (part t) (deeds t) t)
+      (sym streams)
       (followed View (List ℕ) (List ℕ) Part Deed (machine s client) (play s client) (good_terms s asks world routes) world.links source forest covers
       follow_along (relayed s net client) part deeds starts_along t (subst (λ from. 0 < from.depth t) streams below))
 

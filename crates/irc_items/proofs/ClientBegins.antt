@@ -155,7 +155,8 @@ module _ (laws : AreClientLaws) (net base new : Network) (world : World) (h : Na
 
   module _ (client : ℕ) where
     pub from_home : (y : Name) → under_way (relayed s new client) h y ≡ lines_on (number s y) out
-    from_home y = ap (λ lines. lines ++ owed_to s (view_at new h) y) (queued_home y) ∙ ap (λ lines. lines_on (number s y) out ++ lines) (owes_nobody h y) ∙ append_nil (lines_on (number s y) out)
+    from_home y = ap (λ lines. lines ++ owed_to s (view_at new h) y) (queued_home y) ∙ ap (λ lines. lines_on (number s y) out ++ lines) (owes_nobody h y)
+        ∙ append_nil (lines_on (number s y) out)
 
     from_elsewhere : (x y : Name) → x ≢ h → under_way (relayed s new client) x y ≡ []
     from_elsewhere x y two = ap (λ lines. lines ++ owed_to s (view_at new x) y) (queued_elsewhere x y two) ∙ owes_nobody x y
@@ -206,12 +207,14 @@ module _ (laws : AreClientLaws) (net base new : Network) (world : World) (h : Na
     }
 
     away : GoesAway s.streams (relayed s new client)
-    away = from_source_goes_away world.links (from_one world.links h) (relayed s new client) given.holds.sound.forest (λ x y line lines is. by x y (tell x h) line lines is)
+    away = from_source_goes_away world.links (from_one world.links h) (relayed s new client) given.holds.sound.forest
+        (λ x y line lines is. by x y (tell x h) line lines is)
       where
         by : (x y : Name) → Telling x h → (line : List ℕ) (lines : List (List ℕ)) → under_way (relayed s new client) x y ≡ line ∷ lines
             → AreLinked world.links x y × (from_one world.links h y ≡ x)
         by x y (unlike _ two) line lines is = absurd (let e = sym (from_elsewhere x y two) ∙ is in cc e)
-        by x y (alike _ e) line lines is = subst (λ v. AreLinked world.links v y × (from_one world.links h y ≡ v)) (sym e) (linked_home (linked world.links h y) refl)
+        by x y (alike _ e) line lines is =
+            subst (λ v. AreLinked world.links v y × (from_one world.links h y ≡ v)) (sym e) (linked_home (linked world.links h y) refl)
           where
             linked_home : (b : Bool) → linked world.links h y ≡ b → AreLinked world.links h y × (from_one world.links h y ≡ h)
             linked_home true so =
@@ -239,7 +242,8 @@ module _ (laws : AreClientLaws) (net base new : Network) (world : World) (h : Na
       where
         by : (some : List (List ℕ)) → lines_to client out ≡ some → lines_to client out ≡ []
         by [] e = e
-        by (line ∷ more) e = absurd (let same_home = sym (home_is world.homes client t is) ∙ home_is world.homes client h (at_home.own client line more e) in two (cc same_home))
+        by (line ∷ more) e = absurd (let same_home = sym (home_is world.homes client t is)
+            ∙ home_is world.homes client h (at_home.own client line more e) in two (cc same_home))
 
     abbrev before : World
     before = world_now net
@@ -253,10 +257,12 @@ module _ (laws : AreClientLaws) (net base new : Network) (world : World) (h : Na
             ∙ ap (λ v. get (before.hall v).clients client) one_home ∙ none
           where
             one_home : home ≡ t
-            one_home = let x = sym (given.old_homes client home (ap (λ homes. home_in homes client) given.sound.homes ∙ e)) ∙ home_is world.homes client t is in cc x
+            one_home = let x = sym (given.old_homes client home (ap (λ homes. home_in homes client) given.sound.homes ∙ e))
+                ∙ home_is world.homes client t is in cc x
 
         by : (o : Option Client) → get (before.hall t).clients client ≡ o → (step (settings_of net) before item).lines client ≡ []
-        by (Some c) e = (laws.other_parts (settings_of net) before item t given.holds_before.sound given.not_refused (given.elsewhere t apart)).lines client (ap is_some e)
+        by (Some c) e = (laws.other_parts (settings_of net) before item t given.holds_before.sound given.not_refused (given.elsewhere t apart)).lines client
+            (ap is_some e)
         by None e = laws.only_connected (settings_of net) before item client given.holds_before.sound given.not_refused
             (open_there (home_in before.homes client) refl e)
 

@@ -99,7 +99,8 @@ module _ (stays : ServedKeepsItsSetting) (net : Network) (homes : List Name) (re
   }
 
 -- the client's home is asked
-given_where : (item : Item) (net base : Network) (place : Option ℕ) (k : ℕ) (occurrence : Occurrence) → done_by item net ≡ asked_of place occurrence (begun base)
+given_where : (item : Item) (net base : Network) (place : Option ℕ) (k : ℕ) (occurrence : Occurrence)
+    → done_by item net ≡ asked_of place occurrence (begun base)
     → place ≡ Some k
     → (given item net).net
     ≡ record (asked k occurrence (begun base)).net { items = (asked k occurrence (begun base)).net.items ++ item ∷ []; taken = 0 }
@@ -158,7 +159,8 @@ home_asked net set_up client home at_home =
 
 done_at_home : ServedKeepsItsSetting → (net : Network) → IsSound net → (client : ℕ) (happening : Happening) (item : Item)
     → ((view : View) → is_some (get view.clients client) ≡ true → is_taken view (of_client happening) ≡ true)
-    → done_by item net ≡ asked_of (home_place net client) (of_client happening) (begun net) → is_there net client ≡ true → IsDoneAtHome net client happening item
+    → done_by item net ≡ asked_of (home_place net client) (of_client happening) (begun net) → is_there net client ≡ true
+    → IsDoneAtHome net client happening item
 done_at_home stays net sound client happening item taken done is =
     let found : HasHome net client = home_there net sound.set_up client is in
     record {

@@ -58,13 +58,15 @@ pub record AreItemLaws : Type 0 where
 one_up : (n : ℕ) → n + 1 ≡ suc n
 one_up n = omega arith
 
-module _ (laws : AreItemLaws) (net : Network) (sound : IsSound net) (rest : is_at_rest net ≡ true) (one : IsOneRoom net) (holds : IsWorld (settings_of net) (world_now net)) where
+module _ (laws : AreItemLaws) (net : Network) (sound : IsSound net) (rest : is_at_rest net ≡ true) (one : IsOneRoom net)
+    (holds : IsWorld (settings_of net) (world_now net)) where
   -- whatever is known of a client's item makes the network sound
   item_sound : (base : Network) (world : World) (h : Name) (happening : Happening) (item : Item)
       → IsClientStep net base (given item net).net world h happening item → IsSound (given item net).net
   item_sound base world h happening item step =
       client_sound laws.client net base (given item net).net world h happening item step
-      (does_as_machine laws.home s world (routes_in net) h (view_at net h) happening fixed_so step.among step.holds of_so right_so (fits_so h step.among) step.holds_after place_so step.due)
+      (does_as_machine laws.home s world (routes_in net) h (view_at net h) happening fixed_so step.among step.holds of_so right_so
+      (fits_so h step.among) step.holds_after place_so step.due)
       (laws.tells s world (by_machine (settings_of net) world h happening).world (routes_in net) h (view_at net h) happening refl fixed_so
       step.holds.sound.forest refl step.among step.holds of_so right_so (fits_so h step.among) place_so step.due)
     where
@@ -90,7 +92,8 @@ module _ (laws : AreItemLaws) (net : Network) (sound : IsSound net) (rest : is_a
   not_refused : (item : Item) → fault_at_rest net item ≡ None → refused (settings_of net) (world_now net) item ≡ None
   not_refused item taken = sym (laws.refusals net item sound rest) ∙ taken
 
-  world_after : (item : Item) → IsItemWithin item → fault_at_rest net item ≡ None → IsWorld (settings_of net) (step (settings_of net) (world_now net) item).world
+  world_after : (item : Item) → IsItemWithin item → fault_at_rest net item ≡ None
+      → IsWorld (settings_of net) (step (settings_of net) (world_now net) item).world
   world_after item within taken =
       laws.step_keeps (settings_of net) (world_now net) item (servers_named net sound.set_up) holds within (not_refused item taken)
 
@@ -111,7 +114,8 @@ module _ (laws : AreItemLaws) (net : Network) (sound : IsSound net) (rest : is_a
   home_now : (client : ℕ) (home : Name) → home_in net.homes client ≡ Some home → home_in (world_now net).homes client ≡ Some home
   home_now client home is = ap (λ homes. home_in homes client) (sym sound.homes) ∙ is
 
-  at_home_step : (client : ℕ) (happening : Happening) (item : Item) (done : IsDoneAtHome net client happening item) → fault_at_rest net item ≡ None → IsItemWithin item
+  at_home_step : (client : ℕ) (happening : Happening) (item : Item) (done : IsDoneAtHome net client happening item) → fault_at_rest net item ≡ None
+      → IsItemWithin item
       → step (settings_of net) (world_now net) item ≡ by_machine (settings_of net) (world_now net) done.home happening
       → ((t : Name) → (AreJoined (world_now net).links t done.home → ⊥) → IsElsewhere (world_now net) item t)
       → IsDueAtHome (home_fixed net (world_now net) done.home) (world_now net) done.home happening
@@ -214,7 +218,8 @@ module _ (laws : AreItemLaws) (net : Network) (sound : IsSound net) (rest : is_a
     nobody_yet : get ((world_now net).hall server).clients (next_client net) ≡ None
     nobody_yet = by (get ((world_now net).hall server).clients (next_client net)) refl
       where
-        by : (o : Option Client) → get ((world_now net).hall server).clients (next_client net) ≡ o → get ((world_now net).hall server).clients (next_client net) ≡ None
+        by : (o : Option Client) → get ((world_now net).hall server).clients (next_client net) ≡ o
+            → get ((world_now net).hall server).clients (next_client net) ≡ None
         by None e = e
         by (Some client) e = absurd (let there = holds.sound.clients_home server (next_client net) (ap is_some e) in
             let no = sym (next_has_none net) ∙ ap (λ homes. home_in homes (next_client net)) sound.homes ∙ there.is_home in cc no)

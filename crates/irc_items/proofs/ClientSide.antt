@@ -42,7 +42,13 @@ none_either false false = refl
 
 -- what stays while the client's part takes lines from its server
 abbrev pub home_fixed : Network → World → Name → Fixed
-home_fixed net world h = record { settings = settings_of net; names = net.names; homes = world.homes; streams = streams_from world.links (from_one world.links h) }
+home_fixed net world h = record {
+  settings = settings_of net;
+  names = net.names;
+  homes = world.homes;
+  streams =
+      streams_from world.links (from_one world.links h);
+}
 
 -- What is known of a client's item, in a world that has the client already where it connects.
 pub record IsClientStep (net base new : Network) (world : World) (h : Name) (happening : Happening) (item : Item) : Type 0 where
@@ -86,7 +92,8 @@ module _ (side : PartAtRestIsSound) (net base new : Network) (world : World) (h 
   -- who takes lines is linked to whom it takes them from, and there
   pub takes_linked : (t p : Name) → TakesFrom s.streams t p → AreLinked world.links t p
   takes_linked t p takes = subst (AreLinked world.links t) takes.parent
-      (next_hop world.links t (from_one world.links h t) forest ((one_covers world.links h).joined t) (λ e. away (farther world.links forest h t takes.below) e)).linked
+      (next_hop world.links t (from_one world.links h t) forest ((one_covers world.links h).joined t)
+      (λ e. away (farther world.links forest h t takes.below) e)).linked
     where
       away : IsFartherFrom world.links h t → t ≡ from_one world.links h t → ⊥
       away far e = far.other (e ∙ source_is_one world.links h t far.joined_to)
@@ -115,14 +122,16 @@ module _ (side : PartAtRestIsSound) (net base new : Network) (world : World) (h 
   same_links = sym given.sound.links ∙ given.links
 
   -- a client that is there has the home that it had
-  own_clients : (t : Name) → retain_keys ((world_now net).hall t).clients (is_home_of net.homes t) ≡ retain_keys (world.hall t).clients (is_home_of world.homes t)
+  own_clients : (t : Name) → retain_keys ((world_now net).hall t).clients (is_home_of net.homes t) ≡ retain_keys (world.hall t).clients
+      (is_home_of world.homes t)
   own_clients t = same_clients _ _ (λ q. get-kept ((world_now net).hall t).clients (is_home_of net.homes t) q
       ∙ at q (get ((world_now net).hall t).clients q) refl
       ∙ ap (λ o. cond (is_home_of world.homes t q) o None) (ap (λ (hall : Hall). get hall.clients q) (sym (given.hall t)))
       ∙ sym (get-kept (world.hall t).clients (is_home_of world.homes t) q))
     where
       at : (q : ℕ) (o : Option Client) → get ((world_now net).hall t).clients q ≡ o
-          → cond (is_home_of net.homes t q) (get ((world_now net).hall t).clients q) None ≡ cond (is_home_of world.homes t q) (get ((world_now net).hall t).clients q) None
+          → cond (is_home_of net.homes t q) (get ((world_now net).hall t).clients q) None ≡ cond (is_home_of world.homes t q)
+          (get ((world_now net).hall t).clients q) None
       at q None is = ap (λ o. cond (is_home_of net.homes t q) o None) is ∙ none_either (is_home_of net.homes t q) (is_home_of world.homes t q)
           ∙ sym (ap (λ o. cond (is_home_of world.homes t q) o None) is)
       at q (Some client) is = ap (λ b. cond b (get ((world_now net).hall t).clients q) None)

@@ -137,7 +137,8 @@ module _ (laws : AreClientLaws) (net base new : Network) (world : World) (h : Na
         by (suc (suc n)) e = deeper_few t (omega arith)
 
     apart_none : (t : Name) → joined world.links h t ≡ false → count t ≡ 0
-    apart_none t so = none_at t (apart_depth world.links given.holds.sound.forest h t (λ j. let x = sym ((tests_tell world.links h t t).1.1 (sym j)) ∙ so in cc x))
+    apart_none t so = none_at t (apart_depth world.links given.holds.sound.forest h t
+        (λ j. let x = sym ((tests_tell world.links h t t).1.1 (sym j)) ∙ so in cc x))
 
     few_come : lines_coming (machine s client) s.streams (relayed s new client) net.names ≤ effects * (part_size (settings_of net) world.links h - 1)
     few_come =
@@ -213,7 +214,8 @@ module _ (laws : AreClientLaws) (net base new : Network) (world : World) (h : Na
 
       by : Telling y h → is_met_with s (view_at new y) x ≡ true
       by (alike _ e) = linked_met s after (routes_in net) y x (view_at new y)
-          (subst (λ v. Fits s v (part_of s after (routes_in net) v) (view_at new v)) (sym e) (fits_home laws net base new world h happening item given at_home tells)) x_among back
+          (subst (λ v. Fits s v (part_of s after (routes_in net) v) (view_at new v)) (sym e)
+          (fits_home laws net base new world h happening item given at_home tells)) x_among back
       by (unlike _ two) = linked_met s world (routes_in net) y x (view_at new y)
           (subst (Fits s y (part_of s world (routes_in net) y)) (sym (given.served.other_views y two))
           (fits_before laws net base new world h happening item given at_home tells y y_among)) x_among back
@@ -280,7 +282,8 @@ module _ (laws : AreClientLaws) (net base new : Network) (world : World) (h : Na
   client_sound = record {
     set_up = given.served.set_up;
     taken = subst (λ settings. AreTaken settings new_world new.items) (sym same_settings)
-        (subst (AreTaken (settings_of net) new_world) (sym given.served.items) (taken_more (settings_of net) net.items item given.sound.taken given.not_refused));
+        (subst (AreTaken (settings_of net) new_world) (sym given.served.items)
+        (taken_more (settings_of net) net.items item given.sound.taken given.not_refused));
     within = subst (AllByRecursion IsItemWithin) (sym given.served.items) (each_more IsItemWithin net.items item given.sound.within given.within);
     links = same_links ∙ sym (ap (λ (w : World). w.links) world_is);
     homes = given.served.homes ∙ given.homes ∙ sym (ap (λ (w : World). w.homes) world_is);

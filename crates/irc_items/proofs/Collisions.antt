@@ -242,7 +242,8 @@ abbrev pub answers_of : Link → Answering
 answers_of l = record { answered = introduces; one = l.near; other = l.far }
 
 -- of lines the first of which is not answered, no more are than there are others
-pub count_but_first : (answered : List ℕ → Bool) (first : List ℕ) (lines : List (List ℕ)) → answered first ≡ false → count_by answered (first ∷ lines) ≤ length lines
+pub count_but_first : (answered : List ℕ → Bool) (first : List ℕ) (lines : List (List ℕ)) → answered first ≡ false
+    → count_by answered (first ∷ lines) ≤ length lines
 count_but_first answered first lines none =
     let few = count_by-le-length answered lines in
     let all = sum_by-cons (λ line. cond (answered line) 1 0) first lines ∙ ap (λ b. cond b 1 0 + count_by answered lines) none in

@@ -261,7 +261,8 @@ module _ (laws : AreCutLaws) (net new : Network) (near far : Name) (given : IsCu
             omega arith
         by (suc (suc d)) z =
             let few = deeper_are_few s no_answers after source routes new client owed (sides_of laws.quiet net new near far given sides)
-            (acts_of laws.quiet net new near far given sides) (forest net new near far given) (covers net new near far given) refl follow begun t (omega arith) in
+            (acts_of laws.quiet net new near far given sides) (forest net new near far given) (covers net new near far given) refl follow begun t
+            (omega arith) in
             omega arith
 
     none_at_depth : (t : Name) → s.streams.depth t ≡ 0 → count t ≡ 0

@@ -46,7 +46,10 @@ module _ (old : Course) (set_up : IsSetUp old.net) (p t : Name) (p_among : IsAmo
     (line : List ℕ) (rest : List (List ℕ)) (waited : waiting (there old.net set_up p p_among).site (place_in old.net.names t) ≡ line ∷ rest)
     (new : Course)
     (new_is : new ≡ asked (place_in old.net.names t) (link_says (place_in old.net.names p) (read_of line))
-    (record old { net = counted (with_site (place_in old.net.names p) (left (place_in old.net.names t) rest (there old.net set_up p p_among).site) old.net) })) where
+    (record old {
+      net = counted (with_site (place_in old.net.names p)
+          (left (place_in old.net.names t) rest (there old.net set_up p p_among).site) old.net);
+    })) where
   abbrev site : Site
   site = (there old.net set_up p p_among).site
 
@@ -125,17 +128,21 @@ delivered_between old sound from to new is = by (site_at old.net from) refl
       line = line;
       delivered_to = delivered_so old sound.set_up p.server t.server p.among t.among line rest
           (ap (λ place. waiting (there old.net sound.set_up p.server p.among).site place) t.is ∙ ap (λ (s : Site). waiting s to) (sym one_site) ∙ waited) new
-          (sym (same_some _ new e) ∙ ap (λ (s : Site). asked to (link_says from (read_of line)) (record old { net = counted (with_site from (left to rest s) old.net) })) one_site
-          ∙ ap (λ n. asked to (link_says n (read_of line)) (record old { net = counted (with_site n (left to rest (there old.net sound.set_up p.server p.among).site) old.net) })) (sym p.is)
+          (sym (same_some _ new e) ∙ ap (λ (s : Site). asked to (link_says from (read_of line))
+          (record old { net = counted (with_site from (left to rest s) old.net) })) one_site
+          ∙ ap (λ n. asked to (link_says n (read_of line))
+          (record old { net = counted (with_site n (left to rest (there old.net sound.set_up p.server p.among).site) old.net) })) (sym p.is)
           ∙ ap (λ n. asked n (link_says (place_in old.net.names p.server) (read_of line))
-          (record old { net = counted (with_site (place_in old.net.names p.server) (left n rest (there old.net sound.set_up p.server p.among).site) old.net) })) (sym t.is));
+          (record old { net = counted (with_site (place_in old.net.names p.server) (left n rest (there old.net sound.set_up p.server p.among).site) old.net) }))
+          (sym t.is));
     }
       where
         one_site : site ≡ (there old.net sound.set_up p.server p.among).site
         one_site = same_some site (there old.net sound.set_up p.server p.among).site
             (sym is_site ∙ ap (site_at old.net) (sym p.is) ∙ (there old.net sound.set_up p.server p.among).is_site)
 
-    there_is : (site : Site) (p : IsPlaceOf old.net from) → site_at old.net from ≡ Some site → (line : List ℕ) (rest : List (List ℕ)) → waiting site to ≡ line ∷ rest
+    there_is : (site : Site) (p : IsPlaceOf old.net from) → site_at old.net from ≡ Some site → (line : List ℕ) (rest : List (List ℕ))
+        → waiting site to ≡ line ∷ rest
         → is_some (way_at old.net p.server to) ≡ true
     there_is site p is_site line rest waited =
         ap (λ o. is_some (option_and_then (λ (s : Site). get s.queues to) o))
@@ -146,7 +153,8 @@ delivered_between old sound from to new is = by (site_at old.net from) refl
         queue_there None e = cc e
         queue_there (Some lines) e = refl
 
-    lines : (site : Site) → site_at old.net from ≡ Some site → (all : List (List ℕ)) → waiting site to ≡ all → taken_of from to old site all ≡ Some new → IsDelivery old new
+    lines : (site : Site) → site_at old.net from ≡ Some site → (all : List (List ℕ)) → waiting site to ≡ all → taken_of from to old site all ≡ Some new
+        → IsDelivery old new
     lines site is_site [] waited e = absurd (cc e)
     lines site is_site (line ∷ rest) waited e =
         let p = at_place old.net sound.set_up from site is_site in

@@ -37,7 +37,7 @@ use Rattle.irc_follow.specs.Says.{asked as asked_line, lines_on, machine}
 use Rattle.irc_follow.specs.Tree.{place_in}
 use Rattle.irc_follow.proofs.Places.{one_place}
 use Rattle.irc_follow.proofs.SaidShows.{append_nil}
-use Rattle.irc_network.specs.Network.{Course, Network, Reply, asked, received_by, reply}
+use Rattle.irc_network.specs.Network.{Course, Network, Reply, asked, delivered, received_by, reply}
 use Rattle.irc_items.specs.GoodLines.{closings, IsGoodLine, IsGoodReply, IsUnheard}
 use Rattle.irc_items.specs.Laws.{DeliveryStaysSound}
 use Rattle.irc_items.specs.Relayed.{fixed_of, is_met_with, owed_to, relayed, way_at, way_between}
@@ -56,6 +56,17 @@ pub record AreDeliveryLaws : Type 0 where
   pub kept : ServedKeepsItsSetting
   pub world : TakenMakeWorld
   pub greeting_met : GreetingIsMet
+
+-- how many lines are coming to servers, as no client sees them
+abbrev pub pending_of : (net : Network) → IsSound net → ℕ
+pending_of net sound =
+    lines_pending (machine (flowing net sound) 0) (flowing net sound).streams (relayed (flowing net sound) net 0) net.names sound.asks.answered sound.asks.one
+    sound.asks.other
+
+-- a line fewer is coming
+pub record IsOneFewer (old new : Course) (sound : IsSound old.net) : Type 0 where
+  pub sound_now : IsSound new.net
+  pub fewer : pending_of new.net sound_now < pending_of old.net sound
 
 put_more : (o : Option (List (List ℕ))) (lines : List (List ℕ)) → (is_some o ≡ false → lines ≡ [])
     → unwrap_or (option_map (λ before. before ++ lines) o) [] ≡ unwrap_or o [] ++ lines
@@ -114,7 +125,8 @@ module _ (laws : AreDeliveryLaws) (old new : Course) (sound : IsSound old.net) (
   answered : IsAskedAt t (record { view = after.view; out = after.out }) d.mid new
   answered =
       subst (IsAskedAt t (record { view = after.view; out = after.out }) d.mid) (sym d.asked_is ∙ refl)
-      (subst (λ place. IsAskedAt t (record { view = after.view; out = after.out }) d.mid (asked place (link_says (place_in old.net.names p) (read_of line)) d.mid))
+      (subst (λ place. IsAskedAt t (record { view = after.view; out = after.out }) d.mid
+      (asked place (link_says (place_in old.net.names p) (read_of line)) d.mid))
       (ap (λ names. place_in names t) d.names)
       (subst (λ r. IsAskedAt t r d.mid (asked (place_in d.mid.net.names t) (link_says (place_in old.net.names p) (read_of line)) d.mid))
       (ap (λ v. reply v (link_says (place_in old.net.names p) (read_of line))) (d.views t) ∙ reply_is)
@@ -193,15 +205,18 @@ module _ (laws : AreDeliveryLaws) (old new : Course) (sound : IsSound old.net) (
       where
         none : (lines : List (List ℕ)) → lines_to client after.out ≡ lines → lines_to client after.out ≡ []
         none [] e = e
-        none (first ∷ more) f = absurd (let one = sym (home_is old.net.homes client u e) ∙ home_is old.net.homes client t (good.to_own client first more f) in n (cc one))
+        none (first ∷ more) f = absurd
+            (let one = sym (home_is old.net.homes client u e) ∙ home_is old.net.homes client t (good.to_own client first more f) in n (cc one))
 
-    sent_on : (u : Name) → u ≢ p → under_way (relayed s new.net client) t u ≡ under_way (relayed s old.net client) t u ++ (machine s client).sends t p view line u
+    sent_on : (u : Name) → u ≢ p → under_way (relayed s new.net client) t u ≡ under_way (relayed s old.net client) t u ++
+        (machine s client).sends t p view line u
     sent_on u n =
         ap (λ lines. lines ++ owed_to s (view_at new.net t) u) (queue_taker u)
         ∙ ap (λ v. (unwrap_or (way_between old.net t u) [] ++ lines_on (number s u) after.out) ++ owed_to s v u) view_taker
         ∙ ap (λ owed. (unwrap_or (way_between old.net t u) [] ++ lines_on (number s u) after.out) ++ owed) (good.others u n).owes_as_before
         ∙ by (good.others u n).in_turn
-        ∙ ap (λ lines. (unwrap_or (way_between old.net t u) [] ++ owed_to s view u) ++ lines) (sym (ap (λ b. if b then [] else lines_on (number s u) after.out) (same_unless u p n)))
+        ∙ ap (λ lines. (unwrap_or (way_between old.net t u) [] ++ owed_to s view u) ++ lines)
+        (sym (ap (λ b. if b then [] else lines_on (number s u) after.out) (same_unless u p n)))
       where
         by : (lines_on (number s u) after.out ≡ []) ⊎ (owed_to s view u ≡ [])
             → (unwrap_or (way_between old.net t u) [] ++ lines_on (number s u) after.out) ++ owed_to s view u
@@ -235,7 +250,8 @@ module _ (laws : AreDeliveryLaws) (old new : Course) (sound : IsSound old.net) (
     returns_well : AllAlong (machine s client) (IsGoodLine s sound.asks (world_now old.net) sound.routes) (s.streams.parent p) p at_end back
     returns_well = by back refl
       where
-        by : (lines : List (List ℕ)) → back ≡ lines → AllAlong (machine s client) (IsGoodLine s sound.asks (world_now old.net) sound.routes) (s.streams.parent p) p at_end back
+        by : (lines : List (List ℕ)) → back ≡ lines
+            → AllAlong (machine s client) (IsGoodLine s sound.asks (world_now old.net) sound.routes) (s.streams.parent p) p at_end back
         by [] none = subst (AllAlong (machine s client) (IsGoodLine s sound.asks (world_now old.net) sound.routes) (s.streams.parent p) p at_end) (sym none) tt
         by (next ∷ lines) is =
             subst (λ q. AllAlong (machine s client) (IsGoodLine s sound.asks (world_now old.net) sound.routes) q p at_end back)
@@ -262,7 +278,8 @@ module _ (laws : AreDeliveryLaws) (old new : Course) (sound : IsSound old.net) (
       back_harmless = all_harmless s t p at_end client back unheard;
     }
       where
-        by : (u : Name) (next : List ℕ) (lines : List (List ℕ)) → Telling u p → (if same u p then [] else lines_on (number s u) after.out) ≡ next ∷ lines → AreLinked old.net.links t u
+        by : (u : Name) (next : List ℕ) (lines : List (List ℕ)) → Telling u p → (if same u p then [] else lines_on (number s u) after.out) ≡ next ∷ lines
+            → AreLinked old.net.links t u
         by u next lines (alike so _) is = absurd (let no = sym (ap (λ b. if b then [] else lines_on (number s u) after.out) so) ∙ is in cc no)
         by u next lines (unlike so _) is = subst (λ links. AreLinked links t u) same_links
             (good.to_linked u next lines (sym (ap (λ b. if b then [] else lines_on (number s u) after.out) so) ∙ is))
@@ -294,7 +311,8 @@ module _ (laws : AreDeliveryLaws) (old new : Course) (sound : IsSound old.net) (
   counted_once u below = sound.set_up.once u (ends u (s.streams.parent u) (takes_linked u below))
     where
       takes_linked : (u : Name) → 0 < s.streams.depth u → AreLinked old.net.links u (s.streams.parent u)
-      takes_linked u below = (next_hop old.net.links u (sound.source u) forest (sound.coming.covers.joined u) (λ e. let z = ap (λ v. distance old.net.links v (sound.source u)) e
+      takes_linked u below = (next_hop old.net.links u (sound.source u) forest (sound.coming.covers.joined u)
+          (λ e. let z = ap (λ v. distance old.net.links v (sound.source u)) e
           ∙ distance_self old.net.links (sound.source u) in omega arith)).linked
 
   module _ (client : ℕ) where
@@ -307,20 +325,26 @@ module _ (laws : AreDeliveryLaws) (old new : Course) (sound : IsSound old.net) (
 
     under_way_now : IsUnderWay s sound.asks (world_now old.net) sound.routes new.net client (owed_now old.net client)
     under_way_now = record {
-      away = delivery_away (machine s client) old.net.links s.streams p t line back (relayed s old.net client) (relayed s new.net client) flow under.away (delivers client) (relays client);
+      away = delivery_away (machine s client) old.net.links s.streams p t line back (relayed s old.net client) (relayed s new.net client) flow under.away
+          (delivers client) (relays client);
       fits = λ u among. subst (Fits s u (part_of s (world_now old.net) sound.routes u)) (sym (outcome.same_final u)) (under.fits u among);
       told = λ home is. outcome.same_told home ∙ under.told home is;
       well = delivery_goes_well (machine s client) old.net.links sound.source p t line back (relayed s old.net client) (relayed s new.net client)
-          (IsGoodLine s sound.asks (world_now old.net) sound.routes) forest sound.coming.covers under.away (delivers client) (relays client) under.well (returns_well client);
+          (IsGoodLine s sound.asks (world_now old.net) sound.routes) forest sound.coming.covers under.away (delivers client) (relays client) under.well
+          (returns_well client);
     }
 
     abbrev pending : Network → List Name → ℕ
     pending net names = lines_pending (machine s client) s.streams (relayed s net client) names sound.asks.answered sound.asks.one sound.asks.other
 
+    pending_falls : pending new.net old.net.names < pending old.net old.net.names
+    pending_falls =
+        delivery_pending (machine s client) old.net.links s.streams sound.asks.answered sound.asks.one sound.asks.other p t line back (relayed s old.net client)
+        (relayed s new.net client) old.net.names flow under.away counted_once (delivers client) (relays client) well.answer.once
+
     few_now : new.net.taken + pending new.net new.net.names ≤ most_now new.net
     few_now =
-        let counts = delivery_pending (machine s client) old.net.links s.streams sound.asks.answered sound.asks.one sound.asks.other p t line back (relayed s old.net client)
-        (relayed s new.net client) old.net.names flow under.away counted_once (delivers client) (relays client) well.answer.once in
+        let counts = pending_falls in
         let names = ap (pending new.net) names_same in
         let most = by_items (λ settings items. most_of_last settings new_world items) in
         let few = sound.coming.few client in
@@ -348,7 +372,13 @@ module _ (laws : AreDeliveryLaws) (old new : Course) (sound : IsSound old.net) (
       by (unlike _ n) = ap (λ (v : View). greeting v.routes) (view_other x n)
       by (alike _ e) =
           ap (λ v. greeting (view_at new.net v).routes) e ∙ ap (λ (v : View). greeting v.routes) view_taker
-          ∙ (λ i. record { sender = nobody; command = codes "SERVER"; middle = alike_after.name i ∷ codes "1" ∷ codes "1" ∷ []; last = Some (alike_after.info i) })
+          ∙ (λ i. record {
+            sender = nobody;
+            command = codes "SERVER";
+            middle = alike_after.name i ∷ codes "1" ∷ codes "1" ∷ [];
+            last =
+                Some (alike_after.info i);
+          })
           ∙ sym (ap (λ v. greeting (view_at old.net v).routes) e)
 
   still_met : (y x : Name) → is_met_with s (view_at old.net y) x ≡ true → is_met_with s (view_at new.net y) x ≡ true
@@ -388,7 +418,8 @@ module _ (laws : AreDeliveryLaws) (old new : Course) (sound : IsSound old.net) (
   rest_of : (a b : List ℕ) (xs ys : List (List ℕ)) → a ∷ xs ≡ b ∷ ys → xs ≡ ys
   rest_of a b xs ys e = cc e
 
-  calling_now : (x y : Name) (before behind : List (List ℕ)) → way_between old.net x y ≡ Some (before ++ line_text (greeting (view_at old.net x).routes) ∷ behind)
+  calling_now : (x y : Name) (before behind : List (List ℕ))
+      → way_between old.net x y ≡ Some (before ++ line_text (greeting (view_at old.net x).routes) ∷ behind)
       → HasCalled s new.net x y
   calling_now x y before behind is = by (tell x p) (tell y t) (tell x t)
     where
@@ -407,9 +438,12 @@ module _ (laws : AreDeliveryLaws) (old new : Course) (sound : IsSound old.net) (
           ∙ ap (λ g. Some (before ++ line_text g ∷ (behind ++ lines_on (number s y) after.out))) (sym (greeting_same x)))
 
       -- the way on which the line was
-      on_way : (before : List (List ℕ)) → x ≡ p → y ≡ t → line ∷ d.rest ≡ before ++ line_text (greeting (view_at old.net x).routes) ∷ behind → HasCalled s new.net x y
-      on_way [] e f parts = is_met (ap (λ v. is_met_with s (view_at new.net v) x) f ∙ ap (λ v. is_met_with s v x) view_taker ∙ ap (λ v. is_met_with s after.view v) e
-          ∙ greeted (first_of line (line_text (greeting (view_at old.net x).routes)) d.rest behind parts ∙ ap (λ v. line_text (greeting (view_at old.net v).routes)) e))
+      on_way : (before : List (List ℕ)) → x ≡ p → y ≡ t → line ∷ d.rest ≡ before ++ line_text (greeting (view_at old.net x).routes) ∷ behind
+          → HasCalled s new.net x y
+      on_way [] e f parts = is_met (ap (λ v. is_met_with s (view_at new.net v) x) f ∙ ap (λ v. is_met_with s v x) view_taker
+          ∙ ap (λ v. is_met_with s after.view v) e
+          ∙ greeted (first_of line (line_text (greeting (view_at old.net x).routes)) d.rest behind parts
+          ∙ ap (λ v. line_text (greeting (view_at old.net v).routes)) e))
       on_way (first ∷ more) e f parts = is_calling more behind
           (ap (λ v. way_between new.net v y) e ∙ ap (λ v. way_between new.net p v) f ∙ ap (λ place. way_at new.net p place) (place_same t)
           ∙ answered.other_ways p (number s t) two ∙ d.left_is
@@ -441,19 +475,22 @@ module _ (laws : AreDeliveryLaws) (old new : Course) (sound : IsSound old.net) (
     right = subst (λ links. AreRight s links sound.routes) (sym links_same) sound.coming.right;
     called = called;
     under_way = λ client. subst (λ w. IsUnderWay s sound.asks w sound.routes new.net client (owed_now new.net client)) (sym world_is)
-        (subst (IsUnderWay s sound.asks (world_now old.net) sound.routes new.net client) (sym (by_items (λ settings items. owed_by_network settings items client))) (under_way_now client));
+        (subst (IsUnderWay s sound.asks (world_now old.net) sound.routes new.net client)
+        (sym (by_items (λ settings items. owed_by_network settings items client))) (under_way_now client));
     few = few_now;
   }
 
   some_way : (x : Name) (place : ℕ) → is_some (way_at new.net x place) ≡ is_some (way_at old.net x place)
   some_way x place = by (tell x t) (tell x p) (same_number place (place_in old.net.names t)) refl
     where
-      by : Telling x t → Telling x p → (b : Bool) → same_number place (place_in old.net.names t) ≡ b → is_some (way_at new.net x place) ≡ is_some (way_at old.net x place)
+      by : Telling x t → Telling x p → (b : Bool) → same_number place (place_in old.net.names t) ≡ b
+          → is_some (way_at new.net x place) ≡ is_some (way_at old.net x place)
       by (alike _ e) _ _ _ = ap (λ v. is_some (way_at new.net v place)) e ∙ ap is_some (way_taker place)
           ∙ stays_some (λ lines. lines ++ lines_on place after.out) (way_at old.net t place) ∙ sym (ap (λ v. is_some (way_at old.net v place)) e)
       by (unlike _ n) (alike _ e) true k =
           let at = one_number place (place_in old.net.names t) k in
-          ap (λ v. is_some (way_at new.net v place)) e ∙ ap (λ k. is_some (way_at new.net p k)) at ∙ ap is_some (answered.other_ways p (place_in old.net.names t) two ∙ d.left_is)
+          ap (λ v. is_some (way_at new.net v place)) e ∙ ap (λ k. is_some (way_at new.net p k)) at
+          ∙ ap is_some (answered.other_ways p (place_in old.net.names t) two ∙ d.left_is)
           ∙ sym (ap is_some (ap (λ v. way_at old.net v place) e ∙ ap (λ k. way_at old.net p k) at ∙ d.waited))
       by (unlike _ n) (alike _ e) false k = ap is_some (way_other x place n
           (λ _ f. let no = sym (same_number-is place (place_in old.net.names t) f) ∙ k in cc no))
@@ -462,12 +499,15 @@ module _ (laws : AreDeliveryLaws) (old new : Course) (sound : IsSound old.net) (
   pub delivered_sound : IsSound new.net
   delivered_sound = record {
     set_up = answered.set_up;
-    taken = subst (λ settings. AreTaken settings new_world new.net.items) (sym same_settings) (subst (AreTaken (settings_of old.net) new_world) (sym items_same) sound.taken);
+    taken = subst (λ settings. AreTaken settings new_world new.net.items) (sym same_settings)
+        (subst (AreTaken (settings_of old.net) new_world) (sym items_same) sound.taken);
     within = subst (AllByRecursion IsItemWithin) (sym items_same) sound.within;
     links = links_same ∙ sound.links ∙ sym (ap (λ (w : World). w.links) world_is);
     homes = homes_same ∙ sound.homes ∙ sym (ap (λ (w : World). w.homes) world_is);
-    inboxes = answered.inboxes ∙ ap (λ (boxes : List (List (List ℕ))). length boxes) d.received ∙ sound.inboxes ∙ ap (λ (homes : List Name). length homes) (sym homes_same);
-    ways = λ x y. ap (λ place. is_some (way_at new.net x place)) (place_same y) ∙ some_way x (number s y) ∙ sound.ways x y ∙ ap (λ links. linked links x y) (sym links_same);
+    inboxes = answered.inboxes ∙ ap (λ (boxes : List (List (List ℕ))). length boxes) d.received ∙ sound.inboxes
+        ∙ ap (λ (homes : List Name). length homes) (sym homes_same);
+    ways = λ x y. ap (λ place. is_some (way_at new.net x place)) (place_same y) ∙ some_way x (number s y) ∙ sound.ways x y
+        ∙ ap (λ links. linked links x y) (sym links_same);
     to_servers = λ x place is. placed place (sound.to_servers x place (sym (some_way x place) ∙ is));
     nobody = λ client none. by_items (λ settings items. owed_by_network settings items client)
         ∙ sound.nobody client (ap (λ homes. home_in homes client) (sym homes_same) ∙ none);
@@ -483,6 +523,21 @@ module _ (laws : AreDeliveryLaws) (old new : Course) (sound : IsSound old.net) (
         among = subst (λ names. IsAmong names at.server) (sym names_same) at.among;
         is = ap (λ names. place_in names at.server) names_same ∙ at.is;
       }
+
+  fewer_now : pending_of new.net delivered_sound < pending_of old.net sound
+  unfolding delivered_sound
+  fewer_now =
+      subst (λ (f : Fixed). lines_pending (machine f 0) f.streams
+      (relayed f new.net 0) new.net.names sound.asks.answered sound.asks.one sound.asks.other < pending_of old.net sound)
+      (sym fixed_same) (subst (λ names. pending 0 new.net names < pending 0 old.net old.net.names) (sym names_same) (pending_falls 0))
+
+  pub one_fewer : IsOneFewer old new sound
+  one_fewer = record { sound_now = delivered_sound; fewer = fewer_now }
+
+pub leaves_one_fewer : AreDeliveryLaws → (from to : ℕ) (old new : Course) (sound : IsSound old.net) → delivered from to old ≡ Some new
+    → IsOneFewer old new sound
+leaves_one_fewer laws from to old new sound is =
+    let d = delivered_between old sound from to new is in one_fewer laws old new sound d.giver d.taker d.line d.delivered_to
 
 pub delivery_stays_sound : AreDeliveryLaws → DeliveryStaysSound
 delivery_stays_sound laws from to old new sound is =

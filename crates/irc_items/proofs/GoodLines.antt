@@ -52,7 +52,8 @@ pub record IsWithinSide (s : Fixed) (links : List Link) (w : Part) : Type 0 wher
   pub alike : (t p : Name) → w.tree.here t ≡ true → TakesFrom s.streams t p → AreLinkedAlike links w.tree.forest t
   pub here : (t p u : Name) → w.tree.here t ≡ true → TakesFrom s.streams t p → AreLinked links t u → u ≢ p → w.tree.here u ≡ true
 
-pub record SaysWell (s : Fixed) (asks : Answering) (world : World) (routes : Name → Known) (p t : Name) (w : Part) (view : View) (deed : Deed) (line : List ℕ) : Type 0 where
+pub record SaysWell (s : Fixed) (asks : Answering) (world : World) (routes : Name → Known) (p t : Name) (w : Part) (view : View) (deed : Deed)
+    (line : List ℕ) : Type 0 where
   pub says : Says s p t w view deed line
   pub may : MayKill s asks world routes p t deed line
   pub side : IsWithinSide s world.links w
@@ -104,14 +105,16 @@ module _ (s : Fixed) (asks : Answering) (world : World) (routes : Name → Known
     unheard = λ view fits. (can.unheard view fits, tt);
   }
 
-  answer_of : (server nick : List ℕ) → (server ≡ t → CanAnswer s asks world routes p t nick line) → IsAnswered s asks world routes p t line (own_kill (same server t) nick)
+  answer_of : (server nick : List ℕ) → (server ≡ t → CanAnswer s asks world routes p t nick line)
+      → IsAnswered s asks world routes p t line (own_kill (same server t) nick)
   answer_of server nick may = by (same server t) refl
     where
       by : (b : Bool) → same server t ≡ b → IsAnswered s asks world routes p t line (own_kill b nick)
       by true own = kill_answer nick (may ((bytes_decides server t).0 own))
       by false other = no_answer
 
-module _ (s : Fixed) (asks : Answering) (world : World) (routes : Name → Known) (p t : Name) (w : Part) (view : View) (line : List ℕ) (takes : TakesFrom s.streams t p)
+module _ (s : Fixed) (asks : Answering) (world : World) (routes : Name → Known) (p t : Name) (w : Part) (view : View) (line : List ℕ)
+    (takes : TakesFrom s.streams t p)
     (fits : Fits s t w view) (side : IsWithinSide s world.links w) where
   abbrev Good : Type 0
   Good = IsGoodLine s asks world routes p t view line
@@ -150,7 +153,8 @@ module _ (s : Fixed) (asks : Answering) (world : World) (routes : Name → Known
         unanswered (brings server channel members) says
         (brings_goes_well s world.links p t w view takes fits alike_here server channel members line says known_beside)
     said_good (sets server channel changes) may says =
-        unanswered (sets server channel changes) says (sets_goes_well s world.links p t w view takes fits alike_here server channel changes line says known_beside)
+        unanswered (sets server channel changes) says
+        (sets_goes_well s world.links p t w view takes fits alike_here server channel changes line says known_beside)
     said_good (tops server channel topic) may says =
         unanswered (tops server channel topic) says (tops_goes_well s world.links p t w view takes fits alike_here server channel topic line says known_beside)
 
@@ -204,7 +208,8 @@ module _ (s : Fixed) (asks : Answering) (world : World) (routes : Name → Known
 
 -- ---- the next server hears of a KILL that is another server's: it came by another link, or is the writer's own
 
-not_readers : (s : Fixed) (p t u : Name) (w : Part) (view : View) (server nick : List ℕ) → Fits s t w view → TakesFrom s.streams t p → TakesFrom s.streams u t → u ≢ p
+not_readers : (s : Fixed) (p t u : Name) (w : Part) (view : View) (server nick : List ℕ) → Fits s t w view → TakesFrom s.streams t p → TakesFrom s.streams u t
+    → u ≢ p
     → IsDoableKill s w server nick → server ≢ u
 not_readers s p t u w view server nick fits takes next apart doable is = by (doable.far_or_own t p fits.here takes)
   where
@@ -216,7 +221,8 @@ not_readers s p t u w view server nick fits takes next apart doable is = by (doa
     by (inr way) = apart (sym (toward_linked w.tree.forest t u fits.sound.tree.forest (linked_back w.tree.forest u t u_linked))
         ∙ ap (toward w.tree.forest t) (sym is) ∙ way)
 
-told_on_may : (s : Fixed) (asks : Answering) (world : World) (routes : Name → Known) (p t u : Name) (w : Part) (view : View) (deed : Deed) (line next_line : List ℕ)
+told_on_may : (s : Fixed) (asks : Answering) (world : World) (routes : Name → Known) (p t u : Name) (w : Part) (view : View) (deed : Deed)
+    (line next_line : List ℕ)
     → Fits s t w view → TakesFrom s.streams t p → TakesFrom s.streams u t → u ≢ p → Says s p t w view deed line
     → MayKill s asks world routes t u deed next_line
 told_on_may s asks world routes p t u w view (does effect) line next_line fits takes next apart says = tt

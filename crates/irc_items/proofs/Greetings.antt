@@ -75,7 +75,8 @@ pub data HearsGreeting (view : View) (k : ℕ) (end : End) (known : Known) : Typ
 
 module _ (laws : IsKnownOfHandshakes) (view : View) (k : ℕ) (end : End) (known : Known) (not_met : is_met end ≡ false) (name : IsServer known.name)
     (info : IsInfo known.info) where
-  pub heard_is : heard view k end (read_of (line_text (greeting known))) ≡ opened view end (greeting_opens (is_some end.password) (Some (known.name, known.info)))
+  pub heard_is : heard view k end (read_of (line_text (greeting known))) ≡ opened view end
+      (greeting_opens (is_some end.password) (Some (known.name, known.info)))
   unfolding heard handshake_meant
   heard_is =
       ap (heard view k end) (greeting_is_read laws known name info)
@@ -88,7 +89,8 @@ module _ (laws : IsKnownOfHandshakes) (view : View) (k : ℕ) (end : End) (known
   hears_greeting = by (is_some end.password) refl
     where
       met_or : (o : Option CloseReason) → refusal (password_for view known.name) (unwrap_or end.password []) view.routes known.name ≡ o
-          → heard view k end (read_of (line_text (greeting known))) ≡ met_unless (refusal (password_for view known.name) (unwrap_or end.password []) view.routes known.name) known.name known.info
+          → heard view k end (read_of (line_text (greeting known))) ≡ met_unless
+          (refusal (password_for view known.name) (unwrap_or end.password []) view.routes known.name) known.name known.info
           → HearsGreeting view k end known
       met_or None e is = it_meets (is ∙ ap (λ o. met_unless o known.name known.info) e)
       met_or (Some why) e is = it_closes why (is ∙ ap (λ o. met_unless o known.name known.info) e)
@@ -114,13 +116,15 @@ ends_told : (k : ℕ) (name info : List ℕ) (s : Served) → (told_by k (a_serv
 unfolding told_by
 ends_told k name info s = by (is_taken s.view.routes k name 1)
   where
-    by : (b : Bool) → (if b then gain_told k s.view.routes.name name info (record s { view = with_row k s.view.routes.name name 1 1 info s.view }) else s).view.ends ≡ s.view.ends
+    by : (b : Bool) → (if b then gain_told k s.view.routes.name name info
+        (record s { view = with_row k s.view.routes.name name 1 1 info s.view }) else s).view.ends ≡ s.view.ends
     by true = refl
     by false = refl
 
 met_end : (view : View) (k : ℕ) (name : List ℕ) (end : End) → get view.ends k ≡ Some end → option_map_or is_met (get (with_far k name view).ends k) false ≡ true
 met_end view k name end is =
-    ap (λ o. option_map_or is_met (get (option_map_or (λ (e : End). record view { ends = insert view.ends k (record e { far = Some name }) }) o view).ends k) false) is
+    ap (λ o. option_map_or is_met (get
+    (option_map_or (λ (e : End). record view { ends = insert view.ends k (record e { far = Some name }) }) o view).ends k) false) is
     ∙ ap (λ o. option_map_or is_met o false) (get-with view.ends k (record end { far = Some name }) k
     ∙ ap (λ b. cond b (Some (record end { far = Some name })) (get view.ends k)) (same_number-refl k))
 
@@ -134,9 +138,11 @@ routes_of_far view k name = by (get view.ends k)
 meets_is_met : (view : View) (k : ℕ) (name info : List ℕ) (end : End) → get view.ends k ≡ Some end
     → option_map_or is_met (get (after_heard view k (meets name info)).view.ends k) false ≡ true
 meets_is_met view k name info end is =
-    ap (λ (r : List ℕ). option_map_or is_met (get (told_by k (a_server r name 1 1 info) (with_sent (on_link k (owes view k name)) (in_silence (with_far k name view)))).view.ends k) false)
+    ap (λ (r : List ℕ). option_map_or is_met
+    (get (told_by k (a_server r name 1 1 info) (with_sent (on_link k (owes view k name)) (in_silence (with_far k name view)))).view.ends k) false)
     (sym (ap (λ (known : Known). known.name) (routes_of_far view k name)))
-    ∙ ap (λ ends. option_map_or is_met (get ends k) false) (ends_told k name info (with_sent (on_link k (owes view k name)) (in_silence (with_far k name view))))
+    ∙ ap (λ ends. option_map_or is_met (get ends k) false)
+    (ends_told k name info (with_sent (on_link k (owes view k name)) (in_silence (with_far k name view))))
     ∙ met_end view k name end is
 
 pub greeting_is_met : IsKnownOfHandshakes → GreetingIsMet
@@ -147,7 +153,8 @@ greeting_is_met laws view k end known is not_met name info open_still = by (hear
         → line_served view k (read_of (line_text (greeting known))) (get view.ends k) ≡ after_heard view k h
     served_is h e = ap (line_served view k (read_of (line_text (greeting known)))) is ∙ ap (after_heard view k) e
 
-    by : HearsGreeting view k end known → option_map_or is_met (get (line_served view k (read_of (line_text (greeting known))) (get view.ends k)).view.ends k) false ≡ true
+    by : HearsGreeting view k end known
+        → option_map_or is_met (get (line_served view k (read_of (line_text (greeting known))) (get view.ends k)).view.ends k) false ≡ true
     by (it_closes why e) = absurd (closing_shows k why view (sym (ap (λ (s : Served). closings s.out) (served_is (closes why) e)) ∙ open_still))
     by (it_meets e) = ap (λ (s : Served). option_map_or is_met (get s.view.ends k) false) (served_is (meets known.name known.info) e)
         ∙ meets_is_met view k known.name known.info end is

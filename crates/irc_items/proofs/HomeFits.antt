@@ -47,7 +47,8 @@ pub record AreHomeLaws : Type 0 where
   pub decisions : AreDecisionLaws
   pub sound : PartAtRestIsSound
 
-pub due_mine : (s : Fixed) (world : World) (h : Name) (happening : Happening) → IsDueAtHome s world h happening → is_home_of s.homes h (client_in happening) ≡ true
+pub due_mine : (s : Fixed) (world : World) (h : Name) (happening : Happening) → IsDueAtHome s world h happening
+    → is_home_of s.homes h (client_in happening) ≡ true
 due_mine s world h happening due = ap (λ o. option_map_or (same h) o false) (at_home happening due) ∙ (bytes_decides h h).1 refl
   where
     at_home : (happening : Happening) → IsDueAtHome s world h happening → home_in s.homes (client_in happening) ≡ Some h

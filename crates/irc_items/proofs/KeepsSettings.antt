@@ -15,7 +15,8 @@ use Rattle.irc_items.proofs.SentOut.{all_sent}
 use Rattle.irc_items.proofs.SiteChanged.{same_server, site_set, IsAlikeSite}
 
 -- a site whose server is the same keeps its setting
-set_alike : (place : ℕ) (site after : Site) (net : Network) → site_at net place ≡ Some site → IsAlikeSite site after → settings_of (with_site place after net) ≡ settings_of net
+set_alike : (place : ℕ) (site after : Site) (net : Network) → site_at net place ≡ Some site → IsAlikeSite site after
+    → settings_of (with_site place after net) ≡ settings_of net
 set_alike place site after net is alike = (site_set place site after net (with_site place after net) is alike refl).settings
 
 changed_keeps : (place : ℕ) (change : Site → Site) → ((site : Site) → (change site).server ≡ site.server) → (net : Network)
@@ -49,7 +50,8 @@ module _ (kept : ServedKeepsItsSetting) where
         setting = ap Some (setting_alike view (reply view occurrence).view (reply_alike kept view occurrence)) ∙ sym (ap (option_map setting_now) server);
       }
 
-      is_there : site_at (with_site place (record site { server = Some (reply view occurrence).view }) course.net) place ≡ Some (record site { server = Some (reply view occurrence).view })
+      is_there : site_at (with_site place (record site { server = Some (reply view occurrence).view }) course.net) place ≡ Some
+          (record site { server = Some (reply view occurrence).view })
       is_there = (site_set place site (record site { server = Some (reply view occurrence).view }) course.net
           (with_site place (record site { server = Some (reply view occurrence).view }) course.net) is alike refl).is_after
 
@@ -106,7 +108,8 @@ module _ (kept : ServedKeepsItsSetting) where
   unfolding delivered
   delivery_keeps_settings from to old new is = by (site_at old.net from) refl
     where
-      taken : (site : Site) → site_at old.net from ≡ Some site → (lines : List (List ℕ)) → taken_of from to old site lines ≡ Some new → settings_of new.net ≡ settings_of old.net
+      taken : (site : Site) → site_at old.net from ≡ Some site → (lines : List (List ℕ)) → taken_of from to old site lines ≡ Some new
+          → settings_of new.net ≡ settings_of old.net
       taken site there [] e = absurd (cc e)
       taken site there (first ∷ rest) e =
           ap (λ (o : Option Course). option_map_or (λ (c : Course). settings_of c.net) o (settings_of new.net)) (sym e)

@@ -19,12 +19,15 @@ pub record IsOnlyTaken (old new : Network) : Type 0 where
   pub items : new.items ≡ old.items
   pub taken : new.taken ≡ old.taken
 
-replied_taken : (place : ℕ) (course : Course) (site : Site) (answer : Reply) → site_at course.net place ≡ Some site → IsOnlyTaken course.net (with_reply place course site answer).net
+replied_taken : (place : ℕ) (course : Course) (site : Site) (answer : Reply) → site_at course.net place ≡ Some site
+    → IsOnlyTaken course.net (with_reply place course site answer).net
 replied_taken place course site answer is = record { items = sent.changed.items; taken = sent.taken }
   where
-    sent : IsSentOut place answer.out (record site { server = Some answer.view }) (record course { net = with_site place (record site { server = Some answer.view }) course.net })
+    sent : IsSentOut place answer.out (record site { server = Some answer.view })
+        (record course { net = with_site place (record site { server = Some answer.view }) course.net })
         (with_reply place course site answer)
-    sent = all_sent place answer.out (record site { server = Some answer.view }) (record course { net = with_site place (record site { server = Some answer.view }) course.net })
+    sent = all_sent place answer.out (record site { server = Some answer.view })
+        (record course { net = with_site place (record site { server = Some answer.view }) course.net })
         (set_there course.net.sites place site (record site { server = Some answer.view }) is)
 
 asked_taken : (place : ℕ) (occurrence : Occurrence) (course : Course) → IsOnlyTaken course.net (asked place occurrence course).net
@@ -34,12 +37,16 @@ asked_taken place occurrence course = by (site_at course.net place) refl
     same : (net : Network) → IsOnlyTaken net net
     same net = record { items = refl; taken = refl }
 
-    at : (site : Site) → site_at course.net place ≡ Some site → (o : Option View) → site.server ≡ o → IsOnlyTaken course.net (asked_at place occurrence course site).net
-    at site is None e = subst (λ o. IsOnlyTaken course.net (option_map_or (λ (view : View). with_reply place course site (reply view occurrence)) o course).net) (sym e) (same course.net)
-    at site is (Some view) e = subst (λ o. IsOnlyTaken course.net (option_map_or (λ (view : View). with_reply place course site (reply view occurrence)) o course).net) (sym e)
+    at : (site : Site) → site_at course.net place ≡ Some site → (o : Option View) → site.server ≡ o
+        → IsOnlyTaken course.net (asked_at place occurrence course site).net
+    at site is None e = subst (λ o. IsOnlyTaken course.net (option_map_or (λ (view : View). with_reply place course site (reply view occurrence)) o course).net)
+        (sym e) (same course.net)
+    at site is (Some view) e = subst
+        (λ o. IsOnlyTaken course.net (option_map_or (λ (view : View). with_reply place course site (reply view occurrence)) o course).net) (sym e)
         (replied_taken place course site (reply view occurrence) is)
 
-    by : (o : Option Site) → site_at course.net place ≡ o → IsOnlyTaken course.net (option_map_or (asked_at place occurrence course) (site_at course.net place) course).net
+    by : (o : Option Site) → site_at course.net place ≡ o
+        → IsOnlyTaken course.net (option_map_or (asked_at place occurrence course) (site_at course.net place) course).net
     by None e = subst (λ o. IsOnlyTaken course.net (option_map_or (asked_at place occurrence course) o course).net) (sym e) (same course.net)
     by (Some site) e = subst (λ o. IsOnlyTaken course.net (option_map_or (asked_at place occurrence course) o course).net) (sym e) (at site e site.server refl)
 
@@ -58,7 +65,8 @@ delivered_one from to old new is = by (site_at old.net from) refl
     taken site [] e = absurd (cc e)
     taken site (first ∷ rest) e = subst (λ (c : Course). IsOneMore old.net c.net) (same_some _ new e) (record { items = one.items; taken = one.taken })
       where
-        one : IsOnlyTaken (counted (with_site from (left to rest site) old.net)) (asked to (link_says from (read_of first)) (record old { net = counted (with_site from (left to rest site) old.net) })).net
+        one : IsOnlyTaken (counted (with_site from (left to rest site) old.net))
+            (asked to (link_says from (read_of first)) (record old { net = counted (with_site from (left to rest site) old.net) })).net
         one = asked_taken to (link_says from (read_of first)) (record old { net = counted (with_site from (left to rest site) old.net) })
 
     by : (o : Option Site) → site_at old.net from ≡ o → IsOneMore old.net new.net

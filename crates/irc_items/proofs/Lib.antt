@@ -7,6 +7,7 @@ pub mod KeptSound
 pub mod Delivered
 pub mod Greetings
 pub mod Delivering
+pub mod TurnsAreFew
 pub mod PutOut
 pub mod MetEnds
 pub mod GoodEffects

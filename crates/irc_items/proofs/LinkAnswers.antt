@@ -29,18 +29,21 @@ use Rattle.irc_items.proofs.LinkOver.{over_link, IsOver}
 use Rattle.irc_items.proofs.LinkStarts.{linked_routes, linked_world, IsKnownOfSides, IsSideOfLink}
 
 -- a nickname of both rooms is nobody's once they are one
-pub both_are_gone : (one other : Room) → IsWellFormed one → IsWellFormed other → (q : List ℕ) → is_some (row one.users q) ≡ true → is_some (row other.users q) ≡ true
+pub both_are_gone : (one other : Room) → IsWellFormed one → IsWellFormed other → (q : List ℕ) → is_some (row one.users q) ≡ true
+    → is_some (row other.users q) ≡ true
     → row (merge one other).users q ≡ None
 unfolding merge
 both_are_gone one other well well_other q here there =
     row-both either (room_without one other).users (room_without other one).users refl q
     ∙ (λ i. either (gone one other well here there i) (gone other one well_other there here i))
   where
-    gone : (room beside : Room) → IsWellFormed room → is_some (row room.users q) ≡ true → is_some (row beside.users q) ≡ true → row (room_without room beside).users q ≡ None
+    gone : (room beside : Room) → IsWellFormed room → is_some (row room.users q) ≡ true → is_some (row beside.users q) ≡ true
+        → row (room_without room beside).users q ≡ None
     gone room beside well_formed this that =
         users_without room beside well_formed q ∙ (λ i. cond (this i && that i) None (row room.users q))
 
-module _ (laws : IsKnownOfLines) (known : IsKnownOfSides) (s : Fixed) (l : Link) (world : World) (routes : Name → Known) (t b : Name) (is : IsSideOfLink s l world routes t b) where
+module _ (laws : IsKnownOfLines) (known : IsKnownOfSides) (s : Fixed) (l : Link) (world : World) (routes : Name → Known) (t b : Name)
+    (is : IsSideOfLink s l world routes t b) where
   abbrev forest : List Link
   forest = l ∷ world.links
 
@@ -72,19 +75,23 @@ module _ (laws : IsKnownOfLines) (known : IsKnownOfSides) (s : Fixed) (l : Link)
   joined_there = by is.ends
     where
       by : HasEnds l t b → joined forest b l.near ≡ true
-      by (inl (e, f)) = joined_test forest b l.near (ap (part forest) (sym f) ∙ sym ((over_link l world.links is.forest l.near l.far (inl (refl, refl))).joined l.near l.far refl refl))
+      by (inl (e, f)) = joined_test forest b l.near
+          (ap (part forest) (sym f) ∙ sym ((over_link l world.links is.forest l.near l.far (inl (refl, refl))).joined l.near l.far refl refl))
       by (inr (e, f)) = joined_test forest b l.near (ap (part forest) (sym e))
 
-  module _ (user holder : User) (here : row (world.hall t).room.users (key user.nick) ≡ Some holder) (there : row (world.hall b).room.users (key user.nick) ≡ Some user)
+  module _ (user holder : User) (here : row (world.hall t).room.users (key user.nick) ≡ Some holder)
+      (there : row (world.hall b).room.users (key user.nick) ≡ Some user)
       (same_key : key holder.nick ≡ key user.nick) where
     gone : row both.room.users (key holder.nick) ≡ None
     gone = ap (row both.room.users) same_key ∙ by is.ends
       where
         by : HasEnds l t b → row both.room.users (key user.nick) ≡ None
-        by (inl (e, f)) = both_are_gone (world.hall l.near).room (world.hall l.far).room (is.holds.sound.well_formed l.near) (is.holds.sound.well_formed l.far) (key user.nick)
+        by (inl (e, f)) = both_are_gone (world.hall l.near).room (world.hall l.far).room (is.holds.sound.well_formed l.near) (is.holds.sound.well_formed l.far)
+            (key user.nick)
             (ap (λ v. is_some (row (world.hall v).room.users (key user.nick))) e ∙ ap is_some here)
             (ap (λ v. is_some (row (world.hall v).room.users (key user.nick))) f ∙ ap is_some there)
-        by (inr (e, f)) = both_are_gone (world.hall l.near).room (world.hall l.far).room (is.holds.sound.well_formed l.near) (is.holds.sound.well_formed l.far) (key user.nick)
+        by (inr (e, f)) = both_are_gone (world.hall l.near).room (world.hall l.far).room (is.holds.sound.well_formed l.near) (is.holds.sound.well_formed l.far)
+            (key user.nick)
             (ap (λ v. is_some (row (world.hall v).room.users (key user.nick))) e ∙ ap is_some there)
             (ap (λ v. is_some (row (world.hall v).room.users (key user.nick))) f ∙ ap is_some here)
 

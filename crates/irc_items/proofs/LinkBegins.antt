@@ -34,7 +34,8 @@ terms_of_link net near far =
     (routes_after (link_fixed net near far) (record { near = near; far = far }) (world_now net) (routes_in net))
 
 -- what the two ends tell each other, and where that brings the sides
-pub record IsToldByLink (after_link : PartAfterLink) (quiet : RestStays) (net new : Network) (near far : Name) (given : IsLinkStep net new near far) : Type 0 where
+pub record IsToldByLink (after_link : PartAfterLink) (quiet : RestStays) (net new : Network) (near far : Name)
+    (given : IsLinkStep net new near far) : Type 0 where
   pub near_told : (client : ℕ)
       → Tells (machine (link_fixed net near far) client) (play (link_fixed net near far) client)
       (terms_of_link net near far) far near
@@ -58,7 +59,8 @@ side links near far t = by (joined links t near) refl (joined links t far) refl
     by : (a : Bool) → joined links t near ≡ a → (b : Bool) → joined links t far ≡ b → Side links near far t
     by true e b f = of_near ((tests_tell links t near t).1.0 e)
     by false e true f = of_far ((tests_tell links t far t).1.0 f)
-    by false e false f = of_neither (λ j. let no = sym ((tests_tell links t near t).1.1 j) ∙ e in cc no) (λ j. let no = sym ((tests_tell links t far t).1.1 j) ∙ f in cc no)
+    by false e false f = of_neither (λ j. let no = sym ((tests_tell links t near t).1.1 j) ∙ e in cc no)
+        (λ j. let no = sym ((tests_tell links t far t).1.1 j) ∙ f in cc no)
 
 module _ (after_link : PartAfterLink) (quiet : RestStays) (net new : Network) (near far : Name) (given : IsLinkStep net new near far)
     (tells : IsToldByLink after_link quiet net new near far given) (client : ℕ) where
@@ -219,9 +221,18 @@ module _ (after_link : PartAfterLink) (quiet : RestStays) (net new : Network) (n
   away x y line lines is = by (has_ends l x y) refl
     where
       ends : HasEnds l x y → TakesFrom s.streams y x
-      ends (inl (e, f)) = record { parent = ap s.streams.parent (sym f) ∙ meets.far_parent ∙ e; below = let d = ap s.streams.depth (sym f) ∙ meets.far_depth in omega arith }
-      ends (inr (e, f)) = record { parent = ap s.streams.parent (sym e) ∙ meets.near_parent ∙ f; below = let d = ap s.streams.depth (sym e) ∙ meets.near_depth in omega arith }
+      ends (inl (e, f)) = record {
+        parent = ap s.streams.parent (sym f) ∙ meets.far_parent ∙ e;
+        below = let d = ap s.streams.depth (sym f)
+            ∙ meets.far_depth in omega arith;
+      }
+      ends (inr (e, f)) = record {
+        parent = ap s.streams.parent (sym e) ∙ meets.near_parent ∙ f;
+        below = let d = ap s.streams.depth (sym e)
+            ∙ meets.near_depth in omega arith;
+      }
 
       by : (b : Bool) → has_ends l x y ≡ b → TakesFrom s.streams y x
       by true e = ends (has_ends_so after_link net new near far given x y e)
-      by false e = absurd (let no = sym (nothing_else after_link quiet net new near far given client x y (not_ends after_link net new near far given x y e)) ∙ is in cc no)
+      by false e = absurd (let no = sym (nothing_else after_link quiet net new near far given client x y (not_ends after_link net new near far given x y e))
+          ∙ is in cc no)

@@ -29,6 +29,8 @@ use Rattle.irc_follow.specs.Tree.{place_in}
 use Rattle.irc_follow.proofs.LinesOn.{bare}
 use Rattle.irc_network.specs.Network.{Course, Network, Reply, asked, begun, changed_at, ends_of, given, kept, made, place_of, received_by, reply, view_of, with_way}
 use Rattle.irc_network.specs.Refusing.{are_peers, fault_at_rest, link_fault, meeting_fault}
+use Rattle.irc_items.specs.GoodLines.{closings}
+use Rattle.irc_items.specs.Laws.{NewLinkIsOpen}
 use Rattle.irc_items.specs.OneRoom.{IsOneRoom}
 use Rattle.irc_items.specs.Relayed.{way_at, way_between}
 use Rattle.irc_items.specs.SetUp.{settings_of, view_at, HasPassword, IsSetUp}
@@ -121,7 +123,8 @@ pub meeting : (net : Network) → IsSetUp net → (near far : Name) → fault_at
 meeting net set_up near far taken = by (list_any (same near) net.names) refl (list_any (same far) net.names) refl
   where
     both : IsAmong net.names near → IsAmong net.names far
-        → NothingAgainst (joined net.links near far) (are_peers near far (view_at net near) (view_at net far)) (agree (view_at net near).room (view_at net far).room)
+        → NothingAgainst (joined net.links near far) (are_peers near far (view_at net near) (view_at net far))
+        (agree (view_at net near).room (view_at net far).room)
         → IsShared (password_for (view_at net near) far) (password_for (view_at net far) near) → IsMeeting net near far
     both near_among far_among fine words = record {
       near_among = near_among;
@@ -134,7 +137,8 @@ meeting net set_up near far taken = by (list_any (same near) net.names) refl (li
       agreed = fine.agreed_so;
     }
 
-    there_both : IsAmong net.names near → IsAmong net.names far → meeting_fault net near far (view_at net near) (view_at net far) ≡ None → IsMeeting net near far
+    there_both : IsAmong net.names near → IsAmong net.names far → meeting_fault net near far (view_at net near) (view_at net far) ≡ None
+        → IsMeeting net near far
     there_both near_among far_among fault =
         let fine = nothing_against (joined net.links near far) (are_peers near far (view_at net near) (view_at net far))
         (agree (view_at net near).room (view_at net far).room) fault in
@@ -166,6 +170,31 @@ calls_out view k name word free is =
 is_called : (view : View) (k : ℕ) → get view.ends k ≡ None → reply view (link_up k None) ≡ record { view = with_end k None view; out = [] }
 unfolding served
 is_called view k free = reply_taken view (link_up k None) (ap is_none free)
+
+lines_close_none : (k : ℕ) (lines : List Written) → closings (on_link k lines) ≡ []
+lines_close_none k [] = refl
+lines_close_none k (parts ∷ lines) = lines_close_none k lines
+
+-- neither closes it
+call_closes_none : (view : View) (k : ℕ) (name word : Name) → password_for view name ≡ Some word → closings (served view (link_up k (Some name))).out ≡ []
+unfolding served
+call_closes_none view k name word is = ap (λ o. closings (opened_if o).out) is ∙ lines_close_none k (opening_parts view name)
+  where
+    opened_if : Option (List ℕ) → Served
+    opened_if o = if is_none o then with_sent (end_of_link k reason.UnknownPeer ∷ []) (in_silence view)
+        else with_sent (on_link k (opening_parts view name)) (in_silence (with_end k (Some name) view))
+
+wait_closes_none : (view : View) (k : ℕ) → closings (served view (link_up k None)).out ≡ []
+unfolding served
+wait_closes_none view k = refl
+
+pub new_link_is_open : NewLinkIsOpen
+new_link_is_open net near far sound taken =
+    let m = meeting net sound.set_up near far taken in
+    record {
+      calls = call_closes_none (view_at net near) (place_in net.names far) far m.word m.near_word;
+      waits = wait_closes_none (view_at net far) (place_in net.names near);
+    }
 
 all_on_it : (k : ℕ) (lines : List Written) → lines_on k (on_link k lines) ≡ map line_text lines
 all_on_it k [] = refl

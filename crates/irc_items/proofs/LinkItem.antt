@@ -131,15 +131,18 @@ module _ (laws : AreLinkItemLaws) (net : Network) (sound : IsSound net) (rest : 
     near_read = near_rooms.read;
     far_read = far_rooms.read;
     after = given_so.holds_after;
-    near_sound = subst (λ acts. IsSoundPart s (all_done (play s 0) (side_of s l world (routes_in net) near) acts)) (deeds_near 0 near refl) (following near near_below).fits.sound;
-    far_sound = subst (λ acts. IsSoundPart s (all_done (play s 0) (side_of s l world (routes_in net) far) acts)) (deeds_far 0 far refl) (following far far_below).fits.sound;
+    near_sound = subst (λ acts. IsSoundPart s (all_done (play s 0) (side_of s l world (routes_in net) near) acts)) (deeds_near 0 near refl)
+        (following near near_below).fits.sound;
+    far_sound = subst (λ acts. IsSoundPart s (all_done (play s 0) (side_of s l world (routes_in net) far) acts)) (deeds_far 0 far refl)
+        (following far far_below).fits.sound;
   }
 
   comes_to : ComesToLinked s l world (routes_in net)
   comes_to = link_comes_to laws.links s l world (routes_in net) linked_world
 
   comes_so : (client : ℕ) (t : Name) (view : View) → IsAmong net.names t → 0 < s.streams.depth t
-      → Fits s t (all_done (play s client) (side_of s l world (routes_in net) t) (deeds laws.link.after_link laws.link.quiet net new near far given_so tells client t)) view
+      → Fits s t (all_done (play s client) (side_of s l world (routes_in net) t)
+      (deeds laws.link.after_link laws.link.quiet net new near far given_so tells client t)) view
       → Fits s t (part_of s (link_made world near far).world (routes_after s l world (routes_in net)) t) view
   comes_so client t view among below fits = by (takes laws.link.after_link laws.link.quiet net new near far given_so tells client t)
     where
@@ -206,9 +209,11 @@ module _ (laws : AreLinkItemLaws) (net : Network) (sound : IsSound net) (rest : 
     far_answered = far_answered laws.rooms laws.link.after_link laws.link.quiet net new near far given_so;
     near_read = near_rooms.few;
     far_read = far_rooms.few;
-    near_counted = told_counted net sound.set_up s refl world.links (routes_in net) near _ (right_here laws.link.after_link net new near far given_so) holds.sound.forest
+    near_counted = told_counted net sound.set_up s refl world.links (routes_in net) near _
+        (right_here laws.link.after_link net new near far given_so) holds.sound.forest
         (old_ends laws.link.after_link net new near far given_so) given_so.meeting.near_among;
-    far_counted = told_counted net sound.set_up s refl world.links (routes_in net) far _ (right_here laws.link.after_link net new near far given_so) holds.sound.forest
+    far_counted = told_counted net sound.set_up s refl world.links (routes_in net) far _
+        (right_here laws.link.after_link net new near far given_so) holds.sound.forest
         (old_ends laws.link.after_link net new near far given_so) given_so.meeting.far_among;
   }
 

@@ -172,7 +172,8 @@ module _ (laws : AreRoomLaws) (s : Fixed) (l : Link) (world : World) (routes : N
       -- what is told behind it is told of the room that it leaves
       abbrev IsReadSo : List ℕ → List Deed → Type 0
       IsReadSo line read =
-          ((now : View) → Fits s t (w (hall_left read hall)) now → IsTold (hall_left read hall) now deeds lines) → IsTold hall view (read ++ deeds) (line ∷ lines)
+          ((now : View) → Fits s t (w (hall_left read hall)) now → IsTold (hall_left read hall) now deeds lines)
+          → IsTold hall view (read ++ deeds) (line ∷ lines)
 
       read_aside : (line : List ℕ) → Aside s b t (w hall) view line → IsReadSo line []
       read_aside line aside more =
@@ -180,7 +181,8 @@ module _ (laws : AreRoomLaws) (s : Fixed) (l : Link) (world : World) (routes : N
           (more (asked s b view line).view (laws.line.aside s b t (w hall) view line fits aside).fits)
 
       abbrev May : Deed → List ℕ → Type 0
-      May deed line = MayKill s (answers_of l) (linked_world laws.sides s l world routes t b is) (linked_routes laws.sides s l world routes t b is) b t deed line
+      May deed line = MayKill s (answers_of l) (linked_world laws.sides s l world routes t b is)
+          (linked_routes laws.sides s l world routes t b is) b t deed line
 
       read_said : (line : List ℕ) (deed : Deed) → IsReadDeed t deed → May deed line → Says s b t (w hall) view deed line → IsReadSo line (deed ∷ [])
       read_said line deed read may says more =
@@ -209,7 +211,8 @@ module _ (laws : AreRoomLaws) (s : Fixed) (l : Link) (world : World) (routes : N
           come : AreComing far room channel (new_members far room channel members)
           come = members_come far their_room room channel members told.well (is.holds.sound.well_formed b) told.theirs theirs
 
-          by : (more : List (List ℕ × Flags)) → new_members far room channel members ≡ more → IsReadSo (line_of (brings b channel members)) (brought b channel more)
+          by : (more : List (List ℕ × Flags)) → new_members far room channel members ≡ more
+              → IsReadSo (line_of (brings b channel members)) (brought b channel more)
           by [] e = read_aside (line_of (brings b channel members))
               (members_aside laws.sides.handshakes.lines s b t (w hall) view reader their_room within_there channel members theirs
               (ap (λ f. new_members f room channel members) far_is ∙ e))
@@ -217,7 +220,8 @@ module _ (laws : AreRoomLaws) (s : Fixed) (l : Link) (world : World) (routes : N
               (members_said laws.sides.handshakes.lines s b t (w hall) view reader their_room within_there channel members theirs (first ∷ later)
               (ap (λ f. new_members f room channel members) far_is ∙ e) (λ none. cc none)
               (subst (λ f. AreComing f room channel (first ∷ later)) (sym far_is) (subst (AreComing far room channel) e come))
-              (sym (ap (map (as_stored room)) e) ∙ members_spelled far their_room room channel members told.well (is.holds.sound.well_formed b) told.theirs theirs ∙ e))
+              (sym (ap (map (as_stored room)) e)
+              ∙ members_spelled far their_room room channel members told.well (is.holds.sound.well_formed b) told.theirs theirs ∙ e))
 
       modes_one : (channel : List ℕ) (changes : List ModeChange) → IsToldIn b far their_room room (sets b channel changes)
           → IsReadSo (line_of (sets b channel changes)) (if all_far far room channel then sets b channel changes ∷ [] else [])
@@ -264,7 +268,8 @@ module _ (laws : AreRoomLaws) (s : Fixed) (l : Link) (world : World) (routes : N
         user_comes : row room.users (key user.nick) ≡ None → IsReadSo (line_of (does (AddUser user))) (does (AddUser user) ∷ [])
         user_comes free =
             read_said (line_of (does (AddUser user))) (does (AddUser user)) tt tt
-            (new_user_said s b t (w hall) view reader l links routes new user (sym (joined_so links user.home b home_far)) home_known laws.sides.handshakes.lines laws.read_back
+            (new_user_said s b t (w hall) view reader l links routes new user
+            (sym (joined_so links user.home b home_far)) home_known laws.sides.handshakes.lines laws.read_back
             told.told.within free (of_home b their_room) their_limits)
 
         -- the nickname is on both sides
@@ -274,10 +279,12 @@ module _ (laws : AreRoomLaws) (s : Fixed) (l : Link) (world : World) (routes : N
             read_said (line_of (does (AddUser user))) (kills t holder.nick) refl
             (λ own. may_answer laws.sides.handshakes.lines laws.sides s l world routes t b is user holder first told.told.there
             (held_by t b far their_room room user holder told taken).same_key)
-            (user_collides s b t (w hall) view reader l links routes new both_sides user (sym (joined_so links user.home b home_far)) home_known told.told.within holder taken
+            (user_collides s b t (w hall) view reader l links routes new both_sides user
+            (sym (joined_so links user.home b home_far)) home_known told.told.within holder taken
             laws.sides.handshakes.lines laws.read_back (of_home b their_room) their_limits)
 
-        user_one : IsHeldFirst (world.hall t).room room (does (AddUser user)) → IsReadSo (line_of (does (AddUser user))) (read_deed t far room (does (AddUser user)))
+        user_one : IsHeldFirst (world.hall t).room room (does (AddUser user))
+            → IsReadSo (line_of (does (AddUser user))) (read_deed t far room (does (AddUser user)))
         user_one held = by (row room.users (key user.nick)) refl
           where
             by : (o : Option User) → row room.users (key user.nick) ≡ o
@@ -285,16 +292,20 @@ module _ (laws : AreRoomLaws) (s : Fixed) (l : Link) (world : World) (routes : N
             by None free = user_comes free
             by (Some holder) taken = holder_killed holder taken (held holder taken)
 
-      told_one : (deed : Deed) → IsToldIn b far their_room room deed → IsHeldFirst (world.hall t).room room deed → IsReadSo (line_of deed) (read_deed t far room deed)
+      told_one : (deed : Deed) → IsToldIn b far their_room room deed → IsHeldFirst (world.hall t).room room deed
+          → IsReadSo (line_of deed) (read_deed t far room deed)
       told_one (does (AddUser user)) told held = user_one user told held
       told_one (brings by channel members) told held =
-          subst (λ v. IsToldIn b far their_room room (brings v channel members) → IsReadSo (line_of (brings v channel members)) (read_deed t far room (brings v channel members)))
+          subst (λ v. IsToldIn b far their_room room (brings v channel members)
+          → IsReadSo (line_of (brings v channel members)) (read_deed t far room (brings v channel members)))
           (sym told.told.0) (members_one channel members) told
       told_one (sets by channel changes) told held =
-          subst (λ v. IsToldIn b far their_room room (sets v channel changes) → IsReadSo (line_of (sets v channel changes)) (read_deed t far room (sets v channel changes)))
+          subst (λ v. IsToldIn b far their_room room (sets v channel changes)
+          → IsReadSo (line_of (sets v channel changes)) (read_deed t far room (sets v channel changes)))
           (sym told.told.0) (modes_one channel changes) told
       told_one (tops by channel topic) told held =
-          subst (λ v. IsToldIn b far their_room room (tops v channel topic) → IsReadSo (line_of (tops v channel topic)) (read_deed t far room (tops v channel topic)))
+          subst (λ v. IsToldIn b far their_room room (tops v channel topic)
+          → IsReadSo (line_of (tops v channel topic)) (read_deed t far room (tops v channel topic)))
           (sym told.told.0) (topic_one channel topic) told
       told_one deed told held = absurd told.told
 

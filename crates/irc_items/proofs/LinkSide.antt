@@ -122,7 +122,8 @@ module _ (after_link : PartAfterLink) (net new : Network) (near far : Name) (giv
   as_before f same_but t = by (tell t near) (tell t far)
     where
       by : Telling t near → Telling t far → f (view_at new t) ≡ f (view_at net t)
-      by (alike _ e) _ = ap (λ v. f (view_at new v)) e ∙ ap f given.linked.near_view ∙ same_but (number s far) (Some far) (view_at net near) ∙ sym (ap (λ v. f (view_at net v)) e)
+      by (alike _ e) _ = ap (λ v. f (view_at new v)) e ∙ ap f given.linked.near_view ∙ same_but (number s far) (Some far) (view_at net near)
+          ∙ sym (ap (λ v. f (view_at net v)) e)
       by (unlike _ _) (alike _ e) =
           ap (λ v. f (view_at new v)) e ∙ ap f given.linked.far_view ∙ same_but (number s near) None (view_at net far) ∙ sym (ap (λ v. f (view_at net v)) e)
       by (unlike _ m) (unlike _ n) = ap f (given.linked.other_views t m n)
@@ -140,20 +141,24 @@ module _ (after_link : PartAfterLink) (net new : Network) (near far : Name) (giv
   -- the end of the new link: nobody has named itself there
   new_end : (t x : Name) → HasEnds l t x → option_map far_of (get (view_at new t).ends (number s x)) ≡ Some None
   new_end t x (inl (e, f)) =
-      ap (λ v. option_map far_of (get (view_at new v).ends (number s x))) (sym e) ∙ ap (λ (v : View). option_map far_of (get v.ends (number s x))) given.linked.near_view
+      ap (λ v. option_map far_of (get (view_at new v).ends (number s x))) (sym e)
+      ∙ ap (λ (v : View). option_map far_of (get v.ends (number s x))) given.linked.near_view
       ∙ ap (λ v. option_map far_of (get (with_end (number s far) (Some far) (view_at net near)).ends (number s v))) (sym f)
       ∙ ap (option_map far_of) (fresh (view_at net near).ends (number s far) (Some far))
   new_end t x (inr (e, f)) =
-      ap (λ v. option_map far_of (get (view_at new v).ends (number s x))) (sym f) ∙ ap (λ (v : View). option_map far_of (get v.ends (number s x))) given.linked.far_view
+      ap (λ v. option_map far_of (get (view_at new v).ends (number s x))) (sym f)
+      ∙ ap (λ (v : View). option_map far_of (get v.ends (number s x))) given.linked.far_view
       ∙ ap (λ v. option_map far_of (get (with_end (number s near) None (view_at net far)).ends (number s v))) (sym e)
       ∙ ap (option_map far_of) (fresh (view_at net far).ends (number s near) None)
 
   not_joined : (t x : Name) → HasEnds l t x → joined world.links x t ≡ false
-  not_joined t x (inl (e, f)) = same_unless (part world.links x) (part world.links t) (λ j. apart (ap (part world.links) e ∙ sym j ∙ ap (part world.links) (sym f)))
+  not_joined t x (inl (e, f)) = same_unless (part world.links x) (part world.links t)
+      (λ j. apart (ap (part world.links) e ∙ sym j ∙ ap (part world.links) (sym f)))
   not_joined t x (inr (e, f)) = same_unless (part world.links x) (part world.links t) (λ j. apart (ap (part world.links) e ∙ j ∙ ap (part world.links) (sym f)))
 
   far_now : (t x : Name) → IsAmong net.names t → IsAmong net.names x → (b : Bool) → has_ends l t x ≡ b
-      → option_map far_of (get (view_at new t).ends (number s x)) ≡ (if linked (l ∷ world.links) t x then Some (if joined world.links x t then Some x else None) else None)
+      → option_map far_of (get (view_at new t).ends (number s x)) ≡
+      (if linked (l ∷ world.links) t x then Some (if joined world.links x t then Some x else None) else None)
   far_now t x t_among x_among true e =
       new_end t x (has_ends_so t x e)
       ∙ ap (λ b. Some (if b then Some x else None)) (sym (not_joined t x (has_ends_so t x e)))
@@ -168,7 +173,8 @@ module _ (after_link : PartAfterLink) (net new : Network) (near far : Name) (giv
       old : (t : Name) → IsAmong net.names t → get (view_at net t).ends k ≡ Some end → IsNumberOf s k
       old t among is = let n = (given.one.servers t among).no_others k end is in record { server = n.server; among = n.among; is = n.is }
 
-      added : (t b : Name) (starts : Option Name) → IsAmong net.names t → IsAmong net.names b → get (with_end (number s b) starts (view_at net t)).ends k ≡ Some end → IsNumberOf s k
+      added : (t b : Name) (starts : Option Name) → IsAmong net.names t → IsAmong net.names b
+          → get (with_end (number s b) starts (view_at net t)).ends k ≡ Some end → IsNumberOf s k
       added t b starts among b_among is = at (same_number k (number s b)) refl
         where
           at : (c : Bool) → same_number k (number s b) ≡ c → IsNumberOf s k

@@ -69,7 +69,8 @@ pub record ComesToOne (laws : AreLinkLaws) (net new : Network) (near far : Name)
       (routes_after (link_fixed net near far) (record { near = near; far = far }) (world_now net) (routes_in net))
   pub comes : (client : ℕ) (t : Name) (view : View) → IsAmong net.names t → 0 < (link_fixed net near far).streams.depth t
       → Fits (link_fixed net near far) t
-      (all_done (play (link_fixed net near far) client) (side_of (link_fixed net near far) (record { near = near; far = far }) (world_now net) (routes_in net) t)
+      (all_done (play (link_fixed net near far) client)
+      (side_of (link_fixed net near far) (record { near = near; far = far }) (world_now net) (routes_in net) t)
       (deeds laws.after_link laws.quiet net new near far given tells client t)) view
       → Fits (link_fixed net near far) t (part_of (link_fixed net near far) (link_made (world_now net) near far).world
       (routes_after (link_fixed net near far) (record { near = near; far = far }) (world_now net) (routes_in net)) t) view
@@ -78,7 +79,8 @@ pub record ComesToOne (laws : AreLinkLaws) (net new : Network) (near far : Name)
       (routes_after (link_fixed net near far) (record { near = near; far = far }) (world_now net) (routes_in net)) t) (view_at new t)
   pub seen : (client : ℕ) (t : Name) → IsAmong net.names t → is_home_of (link_fixed net near far).homes t client ≡ true
       → 0 < (link_fixed net near far).streams.depth t
-      → all_seen (play (link_fixed net near far) client) t (side_of (link_fixed net near far) (record { near = near; far = far }) (world_now net) (routes_in net) t)
+      → all_seen (play (link_fixed net near far) client) t
+      (side_of (link_fixed net near far) (record { near = near; far = far }) (world_now net) (routes_in net) t)
       (deeds laws.after_link laws.quiet net new near far given tells client t) ≡ (link_made (world_now net) near far).lines client
   pub unseen : (client : ℕ) (t : Name) → is_home_of (link_fixed net near far).homes t client ≡ true → (AreJoined (world_now net).links t near → ⊥)
       → (AreJoined (world_now net).links t far → ⊥) → (link_made (world_now net) near far).lines client ≡ []
@@ -112,7 +114,8 @@ allowed : (sum answered_near answered_far k j count_near count_far near far m n 
 allowed sum answered_near answered_far k j count_near count_far near far m n most to_near to_far e f some_near some_far few_far few_near =
     by (count_near - 1) (count_far - 1) (e ∙ less_one count_near (subst (λ p. 0 < p) e some_near)) (f ∙ less_one count_far (subst (λ p. 0 < p) f some_far)) most
   where
-    added : (a b c d m n : ℕ) → sum ≤ a + b → a + c ≤ 1 + m → b + d ≤ 1 + n → answered_near ≤ c → answered_far ≤ d → sum + answered_near + answered_far ≤ 2 + (n + m)
+    added : (a b c d m n : ℕ) → sum ≤ a + b → a + c ≤ 1 + m → b + d ≤ 1 + n → answered_near ≤ c → answered_far ≤ d
+        → sum + answered_near + answered_far ≤ 2 + (n + m)
     added a b c d m n all one two three four = omega arith
 
     by : (p q : ℕ) → near ≡ suc p → far ≡ suc q → sum ≤ ((2 + k) + p * (1 + k)) + ((2 + j) + q * (1 + j))
@@ -326,7 +329,8 @@ module _ (laws : AreLinkLaws) (net new : Network) (near far : Name) (given : IsL
     few_come : lines_pending (machine s client) s.streams (relayed s new client) net.names introduces near far ≤ most (settings_of net) world (link near far)
     unfolding most
     few_come =
-        let sum = sides_most net.names (joined world.links near) (joined world.links far) near far (2 + told_near) (1 + told_near) (2 + told_far) (1 + told_far) count
+        let sum = sides_most net.names (joined world.links near) (joined world.links far) near far (2 + told_near) (1 + told_near) (2 + told_far)
+        (1 + told_far) count
         (record {
           there = same_when (part world.links near) (part world.links near) refl;
           once = given.sound.set_up.once near given.meeting.near_among;
@@ -511,11 +515,13 @@ module _ (laws : AreLinkLaws) (net new : Network) (near far : Name) (given : IsL
   link_sound = record {
     set_up = given.linked.set_up;
     taken = subst (λ settings. AreTaken settings new_world new.items) (sym same_settings)
-        (subst (AreTaken (settings_of net) new_world) (sym given.linked.items) (taken_more (settings_of net) net.items (link near far) given.sound.taken given.not_refused));
+        (subst (AreTaken (settings_of net) new_world) (sym given.linked.items)
+        (taken_more (settings_of net) net.items (link near far) given.sound.taken given.not_refused));
     within = subst (AllByRecursion IsItemWithin) (sym given.linked.items) (each_more IsItemWithin net.items (link near far) given.sound.within tt);
     links = same_links ∙ sym (ap (λ (w : World). w.links) world_is);
     homes = given.linked.homes ∙ given.sound.homes ∙ sym (ap (λ (w : World). w.homes) world_is);
-    inboxes = ap (λ (boxes : List (List (List ℕ))). length boxes) given.linked.received ∙ given.sound.inboxes ∙ ap (λ (homes : List Name). length homes) (sym given.linked.homes);
+    inboxes = ap (λ (boxes : List (List (List ℕ))). length boxes) given.linked.received ∙ given.sound.inboxes
+        ∙ ap (λ (homes : List Name). length homes) (sym given.linked.homes);
     ways = ways_now;
     to_servers = to_servers_now;
     nobody = nobody_now;

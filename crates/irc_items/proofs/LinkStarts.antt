@@ -217,13 +217,15 @@ module _ (known : IsKnownOfSides) (s : Fixed) (l : Link) (world : World) (routes
       module _ (at_b : known_at b ≡ routes b) (b_unknown : knows b ≡ false) where
         itself : is_known (known_at b) b ≡ true
         itself = ap (λ (k : Known). is_known k b) at_b
-            ∙ ap (λ n. same n b || is_some (row_of (routes b) b)) (is.right.named b is.b_among) ∙ ap (λ c. c || is_some (row_of (routes b) b)) (same_when b b refl)
+            ∙ ap (λ n. same n b || is_some (row_of (routes b) b)) (is.right.named b is.b_among)
+            ∙ ap (λ c. c || is_some (row_of (routes b) b)) (same_when b b refl)
 
         b_doable : IsDoableGain s w t b (info b)
         b_doable = doable t b (info b) refl is.b_among b_unknown refl (sound.tree.here_known t fits.here)
             (ap (λ c. if c then t else toward links b b) (same_when b b refl)) itself
 
-        module _ (word : List ℕ) (kept : password_for view b ≡ Some word) (end : End) (is_end : get view.ends (number s b) ≡ Some end) (not_met : end.far ≡ None)
+        module _ (word : List ℕ) (kept : password_for view b ≡ Some word) (end : End) (is_end : get view.ends (number s b) ≡ Some end)
+            (not_met : end.far ≡ None)
             (given : end.password ≡ Some word) where
           b_name : (routes b).name ≡ b
           b_name = is.right.named b is.b_among
@@ -255,7 +257,8 @@ module _ (known : IsKnownOfSides) (s : Fixed) (l : Link) (world : World) (routes
               end = end;
               is_end = is_end;
               means = b_heard
-                  ∙ sym (ap (λ c. if c then meets b (info b) else tells (a_server t b (distance forest t b) (told_token w.tree b b) (info b) ∷ [])) (same_when b b refl));
+                  ∙ sym (ap (λ c. if c then meets b (info b) else tells (a_server t b (distance forest t b) (told_token w.tree b b) (info b) ∷ []))
+                  (same_when b b refl));
               doable = b_doable;
             };
             may = tt;
@@ -510,7 +513,8 @@ module _ (known : IsKnownOfSides) (s : Fixed) (l : Link) (world : World) (routes
 
     lines_are : password_for other t ≡ Some word → told_lines ≡ line_text (pass_parts word) ∷ greeting_line ∷ (server_lines ++ room_lines)
     lines_are kept =
-        ap (λ o. line_text (pass_parts (unwrap_or o [])) ∷ line_text (greeting other.routes) ∷ map line_text (burst_parts other.room other.routes (number s t))) kept
+        ap (λ o. line_text (pass_parts (unwrap_or o [])) ∷ line_text (greeting other.routes) ∷ map line_text
+        (burst_parts other.room other.routes (number s t))) kept
         ∙ ap (λ k. line_text (pass_parts word) ∷ line_text (greeting k) ∷ map line_text (burst_parts other.room other.routes (number s t))) other_routes
         ∙ ap (λ lines. line_text (pass_parts word) ∷ greeting_line ∷ lines) burst_is
 
@@ -543,7 +547,8 @@ module _ (known : IsKnownOfSides) (s : Fixed) (l : Link) (world : World) (routes
         → AreTold client (side_of s l world routes t) view (deeds_of_link s world routes t b) told_lines
     link_tells client kept other_kept end is_end not_met no_word more =
         subst (AreTold client first view (deeds_of_link s world routes t b)) (sym (lines_are other_kept)) (aside_line aside (
-        from_greeting client (asked s b view pass_line).view word (record end { password = Some word }) (aside_stays s b t first view pass_line fits aside.aside).fits
+        from_greeting client (asked s b view pass_line).view word (record end { password = Some word })
+        (aside_stays s b t first view pass_line fits aside.aside).fits
         (ap (λ (v : View). password_for v b) after ∙ kept)
         (ap (λ (v : View). get v.ends (number s b)) after ∙ word_kept laws word is_word view (number s b) end not_met no_word)
         not_met refl more

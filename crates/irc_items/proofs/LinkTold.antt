@@ -69,11 +69,13 @@ module _ (laws : AreRoomLaws) (after_link : PartAfterLink) (quiet : RestStays) (
   pub told_by_link : IsToldByLink after_link quiet net new near far given
   told_by_link = record {
     near_told = λ client. link_tells laws.sides s l world (routes_in net) near far side_near (view_at new near) (view_at new far)
-        (fits_begun after_link net new near far given near given.meeting.near_among) (routes_of far) (room_of far given.meeting.far_among) given.meeting.word given.meeting.is_word client
+        (fits_begun after_link net new near far given near given.meeting.near_among) (routes_of far)
+        (room_of far given.meeting.far_among) given.meeting.word given.meeting.is_word client
         (word_of near far given.meeting.near_word) (word_of far near given.meeting.far_word) (fresh_end (Some far))
         (end_near after_link quiet net new near far given) refl refl (room_told laws s l world (routes_in net) near far side_near client);
     far_told = λ client. link_tells laws.sides s l world (routes_in net) far near side_far (view_at new far) (view_at new near)
-        (fits_begun after_link net new near far given far given.meeting.far_among) (routes_of near) (room_of near given.meeting.near_among) given.meeting.word given.meeting.is_word client
+        (fits_begun after_link net new near far given far given.meeting.far_among) (routes_of near)
+        (room_of near given.meeting.near_among) given.meeting.word given.meeting.is_word client
         (word_of far near given.meeting.far_word) (word_of near far given.meeting.near_word) (fresh_end None)
         (end_far after_link quiet net new near far given) refl refl (room_told laws s l world (routes_in net) far near side_far client);
   }
@@ -82,7 +84,8 @@ module _ (laws : AreRoomLaws) (after_link : PartAfterLink) (quiet : RestStays) (
       ≤ 2 + (length (servers_told (routes_in net far) (number s near)) + length (burst far (world.hall far).room))
   near_lines =
       let long = lines_of_link laws.sides s l world (routes_in net) near far side_near (view_at new near) (view_at new far)
-      (fits_begun after_link net new near far given near given.meeting.near_among) (routes_of far) (room_of far given.meeting.far_among) given.meeting.word given.meeting.is_word
+      (fits_begun after_link net new near far given near given.meeting.near_among) (routes_of far)
+      (room_of far given.meeting.far_among) given.meeting.word given.meeting.is_word
       (word_of far near given.meeting.far_word) in
       omega arith
 
@@ -90,7 +93,8 @@ module _ (laws : AreRoomLaws) (after_link : PartAfterLink) (quiet : RestStays) (
       ≤ 2 + (length (servers_told (routes_in net near) (number s far)) + length (burst near (world.hall near).room))
   far_lines =
       let long = lines_of_link laws.sides s l world (routes_in net) far near side_far (view_at new far) (view_at new near)
-      (fits_begun after_link net new near far given far given.meeting.far_among) (routes_of near) (room_of near given.meeting.near_among) given.meeting.word given.meeting.is_word
+      (fits_begun after_link net new near far given far given.meeting.far_among) (routes_of near)
+      (room_of near given.meeting.near_among) given.meeting.word given.meeting.is_word
       (word_of near far given.meeting.near_word) in
       omega arith
 
@@ -99,12 +103,14 @@ module _ (laws : AreRoomLaws) (after_link : PartAfterLink) (quiet : RestStays) (
       ≤ 1 + (length (servers_told (routes_in net far) (number s near)) + length (burst far (world.hall far).room))
   near_answered =
       answered_of_link laws.sides s l world (routes_in net) near far side_near (view_at new near) (view_at new far)
-      (fits_begun after_link net new near far given near given.meeting.near_among) (routes_of far) (room_of far given.meeting.far_among) given.meeting.word given.meeting.is_word
+      (fits_begun after_link net new near far given near given.meeting.near_among) (routes_of far)
+      (room_of far given.meeting.far_among) given.meeting.word given.meeting.is_word
       (word_of far near given.meeting.far_word)
 
   pub far_answered : count_by introduces (link_lines after_link quiet net new near far given near far)
       ≤ 1 + (length (servers_told (routes_in net near) (number s far)) + length (burst near (world.hall near).room))
   far_answered =
       answered_of_link laws.sides s l world (routes_in net) far near side_far (view_at new far) (view_at new near)
-      (fits_begun after_link net new near far given far given.meeting.far_among) (routes_of near) (room_of near given.meeting.near_among) given.meeting.word given.meeting.is_word
+      (fits_begun after_link net new near far given far given.meeting.far_among) (routes_of near)
+      (room_of near given.meeting.near_among) given.meeting.word given.meeting.is_word
       (word_of near far given.meeting.near_word)

@@ -73,7 +73,8 @@ module _ (after_link : PartAfterLink) (quiet : RestStays) (net new : Network) (n
         ∙ quiet_ways quiet net given.rest x (number s y)
 
     -- an end that is there, but that of the new link, is that of a server of the same side, which has named itself
-    met_else : (x z : Name) → IsAmong net.names x → IsAmong net.names z → (HasEnds l x z → ⊥) → (end : End) → get (view_at new x).ends (number s z) ≡ Some end → has_far end ≡ true
+    met_else : (x z : Name) → IsAmong net.names x → IsAmong net.names z → (HasEnds l x z → ⊥) → (end : End) → get (view_at new x).ends (number s z) ≡ Some end
+        → has_far end ≡ true
     met_else x z x_among z_among none end is = by (has_ends l x z) refl (linked world.links x z) refl
       where
         far_is : Some (far_of end) ≡ (if linked (l ∷ world.links) x z then Some (if joined world.links z x then Some z else None) else None)
@@ -84,10 +85,13 @@ module _ (after_link : PartAfterLink) (quiet : RestStays) (net new : Network) (n
 
         by : (b : Bool) → has_ends l x z ≡ b → (c : Bool) → linked world.links x z ≡ c → has_far end ≡ true
         by true e c d = absurd (none (has_ends_so after_link net new near far given x z e))
-        by false e true d = far_some (far_is ∙ ap (λ b. if (b || linked world.links x z) then Some (if joined world.links z x then Some z else None) else None) e
+        by false e true d = far_some (far_is
+            ∙ ap (λ b. if (b || linked world.links x z) then Some (if joined world.links z x then Some z else None) else None) e
             ∙ ap (λ b. if b then Some (if joined world.links z x then Some z else None) else None) d
-            ∙ ap (λ b. Some (if b then Some z else None)) ((tests_tell world.links z x x).1.1 (sym (linked_joined world.links x z ((tests_tell world.links x z x).2.0 d)))))
-        by false e false d = absurd (let no = far_is ∙ ap (λ b. if (b || linked world.links x z) then Some (if joined world.links z x then Some z else None) else None) e
+            ∙ ap (λ b. Some (if b then Some z else None))
+            ((tests_tell world.links z x x).1.1 (sym (linked_joined world.links x z ((tests_tell world.links x z x).2.0 d)))))
+        by false e false d = absurd (let no = far_is
+            ∙ ap (λ b. if (b || linked world.links x z) then Some (if joined world.links z x then Some z else None) else None) e
             ∙ ap (λ b. if b then Some (if joined world.links z x then Some z else None) else None) d in cc no)
 
     owed_else : (x y : Name) → (HasEnds l x y → ⊥) → owed_to s (view_at new x) y ≡ []
@@ -97,7 +101,8 @@ module _ (after_link : PartAfterLink) (quiet : RestStays) (net new : Network) (n
         end_of there None is = ap (λ o. option_map_or (owed_at s (view_at new x) y) o []) is
         end_of there (Some end) is =
             ap (λ o. option_map_or (owed_at s (view_at new x) y) o []) is
-            ∙ ap (λ b. cond b [] (map line_text (owed_by (view_at new x) (number s y) y end))) (by ((fits_begun after_link net new near far given x there).no_others (number s y) end is))
+            ∙ ap (λ b. cond b [] (map line_text (owed_by (view_at new x) (number s y) y end)))
+            (by ((fits_begun after_link net new near far given x there).no_others (number s y) end is))
           where
             by : IsNumberOf s (number s y) → has_far end ≡ true
             by n = let one = one_place net.names n.server y n.among n.is in

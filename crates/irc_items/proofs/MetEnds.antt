@@ -194,7 +194,8 @@ pub record IsLaterSide (links : List Link) (t : Name) (w later : of_side.Part) :
 -- the rest is so of each server that fits its side, before and after, where all linked servers but p are known
 pub good_reply : (s : Fixed) (links : List Link) (p t : Name) (w later : of_side.Part) (view : View) (after : Served)
     → Fits s t w view → Fits s t later after.view
-    → AreLinkedAlike links w.tree.forest t → ((u : Name) → AreLinked links t u → u ≢ p → w.tree.knows u ≡ true) → IsLaterSide links t w later → IsAnswer s links p t view after
+    → AreLinkedAlike links w.tree.forest t → ((u : Name) → AreLinked links t u → u ≢ p → w.tree.knows u ≡ true) → IsLaterSide links t w later
+    → IsAnswer s links p t view after
     → IsGoodReply s links p t view after []
 good_reply s links p t w later view after fits fits_after forest known stays answer = record {
   closes_none = answer.closes_none;

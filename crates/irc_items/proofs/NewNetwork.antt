@@ -100,7 +100,13 @@ module _ (world_holds : TakenMakeWorld) (side : PartAtRestIsSound) (net : Networ
       configured = new.set_up.configured t among
 
       is : routes_in net t ≡ alone_known (routes_in net t).name (routes_in net t).info (routes_in net t).created
-      is i = record { name = (routes_in net t).name; info = (routes_in net t).info; created = (routes_in net t).created; rows = (new.servers t among).no_rows i }
+      is i = record {
+        name = (routes_in net t).name;
+        info = (routes_in net t).info;
+        created = (routes_in net t).created;
+        rows =
+            (new.servers t among).no_rows i;
+      }
 
   none_both : (t x : Name) → (joined [] x t && not (same x t)) ≡ false
   none_both t x = ap (λ b. b && not (same x t)) (one_part x t) ∙ by (same x t)
@@ -192,7 +198,8 @@ module _ (world_holds : TakenMakeWorld) (side : PartAtRestIsSound) (net : Networ
       let sum = sum_most net.names (λ t. false) 0 (λ t. length (coming (machine s client) s.streams (relayed s net client) t)) (λ t among is. cc is)
       (λ t among is. ap (λ (lines : List (List ℕ)). length lines) (none_comes client t)) in
       let taken = new.taken in
-      bound net.taken (sum_by (λ t. length (coming (machine s client) s.streams (relayed s net client) t)) net.names) (count_by (λ t. false) net.names) (most_now net) taken sum
+      bound net.taken (sum_by (λ t. length (coming (machine s client) s.streams (relayed s net client) t)) net.names) (count_by (λ t. false) net.names)
+      (most_now net) taken sum
     where
       bound : (taken sum many most : ℕ) → taken ≡ 0 → sum ≤ many * 0 → taken + sum ≤ most
       bound taken sum many most none few = let z : many * 0 ≡ 0 = omega arith in omega arith

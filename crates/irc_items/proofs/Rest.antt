@@ -46,7 +46,8 @@ some_far true true far x so is = cc is
 some_far true false far x so is = cc so
 some_far false b far x so is = cc is
 
-linked_so : (links : List Link) (t x : Name) (far : Option Name) (inner : Option Name) → Some far ≡ (if linked links t x then Some inner else None) → AreLinked links t x
+linked_so : (links : List Link) (t x : Name) (far : Option Name) (inner : Option Name) → Some far ≡ (if linked links t x then Some inner else None)
+    → AreLinked links t x
 linked_so links t x far inner is = by (linked links t x) refl is
   where
     by : (b : Bool) → linked links t x ≡ b → Some far ≡ (if b then Some inner else None) → AreLinked links t x
@@ -66,7 +67,8 @@ module _ (s : Fixed) (world : World) (routes : Name → Known) (t : Name) (view 
 
           together : joined world.links n.server t ≡ true
           together = (tests_tell world.links n.server t t).1.1
-              (sym (linked_joined world.links t n.server (linked_so world.links t n.server end.far (if joined world.links n.server t then Some n.server else None) far)))
+              (sym (linked_joined world.links t n.server
+              (linked_so world.links t n.server end.far (if joined world.links n.server t then Some n.server else None) far)))
 
   pub nothing_owed : (to : Name) → owed_to s view to ≡ []
   nothing_owed to = by (get view.ends (number s to)) refl
@@ -79,7 +81,8 @@ module _ (s : Fixed) (world : World) (routes : Name → Known) (t : Name) (view 
 
 -- what is owed to another stays, line by line from a third
 pub owed_along : (s : Fixed) (asks : Answering) (world : World) (routes : Name → Known) (client : ℕ) (p t u : Name) → u ≢ p → (view : View)
-    (lines : List (List ℕ)) → AllAlong (machine s client) (IsGoodLine s asks world routes) p t view lines → owed_to s (after (machine s client) t p view lines) u ≡ owed_to s view u
+    (lines : List (List ℕ)) → AllAlong (machine s client) (IsGoodLine s asks world routes) p t view lines
+    → owed_to s (after (machine s client) t p view lines) u ≡ owed_to s view u
 owed_along s asks world routes client p t u two view [] all = refl
 owed_along s asks world routes client p t u two view (line ∷ lines) all =
     owed_along s asks world routes client p t u two ((machine s client).step t p view line) lines all.1 ∙ (all.0.good.others u two).owes_as_before
@@ -123,8 +126,10 @@ quiet_ways rest net quiet x place = by (place_of net x) refl
 module _ (net : Network) (s : Fixed) (source : Name → Name) (streams : s.streams ≡ streams_from net.links source) (forest : IsForest net.links)
     (covers : Covers net.links source) (in_turn : ComingInTurn View (List ℕ) (List ℕ)) (client : ℕ)
     (quiet : (x y : Name) → (relayed s net client).queue x y ≡ []) where
-  none_coming : (t : Name) → s.streams.parent (s.streams.parent t) ≡ t → owed_to s (view_at net (s.streams.parent t)) t ≡ [] → coming (machine s client) s.streams (relayed s net client) t ≡ []
-  none_coming t back paid = by (subst (λ st. ComesInTurn (machine s client) st (relayed s net client) t) (sym streams) (in_turn (machine s client) net.links source (relayed s net client) t forest covers))
+  none_coming : (t : Name) → s.streams.parent (s.streams.parent t) ≡ t → owed_to s (view_at net (s.streams.parent t)) t ≡ []
+      → coming (machine s client) s.streams (relayed s net client) t ≡ []
+  none_coming t back paid = by (subst (λ st. ComesInTurn (machine s client) st (relayed s net client) t) (sym streams)
+      (in_turn (machine s client) net.links source (relayed s net client) t forest covers))
     where
       none : under_way (relayed s net client) (s.streams.parent t) t ≡ []
       none = ap (λ lines. lines ++ owed_to s (view_at net (s.streams.parent t)) t) (quiet (s.streams.parent t) t) ∙ paid

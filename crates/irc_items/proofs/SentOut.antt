@@ -76,7 +76,8 @@ not_it received earlier text none other = by (nat_eq (suc earlier) (suc other)) 
   where
     by : (b : Bool) → nat_eq (suc earlier) (suc other) ≡ b
         → slice_get received other ≡ option_map (λ lines. lines ++ if_there b text) (slice_get received other)
-    by true one = none_either (text ∷ []) (slice_get received other) (ap (slice_get received) (sym (one_less earlier other (eqb-true (suc earlier) (suc other) one))) ∙ none)
+    by true one = none_either (text ∷ []) (slice_get received other)
+        (ap (slice_get received) (sym (one_less earlier other (eqb-true (suc earlier) (suc other) one))) ∙ none)
     by false two = nothing_behind [] refl (slice_get received other)
 
 it_is : (received : List (List (List ℕ))) (earlier : ℕ) (text : List ℕ) (lines : List (List ℕ)) → slice_get received earlier ≡ Some lines → (other : ℕ)

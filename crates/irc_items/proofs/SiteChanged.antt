@@ -133,7 +133,8 @@ pub site_there : (net : Network) (set_up : IsSetUp net) (server : Name) (among :
 site_there net set_up server among =
     let at = there net set_up server among in ap (option_and_then (site_at net)) at.place ∙ at.is_site
 
-view_of_site : (net : Network) (server : Name) (site : Site) (view : View) → site_of net server ≡ Some site → site.server ≡ Some view → view_at net server ≡ view
+view_of_site : (net : Network) (server : Name) (site : Site) (view : View) → site_of net server ≡ Some site → site.server ≡ Some view
+    → view_at net server ≡ view
 view_of_site net server site view is_site is_view =
     ap (λ (o : Option Site). unwrap_or (option_and_then (λ (s : Site). s.server) o) no_view) is_site ∙ ap (λ o. unwrap_or o no_view) is_view
 

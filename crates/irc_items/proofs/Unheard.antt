@@ -31,8 +31,10 @@ module _ (s : Fixed) (t p : Name) (view : View) where
     harmless : (line : List ℕ) → IsUnheard s t view line → IsHarmless (machine s client) p t view line
     harmless line un = record {
       same_state = ap (λ (after : Served). after.view) (nothing_comes line un);
-      shows_none = none_of (is_home_of s.homes p client) (lines_to client (asked s t view line).out) (ap (λ (after : Served). lines_to client after.out) (nothing_comes line un));
-      sends_none = λ u. none_unless (same u t) (lines_on (number s u) (asked s t view line).out) (ap (λ (after : Served). lines_on (number s u) after.out) (nothing_comes line un));
+      shows_none = none_of (is_home_of s.homes p client) (lines_to client (asked s t view line).out)
+          (ap (λ (after : Served). lines_to client after.out) (nothing_comes line un));
+      sends_none = λ u. none_unless (same u t) (lines_on (number s u) (asked s t view line).out)
+          (ap (λ (after : Served). lines_on (number s u) after.out) (nothing_comes line un));
     }
       where
         none_of : (b : Bool) (lines : List (List ℕ)) → lines ≡ [] → (if b then lines else []) ≡ []

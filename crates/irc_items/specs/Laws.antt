@@ -4,9 +4,9 @@ use Rattle.irc_follow.specs.Tree.{place_in}
 use Rattle.irc_line.specs.Reading.{read_of}
 use Rattle.irc_relay.specs.Links.{Name}
 use Rattle.irc_relay.specs.Relay.{IsFront}
-use Rattle.irc_server.specs.Served.{link_says, served}
+use Rattle.irc_server.specs.Served.{link_says, link_up, served}
 use Rattle.irc_world.specs.Refused.{refused}
-use Rattle.irc_world.specs.Stepping.{Item}
+use Rattle.irc_world.specs.Stepping.{Item, link}
 use Rattle.irc_world.specs.WithinLimits.{IsItemWithin}
 use Rattle.irc_network.specs.Network.{Course, Network, delivered, given, is_at_rest, received_by}
 use Rattle.irc_network.specs.Refusing.{fault_at_rest}
@@ -57,3 +57,11 @@ ClosesNoLink net = (from to : Name) (line : List ℕ) (rest : List (List ℕ)) �
 
 abbrev pub NoLinkIsClosed : Type 0
 NoLinkIsClosed = (net : Network) → IsSound net → ClosesNoLink net
+
+-- Two servers that are to be linked both keep their end: the one that calls, and the one that is called.
+pub record OpensBothEnds (net : Network) (near far : Name) : Type 0 where
+  pub calls : closings (served (view_at net near) (link_up (place_in net.names far) (Some far))).out ≡ []
+  pub waits : closings (served (view_at net far) (link_up (place_in net.names near) None)).out ≡ []
+
+abbrev pub NewLinkIsOpen : Type 0
+NewLinkIsOpen = (net : Network) (near far : Name) → IsSound net → fault_at_rest net (link near far) ≡ None → OpensBothEnds net near far

@@ -1,8 +1,8 @@
 //! What holds of networks of servers, whatever the order in which lines are delivered. Each law is a function that does nothing, and its contract is the law: the
 //! check proves it, and a crate above may cite it.
 ghost use Rattle.irc_items.specs.InAnyOrder.{ClashingNicknamesGo, CrossingBurstsMeet, ItemIsReceived, RejoinJoinsTheRooms, SplitPartsTheRoom};
-ghost use Rattle.irc_items.specs.Kept.{DeliveryKeepsSound, SettlingKeepsSound, TakenAreFew};
-ghost use Rattle.irc_items.specs.Laws.{DeliveryKeepsSettings, DeliveryStaysSound, GivenKeepsSettings, GivenStaysSound, NewNetworkIsSound, NoLinkIsClosed, ReceivedIsFront, RefusalsAreTheWorlds, RestIsOneRoom};
+ghost use Rattle.irc_items.specs.Kept.{DeliveryKeepsSound, SettlingKeepsSound, TakenAreFew, TurnLeavesFewer, TurnsAreFew};
+ghost use Rattle.irc_items.specs.Laws.{DeliveryKeepsSettings, DeliveryStaysSound, GivenKeepsSettings, GivenStaysSound, NewLinkIsOpen, NewNetworkIsSound, NoLinkIsClosed, ReceivedIsFront, RefusalsAreTheWorlds, RestIsOneRoom};
 
 /// A network to which nothing was given is sound.
 pub fn new_network_is_sound()
@@ -83,6 +83,11 @@ pub fn no_link_is_closed()
 {
     irc_world::laws::taken_make_world();
 }
+
+/// Nor does one of two that are to be linked.
+pub fn new_link_is_open()
+    ensures { NewLinkIsOpen }
+{}
 
 /// At rest it is one room.
 pub fn rest_is_one_room()
@@ -210,3 +215,22 @@ pub fn settling_keeps_sound()
 pub fn taken_are_few()
     ensures { TakenAreFew }
 {}
+
+/// Nor can more be taken in turn, each time the oldest of the first way on which one waits.
+pub fn turns_are_few()
+    ensures { TurnsAreFew }
+{
+    irc_line::laws::written_is_read();
+    irc_line::laws::every_line_is_read();
+    irc_room::laws::names_are_line_words();
+    irc_handshake::laws::lines_fit();
+    irc_server::laws::keeps_its_setting();
+    irc_world::laws::taken_make_world();
+}
+
+/// So each line that is taken in turn leaves fewer, and they come to an end.
+pub fn turn_leaves_fewer()
+    ensures { TurnLeavesFewer }
+{
+    turns_are_few();
+}

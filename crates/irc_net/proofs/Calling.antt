@@ -14,7 +14,8 @@ use Rattle.irc_room.specs.Lemmas.Rows.{same_some}
 use Rattle.irc_net.specs.Calls.{ArePlayed, Breaks, Delivers, IsDelivered, IsGiven, IsSettled, IsStep, IsStepDone, NetView, Plays, Settles, StopsAt, standing, step_refused, then_one}
 use Rattle.irc_net.specs.Calls as calls
 use Rattle.irc_net.specs.Faults.{deliver_fault, is_refusal, item_fault}
-use Rattle.irc_network.specs.Loops.Courses.{DeliversAt, SettlesAt, course}
+use Rattle.irc_net.specs.Loops.Settling.{SettlesAt}
+use Rattle.irc_network.specs.Loops.Courses.{DeliversAt, course}
 use Rattle.irc_network.specs.Network.{Course, Network, begun}
 use Rattle.irc_net.specs.Views.{answers_now, delivered_now, settled_now}
 use Rattle.irc_network.specs.Views.{receipts_of}
@@ -47,11 +48,20 @@ delivers_by (Some last) net new lines was_taken so = (so.0, ap (λ (c : Course).
 
 pub settles_by : (net new : Network) (lines : List KeptReceipt) (count : ℕ) → SettlesAt count (begun net) (course new lines)
     → Settles net count (receipts_of lines) (standing new)
-settles_by net new lines count so = record { last = course new lines; takes = so.takes; ends = so.ends; received = refl; after = refl }
+settles_by net new lines count so = record {
+  count = so.turns.count;
+  last = course new lines;
+  takes = so.turns.takes;
+  rest = so.rest;
+  counts = so.turns.counts;
+  received = refl;
+  after = refl;
+}
 
 -- ---- a step that is refused, or for which memory is wanting
 
-pub refused_step : (old new : NetView) (step : Step) (fault : NetFault) → Breaks old step fault new → (is_refusal fault ≡ true → IsStep old step (Refused fault) new)
+pub refused_step : (old new : NetView) (step : Step) (fault : NetFault) → Breaks old step fault new
+    → (is_refusal fault ≡ true → IsStep old step (Refused fault) new)
     → IsStepDone old step (step_refused fault) new
 refused_step old new step fault breaks refuses = by (is_refusal fault) refl
   where

@@ -3,3 +3,5 @@ pub mod Named
 pub mod Calling
 pub mod NewNet
 pub mod StaysOneRoom
+pub mod Settling
+pub mod AnswersReceived

@@ -17,13 +17,15 @@ use Rattle.irc_net.specs.Loops.Ordering.{IsNamed}
 
 -- ---- one configuration
 
-own_name : (a b c d twice : Bool) → is_bad_name (if not ((a && b && c) && d) then Some one.BadName else (if twice then Some one.DoubleName else None)) ≡ false → a ≡ true
+own_name : (a b c d twice : Bool) → is_bad_name (if not ((a && b && c) && d) then Some one.BadName else (if twice then Some one.DoubleName else None)) ≡ false
+    → a ≡ true
 own_name true b c d twice good = refl
 own_name false b c d twice good = cc good
 
 named : (config : Config) → is_bad config ≡ false → IsNamed config
 named config good =
-    own_name (is_server config.own.name.items) (is_info config.own.info.items) (is_some_text config.own.created.items && fits max_created config.own.created.items)
+    own_name (is_server config.own.name.items) (is_info config.own.info.items)
+    (is_some_text config.own.created.items && fits max_created config.own.created.items)
     (list_all is_peer config.peers.items) (is_among config.own.name.items config.peers.items || has_double config.peers.items) good
 
 -- ---- all of them
@@ -61,4 +63,5 @@ pub ordered_named : (configs ordered : List Config) → configs_fault configs �
 ordered_named configs ordered none same = all_named ordered (sym (list_any-IsPermutation is_bad configs ordered same) ∙ (without_fault configs none).bad_none)
 
 pub ordered_few : (configs ordered : List Config) → configs_fault configs ≡ None → IsPermutation configs ordered → length ordered ≤ 256
-ordered_few configs ordered none same = subst (λ n. n ≤ 256) (sym (length_permutation configs ordered same)) (ltb-false 256 (length configs) (without_fault configs none).many_none)
+ordered_few configs ordered none same =
+    subst (λ n. n ≤ 256) (sym (length_permutation configs ordered same)) (ltb-false 256 (length configs) (without_fault configs none).many_none)

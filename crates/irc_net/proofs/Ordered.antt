@@ -17,4 +17,5 @@ pub sorted_by_bytes : {X : Type 0} (key : X → List ℕ) {F : Type 0} {g : Mut 
     → IsSortedByKey key (slice_cmp nat_cmp) xs
 sorted_by_bytes key {g = g} {f = f} xs up calls =
     up (λ x y. is_lt (slice_cmp nat_cmp (key x) (key y))) (ranks_by nat_list_cmp_total key)
-    (always_returns_same g (λ a r. is_lt r ≡ is_lt (slice_cmp nat_cmp (key a.0.now) (key a.1.0.now))) f (λ a r f' k. (ap is_lt (calls a r f' k).0, (calls a r f' k).1)))
+    (always_returns_same g (λ a r. is_lt r ≡ is_lt (slice_cmp nat_cmp (key a.0.now) (key a.1.0.now))) f
+    (λ a r f' k. (ap is_lt (calls a r f' k).0, (calls a r f' k).1)))

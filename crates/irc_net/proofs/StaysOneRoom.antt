@@ -1,5 +1,5 @@
 -- What a network keeps, and what it is to its clients then.
-use Rattle.std.proofs.Common.{◌≡◌, ◌⊎◌, inl, inr, ◌+◌, ◌≤◌, min, ℕ, Bool, true, false, Option, Some, None, List, refl, sym, ◌∙◌, ap, subst, arith, if◌then◌else◌}
+use Rattle.std.proofs.Common.{◌≡◌, ◌+◌, ◌≤◌, min, ℕ, Bool, true, false, Option, Some, None, List, refl, sym, ◌∙◌, ap, subst, arith, if◌then◌else◌}
 use Rattle.std.specs.Option.{option_and_then, option_map}
 use Rattle.irc_world.specs.Stepping.{Item}
 use Rattle.irc_world.specs.Refused.{Refusal}
@@ -7,17 +7,18 @@ use Rattle.irc_world.specs.WithinLimits.{IsItemWithin}
 use Rattle.irc_relay.specs.Links.{Name}
 use Rattle.irc_relay.specs.Relay.{IsFront}
 use Rattle.irc_network.specs.declared.receipt.Receipt.{Receipt as KeptReceipt}
-use Rattle.irc_network.specs.Loops.Courses.{DeliversAt, SettlesAt, course}
+use Rattle.irc_net.specs.Loops.Settling.{SettlesAt}
+use Rattle.irc_network.specs.Loops.Courses.{DeliversAt, course}
 use Rattle.irc_network.specs.Network.{Course, Ends, Network, begun, delivered, ends_of, given, is_at_rest, max_count, received_by}
 use Rattle.irc_network.specs.Refusing.{fault_at_rest}
 use Rattle.irc_items.specs.Kept.{DeliveryKeepsSound, KeepsItems, SettlingKeepsSound, TakenAreFew}
-use Rattle.irc_items.specs.Laws.{GivenStaysSound, NewNetworkIsSound, NoLinkIsClosed, ReceivedIsFront, RefusalsAreTheWorlds, RestIsOneRoom}
+use Rattle.irc_items.specs.Laws.{GivenStaysSound, NewLinkIsOpen, NewNetworkIsSound, NoLinkIsClosed, ReceivedIsFront, RefusalsAreTheWorlds, RestIsOneRoom}
 use Rattle.irc_items.specs.Sound.{most_now, owed_now}
 use Rattle.irc_items.specs.SetUp.{IsNew}
 use Rattle.irc_net.specs.Calls.{NetView, delivery}
 use Rattle.irc_net.specs.Faults.{fault_by, item_fault}
 use Rattle.irc_net.specs.declared.fault.NetFault.TheVariants as fault
-use Rattle.irc_net.specs.OneRoom.{IsKeptSound, IsOneRoomNet, IsOwed, LeavesRest, RefusesAsTheWorld, TakesFew}
+use Rattle.irc_net.specs.OneRoom.{IsKeptSound, IsOneRoomNet, IsOwed, RefusesAsTheWorld, TakesFew}
 
 -- what always holds of a network, while memory is there
 abbrev pub IsKept : NetView → Type 0
@@ -43,11 +44,12 @@ pub refuses : RefusalsAreTheWorlds → (net old : NetView) (item : Item) → IsK
 refuses refusals net old item kept is =
     subst (λ old. RefusesAsTheWorld old item) is (λ whole rest. refusals net.network item (kept whole).sound rest)
 
-pub one_room : RestIsOneRoom → NoLinkIsClosed → (net : NetView) → IsKept net → IsOneRoomNet net
-one_room at_rest no_link net kept = record {
+pub one_room : RestIsOneRoom → NoLinkIsClosed → NewLinkIsOpen → (net : NetView) → IsKept net → IsOneRoomNet net
+one_room at_rest no_link new_link net kept = record {
   coming = λ whole. (kept whole).sound;
   at_rest = λ whole rest. at_rest net.network (kept whole).sound rest;
   closes_none = λ whole. no_link net.network (kept whole).sound;
+  opens = λ whole near far. new_link net.network near far (kept whole).sound;
 }
 
 -- ---- a new one
@@ -109,18 +111,5 @@ kept_delivered law net new from to lines was_taken kept = by (ends_of net from t
 
 pub kept_settled : SettlingKeepsSound → (net new : Network) (lines : List KeptReceipt) (count : ℕ) → IsKeptSound net
     → SettlesAt count (begun net) (course new lines) → IsKeptSound new
-kept_settled law net new lines count kept so = kept_on count net new (law count (begun net) (course new lines) so.takes kept.counted) kept
-
-all_counted : (a count most : ℕ) → count ≡ most → min (a + count) most ≡ most
-all_counted a count most is = omega (arith, is)
-
-pub leaves_rest : SettlingKeepsSound → TakenAreFew → (net new : Network) (lines : List KeptReceipt) (count : ℕ) → IsKeptSound net
-    → SettlesAt count (begun net) (course new lines) → LeavesRest (record { failed = false; network = new })
-leaves_rest law few net new lines count kept so whole = by so.ends
-  where
-    keeps : KeepsItems count net new
-    keeps = law count (begun net) (course new lines) so.takes kept.counted
-
-    by : (is_at_rest new ≡ true) ⊎ (count ≡ max_count) → (is_at_rest new ≡ true) ⊎ (max_count ≤ most_now new)
-    by (inl rest) = inl rest
-    by (inr all) = inr (subst (λ n. n ≤ most_now new) (keeps.taken ∙ all_counted net.taken count max_count all) (few new (keeps.sound kept.sound)))
+kept_settled law net new lines count kept so =
+    kept_on so.turns.count net new (law so.turns.count (begun net) (course new lines) so.turns.takes kept.counted) kept

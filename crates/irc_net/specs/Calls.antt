@@ -1,5 +1,5 @@
 -- What comes of each call of a network. Where memory ran out nothing is promised of it but that it refuses everything from then on.
-use Rattle.std.specs.Prelude.{◌≡◌, ⊤, ℕ, Bool, true, false, Option, Some, None, Result, Ok, Err, List, [], ◌∷◌, ◌++◌, ◌⊎◌, if◌then◌else◌}
+use Rattle.std.specs.Prelude.{◌≡◌, ⊤, ℕ, Bool, true, false, Option, Some, None, Result, Ok, Err, List, [], ◌∷◌, ◌++◌, min, if◌then◌else◌}
 use Rattle.std.specs.List.{AllByRecursion}
 use Rattle.std.specs.Option.{option_and_then}
 use Rattle.irc_line.specs.Carried.{IsCarried}
@@ -76,11 +76,13 @@ pub data IsDelivered : NetView → Name → Name → Result (Bool × List Receip
 
 -- ---- settling
 
--- Lines are taken until none is on its way, or 2^64 - 1 were.
+-- Lines are taken until none is on its way. They are counted up to 2^64 - 1.
 pub record Settles (net : Network) (counted : ℕ) (receipts : List Receipt) (new : NetView) : Type 0 where
+  pub count : ℕ
   pub last : Course
-  pub takes : TakesInTurn counted (begun net) last
-  pub ends : (is_at_rest last.net ≡ true) ⊎ (counted ≡ max_count)
+  pub takes : TakesInTurn count (begun net) last
+  pub rest : is_at_rest last.net ≡ true
+  pub counts : counted ≡ min count max_count
   pub received : receipts ≡ last.receipts
   pub after : new ≡ standing last.net
 

@@ -4,3 +4,4 @@ pub mod Calls
 pub mod Making
 pub mod Loops
 pub mod OneRoom
+pub mod Laws

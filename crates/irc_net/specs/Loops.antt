@@ -1,3 +1,4 @@
 -- Words of this crate's code alone. No rule stands here.
 pub mod Codes
 pub mod Ordering
+pub mod Settling

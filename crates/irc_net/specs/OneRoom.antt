@@ -1,12 +1,13 @@
 -- What a network of servers is to its clients, whatever was given to it and in whatever order its lines were delivered: one room. Nothing is said of a network
 -- for which memory ran out.
-use Rattle.std.specs.Prelude.{◌≡◌, ◌⊎◌, ℕ, ◌≤◌, true, false, List}
+use Rattle.std.specs.Prelude.{◌≡◌, ℕ, ◌≤◌, true, false, None, List}
 use Rattle.irc_relay.specs.Relay.{IsFront}
 use Rattle.irc_world.specs.Refused.{refused}
-use Rattle.irc_world.specs.Stepping.{Item}
+use Rattle.irc_relay.specs.Links.{Name}
+use Rattle.irc_world.specs.Stepping.{Item, link}
 use Rattle.irc_network.specs.Network.{Network, is_at_rest, max_count}
 use Rattle.irc_network.specs.Refusing.{fault_at_rest}
-use Rattle.irc_items.specs.Laws.{ClosesNoLink}
+use Rattle.irc_items.specs.Laws.{ClosesNoLink, OpensBothEnds}
 use Rattle.irc_items.specs.OneRoom.{IsOneRoom}
 use Rattle.irc_items.specs.SetUp.{settings_of}
 use Rattle.irc_items.specs.Sound.{most_now, owed_now, world_now, IsSound}
@@ -31,13 +32,10 @@ RefusesAsTheWorld net item = net.failed ≡ false → is_at_rest net.network ≡
 abbrev pub TakesFew : NetView → ℕ → Type 0
 TakesFew net count = net.failed ≡ false → count ≤ most_now net.network
 
--- No line is on its way then, unless servers need 2^64 - 1 lines to tell each other of the last item.
-abbrev pub LeavesRest : NetView → Type 0
-LeavesRest net = net.failed ≡ false → (is_at_rest net.network ≡ true) ⊎ (max_count ≤ most_now net.network)
-
 -- Whatever is on its way, once all lines that are coming to a server are taken it is what it has to be, and its clients have received what they are owed
--- (IsSound); at rest that is so already (IsOneRoom). And no server closes a link upon a line that is delivered.
+-- (IsSound); at rest that is so already (IsOneRoom). And no server closes a link, upon a line that is delivered or as it is made.
 pub record IsOneRoomNet (net : NetView) : Type 0 where
   pub coming : net.failed ≡ false → IsSound net.network
   pub at_rest : net.failed ≡ false → is_at_rest net.network ≡ true → IsOneRoom net.network
   pub closes_none : net.failed ≡ false → ClosesNoLink net.network
+  pub opens : net.failed ≡ false → (near far : Name) → fault_at_rest net.network (link near far) ≡ None → OpensBothEnds net.network near far

@@ -3,6 +3,7 @@
 
 mod answer;
 mod fault;
+pub mod laws;
 mod making;
 mod net;
 mod step;

@@ -1,12 +1,14 @@
 //! A network of servers, as those above have it.
-ghost use Rattle.std.specs.Prelude.{◌≡◌, [], ◌∷◌, ◌++◌, map, IfOk, OnOk};
+ghost use Rattle.std.specs.Prelude.{◌≡◌, true, [], ◌∷◌, ◌++◌, map, IfOk, OnOk};
 ghost use Rattle.std.specs.Option.{option_map};
 ghost use Rattle.irc_net.specs.declared.step.Step.TheVariants.{Deliver, Give, Settle};
 ghost use Rattle.irc_net.specs.Calls.{step_refused, ArePlayable, ArePlayed, IsDelivered, IsGivable, IsGiven, IsPlayable, IsSettled, IsStepDone};
 ghost use Rattle.irc_net.specs.Faults.{are_agreed, deliver_fault, fault_by, item_fault};
 ghost use Rattle.irc_net.specs.Making.{IsMade};
-ghost use Rattle.irc_net.specs.OneRoom.{IsOneRoomNet, IsOwed, LeavesRest, RefusesAsTheWorld, TakesFew};
+ghost use Rattle.irc_net.specs.Loops.Settling.{SettlesAt};
+ghost use Rattle.irc_net.specs.OneRoom.{IsKeptSound, IsOneRoomNet, IsOwed, RefusesAsTheWorld, TakesFew};
 ghost use Rattle.irc_net.specs.Views.{answers_now, delivered_now, settled_now};
+ghost use Rattle.irc_network.specs.Loops.Courses.{course};
 ghost use Rattle.irc_network.specs.Network.{is_at_rest, received_by, view_of};
 ghost use Rattle.irc_network.specs.Views.{item_of, items_of, refusal_of};
 ghost use Rattle.irc_sites.specs.Loops.Queues.{bytes_of};
@@ -168,36 +170,36 @@ impl Net {
         Ok((was_taken, desk.lines))
     }
 
-    /// Takes lines, each time the oldest on the first way, by the names of its ends, on which one waits, until none is on its way. Answers how many, and
-    /// what clients have received by them. It stops after 2^64 - 1, only if servers need as many to tell each other of the last item.
+    /// Takes lines, each time the oldest on the first way, by the names of its ends, on which one waits, until none is on its way. Answers how many, at most
+    /// 2^64 - 1, and what clients have received by them.
     ///
     /// # Errors
     /// [`NetFault::Memory`], [`NetFault::Failed`].
     pub fn settle(&mut self) -> Result<(u64, Vec<Receipt, Global>), NetFault>
         ensures settled { IsSettled self.old (settled_now result) self.new }
-        ensures rest { IfOk result (λ _. LeavesRest self.new) }
+        ensures rest { IfOk result (λ _. is_at_rest self.new.network ≡ true) }
     {
         laws::settling_keeps_sound();
-        laws::taken_are_few();
         if self.failed {
             return Err(NetFault::Failed);
         }
         let mut desk = Desk::new(self.alloc);
         self.failed = true;
-        let count = self.network.settle(&mut desk)?;
+        let count = take_all(&mut self.network, &mut desk)?;
         self.failed = false;
         Ok((count, desk.lines))
     }
 
     /// At rest a network is one room: each server knows all that there is to know in its part of the network, and each client has received just the lines
     /// that it is owed: those that one room machine for its joined part sends it. While lines are on their way, that is what it comes to once they are taken,
-    /// in whatever order, and no server closes a link upon one that is delivered. It is told of every network for which memory never ran out, whatever was
-    /// given to it.
+    /// in whatever order, and no server closes a link, upon one that is delivered or as the link is made. It is told of every network for which memory never
+    /// ran out, whatever was given to it.
     pub fn one_room(&self)
         ensures { IsOneRoomNet self.now }
     {
         laws::rest_is_one_room();
         laws::no_link_is_closed();
+        laws::new_link_is_open();
         let _ = &self.network;
     }
 
@@ -262,6 +264,20 @@ impl Net {
             Err(fault) => Err(fault),
         }
     }
+}
+
+/// Takes lines of a sound network in turn until none is on its way, and counts them. They come to an end since each of them leaves fewer.
+fn take_all(network: &mut Network, desk: &mut Desk) -> Result<u64, AllocError>
+    requires sound { IsKeptSound network.old }
+    ensures { IfOk result (λ count. SettlesAt count (course network.old desk.old.lines.items) (course network.new desk.new.lines.items)) }
+{
+    laws::settling_keeps_sound();
+    laws::turn_leaves_fewer();
+    let mut count: u64 = 0;
+    while network.deliver_first(desk)? {
+        count = count.saturating_add(1);
+    }
+    Ok(count)
 }
 
 /// The host from which a client connects is one, and so is the line that a client says.

@@ -96,7 +96,8 @@ none_quiet site none = ap not (none_passes (waits site) (keys site.queues) none)
 pub no_first : (place : ℕ) (sites : List Site) → list_all is_quiet sites ≡ true → first_among place sites ≡ None
 no_first place [] all = refl
 no_first place (site ∷ sites) all =
-    ap (λ o. option_map_or (λ to. Some (direction place to)) o (first_among (place + 1) sites)) (quiet_none site (both (is_quiet site) (list_all is_quiet sites) all).0)
+    ap (λ o. option_map_or (λ to. Some (direction place to)) o (first_among (place + 1) sites))
+    (quiet_none site (both (is_quiet site) (list_all is_quiet sites) all).0)
     ∙ no_first (place + 1) sites (both (is_quiet site) (list_all is_quiet sites) all).1
 
 pub rests : (place : ℕ) (sites : List Site) → first_among place sites ≡ None → list_all is_quiet sites ≡ true
@@ -143,7 +144,8 @@ first_has_line (site ∷ sites) place d is = by (first_way site) refl (first_has
       place_is = ap (λ (e : Direction). e.from) (sym (same_some (direction place to) d left)) ∙ same_place place;
       site = site;
       is_site = refl;
-      waits = ap (waits site) (ap (λ (e : Direction). e.to) (sym (same_some (direction place to) d left))) ∙ found_passes (waits site) (keys site.queues) to found;
+      waits = ap (waits site) (ap (λ (e : Direction). e.to) (sym (same_some (direction place to) d left)))
+          ∙ found_passes (waits site) (keys site.queues) to found;
     }
 
 pub rest_stays : RestStays

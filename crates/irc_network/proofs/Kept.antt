@@ -40,9 +40,11 @@ asked_keeps : (place : ℕ) (occurrence : Occurrence) (course : Course) → item
 unfolding asked
 asked_keeps place occurrence course = by (site_at course.net place)
   where
-    by_view : (site : Site) (o : Option View) → items_of (option_map_or (λ (view : View). with_reply place course site (reply view occurrence)) o course) ≡ items_of course
+    by_view : (site : Site) (o : Option View)
+        → items_of (option_map_or (λ (view : View). with_reply place course site (reply view occurrence)) o course) ≡ items_of course
     by_view site None = refl
-    by_view site (Some view) = all_keep place (reply view occurrence).out (record course { net = with_site place (record site { server = Some (reply view occurrence).view }) course.net })
+    by_view site (Some view) = all_keep place (reply view occurrence).out
+        (record course { net = with_site place (record site { server = Some (reply view occurrence).view }) course.net })
 
     by : (o : Option Site) → items_of (option_map_or (asked_at place occurrence course) o course) ≡ items_of course
     by None = refl

@@ -3,3 +3,4 @@ pub mod Places
 pub mod AtRest
 pub mod Taking
 pub mod Parties
+pub mod Received

@@ -13,7 +13,16 @@ use Rattle.irc_network.specs.Views.{items_of, receipt_of, receipts_of}
 
 -- a network as its code has it
 abbrev pub seen : Inside → Network
-seen n = record { names = n.forest.names; sites = n.sites.items; links = n.forest.links; homes = n.homes.items; received = n.received.items; items = items_of n.items.items; taken = n.taken }
+seen n = record {
+  names = n.forest.names;
+  sites = n.sites.items;
+  links = n.forest.links;
+  homes = n.homes.items;
+  received = n.received.items;
+  items =
+      items_of n.items.items;
+  taken = n.taken;
+}
 
 pub found_at : {X : Type 0} (xs : List X) (i : ℕ) (x : X) → i < length xs → x ≡ get_or xs i x → slice_get xs i ≡ Some x
 found_at [] i x within is = absurd (omega (arith, within))
@@ -39,7 +48,8 @@ set_again (y ∷ xs) (suc i) x is = ap (λ zs. y ∷ zs) (set_again xs i x is)
 
 -- ---- a site is changed
 
-pub changed_there : (net : Network) (place : ℕ) (change : Site → Site) (site new : Site) (sites : List Site) → slice_get net.sites place ≡ Some site → new ≡ change site
+pub changed_there : (net : Network) (place : ℕ) (change : Site → Site) (site new : Site) (sites : List Site) → slice_get net.sites place ≡ Some site
+    → new ≡ change site
     → sites ≡ slice_set net.sites place new → record net { sites = sites } ≡ changed_at place change net
 changed_there net place change site new sites is so set =
     ap (λ (ss : List Site). record net { sites = ss }) (set ∙ ap (slice_set net.sites place) so)
@@ -50,7 +60,8 @@ changed_nowhere net place change is = sym (ap (λ o. option_map_or (λ (s : Site
 
 -- ---- a line is received
 
-pub received_one : (net : Network) (receipts more : List KeptReceipt) (client earlier : ℕ) (text : List ℕ) (lines new : List (List ℕ)) (received : List (List (List ℕ)))
+pub received_one : (net : Network) (receipts more : List KeptReceipt) (client earlier : ℕ) (text : List ℕ) (lines new : List (List ℕ))
+    (received : List (List (List ℕ)))
     (kept : KeptReceipt) → client ≡ suc earlier → slice_get net.received earlier ≡ Some lines → received ≡ slice_set net.received earlier new
     → new ≡ lines ++ text ∷ [] → more ≡ receipts ++ kept ∷ [] → receipt_of kept ≡ receipt client text
     → course (record net { received = received }) more ≡ has_received client text (course net receipts)

@@ -1,7 +1,7 @@
 -- What holds of any network of servers.
-use Rattle.std.specs.Prelude.{◌≡◌, ℕ, true, None, [], ◌∷◌, ◌++◌}
+use Rattle.std.specs.Prelude.{◌≡◌, ℕ, true, Some, None, [], ◌∷◌, ◌++◌}
 use Rattle.irc_world.specs.Stepping.{Item}
-use Rattle.irc_network.specs.Network.{Course, Network, delivered, first_direction, given, is_at_rest}
+use Rattle.irc_network.specs.Network.{AreReceived, Course, Network, TakesInTurn, begun, delivered, first_direction, given, is_at_rest}
 
 -- where no line is on its way there is none to deliver
 pub record StaysAtRest (course : Course) : Type 0 where
@@ -18,3 +18,9 @@ pub record IsKept (item : Item) (net : Network) : Type 0 where
 
 abbrev pub GivenIsKept : Type 0
 GivenIsKept = (item : Item) (net : Network) → IsKept item net
+
+-- What clients have received by an item, by a delivery and by lines taken in turn is what the network tells of each.
+pub record ReceiptsAreReceived : Type 0 where
+  pub given : (item : Item) (net : Network) → AreReceived net (given item net)
+  pub delivered : (from to : ℕ) (net : Network) (new : Course) → delivered from to (begun net) ≡ Some new → AreReceived net new
+  pub in_turn : (count : ℕ) (net : Network) (new : Course) → TakesInTurn count (begun net) new → AreReceived net new

@@ -4,8 +4,8 @@
 --   given      a.net is asked for the line; `:al PRIVMSG #c :hi` waits on the way from a.net to b.net; bo has received nothing yet
 --   delivered  from a.net to b.net: b.net is asked for that line, the oldest that waits there, and bo has received `:al!u@h PRIVMSG #c :hi`
 --   at rest    no line is on its way
-use Rattle.std.specs.Prelude.{◌≡◌, ℕ, zero, suc, ◌+◌, min, Bool, Option, Some, None, List, [], ◌∷◌, ◌++◌, length, unwrap_or}
-use Rattle.std.specs.List.{list_all, slice_get, slice_set}
+use Rattle.std.specs.Prelude.{◌≡◌, ℕ, zero, suc, ◌+◌, min, Bool, Option, Some, None, List, [], ◌∷◌, ◌++◌, length, unwrap_or, nat_eq, if◌then◌else◌}
+use Rattle.std.specs.List.{filter_map, list_all, slice_get, slice_set}
 use Rattle.std.specs.Option.{option_and_then, option_map, option_map_or}
 use Rattle.irc_batch.specs.Batches.{Sent, line_to, end_of, line_on, end_of_link}
 use Rattle.irc_forest.specs.Forests.{place_in}
@@ -142,6 +142,15 @@ first_among place (site ∷ sites) = option_map_or (λ to. Some (direction place
 abbrev pub first_direction : Network → Option Direction
 first_direction net = first_among 0 net.sites
 
+-- the oldest line of the first direction is taken; None: no line waits
+abbrev pub next_in_turn : Course → Option Course
+next_in_turn course = option_and_then (λ (d : Direction). delivered d.from d.to course) (first_direction course.net)
+
+-- how many lines can be taken in turn, of a number at most
+abbrev pub lines_left : ℕ → Course → ℕ
+lines_left zero course = 0
+lines_left (suc most) course = option_map_or (λ next. suc (lines_left most next)) (next_in_turn course) 0
+
 -- So many lines are taken, each time the oldest of the first direction.
 pub data TakesInTurn : ℕ → Course → Course → Type 0 where
   none_yet : {course : Course} → TakesInTurn 0 course course
@@ -217,3 +226,14 @@ number_given net (cut near far) = None
 abbrev pub received_by : Network → ℕ → List (List ℕ)
 received_by net zero = []
 received_by net (suc earlier) = unwrap_or (slice_get net.received earlier) []
+
+-- the lines among these that are for a client, in turn
+abbrev pub line_for : ℕ → Receipt → Option (List ℕ)
+line_for client receipt = if nat_eq receipt.client client then Some receipt.text else None
+
+abbrev pub lines_for : ℕ → List Receipt → List (List ℕ)
+lines_for client = filter_map (line_for client)
+
+-- By something that is done to a network each client has received just its lines among the receipts, behind all that it had.
+abbrev pub AreReceived : Network → Course → Type 0
+AreReceived old new = (client : ℕ) → received_by new.net client ≡ received_by old client ++ lines_for client new.receipts

@@ -1,11 +1,11 @@
 //! A server of a network is asked for something, and what it puts out goes its way.
-ghost use Rattle.std.specs.Prelude.{◌≡◌, ◌≤◌, length, IfOk, OnOk};
+ghost use Rattle.std.specs.Prelude.{◌≡◌, ◌≤◌, length, not, IfOk, OnOk};
 ghost use Rattle.std.specs.List.{slice_get};
 ghost use Rattle.std.specs.Option.{option_map};
 ghost use Rattle.irc_line.specs.Limits.{max_text};
 ghost use Rattle.irc_server.specs.Happening.{occurrence_of};
-ghost use Rattle.irc_network.specs.Loops.Courses.{course, delivery_in, direction_now, sent_at, DeliversAt, IsLineTaken, SettlesAt};
-ghost use Rattle.irc_network.specs.Network.{all_sent_out, asked, changed_at, delivered, first_direction, has_received, queued};
+ghost use Rattle.irc_network.specs.Loops.Courses.{course, delivery_in, direction_now, sent_at, DeliversAt, IsLineTaken};
+ghost use Rattle.irc_network.specs.Network.{all_sent_out, asked, changed_at, delivered, first_direction, has_received, is_at_rest, next_in_turn, queued};
 
 use crate::desk::Desk;
 use crate::network::Network;
@@ -150,20 +150,18 @@ impl Network {
         None
     }
 
-    /// Takes lines, each time the oldest of the first way on which one waits, until none is on its way or 2^64 - 1 were taken. Answers how many were; what
-    /// clients receive by them is on the desk, behind what was there.
+    /// Takes the oldest line of the first way on which one waits, if one does, and asks the server there for it. Answers whether one did: none does just
+    /// where no line is on its way; what clients receive by it is on the desk, behind what was there.
     ///
     /// # Errors
     /// Where memory runs out: nothing is promised of the network then, and nothing more is to be asked of it.
-    pub fn settle(&mut self, desk: &mut Desk) -> Result<u64, AllocError>
-        ensures { IfOk result (λ count. SettlesAt count (course self.old desk.old.lines.items) (course self.new desk.new.lines.items)) }
+    pub fn deliver_first(&mut self, desk: &mut Desk) -> Result<bool, AllocError>
+        ensures taken { IfOk result (λ was_taken. DeliversAt (next_in_turn (course self.old desk.old.lines.items)) was_taken (course self.old desk.old.lines.items) (course self.new desk.new.lines.items)) }
+        ensures rest { IfOk result (λ was_taken. was_taken ≡ not (is_at_rest self.old)) }
     {
-        for count in 0..u64::MAX {
-            let Some((from, to)) = self.first_direction() else {
-                return Ok(count);
-            };
-            self.deliver(from, to, desk)?;
-        }
-        Ok(u64::MAX)
+        let Some((from, to)) = self.first_direction() else {
+            return Ok(false);
+        };
+        self.deliver(from, to, desk)
     }
 }

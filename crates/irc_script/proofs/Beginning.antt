@@ -29,7 +29,8 @@ not_exceeds x y is = by (slice_cmp nat_cmp y x) refl is
     by Equal same less = ap is_greater (turned y x Equal same)
     by Greater same less = ap is_greater (turned y x Greater same)
 
-shifted : (config : Config) (configs : List Config) → IsSortedByKey name_of (slice_cmp nat_cmp) (config ∷ configs) → IsSortedByKey name_of (slice_cmp nat_cmp) configs
+shifted : (config : Config) (configs : List Config) → IsSortedByKey name_of (slice_cmp nat_cmp) (config ∷ configs)
+    → IsSortedByKey name_of (slice_cmp nat_cmp) configs
 shifted config configs sorted k d low high =
     subst (λ n. is_lt (slice_cmp nat_cmp (name_of (slice_index_or (config ∷ configs) n d)) (name_of (slice_index_or configs k d))) ≡ false) (moved k)
     (sorted (suc k) d (omega arith) (further k (length configs) high))
@@ -62,15 +63,18 @@ site_is names config own =
     ∙ ap (λ created. site_of (alone_known (name_of config) (codes "Test server") created) (map known_peer config.peers.items)) own.created
     ∙ ap (site_of (alone_known (name_of config) (codes "Test server") (codes "2024-01-01"))) own.peers
 
-sites_are : (names : List Name) (configs : List Config) → AllByRecursion (IsOwnConfig names) configs → map new_site configs ≡ map (first_site names) (map name_of configs)
+sites_are : (names : List Name) (configs : List Config) → AllByRecursion (IsOwnConfig names) configs
+    → map new_site configs ≡ map (first_site names) (map name_of configs)
 sites_are names [] all = refl
 sites_are names (config ∷ configs) all =
-    ap (λ site. site ∷ map new_site configs) (site_is names config all.0) ∙ ap (λ sites. first_site names (name_of config) ∷ sites) (sites_are names configs all.1)
+    ap (λ site. site ∷ map new_site configs) (site_is names config all.0)
+    ∙ ap (λ sites. first_site names (name_of config) ∷ sites) (sites_are names configs all.1)
 
 abbrev with_names : List Name → List Site → Network
 with_names names sites = record { names = names; sites = sites; links = []; homes = []; received = []; items = []; taken = 0 }
 
-pub made_first : (names : List Name) (configs : List Config) (net : Network) → AreConfigured names names configs → IsMadeOf configs net → net ≡ first_network names
+pub made_first : (names : List Name) (configs : List Config) (net : Network) → AreConfigured names names configs → IsMadeOf configs net
+    → net ≡ first_network names
 made_first names configs net are made =
     let named : IsPermutation names (map name_of made.ordered) =
     subst (λ ns. IsPermutation ns (map name_of made.ordered)) are.named (IsPermutation-map name_of configs made.ordered made.same_ones) in
@@ -79,5 +83,7 @@ made_first names configs net are made =
     (IsPermutation-trans (map name_of made.ordered) names (in_order names) (IsPermutation-sym names (map name_of made.ordered) named) (order_moves names))
     (names_in_order made.ordered made.in_order) (is_in_order names) in
     let all : AllByRecursion (IsOwnConfig names) made.ordered =
-    recursion_from_All (IsOwnConfig names) made.ordered (All-permutation (IsOwnConfig names) configs made.ordered made.same_ones (All-from_recursion (IsOwnConfig names) configs are.each)) in
-    made.network_is ∙ ap (with_names (map name_of made.ordered)) (sites_are names made.ordered all) ∙ ap (λ ns. with_names ns (map (first_site names) ns)) ordered
+    recursion_from_All (IsOwnConfig names) made.ordered
+    (All-permutation (IsOwnConfig names) configs made.ordered made.same_ones (All-from_recursion (IsOwnConfig names) configs are.each)) in
+    made.network_is ∙ ap (with_names (map name_of made.ordered)) (sites_are names made.ordered all)
+    ∙ ap (λ ns. with_names ns (map (first_site names) ns)) ordered

@@ -145,7 +145,8 @@ none_less_too x y (z ∷ ys) not_greater rest =
     neither (exceeds x z) (exceeds_one x ys) (by (slice_cmp nat_cmp x y) refl not_greater (slice_cmp nat_cmp y z) refl parts.0)
     (none_less_too x y ys not_greater parts.1)
   where
-    by : (o : Ordering) → slice_cmp nat_cmp x y ≡ o → is_greater o ≡ false → (p : Ordering) → slice_cmp nat_cmp y z ≡ p → is_greater p ≡ false → exceeds x z ≡ false
+    by : (o : Ordering) → slice_cmp nat_cmp x y ≡ o → is_greater o ≡ false → (p : Ordering) → slice_cmp nat_cmp y z ≡ p → is_greater p ≡ false
+        → exceeds x z ≡ false
     by Greater is ok p is' ok' = cc ok
     by Equal is ok p is' ok' = ap is_greater (nat_list_cmp_total.congr x y z is ∙ is') ∙ ok'
     by Less is ok Less is' ok' = ap is_greater (nat_list_cmp_total.trans x y z is is')
@@ -172,7 +173,8 @@ put_ordered x (y ∷ ys) o = by (put_ordered x ys (rest_ordered y ys o)) (slice_
 pub order_moves : (names : List Name) → IsPermutation names (in_order names)
 order_moves [] = IsPermutation-refl []
 order_moves (name ∷ names) =
-    IsPermutation-trans (name ∷ names) (name ∷ in_order names) (put_in name (in_order names)) (IsPermutation-cons name names (in_order names) (order_moves names)) (put_moves name (in_order names))
+    IsPermutation-trans (name ∷ names) (name ∷ in_order names) (put_in name (in_order names))
+    (IsPermutation-cons name names (in_order names) (order_moves names)) (put_moves name (in_order names))
 
 pub is_in_order : (names : List Name) → are_ordered (in_order names) ≡ true
 is_in_order [] = refl

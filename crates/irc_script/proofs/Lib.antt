@@ -13,7 +13,6 @@ pub mod LineBodies
 pub mod LinesSaid
 pub mod Peering
 pub mod Receiving
-pub mod Received
 pub mod EntriesPrinted
 pub mod StaysSound
 pub mod ReadWithin

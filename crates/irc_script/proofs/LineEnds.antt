@@ -29,11 +29,13 @@ is_empty-length [] = refl
 is_empty-length (b ∷ bytes) = grind (arith, nat_tests)
 
 -- the same of the code's pieces
-pub dropped_now : (all front : List (Bor (List ℕ))) (last : Bor (List ℕ)) → all ≡ front ++ last ∷ [] → is_empty last.now ≡ true → lines_now front ≡ ended (lines_now all)
+pub dropped_now : (all front : List (Bor (List ℕ))) (last : Bor (List ℕ)) → all ≡ front ++ last ∷ [] → is_empty last.now ≡ true
+    → lines_now front ≡ ended (lines_now all)
 dropped_now all front last e empty =
     sym (ap (λ ps. ended (lines_now ps)) e ∙ ap ended (map-append (λ p. p.now) front (last ∷ [])) ∙ dropped (lines_now front) last.now empty)
 
-pub kept_now : (all front : List (Bor (List ℕ))) (last : Bor (List ℕ)) → all ≡ front ++ last ∷ [] → is_empty last.now ≡ false → lines_now all ≡ ended (lines_now all)
+pub kept_now : (all front : List (Bor (List ℕ))) (last : Bor (List ℕ)) → all ≡ front ++ last ∷ [] → is_empty last.now ≡ false
+    → lines_now all ≡ ended (lines_now all)
 kept_now all front last e some =
     let parts : lines_now all ≡ lines_now front ++ last.now ∷ [] = ap lines_now e ∙ map-append (λ p. p.now) front (last ∷ []) in
     parts ∙ sym (ap ended parts ∙ kept (lines_now front) last.now some)

@@ -20,7 +20,8 @@ pieces_end_nowhere : (xs : List ℕ) → AllByRecursion HasNoEnd (slice_split is
 pieces_end_nowhere [] = (refl, tt)
 pieces_end_nowhere (x ∷ xs) =
     let rest = pieces_end_nowhere xs in
-    elim (is_line_end x) as (λ b. is_line_end x ≡ b → AllByRecursion HasNoEnd (cond b ([] ∷ slice_split is_line_end xs) (onto_first x (slice_split is_line_end xs)))) [
+    elim (is_line_end x) as (λ b. is_line_end x ≡ b
+    → AllByRecursion HasNoEnd (cond b ([] ∷ slice_split is_line_end xs) (onto_first x (slice_split is_line_end xs)))) [
       | true ↦ λ e. (refl, rest)
       | false ↦ λ e. first_grows x (slice_split is_line_end xs) e rest
     ] refl
@@ -59,10 +60,11 @@ cut_is_line x xs no_end no_nul = record {
 -- the line of a piece, if any, is one
 one_line : (piece : List ℕ) (found : List (List ℕ)) → HasNoEnd piece → AllByRecursion IsLine found → AllByRecursion IsLine (cons_option (line_of piece) found)
 one_line [] found no_end rest = rest
-one_line (x ∷ xs) found no_end rest = elim (has_nul (x ∷ xs)) as (λ b. has_nul (x ∷ xs) ≡ b → AllByRecursion IsLine (cons_option (cond b None (Some (cut (x ∷ xs)))) found)) [
-  | true ↦ λ e. rest
-  | false ↦ λ e. (cut_is_line x xs no_end e, rest)
-] refl
+one_line (x ∷ xs) found no_end rest =
+    elim (has_nul (x ∷ xs)) as (λ b. has_nul (x ∷ xs) ≡ b → AllByRecursion IsLine (cons_option (cond b None (Some (cut (x ∷ xs)))) found)) [
+      | true ↦ λ e. rest
+      | false ↦ λ e. (cut_is_line x xs no_end e, rest)
+    ] refl
 
 each_piece : (pieces : List (List ℕ)) → AllByRecursion HasNoEnd pieces → AllByRecursion IsLine (filter_map line_of pieces)
 each_piece [] all = tt

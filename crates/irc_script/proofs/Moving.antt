@@ -1,12 +1,12 @@
 -- What a move comes to, by what the network answered.
-use Rattle.std.proofs.Common.{◌≡◌, ℕ, ◌≤◌, Bool, true, false, cond, Option, Some, None, Result, Ok, Err, IsErr, List, [], ◌∷◌, ap, sym, subst, refl, ◌∙◌}
+use Rattle.std.proofs.Common.{◌≡◌, ℕ, Bool, true, false, cond, Option, Some, None, Result, Ok, Err, IsErr, List, [], ◌∷◌, ap, sym, subst, refl, ◌∙◌}
 use Rattle.std.specs.List.{flat_map}
 use Rattle.irc_net.specs.declared.answer.Answer.{Answer}
 use Rattle.irc_network.specs.declared.receipt.Receipt.{Receipt as KeptReceipt}
 use Rattle.irc_net.specs.declared.fault.NetFault.{NetFault}
 use Rattle.irc_net.specs.Calls.{NetView, IsGiven, IsDelivered, Delivers, IsSettled, delivery, given_it, given_refused, given_wants_memory, given_to_failed, delivers_it, delivery_refused, delivery_wants_memory, delivery_by_failed, settles_it}
 use Rattle.irc_net.specs.Faults.{deliver_fault, is_refusal}
-use Rattle.irc_network.specs.Network.{Course, Network, Receipt, given, max_count}
+use Rattle.irc_network.specs.Network.{Course, Network, Receipt, given}
 use Rattle.irc_network.specs.Views.{receipts_of}
 use Rattle.irc_relay.specs.Links.{Name}
 use Rattle.irc_world.specs.Stepping.{Item}
@@ -19,13 +19,15 @@ use Rattle.irc_script.specs.Sinks.{Sink, IsPrinted}
 use Rattle.irc_script.proofs.Playing.{breaks_first, played_one, playing_failed}
 
 -- a move by what it comes to, in other words
-played_as : (r : Result (Unit {0}) Trouble) (first : Network) (m : Move) (outcome : Outcome) (text : List ℕ) (last : Network) (old new : Sink) → Comes first m outcome
+played_as : (r : Result (Unit {0}) Trouble) (first : Network) (m : Move) (outcome : Outcome) (text : List ℕ) (last : Network) (old new : Sink)
+    → Comes first m outcome
     → text ≡ outcome.text → last ≡ outcome.network → IsPrinted r old new text → IsPlayed r first (m ∷ []) last old new
 played_as r first m outcome text last old new comes text_is last_is p =
     subst (λ n. IsPlayed r first (m ∷ []) n old new) (sym last_is) (played_one r first m outcome old new comes (subst (λ t. IsPrinted r old new t) text_is p))
 
 -- nothing came of a move
-pub none_played : (r : Result (Unit {0}) Trouble) (first last : Network) (moves : List Move) (old new : Sink) → IsErr r → new ≡ old → IsPlayed r first moves last old new
+pub none_played : (r : Result (Unit {0}) Trouble) (first last : Network) (moves : List Move) (old new : Sink) → IsErr r → new ≡ old
+    → IsPlayed r first moves last old new
 none_played r first last moves old new failed same =
     playing_failed r first moves last old new failed (subst (λ s. Breaks first moves old s) (sym same) (breaks_first first moves old))
 
@@ -48,11 +50,13 @@ given_played r first last item answer lines old new (given_it alive g) same p =
     (sym (ap (λ (f : Option NetFault). given_or f item first.network) g.none)) (ap (flat_map printed) (ap receipts_of same ∙ g.receipts))
     (ap (λ (v : NetView). v.network) g.after) p
 
-pub refusal_played : (r : Result (Unit {0}) Trouble) (first last : NetView) (item : Item) (fault : NetFault) (old new : Sink) → IsGiven first item (Err fault) last
+pub refusal_played : (r : Result (Unit {0}) Trouble) (first last : NetView) (item : Item) (fault : NetFault) (old new : Sink)
+    → IsGiven first item (Err fault) last
     → IsFaultPrinted (refusal_number fault) r old new → IsPlayed r first.network (gives item ∷ []) last.network old new
 refusal_played r first last item fault old new (given_refused alive is) p =
     fault_played r first.network (gives item) fault old new (sym (ap (λ (f : Option NetFault). given_or f item first.network) is)) p
-refusal_played r first last item fault old new (given_wants_memory alive none failed) p = none_played r first.network last.network (gives item ∷ []) old new p.0 p.1
+refusal_played r first last item fault old new (given_wants_memory alive none failed) p =
+    none_played r first.network last.network (gives item ∷ []) old new p.0 p.1
 refusal_played r first last item fault old new (given_to_failed failed) p = none_played r first.network last.network (gives item ∷ []) old new p.0 p.1
 
 -- ---- a delivery
@@ -68,25 +72,32 @@ taken_so r first last from to was_taken receipts old new none o is so p = by o i
     by : (o : Option Course) → delivery first.network from to ≡ o → Delivers o first.network was_taken receipts last
         → IsPlayed r first.network (delivers_line from to ∷ []) last.network old new
     by None is so =
-        played_as r first.network (delivers_line from to) (delivered_by None first.network) (taken_text (taken_count was_taken) receipts) last.network old new (comes None is)
+        played_as r first.network (delivers_line from to) (delivered_by None first.network) (taken_text (taken_count was_taken) receipts) last.network old new
+        (comes None is)
         (ap (λ b. taken_text (taken_count b) receipts) so.0 ∙ ap (taken_text 0) so.1) (ap (λ (v : NetView). v.network) so.2) p
     by (Some course) is so =
-        played_as r first.network (delivers_line from to) (delivered_by (Some course) first.network) (taken_text (taken_count was_taken) receipts) last.network old new
+        played_as r first.network (delivers_line from to) (delivered_by (Some course) first.network)
+        (taken_text (taken_count was_taken) receipts) last.network old new
         (comes (Some course) is) (ap (λ b. taken_text (taken_count b) receipts) so.0 ∙ ap (taken_text 1) so.1) (ap (λ (v : NetView). v.network) so.2) p
 
-pub delivered_played : (r : Result (Unit {0}) Trouble) (first last : NetView) (from to : Name) (was_taken : Bool) (count : ℕ) (kept lines : List KeptReceipt) (old new : Sink)
+pub delivered_played : (r : Result (Unit {0}) Trouble) (first last : NetView) (from to : Name) (was_taken : Bool) (count : ℕ) (kept lines : List KeptReceipt)
+    (old new : Sink)
     → IsDelivered first from to (Ok (was_taken, receipts_of kept)) last → count ≡ taken_count was_taken → lines ≡ kept
     → IsPrinted r old new (taken_text count (receipts_of lines)) → IsPlayed r first.network (delivers_line from to ∷ []) last.network old new
 delivered_played r first last from to was_taken count kept lines old new (delivers_it alive none so) count_is same p =
     taken_so r first last from to was_taken (receipts_of kept) old new none (delivery first.network from to) refl so
-    (subst (λ ls. IsPrinted r old new (taken_text (taken_count was_taken) (receipts_of ls))) same (subst (λ n. IsPrinted r old new (taken_text n (receipts_of lines))) count_is p))
+    (subst (λ ls. IsPrinted r old new (taken_text (taken_count was_taken) (receipts_of ls))) same
+    (subst (λ n. IsPrinted r old new (taken_text n (receipts_of lines))) count_is p))
 
-pub undelivered_played : (r : Result (Unit {0}) Trouble) (first last : NetView) (from to : Name) (fault : NetFault) (old new : Sink) → IsDelivered first from to (Err fault) last
+pub undelivered_played : (r : Result (Unit {0}) Trouble) (first last : NetView) (from to : Name) (fault : NetFault) (old new : Sink)
+    → IsDelivered first from to (Err fault) last
     → IsFaultPrinted (refusal_number fault) r old new → IsPlayed r first.network (delivers_line from to ∷ []) last.network old new
 undelivered_played r first last from to fault old new (delivery_refused alive is) p =
     fault_played r first.network (delivers_line from to) fault old new (sym (ap (λ (f : Option NetFault). delivered_or f from to first.network) is)) p
-undelivered_played r first last from to fault old new (delivery_wants_memory alive none failed) p = none_played r first.network last.network (delivers_line from to ∷ []) old new p.0 p.1
-undelivered_played r first last from to fault old new (delivery_by_failed failed) p = none_played r first.network last.network (delivers_line from to ∷ []) old new p.0 p.1
+undelivered_played r first last from to fault old new (delivery_wants_memory alive none failed) p =
+    none_played r first.network last.network (delivers_line from to ∷ []) old new p.0 p.1
+undelivered_played r first last from to fault old new (delivery_by_failed failed) p =
+    none_played r first.network last.network (delivers_line from to ∷ []) old new p.0 p.1
 
 -- ---- settling
 
@@ -94,14 +105,13 @@ abbrev settled_as : ℕ → List Receipt → Network → Outcome
 settled_as count receipts last = record { text = taken_text count receipts; network = last }
 
 pub settled_played : (r : Result (Unit {0}) Trouble) (first last : NetView) (count : ℕ) (kept lines : List KeptReceipt) (old new : Sink)
-    → IsSettled first (Ok (count, receipts_of kept)) last → count ≤ max_count → lines ≡ kept → IsPrinted r old new (taken_text count (receipts_of lines))
+    → IsSettled first (Ok (count, receipts_of kept)) last → lines ≡ kept → IsPrinted r old new (taken_text count (receipts_of lines))
     → IsPlayed r first.network (settles_all ∷ []) last.network old new
-settled_played r first last count kept lines old new (settles_it alive s) few same p =
+settled_played r first last count kept lines old new (settles_it alive s) same p =
     played_as r first.network settles_all (settled_as count (receipts_of kept) s.last.net) (taken_text count (receipts_of lines)) last.network old new
     (record {
       count = count;
       receipts = receipts_of kept;
-      settles = record { last = s.last; takes = s.takes; ends = s.ends; received = s.received; after = refl };
-      at_most = few;
+      settles = record { count = s.count; last = s.last; takes = s.takes; rest = s.rest; counts = s.counts; received = s.received; after = refl };
       text_is = refl;
     }) (ap (λ ls. taken_text count (receipts_of ls)) same) (ap (λ (v : NetView). v.network) s.after) p

@@ -14,7 +14,7 @@ same_outcome a b text_is network_is =
 
 settles_to_one : (net : Network) (a b : Outcome) → IsSettling net a → IsSettling net b → a ≡ b
 settles_to_one net a b p q =
-    let same = settles_one p.settles q.settles p.at_most q.at_most in
+    let same = settles_one p.settles q.settles in
     same_outcome a b
     (p.text_is ∙ ap (λ n. taken_text n p.receipts) same.count_is ∙ ap (taken_text q.count) same.receipts_are ∙ sym q.text_is) same.last_is
 
@@ -38,7 +38,8 @@ plays_one_way {first = first} {other = other} (move {m = m} {moves = moves} {mor
 pub runs_one_way : (first last other : Network) (requests : List Request) (text more : List ℕ)
     → Runs first requests last text → Runs first requests other more → SameRun last other text more
 runs_one_way first last other requests text more end end = record { last_is = refl; text_is = refl }
-runs_one_way a b o rs text more (request {middle = m} {requests = left} {more = later} text_is plays rest) (request {middle = n} {start = s} {more = t} text_is' plays' rest') =
+runs_one_way a b o rs text more (request {middle = m} {requests = left} {more = later} text_is plays rest)
+    (request {middle = n} {start = s} {more = t} text_is' plays' rest') =
     let one = plays_one_way plays plays' in
     let behind = runs_one_way m b o left later t rest (subst (λ k. Runs k left o t) (sym one.last_is) rest') in
     record {

@@ -33,7 +33,8 @@ plays_both {t = t} (move outcome comes e p) q = move outcome comes (ap (λ bytes
 pub played_nothing : (first : Network) (known : Sink) → Played first [] first known known
 played_nothing first known = record { text = []; plays = nothing; prints = prints_nothing known }
 
-pub played_both : {a b c : Network} {xs ys : List Move} {old middle new : Sink} → Played a xs b old middle → Played b ys c middle new → Played a (xs ++ ys) c old new
+pub played_both : {a b c : Network} {xs ys : List Move} {old middle new : Sink} → Played a xs b old middle → Played b ys c middle new
+    → Played a (xs ++ ys) c old new
 played_both p q = record { text = p.text ++ q.text; plays = plays_both p.plays q.plays; prints = prints_both p.prints q.prints }
 
 -- one move, by what comes of it
@@ -89,7 +90,8 @@ begins_behind : {a b : Network} {xs ys : List Request} {s t : List ℕ} → Runs
 begins_behind end q = q
 begins_behind {t = t} (request {start = start} e p r) q = further (ap (λ bytes. bytes ++ t) e ∙ append_assoc start _ t) p (begins_behind r q)
 
-pub run_into : (r : Request) (left : List Request) {a b : Network} {xs : List Request} {old middle new : Sink} → RunWhole a xs b old middle → Breaks b (moves_of r) middle new
+pub run_into : (r : Request) (left : List Request) {a b : Network} {xs : List Request} {old middle new : Sink} → RunWhole a xs b old middle
+    → Breaks b (moves_of r) middle new
     → RunInto a (xs ++ r ∷ left) old new
 run_into r left p q = record {
   text = p.text ++ q.text;
@@ -107,13 +109,15 @@ run_loses p = record { text = p.text; begins = begins_all p.runs; loses = no_los
 
 -- what waits is written behind a run, or lost
 pub run_on : {a b : Network} {xs : List Request} {old middle new : Sink} → RunWhole a xs b old middle → Prints middle new [] → RunWhole a xs b old new
-run_on {old = old} {new = new} p q = record { text = p.text; runs = p.runs; prints = subst (λ text. Prints old new text) (append-nil p.text) (prints_both p.prints q) }
+run_on {old = old} {new = new} p q =
+    record { text = p.text; runs = p.runs; prints = subst (λ text. Prints old new text) (append-nil p.text) (prints_both p.prints q) }
 
 pub run_into_on : {a : Network} {xs : List Request} {old middle new : Sink} → RunInto a xs old middle → Loses middle new [] → RunInto a xs old new
 run_into_on p q = record { text = p.text; begins = p.begins; loses = loses_on p.loses q }
 
 -- a writer is flushed behind a run
-pub run_flushed : (r : Result (Unit {0}) Trouble) {a b : Network} {xs : List Request} {old : Sink} {middle : Option (List ℕ)} (new : Option (List ℕ)) → RunWhole a xs b old (sink middle [])
+pub run_flushed : (r : Result (Unit {0}) Trouble) {a b : Network} {xs : List Request} {old : Sink} {middle : Option (List ℕ)} (new : Option (List ℕ))
+    → RunWhole a xs b old (sink middle [])
     → Keeps middle new → HasRun r a xs b old (sink new [])
 run_flushed (Ok _) new p k = record { text = p.text; runs = p.runs; prints = prints_kept new p.prints k }
 run_flushed (Err trouble) new p k = record { text = p.text; begins = begins_all p.runs; loses = loses_kept new (no_loss p.prints) k }
@@ -134,12 +138,14 @@ requests_around commands i d within is =
     ∙ ap (λ c. requests (take i commands) ++ request_now c ∷ requests (drop (i + 1) commands)) (sym is)
 
 -- what fails fails as its kind of result says
-pub playing_failed : (r : Result (Unit {0}) Trouble) (first : Network) (moves : List Move) (last : Network) (old new : Sink) → IsErr r → Breaks first moves old new
+pub playing_failed : (r : Result (Unit {0}) Trouble) (first : Network) (moves : List Move) (last : Network) (old new : Sink) → IsErr r
+    → Breaks first moves old new
     → IsPlayed r first moves last old new
 playing_failed (Ok _) first moves last old new failed p = let never : false ≡ true = failed in cc never
 playing_failed (Err trouble) first moves last old new failed p = p
 
-pub running_failed : (r : Result (Unit {0}) Trouble) (first : Network) (asked : List Request) (last : Network) (old new : Sink) → IsErr r → RunInto first asked old new
+pub running_failed : (r : Result (Unit {0}) Trouble) (first : Network) (asked : List Request) (last : Network) (old new : Sink) → IsErr r
+    → RunInto first asked old new
     → HasRun r first asked last old new
 running_failed (Ok _) first asked last old new failed p = let never : false ≡ true = failed in cc never
 running_failed (Err trouble) first asked last old new failed p = p
@@ -178,34 +184,45 @@ going_on client lines left later line {first = first} {last = last} {old = old} 
 }
 
 -- a line that breaks
-pub going_breaks : (client : ℕ) (lines left later : List (ArrayVec ℕ)) (line : ArrayVec ℕ) (moves : List Move) {first middle : Network} {old now new : Sink} → left ≡ line ∷ later
-    → moves ≡ map (gives_now client) lines → Going client lines left first middle old now → Breaks middle (gives_now client line ∷ []) now new → Breaks first moves old new
+pub going_breaks : (client : ℕ) (lines left later : List (ArrayVec ℕ)) (line : ArrayVec ℕ) (moves : List Move) {first middle : Network} {old now new : Sink}
+    → left ≡ line ∷ later
+    → moves ≡ map (gives_now client) lines → Going client lines left first middle old now → Breaks middle (gives_now client line ∷ []) now new
+    → Breaks first moves old new
 going_breaks client lines left later line moves {first = first} {old = old} {new = new} is all p q =
     let parts : moves ≡ map (gives_now client) p.given ++ (gives_now client line ∷ map (gives_now client) later) =
     all ∙ ap (map (gives_now client)) (p.parts ∙ ap (λ ls. p.given ++ ls) is) ∙ map-append (gives_now client) p.given (line ∷ later) in
     subst (λ ms. Breaks first ms old new) (sym parts) (breaks_behind (map (gives_now client) later) p.played q)
 
 -- no line is left
-pub going_end : (client : ℕ) (lines left : List (ArrayVec ℕ)) (moves : List Move) {first last : Network} {old new : Sink} → left ≡ [] → moves ≡ map (gives_now client) lines
+pub going_end : (client : ℕ) (lines left : List (ArrayVec ℕ)) (moves : List Move) {first last : Network} {old new : Sink} → left ≡ []
+    → moves ≡ map (gives_now client) lines
     → Going client lines left first last old new → Played first moves last old new
 going_end client lines left moves {first = first} {last = last} {old = old} {new = new} none all p =
     let parts : moves ≡ map (gives_now client) p.given = all ∙ ap (map (gives_now client)) (p.parts ∙ ap (λ ls. p.given ++ ls) none ∙ append-nil p.given) in
     subst (λ ms. Played first ms last old new) (sym parts) p.played
 
 -- a run, behind which what waits was written or lost
-pub run_closed : (r w : Result (Unit {0}) Trouble) (first last : Network) (asked : List Request) (held middle new : Option (List ℕ)) (before waiting after : List ℕ) → before ≡ [] → after ≡ []
-    → HasRun r first asked last (sink held before) (sink middle waiting) → IsPrinted w (sink middle waiting) (sink new after) [] → RunInto first asked (sink held []) (sink new [])
+pub run_closed : (r w : Result (Unit {0}) Trouble) (first last : Network) (asked : List Request) (held middle new : Option (List ℕ))
+    (before waiting after : List ℕ) → before ≡ [] → after ≡ []
+    → HasRun r first asked last (sink held before) (sink middle waiting) → IsPrinted w (sink middle waiting) (sink new after) []
+    → RunInto first asked (sink held []) (sink new [])
 run_closed (Ok _) w first last asked held middle new before waiting after e f p q =
-    subst (λ b. RunInto first asked (sink held b) (sink new [])) e (subst (λ a. RunInto first asked (sink held before) (sink new a)) f (run_into_on (run_loses p) (loses_when w (sink middle waiting) (sink new after) [] q)))
+    subst (λ b. RunInto first asked (sink held b) (sink new [])) e
+    (subst (λ a. RunInto first asked (sink held before) (sink new a)) f
+    (run_into_on (run_loses p) (loses_when w (sink middle waiting) (sink new after) [] q)))
 run_closed (Err trouble) w first last asked held middle new before waiting after e f p q =
-    subst (λ b. RunInto first asked (sink held b) (sink new [])) e (subst (λ a. RunInto first asked (sink held before) (sink new a)) f (run_into_on p (loses_when w (sink middle waiting) (sink new after) [] q)))
+    subst (λ b. RunInto first asked (sink held b) (sink new [])) e
+    (subst (λ a. RunInto first asked (sink held before) (sink new a)) f (run_into_on p (loses_when w (sink middle waiting) (sink new after) [] q)))
 
 -- a whole run, behind which all that waited was written, and the writer flushed
-pub run_ended : (r w f : Result (Unit {0}) Trouble) (a b : Unit {0}) (first last : Network) (asked : List Request) (held middle new flushed : Option (List ℕ)) (before waiting after : List ℕ)
-    → r ≡ Ok a → w ≡ Ok b → before ≡ [] → after ≡ [] → HasRun r first asked last (sink held before) (sink middle waiting) → IsPrinted w (sink middle waiting) (sink new after) []
+pub run_ended : (r w f : Result (Unit {0}) Trouble) (a b : Unit {0}) (first last : Network) (asked : List Request) (held middle new flushed : Option (List ℕ))
+    (before waiting after : List ℕ)
+    → r ≡ Ok a → w ≡ Ok b → before ≡ [] → after ≡ [] → HasRun r first asked last (sink held before) (sink middle waiting)
+    → IsPrinted w (sink middle waiting) (sink new after) []
     → Keeps new flushed → HasRun f first asked last (sink held []) (sink flushed [])
 run_ended (Err trouble) w f a b first last asked held middle new flushed before waiting after r_is w_is e g p q k = cc
 run_ended (Ok _) (Err trouble) f a b first last asked held middle new flushed before waiting after r_is w_is e g p q k = cc
 run_ended (Ok _) (Ok _) f a b first last asked held middle new flushed before waiting after r_is w_is e g p q k =
     run_flushed f flushed
-    (subst (λ x. RunWhole first asked last (sink held x) (sink new [])) e (subst (λ x. RunWhole first asked last (sink held before) (sink new x)) g (run_on p q))) k
+    (subst (λ x. RunWhole first asked last (sink held x) (sink new [])) e
+    (subst (λ x. RunWhole first asked last (sink held before) (sink new x)) g (run_on p q))) k

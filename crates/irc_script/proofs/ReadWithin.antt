@@ -124,7 +124,12 @@ read_within text asked is =
 pub servers_read : (text : List ℕ) (asked : Asked) → script_read text ≡ Ok asked → asked.servers ≡ servers_of (script_lines text)
 servers_read text asked is = (read_of text asked is).servers
 
--- so it is of those in front
-pub front_within : (requests left : List Request) → AllByRecursion IsRequestWithin (requests ++ left) → AllByRecursion IsRequestWithin requests
-front_within [] left all = tt
-front_within (r ∷ requests) left all = (all.0, front_within requests left all.1)
+-- ---- those in front, and those behind
+
+pub front_within : {X : Type 0} (P : X → Type 0) (front left : List X) → AllByRecursion P (front ++ left) → AllByRecursion P front
+front_within P [] left all = tt
+front_within P (x ∷ front) left all = (all.0, front_within P front left all.1)
+
+pub left_within : {X : Type 0} (P : X → Type 0) (front left : List X) → AllByRecursion P (front ++ left) → AllByRecursion P left
+left_within P [] left all = all
+left_within P (x ∷ front) left all = left_within P front left all.1

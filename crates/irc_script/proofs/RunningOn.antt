@@ -1,57 +1,61 @@
 -- What is begun can be run to its end: what was printed then is a front of what the whole script prints.
 use Rattle.std.proofs.Common.{ℕ, List, [], ◌∷◌, ◌++◌, ap, sym, subst, refl, ◌∙◌, append_assoc}
+use Rattle.std.specs.List.{AllByRecursion}
+use Rattle.irc_items.specs.Kept.{TurnsAreFew}
+use Rattle.irc_items.specs.Laws.{NewNetworkIsSound}
+use Rattle.irc_items.specs.Sound.{IsSound}
 use Rattle.irc_net.specs.Faults.{deliver_fault, item_fault}
+use Rattle.irc_net.specs.OneRoom.{IsKeptSound}
 use Rattle.irc_network.specs.Network.{Network}
-use Rattle.irc_relay.specs.Links.{Name}
-use Rattle.irc_script.specs.Loops.Steps.{Begins, to_the_end, partly, further}
+use Rattle.irc_script.specs.Loops.Steps.{Begins, to_the_end, partly, further, RunOn, ScriptsRunOn}
 use Rattle.irc_script.specs.Moves.{Move, gives, delivers_line, settles_all, moves_of}
-use Rattle.irc_script.specs.Networks.{first_network}
 use Rattle.irc_script.specs.Printing.{taken_text}
-use Rattle.irc_script.specs.RunLaws.{RunsToItsEnd}
-use Rattle.irc_script.specs.Runs.{Comes, Outcome, Plays, nothing, move, Runs, end, request, IsFront, given_or, delivered_or}
+use Rattle.irc_script.specs.RunLaws.{EachRuns}
+use Rattle.irc_script.specs.Runs.{Comes, Outcome, Plays, nothing, move, end, request, given_or, delivered_or}
 use Rattle.irc_script.specs.Scripts.{Request}
+use Rattle.irc_script.proofs.OneRoomPrinted.{first_kept}
 use Rattle.irc_script.proofs.Playing.{plays_both}
+use Rattle.irc_script.proofs.ReadWithin.{front_within, left_within, read_within}
 use Rattle.irc_script.proofs.Settling.{each_settles}
+use Rattle.irc_script.proofs.StaysSound.{AreKeeping, IsMoveWithin, IsRequestWithin, comes_kept, plays_kept}
 
 record Answered (net : Network) (m : Move) : Type 0 where
   outcome : Outcome
   comes : Comes net m outcome
 
--- something comes of each move
-answered : (net : Network) (m : Move) → Answered net m
-answered net (gives item) = record { outcome = given_or (item_fault net item) item net; comes = refl }
-answered net (delivers_line from to) = record { outcome = delivered_or (deliver_fault net from to) from to net; comes = refl }
-answered net settles_all =
-    let settled = each_settles net in
+-- something comes of each move of a sound network
+answered : TurnsAreFew → (net : Network) (m : Move) → IsSound net → Answered net m
+answered few net (gives item) sound = record { outcome = given_or (item_fault net item) item net; comes = refl }
+answered few net (delivers_line from to) sound = record { outcome = delivered_or (deliver_fault net from to) from to net; comes = refl }
+answered few net settles_all sound =
+    let settled = each_settles few net sound in
     record {
       outcome = record { text = taken_text settled.count settled.receipts; network = settled.last };
-      comes = record { count = settled.count; receipts = settled.receipts; settles = settled.settles; at_most = settled.at_most; text_is = refl };
+      comes = record { count = settled.count; receipts = settled.receipts; settles = settled.settles; text_is = refl };
     }
+
+-- networks stay sound, and their lines come to an end
+pub record AreRunning : Type 0 where
+  pub keeping : AreKeeping
+  pub few : TurnsAreFew
 
 record PlayedOn (first : Network) (moves : List Move) : Type 0 where
   last : Network
   text : List ℕ
   plays : Plays first moves last text
 
-play_on : (moves : List Move) (first : Network) → PlayedOn first moves
-play_on [] first = record { last = first; text = []; plays = nothing }
-play_on (m ∷ moves) first =
-    let one = answered first m in
-    let more = play_on moves one.outcome.network in
+play_on : AreRunning → (moves : List Move) (first : Network) → AllByRecursion IsMoveWithin moves → IsKeptSound first → PlayedOn first moves
+play_on laws [] first within kept = record { last = first; text = []; plays = nothing }
+play_on laws (m ∷ moves) first within kept =
+    let one = answered laws.few first m kept.sound in
+    let more = play_on laws moves one.outcome.network within.1 (comes_kept laws.keeping first m one.outcome within.0 one.comes kept) in
     record { last = more.last; text = one.outcome.text ++ more.text; plays = move one.outcome one.comes refl more.plays }
 
--- what a script comes to that is run from here
-pub record RunOn (first : Network) (requests : List Request) (text : List ℕ) : Type 0 where
-  pub last : Network
-  pub whole : List ℕ
-  pub runs : Runs first requests last whole
-  pub front : IsFront text whole
-
-run_on : (requests : List Request) (first : Network) → RunOn first requests []
-run_on [] first = record { last = first; whole = []; runs = end; front = record { more = []; whole_is = refl } }
-run_on (r ∷ requests) first =
-    let one = play_on (moves_of r) first in
-    let more = run_on requests one.last in
+run_on : AreRunning → (requests : List Request) (first : Network) → AllByRecursion IsRequestWithin requests → IsKeptSound first → RunOn first requests []
+run_on laws [] first within kept = record { last = first; whole = []; runs = end; front = record { more = []; whole_is = refl } }
+run_on laws (r ∷ requests) first within kept =
+    let one = play_on laws (moves_of r) first within.0 kept in
+    let more = run_on laws requests one.last within.1 (plays_kept laws.keeping within.0 one.plays kept) in
     record {
       last = more.last;
       whole = one.text ++ more.whole;
@@ -59,23 +63,23 @@ run_on (r ∷ requests) first =
       front = record { more = one.text ++ more.whole; whole_is = refl };
     }
 
--- a whole script
-pub script_runs : (names : List Name) (requests : List Request) → RunsToItsEnd (first_network names) requests
-script_runs names requests = let run = run_on requests (first_network names) in record { last = run.last; text = run.whole; runs = run.runs }
-
-pub run_whole : {first : Network} {requests : List Request} {text : List ℕ} → Begins first requests text → RunOn first requests text
-run_whole {first = first} to_the_end = record { last = first; whole = []; runs = end; front = record { more = []; whole_is = refl } }
-run_whole {first = first} {text = text} (partly {last = last} {requests = requests} moves left parts plays) =
-    let on = play_on left last in
-    let more = run_on requests on.last in
+run_whole : AreRunning → {first : Network} {requests : List Request} {text : List ℕ} → AllByRecursion IsRequestWithin requests → IsKeptSound first
+    → Begins first requests text → RunOn first requests text
+run_whole laws {first = first} within kept to_the_end = record { last = first; whole = []; runs = end; front = record { more = []; whole_is = refl } }
+run_whole laws {first = first} {text = text} within kept (partly {last = last} {requests = requests} moves left parts plays) =
+    let each = subst (AllByRecursion IsMoveWithin) parts within.0 in
+    let middle = plays_kept laws.keeping (front_within IsMoveWithin moves left each) plays kept in
+    let on = play_on laws left last (left_within IsMoveWithin moves left each) middle in
+    let all = subst (λ ms. Plays first ms on.last (text ++ on.text)) (sym parts) (plays_both plays on.plays) in
+    let more = run_on laws requests on.last within.1 (plays_kept laws.keeping within.0 all kept) in
     record {
       last = more.last;
       whole = (text ++ on.text) ++ more.whole;
-      runs = request refl (subst (λ all. Plays first all on.last (text ++ on.text)) (sym parts) (plays_both plays on.plays)) more.runs;
+      runs = request refl all more.runs;
       front = record { more = on.text ++ more.whole; whole_is = append_assoc text on.text more.whole };
     }
-run_whole (further {start = start} {more = text} text_is plays begins) =
-    let rest = run_whole begins in
+run_whole laws within kept (further {start = start} {more = text} text_is plays begins) =
+    let rest = run_whole laws within.1 (plays_kept laws.keeping within.0 plays kept) begins in
     record {
       last = rest.last;
       whole = start ++ rest.whole;
@@ -85,3 +89,13 @@ run_whole (further {start = start} {more = text} text_is plays begins) =
         whole_is = ap (λ w. start ++ w) rest.front.whole_is ∙ sym (append_assoc start text rest.front.more) ∙ ap (λ t. t ++ rest.front.more) (sym text_is);
       };
     }
+
+-- ---- a script that is read
+
+pub script_runs : NewNetworkIsSound → AreRunning → EachRuns
+script_runs new_sound laws text asked read =
+    let run = run_on laws asked.requests _ (read_within text asked read) (first_kept new_sound text asked read) in
+    record { last = run.last; text = run.whole; runs = run.runs }
+
+pub script_runs_on : NewNetworkIsSound → AreRunning → ScriptsRunOn
+script_runs_on new_sound laws text asked printed read begins = run_whole laws (read_within text asked read) (first_kept new_sound text asked read) begins

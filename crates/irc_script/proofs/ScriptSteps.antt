@@ -78,7 +78,8 @@ lines_at : (lines : List (Bor (List ℕ))) (i : ℕ) (d : Bor (List ℕ)) → i 
 lines_at lines i d within = ap lines_now (drop_more lines i d within)
 
 -- the same of the code's lines
-pub one_server_more : (servers named : List (List ℕ)) (found : Option (List ℕ)) (name : List ℕ) (lines : List (Bor (List ℕ))) (i : ℕ) (d : Bor (List ℕ)) → i < length lines
+pub one_server_more : (servers named : List (List ℕ)) (found : Option (List ℕ)) (name : List ℕ) (lines : List (Bor (List ℕ))) (i : ℕ) (d : Bor (List ℕ))
+    → i < length lines
     → servers ≡ named → found ≡ another_server servers (get_or lines i d).now → found ≡ Some name
     → servers_behind named (lines_now (drop i lines)) ≡ servers_behind (named ++ name ∷ []) (lines_now (drop (i + 1) lines))
 one_server_more servers named found name lines i d within same e is =

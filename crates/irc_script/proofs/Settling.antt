@@ -1,11 +1,15 @@
 -- Lines that are taken in turn: they come to one end, and to some end.
-use Rattle.std.proofs.Common.{◌≡◌, ℕ, ◌+◌, ◌<◌, ◌≤◌, zero, suc, true, not, Option, Some, None, List, [], ◌∷◌, ◌⊎◌, inl, inr, ap, sym, subst, refl, ◌∙◌, arith}
+use Rattle.std.proofs.Common.{◌≡◌, ℕ, ◌+◌, ◌<◌, ◌≤◌, min, zero, suc, true, not, Option, Some, None, List, [], ◌∷◌, ◌⊎◌, inl, inr, ap, sym, subst, refl, ◌∙◌, arith}
 use Rattle.std.specs.List.{slice_get}
 use Rattle.std.specs.Option.{option_and_then}
-use Rattle.irc_net.specs.Calls.{Settles, standing}
+use Rattle.irc_items.specs.Kept.{TurnsAreFew}
+use Rattle.irc_items.specs.Sound.{most_now, IsSound}
+use Rattle.irc_net.specs.Calls.{NetView, Settles, standing}
 use Rattle.irc_network.specs.Network.{Course, Direction, Network, Receipt, Site, TakesInTurn, none_yet, then_one, begun, delivered, first_direction, is_at_rest, is_nothing, max_count, taken_of, waiting}
 use Rattle.irc_network.proofs.AtRest.{HasLine, first_has_line, rest_stays, rests}
 use Rattle.irc_room.specs.Lemmas.Rows.{same_some}
+use Rattle.irc_script.specs.RunLaws.{SettlesToRest}
+use Rattle.irc_script.specs.Runs.{end, move, nothing, request}
 
 -- ---- one end
 
@@ -45,18 +49,14 @@ earlier_waits {course = course} count less (then_one {count = n} {between = betw
     by before (inl same) = record { last = between; takes = subst (λ m. TakesInTurn m course between) (sym same) earlier; direction = d; way = way }
     by before (inr fewer) = before fewer
 
--- where the lines taken came to an end, no more of them were taken than so many
-no_more : {count all : ℕ} {course last other : Course} → TakesInTurn count course last → (is_at_rest last.net ≡ true) ⊎ (count ≡ max_count) → all ≤ max_count
-    → TakesInTurn all course other → count < all → ⊥
-no_more {count = count} {last = last} takes (inl rest) at_most more less =
+-- where the lines taken left rest, no more of them can be taken
+no_more : {count all : ℕ} {course last other : Course} → TakesInTurn count course last → is_at_rest last.net ≡ true → TakesInTurn all course other
+    → count < all → ⊥
+no_more {count = count} {last = last} takes rest more less =
     let waits = earlier_waits count less more in
     let way : first_direction last.net ≡ Some waits.direction = ap (λ (c : Course). first_direction c.net) (takes_one takes waits.takes) ∙ waits.way in
     let none = (rest_stays last rest).no_way in
     cc (way, none)
-no_more {count = count} {all = all} takes (inr most) at_most more less = too_many count all most at_most less
-  where
-    too_many : (a b : ℕ) → a ≡ max_count → b ≤ max_count → a < b → ⊥
-    too_many a b most at_most less = omega (arith, most, at_most, less)
 
 same_count : (a b : ℕ) → (a < b → ⊥) → (b < a → ⊥) → a ≡ b
 same_count a b p q = omega (arith, p, q)
@@ -69,21 +69,28 @@ pub record AreSame {net : Network} {count other : ℕ} {receipts more : List Rec
   pub last_is : last ≡ next
 
 pub settles_one : {net : Network} {count other : ℕ} {receipts more : List Receipt} {last next : Network}
-    (one : Settles net count receipts (standing last)) (another : Settles net other more (standing next)) → count ≤ max_count → other ≤ max_count → AreSame one another
-settles_one {net = net} {count = count} {other = other} one another few few' =
-    let same : count ≡ other = same_count count other (no_more one.takes one.ends few' another.takes) (no_more another.takes another.ends few one.takes) in
+    (one : Settles net count receipts (standing last)) (another : Settles net other more (standing next)) → AreSame one another
+settles_one {net = net} one another =
+    let same : one.count ≡ another.count =
+    same_count one.count another.count (no_more one.takes one.rest another.takes) (no_more another.takes another.rest one.takes) in
     let course : one.last ≡ another.last = takes_one (subst (λ n. TakesInTurn n (begun net) one.last) same one.takes) another.takes in
     record {
-      count_is = same;
+      count_is = one.counts ∙ ap (λ n. min n max_count) same ∙ sym another.counts;
       receipts_are = one.received ∙ ap (λ (c : Course). c.receipts) course ∙ sym another.received;
       last_is = ap (λ v. v.network) one.after ∙ ap (λ (c : Course). c.net) course ∙ sym (ap (λ v. v.network) another.after);
     }
 
+-- where the last request settles, no line is on its way
+pub settles_to_rest : SettlesToRest
+settles_to_rest first last [] text (request text_is (move outcome comes start_is nothing) end) =
+    ap (λ (v : NetView). is_at_rest v.network) comes.settles.after ∙ comes.settles.rest
+settles_to_rest first last (r ∷ requests) text (request {middle = middle} {more = more} text_is plays rest) = settles_to_rest middle last requests more rest
+
 -- ---- some end
 
 -- Lines were taken until none was on its way, or so many were.
-pub data ComesToEnd (most : ℕ) (course : Course) : Type 0 where
-  at_rest : {last : Course} (count : ℕ) → count ≤ most → TakesInTurn count course last → is_at_rest last.net ≡ true → ComesToEnd most course
+data ComesToEnd (most : ℕ) (course : Course) : Type 0 where
+  at_rest : {last : Course} (count : ℕ) → TakesInTurn count course last → is_at_rest last.net ≡ true → ComesToEnd most course
   goes_on : {last : Course} → TakesInTurn most course last → ComesToEnd most course
 
 record IsDelivery (from to : ℕ) (course : Course) : Type 0 where
@@ -108,20 +115,14 @@ line_delivered course d found = by (waiting found.site d.to) refl found.waits
     }
 
 one_line_more : (most : ℕ) (course : Course) → ComesToEnd most course → ComesToEnd (suc most) course
-one_line_more most course (at_rest count few takes rest) = at_rest count (still_few count most few) takes rest
-  where
-    still_few : (a b : ℕ) → a ≤ b → a ≤ suc b
-    still_few a b few = omega (arith, few)
+one_line_more most course (at_rest count takes rest) = at_rest count takes rest
 one_line_more most course (goes_on {last = last} takes) = by (first_direction last.net) refl
   where
-    not_more : (n : ℕ) → n ≤ suc n
-    not_more n = omega arith
-
     by : (o : Option Direction) → first_direction last.net ≡ o → ComesToEnd (suc most) course
-    by None none = at_rest most (not_more most) takes (rests 0 last.net.sites none)
+    by None none = at_rest most takes (rests 0 last.net.sites none)
     by (Some d) way = let next = line_delivered last d (first_has_line last.net.sites 0 d way) in goes_on (then_one takes way next.is)
 
-pub comes_to_end : (most : ℕ) (course : Course) → ComesToEnd most course
+comes_to_end : (most : ℕ) (course : Course) → ComesToEnd most course
 comes_to_end zero course = goes_on none_yet
 comes_to_end (suc most) course = one_line_more most course (comes_to_end most course)
 
@@ -131,26 +132,18 @@ pub record IsSettled (net : Network) : Type 0 where
   pub receipts : List Receipt
   pub last : Network
   pub settles : Settles net count receipts (standing last)
-  pub at_most : count ≤ max_count
 
-settled_by : (most : ℕ) (net : Network) → most ≡ max_count → ComesToEnd most (begun net) → IsSettled net
-settled_by most net is (at_rest {last = last} count few takes rest) = record {
-  count = count;
+settled_by : TurnsAreFew → (net : Network) → IsSound net → ComesToEnd (suc (most_now net)) (begun net) → IsSettled net
+settled_by few net sound (at_rest {last = last} count takes rest) = record {
+  count = min count max_count;
   receipts = last.receipts;
   last = last.net;
-  settles = record { last = last; takes = takes; ends = inl rest; received = refl; after = refl };
-  at_most = subst (λ n. count ≤ n) is few;
+  settles = record { count = count; last = last; takes = takes; rest = rest; counts = refl; received = refl; after = refl };
 }
-settled_by most net is (goes_on {last = last} takes) = record {
-  count = most;
-  receipts = last.receipts;
-  last = last.net;
-  settles = record { last = last; takes = takes; ends = inr is; received = refl; after = refl };
-  at_most = subst (λ n. most ≤ n) is (not_more most);
-}
+settled_by few net sound (goes_on {last = last} takes) = absurd (one_too_many (most_now net) (few (suc (most_now net)) (begun net) last sound takes))
   where
-    not_more : (n : ℕ) → n ≤ n
-    not_more n = omega arith
+    one_too_many : (most : ℕ) → suc most ≤ most → ⊥
+    one_too_many most less = omega (arith, less)
 
-pub each_settles : (net : Network) → IsSettled net
-each_settles net = settled_by max_count net refl (comes_to_end max_count (begun net))
+pub each_settles : TurnsAreFew → (net : Network) → IsSound net → IsSettled net
+each_settles few net sound = settled_by few net sound (comes_to_end (suc (most_now net)) (begun net))

@@ -39,7 +39,7 @@ kept_on count old new keeps kept = record {
     at_most : (a b : ℕ) → min a b ≤ b
     at_most a b = omega arith
 
-comes_kept : AreKeeping → (first : Network) (m : Move) (outcome : Outcome) → IsMoveWithin m → Comes first m outcome → IsKeptSound first
+pub comes_kept : AreKeeping → (first : Network) (m : Move) (outcome : Outcome) → IsMoveWithin m → Comes first m outcome → IsKeptSound first
     → IsKeptSound outcome.network
 comes_kept laws first (gives item) outcome within is kept = by (item_fault first item) refl is
   where
@@ -63,9 +63,9 @@ comes_kept laws first (delivers_line from to) outcome within is kept = by (deliv
 comes_kept laws first settles_all outcome within is kept =
     let course = is.settles.last in
     subst IsKeptSound (sym (ap (λ (v : NetView). v.network) is.settles.after))
-    (kept_on is.count first course.net (laws.settled is.count (begun first) course is.settles.takes kept.counted) kept)
+    (kept_on is.settles.count first course.net (laws.settled is.settles.count (begun first) course is.settles.takes kept.counted) kept)
 
-plays_kept : AreKeeping → {first last : Network} {moves : List Move} {text : List ℕ} → AllByRecursion IsMoveWithin moves → Plays first moves last text
+pub plays_kept : AreKeeping → {first last : Network} {moves : List Move} {text : List ℕ} → AllByRecursion IsMoveWithin moves → Plays first moves last text
     → IsKeptSound first → IsKeptSound last
 plays_kept laws within nothing kept = kept
 plays_kept laws {first = first} within (move {m = m} outcome comes text_is rest) kept =

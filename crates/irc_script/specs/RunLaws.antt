@@ -1,9 +1,8 @@
 -- What holds of running scripts.
-use Rattle.std.specs.Prelude.{◌≡◌, ◌⊎◌, ℕ, ◌≤◌, Bool, true, not, ◌&&◌, Ok, List, [], ◌∷◌, ◌++◌}
+use Rattle.std.specs.Prelude.{◌≡◌, ℕ, Bool, true, not, ◌&&◌, Ok, List, [], ◌∷◌, ◌++◌}
 use Rattle.std.specs.List.{list_any}
 use Rattle.std.specs.List.Sorted.{IsPermutation}
-use Rattle.irc_items.specs.Sound.{most_now}
-use Rattle.irc_network.specs.Network.{Network, is_at_rest, max_count}
+use Rattle.irc_network.specs.Network.{Network, is_at_rest}
 use Rattle.irc_relay.specs.Links.{Name}
 use Rattle.irc_script.specs.Networks.{exceeds, first_network, in_order}
 use Rattle.irc_script.specs.OneRoom.{IsPrintedOf}
@@ -16,9 +15,9 @@ pub record RunsToItsEnd (first : Network) (requests : List Request) : Type 0 whe
   pub text : List ℕ
   pub runs : Runs first requests last text
 
--- Each script can be run to its end, whatever its servers are.
+-- Each script that is read can be run to its end.
 abbrev pub EachRuns : Type 0
-EachRuns = (names : List Name) (requests : List Request) → RunsToItsEnd (first_network names) requests
+EachRuns = (text : List ℕ) (asked : Asked) → script_read text ≡ Ok asked → RunsToItsEnd (first_network asked.servers) asked.requests
 
 -- two runs come to the same network, and print the same
 pub record SameRun (last other : Network) (text more : List ℕ) : Type 0 where
@@ -48,8 +47,6 @@ abbrev pub PrintsOneRoom : Type 0
 PrintsOneRoom = (text : List ℕ) (asked : Asked) (requests left : List Request) (net : Network) (printed : List ℕ)
     → script_read text ≡ Ok asked → asked.requests ≡ requests ++ left → Runs (first_network asked.servers) requests net printed → IsPrintedOf net printed
 
--- Behind a `settle` no line is on its way, unless servers need 2^64 - 1 lines to tell each other of the last item.
+-- Behind a `settle` no line is on its way.
 abbrev pub SettlesToRest : Type 0
-SettlesToRest = (text : List ℕ) (asked : Asked) (requests left : List Request) (net : Network) (printed : List ℕ)
-    → script_read text ≡ Ok asked → asked.requests ≡ requests ++ settles ∷ left → Runs (first_network asked.servers) (requests ++ settles ∷ []) net printed
-    → (is_at_rest net ≡ true) ⊎ (max_count ≤ most_now net)
+SettlesToRest = (first last : Network) (requests : List Request) (text : List ℕ) → Runs first (requests ++ settles ∷ []) last text → is_at_rest last ≡ true

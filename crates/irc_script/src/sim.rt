@@ -24,7 +24,7 @@ pub const MAX_READS: u32 = 16_777_216;
 pub const READ_SIZE: usize = 4096;
 
 /// Runs a script on the network of its servers, and prints what comes of it: each line that a client receives, as the client's number
-/// and the line; `= 1` or `= 0` for a delivery, `= K` for a settling, K the lines that were taken; `! NUMBER` for a refusal.
+/// and the line; `= 1` or `= 0` for a delivery, `= K` for a settling, K the lines that were taken, at most 2^64 - 1; `! NUMBER` for a refusal.
 ///
 /// The network is one room: the lines that are printed for a client are a front of those, in order, that one room machine for its joined part of the network
 /// sends it, and all of them where the script is run to its end and no line is on its way between servers.
@@ -41,6 +41,7 @@ pub fn run_sim<R: Read, W: Write>(
     ensures { Ran (R.remaining input.old) result (W.contents output.old) (W.contents output.new) }
 {
     laws::scripts_print_one_room();
+    laws::scripts_run_on();
     let text = read_text(alloc, input)?;
     let script = read_script(alloc, &text)?;
     let mut stage = Stage::new(alloc, &script.servers)?;

@@ -121,7 +121,7 @@ impl Stage {
         }
     }
 
-    /// Delivers all lines, and prints the lines that clients receive by them and how many they are.
+    /// Delivers lines until none is on its way, and prints the lines that clients receive by them and how many were delivered, at most 2^64 - 1.
     fn settle<W: Write>(&mut self, waiting: &mut Waiting, output: &mut W) -> Result<(), Trouble>
         ensures { IsPlayed result self.old.net.network (settles_all ∷ []) self.new.net.network (sink (W.contents output.old) waiting.old.items) (sink (W.contents output.new) waiting.new.items) }
     {

@@ -1,6 +1,10 @@
 //! Scripts that are bad, and devices that fail.
 use crate::fault::SimFault;
+use crate::script::read_script;
 use crate::sim::run_sim;
+use crate::sink::Waiting;
+use crate::stage::Stage;
+use irc_names::ServerName;
 use itoa::Buffer;
 use std::alloc::{AllocError, Global};
 use std::cmp::min;
@@ -251,4 +255,53 @@ impl Read for Endless {
         buf[0] = b'\n';
         Ok(1)
     }
+}
+
+/// Two servers that are not linked, and people of both in one channel.
+const ON_BOTH_SIDES: &[u8] = b"server a.net\nserver b.net
+connect a.net h\nsay 1 NICK al\nsay 1 USER u 0 * :Al\nsay 1 JOIN #c
+connect b.net h\nsay 2 NICK bo\nsay 2 USER u 0 * :Bo\nsay 2 JOIN #c\n";
+
+/// One of two has a channel with modes, bans and a topic, and the other has it not.
+const ON_ONE_SIDE: &[u8] = b"server a.net\nserver b.net
+connect a.net h\nsay 1 NICK al\nsay 1 USER u 0 * :Al\nsay 1 JOIN #m\nsay 1 MODE #m +ntl 5
+say 1 MODE #m +bbb a!*@* b!*@* c!*@*\nsay 1 MODE #m +b d!*@*\nsay 1 TOPIC #m :hello
+connect b.net h\nsay 2 NICK bo\nsay 2 USER u 0 * :Bo\n";
+
+/// The network behind a script, of two parts.
+fn network_behind(alloc: Global, front: &[u8], behind: &[u8]) -> Result<Stage, SimFault> {
+    let mut text = Vec::new(alloc);
+    text.extend_from_slice(front)?;
+    text.extend_from_slice(behind)?;
+    let script = read_script(alloc, &text)?;
+    let mut stage = Stage::new(alloc, &script.servers)?;
+    let mut waiting = Waiting::new();
+    let mut output = Vec::new(alloc);
+    for command in &script.commands {
+        stage.perform(command, &mut waiting, &mut output)?;
+    }
+    Ok(stage)
+}
+
+/// Whether a.net and a server agree then.
+fn agree(alloc: Global, front: &[u8], behind: &[u8], other: &[u8]) -> Option<bool> {
+    let stage = network_behind(alloc, front, behind).ok()?;
+    Some(
+        stage
+            .net
+            .agrees(&ServerName::read(b"a.net")?, &ServerName::read(other)?),
+    )
+}
+
+fn agreement_is_told(alloc: Global) -> bool {
+    let topics = b"say 1 TOPIC #c :one\nsay 2 TOPIC #c :two\n";
+    agree(alloc, ON_BOTH_SIDES, b"", b"b.net") == Some(true)
+        && agree(alloc, ON_ONE_SIDE, b"", b"b.net") == Some(true)
+        && agree(alloc, ON_BOTH_SIDES, topics, b"b.net") == Some(false)
+        && agree(alloc, ON_BOTH_SIDES, b"", b"x.net") == Some(false)
+}
+
+#[test]
+fn servers_agree_before_they_are_linked(rt: HostRuntime) {
+    assert!(rt; agreement_is_told(rt.alloc()));
 }

@@ -1,5 +1,5 @@
 -- A network as its code has it while something is done to it.
-use Rattle.std.specs.Prelude.{◌≡◌, ◌<◌, ℕ, zero, suc, Bool, true, false, Option, Some, None, List, [], ◌∷◌, ◌⊎◌, length}
+use Rattle.std.specs.Prelude.{◌≡◌, ◌<◌, ℕ, zero, suc, Bool, true, false, Option, Some, None, List, [], ◌∷◌, length}
 use Rattle.std.specs.List.{slice_get}
 use Rattle.std.specs.Option.{option_and_then}
 use Rattle.arrayvec.specs.ArrayVec.{ArrayVec}
@@ -8,7 +8,7 @@ use Rattle.irc_relay.specs.Links.{Name}
 use Rattle.irc_forest.specs.Forests.{name_at}
 use Rattle.irc_network.specs.declared.receipt.Receipt.{Receipt as KeptReceipt}
 use Rattle.irc_network.specs.declared.network.Ends.{Ends as KeptEnds}
-use Rattle.irc_network.specs.Network.{Course, Direction, Ends, Network, Site, TakesInTurn, delivered, ends_of, is_at_rest, left, max_count, sent_out, waiting, with_site}
+use Rattle.irc_network.specs.Network.{Course, Direction, Ends, Network, Site, delivered, ends_of, left, sent_out, waiting, with_site}
 use Rattle.irc_network.specs.Views.{receipts_of}
 
 abbrev pub course : Network → List KeptReceipt → Course
@@ -66,8 +66,3 @@ delivery_in course from to = option_and_then (λ (ends : Ends). delivered ends.n
 abbrev pub DeliversAt : Option Course → Bool → Course → Course → Type 0
 DeliversAt None was_taken old new = (was_taken ≡ false) × (new ≡ old)
 DeliversAt (Some course) was_taken old new = (was_taken ≡ true) × (new ≡ course)
-
--- so many were taken in turn, and none is left, or no more are counted
-pub record SettlesAt (count : ℕ) (old new : Course) : Type 0 where
-  pub takes : TakesInTurn count old new
-  pub ends : (is_at_rest new.net ≡ true) ⊎ (count ≡ max_count)

@@ -9,14 +9,16 @@ pub appends_nothing : (known : Option (List ℕ)) → Appends known known []
 appends_nothing None = tt
 appends_nothing (Some bytes) = sym (append-nil bytes)
 
-pub appends_both : (old middle new : Option (List ℕ)) (first more : List ℕ) → Appends old middle first → Appends middle new more → Appends old new (first ++ more)
+pub appends_both : (old middle new : Option (List ℕ)) (first more : List ℕ) → Appends old middle first → Appends middle new more
+    → Appends old new (first ++ more)
 appends_both None middle new first more p q = tt
 appends_both (Some xs) None new first more p q = absurd p
 appends_both (Some xs) (Some ys) None first more p q = absurd q
 appends_both (Some xs) (Some ys) (Some zs) first more p q = q ∙ ap (λ bytes. bytes ++ more) p ∙ append_assoc xs first more
 
 -- one element more, by its place
-pub more_at : {X : Type 0} (f : X → List ℕ) (xs : List X) (i : ℕ) (d : X) → i < length xs → flat_map f (take (i + 1) xs) ≡ flat_map f (take i xs) ++ f (get_or xs i d)
+pub more_at : {X : Type 0} (f : X → List ℕ) (xs : List X) (i : ℕ) (d : X) → i < length xs
+    → flat_map f (take (i + 1) xs) ≡ flat_map f (take i xs) ++ f (get_or xs i d)
 more_at f xs i d within =
     ap (flat_map f) (take_more xs i d within) ∙ flat_map-append f (take i xs) (get_or xs i d ∷ [])
     ∙ ap (λ last. flat_map f (take i xs) ++ last) (append-nil (f (get_or xs i d)))
@@ -30,7 +32,8 @@ around_at f xs i d within =
     ∙ sym (append_assoc (flat_map f (take i xs)) (f (get_or xs i d)) (flat_map f (drop (i + 1) xs)))
 
 -- the same of an element that is known
-pub one_more : {X : Type 0} (f : X → List ℕ) (xs : List X) (i : ℕ) (d : X) → i < length xs → d ≡ get_or xs i d → flat_map f (take (i + 1) xs) ≡ flat_map f (take i xs) ++ f d
+pub one_more : {X : Type 0} (f : X → List ℕ) (xs : List X) (i : ℕ) (d : X) → i < length xs → d ≡ get_or xs i d
+    → flat_map f (take (i + 1) xs) ≡ flat_map f (take i xs) ++ f d
 one_more f xs i d within is = more_at f xs i d within ∙ ap (λ x. flat_map f (take i xs) ++ f x) (sym is)
 
 pub all_around : {X : Type 0} (f : X → List ℕ) (xs : List X) (i : ℕ) (d : X) → i < length xs → d ≡ get_or xs i d

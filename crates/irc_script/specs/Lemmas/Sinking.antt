@@ -22,7 +22,15 @@ prints_both {a = a} {b = b} {c = c} {s = s} {t = t} p q = record {
 
 pub no_loss : {a b : Sink} {s : List ℕ} → Prints a b s → Loses a b s
 no_loss {b = b} p =
-    record { lost = []; prints = record { written = p.written; appended = p.appended; whole = p.whole ∙ ap (λ w. p.written ++ w) (sym (append-nil b.waiting)) } }
+    record {
+      lost = [];
+      prints = record {
+        written = p.written;
+        appended = p.appended;
+        whole = p.whole
+            ∙ ap (λ w. p.written ++ w) (sym (append-nil b.waiting));
+      };
+    }
 
 -- nothing is printed, and the whole text is lost
 pub all_lost : (s : Sink) (text : List ℕ) → Loses s s text
@@ -78,7 +86,8 @@ pub whole_appended : (old new : Option (List ℕ)) (text : List ℕ) → Prints 
 whole_appended old new text p = subst (λ bytes. Appends old new bytes) (sym (p.whole ∙ append-nil p.written)) p.appended
 
 -- all that waited was written, or is lost
-pub written_off : (r : Result (Unit {0}) Trouble) (old new : Option (List ℕ)) (text waiting after : List ℕ) → text ≡ waiting → after ≡ [] → OnOk r (Appends old new text)
+pub written_off : (r : Result (Unit {0}) Trouble) (old new : Option (List ℕ)) (text waiting after : List ℕ) → text ≡ waiting → after ≡ []
+    → OnOk r (Appends old new text)
     → Tells old new text → IsPrinted r (sink old waiting) (sink new after) []
 written_off (Ok _) old new text waiting after e f p q =
     record { written = text; appended = p; whole = append-nil waiting ∙ sym e ∙ sym (append-nil text) ∙ ap (λ a. text ++ a) (sym f) }

@@ -3,9 +3,10 @@ use Rattle.std.specs.Prelude.{◌≡◌, ℕ, Bool, if◌then◌else◌, Option,
 use Rattle.irc_network.specs.Network.{Network}
 use Rattle.irc_script.specs.declared.fault.Trouble.{Trouble}
 use Rattle.irc_script.specs.Moves.{Move, moves_of}
+use Rattle.irc_script.specs.Networks.{first_network}
 use Rattle.irc_script.specs.Printing.{refusal_line}
-use Rattle.irc_script.specs.Runs.{Plays, Runs}
-use Rattle.irc_script.specs.Scripts.{Request}
+use Rattle.irc_script.specs.Runs.{Plays, Runs, IsFront}
+use Rattle.irc_script.specs.Scripts.{Asked, Request, script_read}
 use Rattle.irc_script.specs.Sinks.{IsPrinted, Sink, Prints, Loses}
 
 -- how many lines a delivery took
@@ -45,7 +46,19 @@ pub data Begins : Network → List Request → List ℕ → Type 0 where
   further : {first middle : Network} {r : Request} {requests : List Request} {start more text : List ℕ}
       → text ≡ start ++ more → Plays first (moves_of r) middle start → Begins middle requests more → Begins first (r ∷ requests) text
 
--- the same of requests
+-- What is asked for can be run to its end, and this is a front of what it prints.
+pub record RunOn (first : Network) (requests : List Request) (text : List ℕ) : Type 0 where
+  pub last : Network
+  pub whole : List ℕ
+  pub runs : Runs first requests last whole
+  pub front : IsFront text whole
+
+-- Of a script that is read, whatever of it was begun can be run to its end.
+abbrev pub ScriptsRunOn : Type 0
+ScriptsRunOn = (text : List ℕ) (asked : Asked) (printed : List ℕ) → script_read text ≡ Ok asked → Begins (first_network asked.servers) asked.requests printed
+    → RunOn (first_network asked.servers) asked.requests printed
+
+-- requests were run, and what came of them is printed
 pub record RunWhole (first : Network) (requests : List Request) (last : Network) (old new : Sink) : Type 0 where
   pub text : List ℕ
   pub runs : Runs first requests last text

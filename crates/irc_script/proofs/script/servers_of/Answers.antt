@@ -23,4 +23,5 @@ loop-line-preserved c =
     }
 
 pub returns-clause-servers : goal.returns-clause-servers
-returns-clause-servers c = sym (c.loop-line.invariant.all ∙ all_named c.loop-line.servers.items c.args.lines.now c.loop-line.line-index (grind (arith, common_steps)))
+returns-clause-servers c = sym
+    (c.loop-line.invariant.all ∙ all_named c.loop-line.servers.items c.args.lines.now c.loop-line.line-index (grind (arith, common_steps)))

@@ -23,4 +23,5 @@ returns-in_err-perform g c =
     running_failed _ _ _ _ _ _ c.from_residual.ensures.0
     (subst (λ asked. RunInto c.args.stage.now.net.network asked old new)
     (sym (requests_around c.args.commands.now c.loop-command.command-index c.command-item.result c.loop-command-test.true c.command-item.is))
-    (run_into (request c.command-item.result) (requests (drop (c.loop-command.command-index + 1) c.args.commands.now)) c.loop-command.invariant c.in_err-perform.ensures))
+    (run_into (request c.command-item.result)
+    (requests (drop (c.loop-command.command-index + 1) c.args.commands.now)) c.loop-command.invariant c.in_err-perform.ensures))

@@ -29,7 +29,8 @@ invariant_of-self-2 c =
     let net = c.self.inside.network in
     let new = c.deliver_between.new.self in
     let lines = c.deliver_between.new.desk.lines.items in
-    λ _. kept_delivered c.delivery_keeps_sound.ensures net new c.args.from.now c.args.to.now lines c.in_ok-was_taken.was_taken (c.self.invariant c.if-self.false)
+    λ _. kept_delivered c.delivery_keeps_sound.ensures net new c.args.from.now c.args.to.now lines c.in_ok-was_taken.was_taken
+    (c.self.invariant c.if-self.false)
     (subst (λ ls. DeliversAt (delivery_in (course net ls) c.args.from.now c.args.to.now) c.in_ok-was_taken.was_taken (course net ls) (course new lines))
     c.new-desk.ensures c.in_ok-was_taken.ensures)
 
@@ -38,8 +39,10 @@ unfolding deliver_fault
 returns c =
     let net = c.self.inside.network in
     let lines = c.deliver_between.new.desk.lines.items in
-    subst (λ (old : NetView). IsDelivered old c.args.from.now c.args.to.now (Ok (c.in_ok-was_taken.was_taken, receipts_of lines)) (standing c.deliver_between.new.self)) c.self.view_is
+    subst (λ (old : NetView). IsDelivered old c.args.from.now c.args.to.now (Ok (c.in_ok-was_taken.was_taken, receipts_of lines))
+    (standing c.deliver_between.new.self)) c.self.view_is
     (delivers_it c.if-self.false (sym c.in_default.ensures)
     (delivers_by (delivery net c.args.from.now c.args.to.now) net c.deliver_between.new.self lines c.in_ok-was_taken.was_taken
-    (subst (λ ls. DeliversAt (delivery_in (course net ls) c.args.from.now c.args.to.now) c.in_ok-was_taken.was_taken (course net ls) (course c.deliver_between.new.self lines))
+    (subst (λ ls. DeliversAt (delivery_in (course net ls) c.args.from.now c.args.to.now) c.in_ok-was_taken.was_taken (course net ls)
+    (course c.deliver_between.new.self lines))
     c.new-desk.ensures c.in_ok-was_taken.ensures)))

@@ -13,7 +13,8 @@ returns-in_err-do_step c =
     (found_at c.args.steps.now c.loop-step.step-index c.step-item.result c.loop-step-test.true c.step-item.is) c.in_err-do_step.ensures)
 
 pub returns-in_err-push_answer : goal.returns-in_err-push_answer
-returns-in_err-push_answer c = play_wants c.args.self.now c.do_step.new.self c.args.steps.now c.from_residual-in_err-push_answer.result c.from_residual-in_err-push_answer.ensures.1
+returns-in_err-push_answer c =
+    play_wants c.args.self.now c.do_step.new.self c.args.steps.now c.from_residual-in_err-push_answer.result c.from_residual-in_err-push_answer.ensures.1
 
 pub loop-step-preserved : goal.loop-step-preserved
 loop-step-preserved c =

@@ -1,9 +1,10 @@
 use Rattle.std.proofs.Common.{◌∙◌, Ok, ap, sym, subst, refl}
 use Rattle.irc_net.specs.Calls.{IsSettled, NetView, settles_it, settling_by_failed, standing}
-use Rattle.irc_network.specs.Loops.Courses.{SettlesAt, course}
+use Rattle.irc_net.specs.Loops.Settling.{SettlesAt}
+use Rattle.irc_network.specs.Loops.Courses.{course}
 use Rattle.irc_network.specs.Views.{receipts_of}
 use Rattle.irc_net.proofs.Calling.{settles_by, settling_wants}
-use Rattle.irc_net.proofs.StaysOneRoom.{kept_settled, leaves_rest}
+use Rattle.irc_net.proofs.StaysOneRoom.{kept_settled}
 use Rattle.irc_net.proofs.net.Net.settle.Goals as goal
 
 pub returns-then-self-clause-settled : goal.returns-then-self-clause-settled
@@ -11,27 +12,24 @@ returns-then-self-clause-settled c = settling_by_failed (ap (λ (n : NetView). n
 
 pub returns-in_err-count-clause-settled : goal.returns-in_err-count-clause-settled
 returns-in_err-count-clause-settled c =
-    settling_wants c.args.self.now _ c.from_residual.result c.from_residual.ensures.1 (ap (λ (n : NetView). n.failed) (sym c.self.view_is) ∙ c.if-self.false) refl
+    settling_wants c.args.self.now _ c.from_residual.result c.from_residual.ensures.1
+    (ap (λ (n : NetView). n.failed) (sym c.self.view_is) ∙ c.if-self.false) refl
 
 pub invariant_of-self-2 : goal.invariant_of-self-2
 invariant_of-self-2 c =
     let net = c.self.inside.network in
-    let lines = c.settle.new.desk.lines.items in
-    λ _. kept_settled c.settling_keeps_sound.ensures net c.settle.new.self lines c.in_ok-count.count (c.self.invariant c.if-self.false)
-    (subst (λ ls. SettlesAt c.in_ok-count.count (course net ls) (course c.settle.new.self lines)) c.new-desk.ensures c.in_ok-count.ensures)
+    let lines = c.take_all.new.desk.lines.items in
+    λ _. kept_settled c.settling_keeps_sound.ensures net c.take_all.new.network lines c.in_ok-count.count (c.self.invariant c.if-self.false)
+    (subst (λ ls. SettlesAt c.in_ok-count.count (course net ls) (course c.take_all.new.network lines)) c.new-desk.ensures c.in_ok-count.ensures)
 
 pub returns-clause-rest : goal.returns-clause-rest
-returns-clause-rest c =
-    let net = c.self.inside.network in
-    let lines = c.settle.new.desk.lines.items in
-    leaves_rest c.settling_keeps_sound.ensures c.taken_are_few.ensures net c.settle.new.self lines c.in_ok-count.count (c.self.invariant c.if-self.false)
-    (subst (λ ls. SettlesAt c.in_ok-count.count (course net ls) (course c.settle.new.self lines)) c.new-desk.ensures c.in_ok-count.ensures)
+returns-clause-rest c = c.in_ok-count.ensures.rest
 
 pub returns-clause-settled : goal.returns-clause-settled
 returns-clause-settled c =
     let net = c.self.inside.network in
-    let lines = c.settle.new.desk.lines.items in
-    subst (λ (old : NetView). IsSettled old (Ok (c.in_ok-count.count, receipts_of lines)) (standing c.settle.new.self)) c.self.view_is
+    let lines = c.take_all.new.desk.lines.items in
+    subst (λ (old : NetView). IsSettled old (Ok (c.in_ok-count.count, receipts_of lines)) (standing c.take_all.new.network)) c.self.view_is
     (settles_it c.if-self.false
-    (settles_by net c.settle.new.self lines c.in_ok-count.count
-    (subst (λ ls. SettlesAt c.in_ok-count.count (course net ls) (course c.settle.new.self lines)) c.new-desk.ensures c.in_ok-count.ensures)))
+    (settles_by net c.take_all.new.network lines c.in_ok-count.count
+    (subst (λ ls. SettlesAt c.in_ok-count.count (course net ls) (course c.take_all.new.network lines)) c.new-desk.ensures c.in_ok-count.ensures)))

@@ -11,7 +11,8 @@ pub returns-in_default : goal.returns-in_default
 returns-in_default c =
     let lines = c.args.desk.now.lines.items in
     subst (λ (net : Network). course (seen c.self.inside) lines ≡ asked c.args.place (occurrence_of c.args.event.now) (course net lines)) c.self.view_is
-    (asked_nowhere c.args.place (occurrence_of c.args.event.now) (course (seen c.self.inside) lines) (none_here (seen c.self.inside).sites c.args.place c.in_default.ensures.item.3))
+    (asked_nowhere c.args.place (occurrence_of c.args.event.now) (course (seen c.self.inside) lines)
+    (none_here (seen c.self.inside).sites c.args.place c.in_default.ensures.item.3))
 
 pub returns : goal.returns
 returns c =

@@ -13,7 +13,8 @@ returns-in_default c = delivers_none c.args.from c.args.to c.args.self.now c.tak
 pub returns : goal.returns
 returns c =
     let lines = c.args.desk.now.lines.items in
-    delivers_one c.args.from c.args.to c.args.self.now c.take_line.new.self c.in-Some.line.items lines (course c.ask.new.self c.ask.new.desk.lines.items) c.in-Some.ensures
+    delivers_one c.args.from c.args.to c.args.self.now c.take_line.new.self c.in-Some.line.items lines
+    (course c.ask.new.self c.ask.new.desk.lines.items) c.in-Some.ensures
     (c.in_ok-ask.ensures
     ∙ ap (λ (net : Network). asked c.args.to (link_says c.args.from (read_of c.in-Some.line.items)) (course net lines))
     (ap (λ taken. record (seen c.self.inside) { taken = taken }) c.saturating_add-self-inside.ensures ∙ ap counted c.self.view_is))

@@ -9,7 +9,8 @@ pub returns : goal.returns
 returns c =
     let old = seen c.self.inside in
     let received = slice_set old.received c.in-Some.earlier c.push.new.self in
-    subst (λ (net : Network). course (record old { received = received }) c.push-2.new.self.items ≡ has_received c.args.client c.args.text.now (course net c.args.lines.now.items)) c.self.view_is
+    subst (λ (net : Network). course (record old { received = received }) c.push-2.new.self.items ≡ has_received c.args.client c.args.text.now
+    (course net c.args.lines.now.items)) c.self.view_is
     (received_one old c.args.lines.now.items c.push-2.new.self.items c.args.client c.in-Some.earlier c.args.text.now c.in-Some-get_mut.inbox.now c.push.new.self received
     (record { client = c.args.client; text = c.copied.result })
     (number_behind c.args.client c.in-Some.earlier c.in-Some.ensures.0 c.in-Some.ensures.1)

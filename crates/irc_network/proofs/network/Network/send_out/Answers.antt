@@ -12,6 +12,7 @@ loop-at-preserved c =
       c.in_ok-send.ensures.sent
           ∙ ap (λ (out : Batch). sent_at c.args.place (slice_get out.outs c.loop-at.at) so_far) c.loop-at.invariant.1
           ∙ ap (sent_at c.args.place (slice_get outs c.loop-at.at)) c.loop-at.invariant.0
-          ∙ one_more_sent c.args.place outs c.loop-at.at (course c.args.self.now c.args.desk.now.lines.items) (omega (arith, c.loop-at-test.true, c.len-at-end.ensures)),
+          ∙ one_more_sent c.args.place outs c.loop-at.at (course c.args.self.now c.args.desk.now.lines.items)
+          (omega (arith, c.loop-at-test.true, c.len-at-end.ensures)),
       c.in_ok-send.ensures.out ∙ c.loop-at.invariant.1,
     )

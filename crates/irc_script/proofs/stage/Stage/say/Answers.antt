@@ -18,21 +18,26 @@ loop-line-init g c =
     (said_is_carried c.in_ok-lines.lines.items (c.args.rest.now ++ line_feed ∷ []) c.in_ok-lines.ensures))
 
 pub give-requires : goal.give-requires
-give-requires g c = going_carried _ _ (into_iter_items c.loop-line.left) (into_iter_items c.next.new.self) c.in-Some.line c.in-Some.ensures.items c.loop-line.invariant
+give-requires g c = going_carried _ _ (into_iter_items c.loop-line.left)
+    (into_iter_items c.next.new.self) c.in-Some.line c.in-Some.ensures.items c.loop-line.invariant
 
 pub loop-line-preserved : goal.loop-line-preserved
 loop-line-preserved g c =
-    going_on _ _ (into_iter_items c.loop-line.left) (into_iter_items c.next.new.self) c.in-Some.line c.in-Some.ensures.items c.loop-line.invariant c.in_ok-give.ensures
+    going_on _ _ (into_iter_items c.loop-line.left)
+    (into_iter_items c.next.new.self) c.in-Some.line c.in-Some.ensures.items c.loop-line.invariant c.in_ok-give.ensures
 
 pub returns-in_err-give : goal.returns-in_err-give
 returns-in_err-give g c =
     let moves : lines_said c.args.client c.args.rest.now ≡ map (gives_now c.args.client) (into_iter_items c.into_iter-left.result) =
-    sym (ap (map (gives_now c.args.client)) c.into_iter-left.ensures.rest ∙ moves_of_lines c.args.client c.in_ok-lines.lines.items ∙ ap (map (gives_line c.args.client)) c.in_ok-lines.ensures) in
+    sym (ap (map (gives_now c.args.client)) c.into_iter-left.ensures.rest ∙ moves_of_lines c.args.client c.in_ok-lines.lines.items
+    ∙ ap (map (gives_line c.args.client)) c.in_ok-lines.ensures) in
     playing_failed _ _ _ _ _ _ c.from_residual-in_err-give.ensures.0
-    (going_breaks _ _ (into_iter_items c.loop-line.left) (into_iter_items c.next.new.self) c.in-Some.line _ c.in-Some.ensures.items moves c.loop-line.invariant c.in_err-give.ensures)
+    (going_breaks _ _ (into_iter_items c.loop-line.left)
+    (into_iter_items c.next.new.self) c.in-Some.line _ c.in-Some.ensures.items moves c.loop-line.invariant c.in_err-give.ensures)
 
 pub returns : goal.returns
 returns g c =
     let moves : lines_said c.args.client c.args.rest.now ≡ map (gives_now c.args.client) (into_iter_items c.into_iter-left.result) =
-    sym (ap (map (gives_now c.args.client)) c.into_iter-left.ensures.rest ∙ moves_of_lines c.args.client c.in_ok-lines.lines.items ∙ ap (map (gives_line c.args.client)) c.in_ok-lines.ensures) in
+    sym (ap (map (gives_now c.args.client)) c.into_iter-left.ensures.rest ∙ moves_of_lines c.args.client c.in_ok-lines.lines.items
+    ∙ ap (map (gives_line c.args.client)) c.in_ok-lines.ensures) in
     going_end _ _ (into_iter_items c.loop-line.left) _ (grind (arith, common_steps)) moves c.loop-line.invariant

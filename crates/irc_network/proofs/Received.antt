@@ -1,27 +1,21 @@
--- What clients receive while something is done to a network is what its course tells.
-use Rattle.std.proofs.Common.{◌≡◌, ℕ, zero, suc, nat_eq, Bool, true, false, Option, Some, None, List, [], ◌∷◌, ◌++◌, map, unwrap_or, ap, sym, subst, refl, ◌∙◌, append-nil, append_assoc, if◌then◌else◌}
+-- What clients receive while something is done to a network is what its course has among its receipts.
+use Rattle.std.proofs.Common.{◌≡◌, ℕ, zero, suc, nat_eq, Bool, true, false, Option, Some, None, List, [], ◌∷◌, ◌++◌, unwrap_or, ap, sym, subst, refl, ◌∙◌, append-nil, append_assoc, if◌then◌else◌}
 use Rattle.std.proofs.Math.Dec.{eqb-suc-suc, eqb-suc-zero, eqb-zero-suc}
-use Rattle.std.proofs.lemmas.List.{map-append}
 use Rattle.std.proofs.lemmas.List.Elements.{filter_map-append}
 use Rattle.std.specs.List.{cons_option, slice_get, slice_set}
 use Rattle.std.specs.Option.{option_and_then, option_map_or}
 use Rattle.irc_batch.specs.Batches.{Sent, line_to as line_out, end_of, line_on, end_of_link}
 use Rattle.irc_line.specs.Reading.{read_of}
-use Rattle.irc_net.specs.Calls.{delivery}
-use Rattle.irc_network.specs.Network.{Course, Ends, Network, Receipt, Site, TakesInTurn, all_sent_out, asked, asked_at, asked_of, begun, changed_at, delivered, done_by, ends_of, given, has_received, has_received_at, home_place, left, lost, made, none_yet, place_of, queued, receipt, received_by, reply, sent_out, site_at, taken_of, then_one, waiting, with_client, with_reply, with_site}
+use Rattle.irc_network.specs.Laws.{ReceiptsAreReceived}
+use Rattle.irc_network.specs.Network.{Course, Ends, Network, Receipt, Site, TakesInTurn, all_sent_out, asked, asked_at, asked_of, begun, changed_at, delivered, done_by, ends_of, given, has_received, has_received_at, home_place, left, lost, made, none_yet, place_of, queued, receipt, received_by, reply, sent_out, site_at, taken_of, then_one, waiting, with_client, with_reply, with_site, line_for, lines_for}
 use Rattle.irc_relay.specs.Links.{Name}
 use Rattle.irc_server.specs.Served.{Occurrence, link_says}
 use Rattle.irc_stage.specs.View.{View}
 use Rattle.irc_world.specs.Stepping.{Item, connect, line, gone, link, cut}
-use Rattle.irc_script.specs.OneRoom.{line_to, lines_to, receives}
-
--- what a client receives of these
-abbrev pub told_to : ℕ → List Receipt → List (List ℕ)
-told_to client receipts = lines_to client (map receives receipts)
 
 -- since clients had received so much
 abbrev pub IsTold : (ℕ → List (List ℕ)) → Course → Type 0
-IsTold before course = (client : ℕ) → received_by course.net client ≡ before client ++ told_to client course.receipts
+IsTold before course = (client : ℕ) → received_by course.net client ≡ before client ++ lines_for client course.receipts
 
 pub nothing_told : (net : Network) → IsTold (received_by net) (begun net)
 nothing_told net client = sym (append-nil (received_by net client))
@@ -34,7 +28,7 @@ same_received old new same (suc earlier) = ap (λ (inboxes : List (List (List �
 told_still : (before : ℕ → List (List ℕ)) (old new : Course) → new.net.received ≡ old.net.received → new.receipts ≡ old.receipts → IsTold before old
     → IsTold before new
 told_still before old new same receipts told client =
-    same_received old.net new.net same client ∙ told client ∙ ap (λ rs. before client ++ told_to client rs) (sym receipts)
+    same_received old.net new.net same client ∙ told client ∙ ap (λ rs. before client ++ lines_for client rs) (sym receipts)
 
 -- ---- a line to a client
 
@@ -69,17 +63,15 @@ received_behind course earlier text lines is (suc other) =
     put_behind course.net.received earlier other lines text is ∙ next_there (unwrap_or (slice_get course.net.received other) []) earlier other text
 
 told_behind : (client earlier : ℕ) (text : List ℕ) (receipts : List Receipt)
-    → told_to client (receipts ++ receipt (suc earlier) text ∷ []) ≡ told_to client receipts ++ if_there (suc earlier) client text
-told_behind client earlier text receipts =
-    ap (lines_to client) (map-append receives receipts (receipt (suc earlier) text ∷ []))
-    ∙ filter_map-append (line_to client) (map receives receipts) (receives (receipt (suc earlier) text) ∷ [])
+    → lines_for client (receipts ++ receipt (suc earlier) text ∷ []) ≡ lines_for client receipts ++ if_there (suc earlier) client text
+told_behind client earlier text receipts = filter_map-append (line_for client) receipts (receipt (suc earlier) text ∷ [])
 
 told_at : (before : ℕ → List (List ℕ)) (course : Course) (earlier : ℕ) (text : List ℕ) (lines : List (List ℕ))
     → slice_get course.net.received earlier ≡ Some lines → IsTold before course → IsTold before (has_received_at earlier text course lines)
 told_at before course earlier text lines is told client =
     received_behind course earlier text lines is client
     ∙ ap (λ ls. ls ++ if_there (suc earlier) client text) (told client)
-    ∙ append_assoc (before client) (told_to client course.receipts) (if_there (suc earlier) client text)
+    ∙ append_assoc (before client) (lines_for client course.receipts) (if_there (suc earlier) client text)
     ∙ ap (λ ls. before client ++ ls) (sym (told_behind client earlier text course.receipts))
 
 client_told : (before : ℕ → List (List ℕ)) (client : ℕ) (text : List ℕ) (course : Course) → IsTold before course
@@ -157,13 +149,6 @@ taken_told before none_yet told = told
 taken_told before (then_one {between = between} {last = last} {direction = d} earlier way is) told =
     delivered_told before d.from d.to between last is (taken_told before earlier told)
 
-pub delivery_told : (net : Network) (from to : Name) (course : Course) → delivery net from to ≡ Some course → IsTold (received_by net) course
-delivery_told net from to course is = by (ends_of net from to) is
-  where
-    by : (o : Option Ends) → option_and_then (λ (ends : Ends). delivered ends.near ends.far (begun net)) o ≡ Some course → IsTold (received_by net) course
-    by None e = absurd (cc e)
-    by (Some ends) e = delivered_told (received_by net) ends.near ends.far (begun net) course e (nothing_told net)
-
 -- ---- what is given
 
 one_inbox_more : (inboxes : List (List (List ℕ))) (earlier : ℕ)
@@ -209,3 +194,10 @@ done_told (cut near far) net = by (ends_of net near far)
 pub given_told : (item : Item) (net : Network) → IsTold (received_by net) (given item net)
 unfolding given
 given_told item net = told_still (received_by net) (done_by item net) (given item net) refl refl (done_told item net)
+
+pub receipts_are_received : ReceiptsAreReceived
+receipts_are_received = record {
+  given = λ item net. given_told item net;
+  delivered = λ from to net new is. delivered_told (received_by net) from to (begun net) new is (nothing_told net);
+  in_turn = λ count net new takes. taken_told (received_by net) takes (nothing_told net);
+}

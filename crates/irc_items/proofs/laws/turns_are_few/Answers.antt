@@ -1,0 +1,14 @@
+use Rattle.irc_items.proofs.Greetings.{greeting_is_met}
+use Rattle.irc_items.proofs.TurnsAreFew.{turns_are_few}
+use Rattle.irc_items.proofs.laws.turns_are_few.Goals as goal
+
+pub returns : goal.returns
+returns c = turns_are_few (record {
+  kept = c.keeps_its_setting.ensures;
+  world = c.taken_make_world.ensures;
+  greeting_met = greeting_is_met (record {
+    lines = record { written = c.written_is_read.ensures; alone = c.every_line_is_read.ensures.alone; names = c.names_are_line_words.ensures };
+    passwords = c.lines_fit.ensures.passwords;
+    names = c.lines_fit.ensures.names;
+  });
+})
