@@ -7,6 +7,11 @@
   files    no file descriptors left: the daemon does not spin, serves those that it has, and takes who waits once one is free
   backlog  two hundred connections at once, each of which is served
   idle     10,000 idle clients (fewer where the system allows fewer): memory, and processor time while nothing happens
+  storm    1,000 clients who all join one channel at once: processor time a JOIN, beside a bare relay's, and a lone text's to as many
+  slow     one client that floods another who reads slowly: that one is kept, and the one who floods is slowed
+  many     ten who flood one who reads slowly: what happens to it is told, and nobody else waits
+  dear     one client that asks what is dear without end: another is answered soon
+  burst    300 questions in one packet, by one who reads: each is answered
 
 tests/hostile_sockets.py [PART ..]. The program is crates/ircd/out/ircd (`./ircd build` makes it), or what IRCD names.
 Exit status: 0 where every part held, 1 where one did not.
@@ -14,6 +19,7 @@ Exit status: 0 where every part held, 1 where one did not.
 import os
 import resource
 import select
+import selectors
 import socket
 import subprocess
 import sys
@@ -104,6 +110,18 @@ def asks(client, word):
     return time.monotonic() - start
 
 
+# what the last of these has read
+SEEN = bytearray()
+
+
+def asks_among(client, word):
+    """How many seconds a PING takes, to one who is told other things too."""
+    start = time.monotonic()
+    client.sendall(b"PING " + word + b"\r\n")
+    SEEN[:] = wait_for(client, b"PONG a.net :" + word)
+    return time.monotonic() - start
+
+
 def told(part, holds, text):
     print(f"{'ok  ' if holds else 'FAIL'} {part}: {text}", flush=True)
     return holds
@@ -136,21 +154,29 @@ def unread():
         for client in (friend, talker):
             client.sendall(b"JOIN #c\r\n")
             wait_for(client, b" 366 ")
-        said, longest, lost = 0, 0.0, False
+        said, longest, slowed, lost = 0, 0.0, 0.0, False
         while said < 200000 and not lost:
-            talker.sendall((b"PRIVMSG deaf :" + b"x" * 400 + b"\r\n") * 50)
+            start = time.monotonic()
+            talker.sendall((b"PRIVMSG deaf :" + b"x" * 400 + b"\r\n") * 50 + b"PING t%d\r\n" % said)
             said += 50
-            longest = max(longest, asks(talker, b"t%d" % said))
-            readable, _, _ = select.select([friend], [], [], 0)
-            lost = bool(readable) and b"QUIT :Connection closed" in friend.recv(65536)
+            answered = False
+            while not answered and not lost:
+                longest = max(longest, asks_among(friend, b"f%d" % said))
+                lost = b"QUIT :Connection closed" in SEEN
+                answered = bool(select.select([talker], [], [], 0.01)[0])
+            slowed = max(slowed, time.monotonic() - start)
+            if answered:
+                talker.recv(65536)
         return told("unread", lost and longest < 0.5 and daemon.is_running(),
-                    f"lost behind {said} lines of 416 bytes; nobody else waited more than {longest * 1000:.1f} ms")
+                    f"lost behind {said} lines of 416 bytes, of which fifty took {slowed:.1f} s in the end; nobody else waited more than "
+                    f"{longest * 1000:.1f} ms")
 
 
-def talks_to(speaker, nick, lines):
-    """Has somebody say so many lines, and whether who is meant is still there then."""
-    speaker.sendall((b"PRIVMSG " + nick + b" :" + b"x" * 400 + b"\r\n") * lines + b"ISON " + nick + b"\r\n")
-    return nick in wait_for(speaker, b" 303 ").rsplit(b" 303 ", 1)[1]
+def talks_to(speakers, nick, lines):
+    """Has some say so many lines together, and whether who is meant is still there then. They are many, since each is slowed once much waits."""
+    for speaker in speakers:
+        speaker.sendall((b"PRIVMSG " + nick + b" :" + b"x" * 400 + b"\r\n") * (lines // len(speakers)) + b"ISON " + nick + b"\r\n")
+    return all([nick in wait_for(speaker, b" 303 ").rsplit(b" 303 ", 1)[1] for speaker in speakers])
 
 
 def longest_pause(client, mark):
@@ -167,29 +193,30 @@ def longest_pause(client, mark):
 
 def lagging():
     with Daemon(room=1 << 20) as daemon:
-        speaker = daemon.person("sp")
+        speakers = [daemon.person(f"sp{number}") for number in range(100)]
         lost = daemon.person("lost")
-        hundreds = 0
-        while talks_to(speaker, b"lost", 100):
-            hundreds += 1
+        thousands = 0
+        while talks_to(speakers, b"lost", 500):
+            thousands += 1
         lost.close()
         pauses = []
-        for number in range(10):
+        for number in range(5):
             nick = f"r{number}".encode()
             reader = daemon.person(nick.decode())
             # half of what would be too much waits, and as much again once some of it was read: so it lies in two pieces
-            for _ in range(hundreds - 12):
-                talks_to(speaker, nick, 100)
+            for _ in range(thousands - 2):
+                talks_to(speakers, nick, 500)
             wanted = reader.recv(1 << 20)
             while len(wanted) < 1_500_000:
                 wanted += reader.recv(1 << 20)
-            for _ in range(12):
-                talks_to(speaker, nick, 100)
-            speaker.sendall(b"PRIVMSG " + nick + b" :the last\r\n")
-            asks(speaker, b"done")
+            for _ in range(2):
+                talks_to(speakers, nick, 500)
+            speakers[0].sendall(b"PRIVMSG " + nick + b" :the last\r\n")
+            asks(speakers[0], b"done")
             pauses.append(longest_pause(reader, b":the last\r\n"))
             reader.close()
-        return told("lagging", max(pauses) < 0.05, f"of ten who fell behind by half a megabyte and read again, the longest pause was {max(pauses) * 1000:.1f} ms")
+        return told("lagging", max(pauses) < 0.05,
+                    f"of five who fell behind by half a megabyte and read again, the longest pause was {max(pauses) * 1000:.1f} ms")
 
 
 def files():
@@ -271,7 +298,248 @@ def idle():
                     f"{busy * 100:.2f} of 100 of a processor while they are idle; a PING takes {answer * 1000:.1f} ms")
 
 
-PARTS = {"flood": flood, "unread": unread, "lagging": lagging, "files": files, "backlog": backlog, "idle": idle}
+def as_process(code, *words):
+    """A client that is a process of its own, so that it does not share this one's time. It speaks as soon as it is connected."""
+    head = ("import select,socket,sys,time\ndef person(nick):\n s=socket.create_connection(('127.0.0.1',int(sys.argv[1])))\n"
+            " s.sendall(b'NICK '+nick+b'\\r\\nUSER u 0 * :x\\r\\n')\n r=b''\n while b' 422 ' not in r: r+=s.recv(65536)\n return s\n")
+    return subprocess.Popen([sys.executable, "-c", head + code, *map(str, words)], stdout=subprocess.PIPE, stderr=subprocess.DEVNULL)
+
+
+def end_of(process):
+    process.kill()
+    process.wait()
+    process.stdout.close()
+
+
+# one that takes what others send to many, and sends it on in as few writes as it can
+RELAY = """
+import selectors, socket
+door = socket.create_server(("127.0.0.1", int(__import__("sys").argv[1])), backlog=2000)
+print("ready", flush=True)
+some, waiting = [], {}
+look = selectors.DefaultSelector()
+for _ in range(int(__import__("sys").argv[2])):
+    one = door.accept()[0]
+    one.setblocking(False)
+    look.register(one, selectors.EVENT_READ)
+names = []
+while True:
+    for key, _ in look.select():
+        if not key.fileobj.recv(4096):
+            raise SystemExit
+        own = waiting[key.fileobj] = bytearray()
+        names.append(b"p%d" % len(names))
+        for row in waiting.values():
+            row += b":p1000!u@127.0.0.1 JOIN #c\\r\\n"
+        text = b" ".join(names)
+        for start in range(0, len(text), 470):
+            own += b":a.net 353 p1000 = #c :" + text[start:start + 470] + b"\\r\\n"
+        own += b":a.net 366 p1000 #c :End of NAMES list\\r\\n"
+    for one, row in waiting.items():
+        if row:
+            one.send(row)
+            row.clear()
+"""
+
+
+def processor(pid):
+    """Processor seconds of a process with one thread, to the nanosecond."""
+    with open(f"/proc/{pid}/schedstat", encoding="ascii") as file:
+        return int(file.read().split()[0]) / 1e9
+
+
+def read_all(clients, mark, wanted):
+    """Reads from all until a mark has come so often."""
+    with selectors.DefaultSelector() as look:
+        for client in clients:
+            look.register(client, selectors.EVENT_READ)
+        lines = 0
+        while lines < wanted:
+            ready = look.select(5)
+            if not ready:
+                raise OSError(f"{lines} lines of {wanted}")
+            for key, _ in ready:
+                piece = key.fileobj.recv(1 << 20)
+                if not piece:
+                    raise OSError("closed")
+                lines += piece.count(mark)
+
+
+def all_join(clients, pid):
+    """How many processor seconds a JOIN takes a server, where all say it at once and read what they are shown."""
+    start = processor(pid)
+    for client in clients:
+        client.sendall(b"JOIN #c\r\n")
+        client.setblocking(False)
+    read_all(clients, b" JOIN ", len(clients) * (len(clients) + 1) // 2)
+    return (processor(pid) - start) / len(clients)
+
+
+TEXTS = 10
+
+
+def lone_text(clients, pid):
+    """How many processor seconds a text to all of them takes, each said when the one before it has come."""
+    time.sleep(0.5)
+    start = processor(pid)
+    for number in range(TEXTS):
+        clients[0].sendall(b"PRIVMSG #c :text\r\n")
+        read_all(clients[1:], b" PRIVMSG ", len(clients) - 1)
+    return (processor(pid) - start) / TEXTS
+
+
+STORM = 1000
+
+
+def storm():
+    with Daemon() as daemon:
+        clients = [daemon.person(f"p{number}") for number in range(STORM)]
+        join = all_join(clients, daemon.process.pid) * 1e6
+        text = lone_text(clients, daemon.process.pid) * 1e6
+        for client in clients:
+            client.close()
+    with socket.socket() as free:
+        free.bind(("127.0.0.1", 0))
+        port = free.getsockname()[1]
+    relay = subprocess.Popen([sys.executable, "-c", RELAY, str(port), str(STORM)], stdout=subprocess.PIPE)
+    try:
+        relay.stdout.readline()
+        clients = [socket.create_connection(("127.0.0.1", port)) for _ in range(STORM)]
+        bare = all_join(clients, relay.pid) * 1e6
+        for client in clients:
+            client.close()
+    finally:
+        end_of(relay)
+    # on a machine with other load all three grow: a JOIN that wrote each line by itself would take as much as half a text, and the list of names
+    return told("storm", join < 400 or join < 3 * bare or join < text / 3,
+                f"of {STORM} who join one channel at once each JOIN takes {join:.0f} us of the processor; a bare relay in Python takes {bare:.0f} us; "
+                f"a text to all of them by itself, whose lines cannot wait, {text:.0f} us")
+
+
+# one that reads so many bytes a second
+READER = """
+s = person(b"rd")
+print("ready", flush=True)
+rate, start, got = int(sys.argv[2]), time.monotonic(), 0
+while True:
+    time.sleep(0.02)
+    due = int((time.monotonic() - start) * rate) - got
+    got += len(s.recv(due)) if due > 0 else 0
+"""
+
+FLOODER = """
+s = person(b"fl" + sys.argv[2].encode())
+line = b"PRIVMSG rd :" + b"x" * 400 + b"\\r\\n"
+print("ready", flush=True)
+while True:
+    s.sendall(line * 50)
+"""
+
+
+def flooded(room, rate, seconds, flooders=1):
+    """For how many seconds of floods the server keeps who reads so many bytes a second, and whether to the end; and the longest that another waits."""
+    with Daemon(room=room) as daemon:
+        other = daemon.person("other")
+        reader = as_process(READER, daemon.port, rate)
+        reader.stdout.readline()
+        floods = [as_process(FLOODER, daemon.port, number) for number in range(flooders)]
+        for flood_of in floods:
+            flood_of.stdout.readline()
+        longest, took, start, kept = 0.0, 0.0, time.monotonic(), True
+        try:
+            while kept and took < seconds:
+                time.sleep(0.05)
+                asked = time.monotonic()
+                other.sendall(b"ISON rd\r\n")
+                # who reads may have much to read still when the server has closed it
+                kept = b" 303 other :rd" in wait_for(other, b" 303 ")
+                longest, took = max(longest, time.monotonic() - asked), time.monotonic() - start
+        finally:
+            for process in (reader, *floods):
+                end_of(process)
+        return kept, took, longest
+
+
+def slow():
+    held = True
+    for room, rate in ((32768, 1000000), (1 << 20, 1000000), (65536, 50000)):
+        kept, took, longest = flooded(room, rate, 30)
+        held = told("slow", kept and longest < 0.1,
+                    f"who reads {rate // 1000} kB/s with a room of {room} beside one who floods it is {'kept for' if kept else 'lost after'} {took:.1f} s; "
+                    f"another waits {longest * 1000:.1f} ms at most") and held
+    return held
+
+
+def many():
+    held = True
+    for room in (32768, 1 << 20):
+        kept, took, longest = flooded(room, 1000000, 10, flooders=10)
+        held = told("many", longest < 0.1,
+                    f"who reads 1000 kB/s with a room of {room} beside ten who flood it is {'kept for' if kept else 'lost after'} {took:.1f} s; "
+                    f"another waits {longest * 1000:.1f} ms at most") and held
+    return held
+
+
+ASKER = """
+s = person(b"ask")
+line = sys.argv[2].encode()
+print("ready", flush=True)
+s.setblocking(False)
+lines = [b"NICK ask%d\\r\\n" % number if line == b"NICK" else line + b"\\r\\n" for number in range(400)]
+unsent = b""
+while True:
+    readable, writable, _ = select.select([s], [s], [])
+    if readable and not s.recv(1 << 20):
+        break
+    if writable:
+        unsent = unsent or b"".join(lines)
+        unsent = unsent[s.send(unsent):]
+"""
+
+
+def beside(daemon, line, others):
+    """The longest and the median seconds that a PING takes beside one that says a line without end."""
+    asker = as_process(ASKER, daemon.port, line)
+    try:
+        asker.stdout.readline()
+        times = []
+        for number in range(100):
+            time.sleep(0.05)
+            times.append(asks(others[number], b"x%d" % number))
+        if asker.poll() is not None:
+            raise OSError("who asks was closed")
+    finally:
+        end_of(asker)
+    return max(times), sorted(times)[50]
+
+
+def dear():
+    held = True
+    with Daemon(room=524288) as daemon:
+        others = [daemon.person(f"p{number}") for number in range(3000)]
+        for number, other in enumerate(others):
+            other.sendall(b"JOIN " + b",".join(b"#%d" % (number * 10 + place) for place in range(10)) + b"\r\n")
+            wait_for(other, b" 366 p%d #%d " % (number, number * 10 + 9))
+        for line in ("WHO *~*", "NICK"):
+            longest, median = beside(daemon, line, others)
+            held = told("dear", longest < 0.025 and daemon.is_running(),
+                        f"among 3,000 users in 30,000 channels, beside one who sends {line} without end, a PING takes {median * 1000:.1f} ms (median), "
+                        f"{longest * 1000:.1f} ms (longest)") and held
+    return held
+
+
+def burst():
+    with Daemon(room=32768) as daemon:
+        asked, client = daemon.person("x"), daemon.person("asks")
+        client.sendall(b"WHOIS x\r\n" * 300 + b"PING done\r\n")
+        read = wait_for(client, b"PONG a.net :done")
+        count = read.count(b" 318 ")
+        asked.close()
+        return told("burst", count == 300, f"of 300 questions in one packet {count} are answered, by {len(read)} bytes")
+
+
+PARTS = {"flood": flood, "unread": unread, "lagging": lagging, "files": files, "backlog": backlog, "idle": idle,
+         "storm": storm, "slow": slow, "many": many, "dear": dear, "burst": burst}
 
 
 def main():

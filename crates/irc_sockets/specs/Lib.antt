@@ -1,1 +1,3 @@
 pub mod Listening
+pub mod Gathering
+pub mod Pacing

@@ -75,9 +75,10 @@ impl Calls {
         self.may_have
     }
 
-    /// Some may be through, or have failed.
-    pub fn knock(&mut self) {
+    /// Some may be through, or have failed. So somebody has come.
+    pub fn knock(&mut self) -> bool {
         self.may_have = true;
+        true
     }
 
     /// A call that is through, and whom it has reached. Those that have failed are given up.

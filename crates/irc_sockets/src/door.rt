@@ -65,9 +65,10 @@ impl Door {
         self.left = ARRIVALS_A_ROUND;
     }
 
-    /// Connections may wait.
-    pub fn knock(&mut self) {
+    /// Connections may wait. So somebody has come.
+    pub fn knock(&mut self) -> bool {
         self.may_have = true;
+        true
     }
 
     /// What was in the way may be gone.

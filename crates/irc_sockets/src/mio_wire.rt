@@ -6,6 +6,7 @@ ghost use Rattle.irc_sockets.specs.Listening.{ListensAt};
 use crate::calls::{Callee, Calls};
 use crate::door::Door;
 use crate::host::host_of;
+use crate::round::Round;
 use crate::sockets::Sockets;
 use irc_outbox::{Got, IoFault, Ready, Wire};
 use mio::net::TcpStream;
@@ -17,6 +18,9 @@ use std::time::Duration;
 
 /// How many milliseconds one call of `ready` waits at most.
 const WAIT: u64 = 100;
+
+/// And how many while somebody is held back, since these waits are all that tells the time.
+const SHORT_WAIT: u64 = 10;
 
 /// How many things the system reports at once.
 const EVENTS: usize = 1024;
@@ -43,10 +47,7 @@ pub struct MioWire {
     links: Option<Door>,
     calls: Calls,
     sockets: Sockets,
-    /// How many sockets are left of this round.
-    reports: usize,
-    /// Whether bytes may wait though nothing is in their way, by the writes since the last report: then no wait is due.
-    has_more: bool,
+    round: Round,
 }
 
 impl MioWire {
@@ -80,8 +81,7 @@ impl MioWire {
             links,
             calls,
             sockets: Sockets::new(alloc),
-            reports: 0,
-            has_more: false,
+            round: Round::new(),
         })
     }
 
@@ -110,24 +110,48 @@ impl MioWire {
     /// Where the system fails.
     fn begin_round(&mut self) -> io::Result<()> {
         self.begin_arrivals();
-        let is_busy = self.sockets.waiting() > 0 || self.has_arrivals() || self.has_more;
-        let wait = Duration::from_millis(if is_busy { 0 } else { WAIT });
-        self.poll.poll(&mut self.events, Some(wait))?;
-        if self.events.is_empty() && !is_busy {
+        let wait = self.wait();
+        self.poll
+            .poll(&mut self.events, Some(Duration::from_millis(wait)))?;
+        let is_over = self.events.is_empty();
+        if is_over && wait > 0 {
             self.wake_doors();
         }
+        self.sockets.holding.pass(if is_over { wait } else { 0 });
+        let has_arrived = self.take_events();
+        self.sockets.let_go();
+        self.round.begin(self.sockets.waiting(), has_arrived);
+        Ok(())
+    }
+
+    /// How many milliseconds to wait for something to do.
+    fn wait(&self) -> u64 {
+        let is_busy = self.sockets.waiting() > 0 || self.has_arrivals() || self.round.has_more;
+        if is_busy {
+            0
+        } else if self.sockets.holding.is_empty() {
+            WAIT
+        } else {
+            SHORT_WAIT
+        }
+    }
+
+    /// Takes in what the system tells, and whether somebody has come who was not waiting.
+    fn take_events(&mut self) -> bool {
+        let before = self.sockets.waiting();
+        let mut has_arrived = false;
         for event in &self.events {
-            match event.token() {
+            has_arrived |= match event.token() {
                 Token(CLIENTS) => self.clients.knock(),
                 Token(LINKS) => knock(&mut self.links),
                 Token(CALLS) => self.calls.knock(),
                 Token(number) => self
                     .sockets
                     .note(number.saturating_sub(FIRST_SOCKET), event),
-            }
+            };
         }
-        self.reports = self.sockets.waiting();
-        Ok(())
+        self.sockets.put_behind(before);
+        has_arrived
     }
 
     /// A round of arrivals begins at the doors.
@@ -172,14 +196,14 @@ impl MioWire {
     fn client(&mut self) -> Option<Ready> {
         let (stream, address) = self.clients.accept()?;
         let host = host_of(address.ip())?;
-        let number = self.admit(stream)?;
+        let number = self.admit(stream, true)?;
         Some(Ready::Client(number, host))
     }
 
     /// The report of a server that has connected, likewise.
     fn link(&mut self) -> Option<Ready> {
         let (stream, _) = self.links.as_mut()?.accept()?;
-        let number = self.admit(stream)?;
+        let number = self.admit(stream, false)?;
         Some(Ready::Linked(number, None))
     }
 
@@ -188,15 +212,15 @@ impl MioWire {
         let (mut stream, name) = self.calls.next()?;
         // from now on the system is to report it as a connection, under its number
         self.poll.registry().deregister(&mut stream).ok()?;
-        let number = self.admit(stream)?;
+        let number = self.admit(stream, false)?;
         Some(Ready::Linked(number, Some(name)))
     }
 
-    /// Takes a connection in, and gives it a number.
-    fn admit(&mut self, stream: TcpStream) -> Option<u64> {
+    /// Takes a connection of a client or a link in, and gives it a number.
+    fn admit(&mut self, stream: TcpStream, is_client: bool) -> Option<u64> {
         // lines are short, and each is to go out at once; a socket that cannot be told so serves too
         let _set = stream.set_nodelay(true);
-        let number = self.sockets.add(stream)?;
+        let number = self.sockets.add(stream, is_client)?;
         if self.register(number).is_none() {
             self.sockets.remove(number);
             return None;
@@ -219,40 +243,50 @@ impl MioWire {
         if let Some(report) = self.arrival() {
             return report;
         }
-        self.reports = self.reports.saturating_sub(1);
-        self.sockets.report().unwrap_or(Ready::Idle)
+        self.round.left = self.round.left.saturating_sub(1);
+        self.sockets.report(&mut self.round).unwrap_or(Ready::Idle)
+    }
+
+    /// Whether another turn follows soon: of this round, or of the next one, where nobody has come for whom that would be late.
+    fn has_next_turn(&self) -> bool {
+        let is_waiting = self.sockets.waiting() > 0;
+        self.round.left > 0 || self.has_arrivals() || (self.round.is_quiet && is_waiting)
     }
 }
 
 /// Connections may wait.
-fn knock(door: &mut Option<Door>) {
-    if let Some(door) = door {
-        door.knock();
+fn knock(door: &mut Option<Door>) -> bool {
+    match door {
+        Some(door) => door.knock(),
+        None => false,
     }
 }
 
 /// It keeps no account of what was asked. A number is that of one connection from its report until it is closed.
+///
+/// No write that was put off is forgotten. It waits in an outbox, from which the engine writes in each turn; it was put off because another turn
+/// follows, and as one was, no wait comes before that (`has_more`).
 impl Wire for MioWire {
     ghost is_after = { λ wire calls. ⊤ };
 
     fn ready(&mut self) -> Result<Ready, IoFault> {
-        let is_over = self.reports == 0 && !self.has_arrivals();
+        self.sockets.end_turn(&self.round);
+        let is_over = self.round.left == 0 && !self.has_arrivals();
         if is_over && self.begin_round().is_err() {
             return Err(IoFault::Failed);
         }
-        self.has_more = false;
+        self.round.begin_turn();
         Ok(self.report())
     }
 
     fn read(&mut self, conn: u64, buffer: &mut [u8]) -> Result<Got, IoFault> {
-        self.sockets.read(conn as usize, buffer)
+        self.sockets
+            .read(conn as usize, buffer, self.round.arrivals)
     }
 
     fn write(&mut self, conn: u64, bytes: &[u8]) -> Result<usize, IoFault> {
-        let taken = self.sockets.write(conn as usize, bytes);
-        // where it failed, what others are told of that was put into their outboxes behind the writes of this turn
-        self.has_more |= taken.is_err() || self.sockets.may_have_more(conn as usize);
-        taken
+        self.round.may_wait = self.has_next_turn();
+        self.sockets.write(conn as usize, bytes, &mut self.round)
     }
 
     fn close(&mut self, conn: u64) {

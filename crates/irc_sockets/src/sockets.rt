@@ -1,32 +1,17 @@
 //! The sockets of connections, by their numbers, and which of them are to be reported.
-ghost use Rattle.std.specs.Prelude.{◌≡◌, ◌≤◌, ℕ, length, IfOk};
+ghost use Rattle.std.specs.Prelude.{◌≡◌, ◌≤◌, ◌-◌, ℕ, length, IfOk};
 ghost use Rattle.irc_outbox.specs.Calls.{FitsIn};
 
+use crate::holding::Holding;
+use crate::round::Round;
+use crate::socket::{Mark, Socket};
 use irc_outbox::{Got, IoFault, Ready};
 use mio::event::Event;
 use mio::net::TcpStream;
 use slab::Slab;
 use std::alloc::Global;
 use std::collections::VecDeque;
-use std::io;
-use std::io::{ErrorKind, Read, Write};
 use std::net::Shutdown;
-
-/// The socket of a connection.
-#[derive(Drop)]
-struct Socket {
-    stream: TcpStream,
-    /// Whether there may be bytes to read, or the end of them.
-    is_readable: bool,
-    /// Whether it takes no bytes for now. The system tells when it does again.
-    is_full: bool,
-    /// Whether it has once taken less than it was given. What waits for it may since lie in two pieces, of which a write gives one.
-    has_lagged: bool,
-    /// Whether the system has told that no more bytes will come behind those that are there: it tells that once.
-    is_ending: bool,
-    /// Whether it stands in the queue.
-    is_queued: bool,
-}
 
 /// The sockets of connections, by their numbers.
 #[derive(Drop)]
@@ -34,6 +19,11 @@ pub(crate) struct Sockets {
     by_number: Slab<Socket>,
     /// The numbers of those that are to be reported, each once. There is room in it for all sockets.
     queue: VecDeque<usize, Global>,
+    /// Who is held back.
+    pub holding: Holding,
+    /// How many sockets there were.
+    count: u64,
+    alloc: Global,
 }
 
 impl Sockets {
@@ -42,6 +32,9 @@ impl Sockets {
         Sockets {
             by_number: Slab::new(alloc),
             queue: VecDeque::new(alloc),
+            holding: Holding::new(alloc),
+            count: 0,
+            alloc,
         }
     }
 
@@ -50,17 +43,13 @@ impl Sockets {
         self.queue.len()
     }
 
-    /// Takes a socket in, and gives it a number. Where memory runs out it is closed.
-    pub fn add(&mut self, stream: TcpStream) -> Option<usize> {
-        self.queue.reserve(self.by_number.len()).ok()?;
-        let socket = Socket {
-            stream,
-            is_readable: false,
-            is_full: false,
-            has_lagged: false,
-            is_ending: false,
-            is_queued: false,
-        };
+    /// Takes the socket of a client or of a link in, and gives it a number. Where memory runs out it is closed.
+    pub fn add(&mut self, stream: TcpStream, is_client: bool) -> Option<usize> {
+        self.queue
+            .reserve(self.by_number.len().saturating_add(1))
+            .ok()?;
+        self.count = self.count.wrapping_add(1);
+        let socket = Socket::new(self.alloc, stream, is_client, self.count);
         self.by_number.insert(socket).ok()
     }
 
@@ -80,146 +69,174 @@ impl Sockets {
         }
     }
 
-    /// Takes in what the system tells of a socket.
-    pub fn note(&mut self, number: usize, event: &Event) {
-        if let Some(socket) = self.by_number.get_mut(number) {
-            let is_news = socket.note(event);
-            if is_news && !socket.is_queued {
-                socket.is_queued = true;
-                enqueue(&mut self.queue, number);
-            }
+    /// Takes in what the system tells of a socket, and whether somebody has come by it who was not waiting.
+    pub fn note(&mut self, number: usize, event: &Event) -> bool {
+        let Some(socket) = self.by_number.get_mut(number) else {
+            return false;
+        };
+        let has_room = socket.note(event);
+        let has_come = socket.is_asked() && !socket.is_queued;
+        if has_room || has_come {
+            queue_up(socket, number, &mut self.queue);
         }
+        has_come
     }
 
-    /// Has a socket reported again.
-    fn put_back(&mut self, number: usize) {
-        if let Some(socket) = self.by_number.get_mut(number) {
-            socket.is_readable = true;
-            if !socket.is_queued {
-                socket.is_queued = true;
-                enqueue(&mut self.queue, number);
-            }
+    /// Puts so many who are first in the queue behind those who came after them: who has just come does not wait for those who have more to say.
+    pub fn put_behind(&mut self, count: usize) {
+        if count < self.queue.len() {
+            self.queue.rotate_left(count);
         }
     }
 
     /// The report of the socket that is first in the queue. It leaves the queue: only what is left after the read that follows puts it back,
-    /// behind the others, so that nobody who sends without end keeps them waiting.
-    pub fn report(&mut self) -> Option<Ready> {
+    /// behind the others, so that nobody who sends without end keeps them waiting. Of one that is not to be asked now nothing is told but that it
+    /// may take bytes.
+    pub fn report(&mut self, round: &mut Round) -> Option<Ready> {
         let number = self.queue.pop_front()?;
+        self.hold(number);
         let socket = self.by_number.get_mut(number)?;
         socket.is_queued = false;
-        if socket.is_readable {
-            socket.is_readable = false;
-            Some(Ready::Readable(number as u64))
-        } else {
-            Some(Ready::Writable(number as u64))
+        if !socket.is_asked() {
+            return Some(Ready::Writable(number as u64));
         }
+        socket.is_readable = false;
+        socket.was_held = false;
+        if socket.is_client {
+            round.reader = Some(number);
+        }
+        Some(Ready::Readable(number as u64))
     }
 
-    /// Reads from a socket. One that filled the buffer, and one that is to end, may have more: it is reported again.
+    /// Reads from a socket. One of which something is left is reported again.
     ///
     /// # Errors
     /// Where the socket failed, or is none.
-    pub fn read(&mut self, number: usize, buffer: &mut [u8]) -> Result<Got, IoFault>
+    pub fn read(&mut self, number: usize, buffer: &mut [u8], arrivals: u64) -> Result<Got, IoFault>
         ensures { FitsIn result (length buffer.old) }
     {
         let Some(socket) = self.by_number.get_mut(number) else {
             return Err(IoFault::Failed);
         };
-        let is_ending = socket.is_ending;
-        match socket.stream.read(buffer) {
-            Ok(0) if !buffer.is_empty() => Ok(Got::End),
-            Ok(count) => {
-                if is_ending || count == buffer.len() {
-                    self.put_back(number);
-                }
-                Ok(Got::Bytes(count))
-            }
-            Err(error) => self.unread(number, error.kind()),
+        let got = socket.read(buffer, arrivals);
+        if socket.is_asked() {
+            queue_up(socket, number, &mut self.queue);
         }
+        got
     }
 
-    /// No bytes were read.
-    fn unread(&mut self, number: usize, kind: ErrorKind) -> Result<Got, IoFault>
-        ensures { (room : ℕ) → FitsIn result room }
-    {
-        match kind {
-            ErrorKind::WouldBlock => Ok(Got::Later),
-            ErrorKind::Interrupted => {
-                self.put_back(number);
-                Ok(Got::Later)
-            }
-            _ => Err(IoFault::Failed),
-        }
-    }
-
-    /// Writes to a socket. One that took less than all is full, and is not tried again before the system tells that it takes bytes.
+    /// Writes to a socket, or puts that off. One that took less than all is full, and is not tried again before the system tells that it takes
+    /// bytes. Who is next to be reported waits for nothing, so that there is room for its answers.
     ///
     /// # Errors
     /// Where the socket failed, or is none.
-    pub fn write(&mut self, number: usize, bytes: &[u8]) -> Result<usize, IoFault>
+    pub fn write(
+        &mut self,
+        number: usize,
+        bytes: &[u8],
+        round: &mut Round,
+    ) -> Result<usize, IoFault>
         ensures { IfOk result (λ count. count ≤ length bytes.now) }
     {
-        match self.by_number.get_mut(number) {
-            Some(socket) => socket.write(bytes),
-            None => Err(IoFault::Failed),
+        let is_next = self.queue.front() == Some(&number);
+        let Some(socket) = self.by_number.get_mut(number) else {
+            return Err(IoFault::Failed);
+        };
+        let more = socket.waiting.more(bytes.len());
+        let taken = socket.write(bytes, round.turn, round.may_wait && !is_next);
+        round.note_write(number, more, socket.is_stuck());
+        // where it failed, what others are told of that was put into their outboxes behind the writes of this turn
+        round.has_more |= taken.is_err() || socket.may_take_more();
+        if socket.is_asked() {
+            queue_up(socket, number, &mut self.queue);
+        }
+        taken
+    }
+
+    /// A turn is over. A client that was read in it may have filled somebody's outbox.
+    pub fn end_turn(&mut self, round: &Round) {
+        let filled = round.filled.and_then(|number| self.mark(number));
+        if let Some(socket) = round
+            .reader
+            .and_then(|number| self.by_number.get_mut(number))
+        {
+            socket.end_turn(round.answered, round.shown, filled);
         }
     }
 
-    /// Whether bytes may wait for a socket though nothing keeps it from taking them. The system has nothing to tell of it then.
-    pub fn may_have_more(&self, number: usize) -> bool {
-        match self.by_number.get(number) {
-            Some(socket) => socket.has_lagged && !socket.is_full,
-            None => false,
+    /// What tells a socket from each other, also from one that gets its number later.
+    fn mark(&self, number: usize) -> Option<Mark> {
+        let serial = self.by_number.get(number)?.serial;
+        Some(Mark { number, serial })
+    }
+
+    /// Holds a client back that has filled somebody's outbox, if that one's socket is full; but one that was let go has a turn first.
+    fn hold(&mut self, number: usize) {
+        if let Some(by) = self.filled_by(number)
+            && self.holding.hold(number, by)
+            && let Some(socket) = self.by_number.get_mut(number)
+        {
+            socket.hold();
+        }
+    }
+
+    /// Whose outbox a client has filled that is to be asked, if that one's socket is full.
+    fn filled_by(&self, number: usize) -> Option<usize> {
+        let socket = self.by_number.get(number)?;
+        let mark = socket.fills?;
+        let filled = self.by_number.get(mark.number)?;
+        let is_full = filled.is_full && filled.serial == mark.serial;
+        (is_full && socket.is_asked() && !socket.was_held).then_some(mark.number)
+    }
+
+    /// Whether a socket is full.
+    fn is_full(&self, number: usize) -> bool {
+        self.by_number
+            .get(number)
+            .is_some_and(|socket| socket.is_full)
+    }
+
+    /// Lets go whoever was held back long enough, or by a socket that takes bytes again or is gone.
+    pub fn let_go(&mut self) {
+        let mut place = 0;
+        while place < self.holding.len() {
+            match self.holding.at(place) {
+                Some(by) if self.is_full(by) => place += 1,
+                _ => {
+                    let held = self.holding.let_go(place);
+                    self.try_again(held.by);
+                    self.ask_again(held.who);
+                }
+            }
+        }
+    }
+
+    /// A socket that was full is tried again: the system tells only of much room that it takes bytes.
+    fn try_again(&mut self, number: usize)
+        ensures { self.new.holding ≡ self.old.holding }
+    {
+        if let Some(socket) = self.by_number.get_mut(number) {
+            socket.is_full = false;
+        }
+    }
+
+    /// A client is held back no more.
+    fn ask_again(&mut self, number: usize)
+        ensures { self.new.holding ≡ self.old.holding }
+    {
+        if let Some(socket) = self.by_number.get_mut(number) {
+            socket.let_go();
+            if socket.is_asked() {
+                queue_up(socket, number, &mut self.queue);
+            }
         }
     }
 }
 
-/// There is room: it was made as the socket came.
-fn enqueue(queue: &mut VecDeque<usize, Global>, number: usize) {
-    let _queued = queue.push_back(number);
-}
-
-impl Socket {
-    /// Whether the system tells what is to be reported.
-    fn note(&mut self, event: &Event) -> bool {
-        let is_over = event.is_read_closed() || event.is_error();
-        let has_bytes = event.is_readable() || is_over;
-        let has_room = self.is_full && (event.is_writable() || event.is_error());
-        self.is_ending |= is_over;
-        self.is_readable |= has_bytes;
-        self.is_full = self.is_full && !has_room;
-        has_bytes || has_room
-    }
-
-    fn write(&mut self, bytes: &[u8]) -> Result<usize, IoFault>
-        ensures { IfOk result (λ count. count ≤ length bytes.now) }
-    {
-        if self.is_full {
-            return Ok(0);
-        }
-        match self.stream.write(bytes) {
-            Ok(count) => {
-                self.is_full = count < bytes.len();
-                self.has_lagged |= self.is_full;
-                Ok(count)
-            }
-            Err(error) => self.unwritten(error.kind()),
-        }
-    }
-
-    /// No bytes were written.
-    fn unwritten(&mut self, kind: ErrorKind) -> Result<usize, IoFault>
-        ensures { IfOk result (λ count. count ≡ 0) }
-    {
-        self.has_lagged = true;
-        match kind {
-            ErrorKind::WouldBlock => {
-                self.is_full = true;
-                Ok(0)
-            }
-            ErrorKind::Interrupted => Ok(0),
-            _ => Err(IoFault::Failed),
-        }
+/// Has a socket reported, if it is not to be already. There is room: it was made as the socket came.
+fn queue_up(socket: &mut Socket, number: usize, queue: &mut VecDeque<usize, Global>) {
+    if !socket.is_queued {
+        socket.is_queued = true;
+        let _queued = queue.push_back(number);
     }
 }

@@ -1,0 +1,87 @@
+//! How many lines of a client one turn takes.
+//!
+//! What a line costs the server does not show at the wire, and there is no clock to be had. What shows is whether somebody has come meanwhile.
+//! So a client gets few lines a turn, and more of them only while nobody comes: who comes then waits for a small part of the time in which
+//! nobody did.
+ghost use Rattle.std.specs.Prelude.{◌≡◌};
+ghost use Rattle.irc_sockets.specs.Pacing.{lines_for, lines_after};
+
+/// How many lines a turn takes of one who has sent nothing that is left.
+const FIRST: usize = 2;
+
+/// How many it takes at most.
+const MOST: usize = 32;
+
+/// Behind how many turns in which nobody came a turn takes twice as many.
+const QUIET_TURNS: usize = 32;
+
+/// So many bytes for a line show that a turn's time goes into what it puts out: the next one takes twice as many at once.
+const SHOWN: usize = 512;
+
+/// Who is answered so many bytes in a turn is asked line by line, so that they can be taken before the next are made.
+const ANSWERED: usize = 4096;
+
+/// How many lines of a client one turn takes.
+#[derive(Drop)]
+pub(crate) struct Pace {
+    lines: usize,
+    /// How many turns have taken so many.
+    turns: usize,
+    /// How often somebody had come by then.
+    arrivals: u64,
+    /// Whether nothing of it is left.
+    is_idle: bool,
+}
+
+impl Pace {
+    /// That of a client who has sent nothing.
+    pub fn new() -> Self {
+        Pace {
+            lines: FIRST,
+            turns: 0,
+            arrivals: 0,
+            is_idle: true,
+        }
+    }
+
+    /// Nothing of it is left.
+    pub fn rest(&mut self) {
+        self.is_idle = true;
+    }
+
+    /// How many lines the turn at hand takes, where somebody has come so often so far: just one, where somebody has come since the last.
+    pub fn lines(&mut self, arrivals: u64) -> usize
+        ensures { result ≡ lines_for self.old arrivals }
+    {
+        if self.is_idle {
+            self.lines = FIRST;
+            self.turns = 0;
+        } else if self.arrivals != arrivals {
+            self.slow();
+        }
+        self.is_idle = false;
+        self.arrivals = arrivals;
+        self.lines
+    }
+
+    /// A turn has taken all the lines that it might: the client was answered so many bytes, and so many were put out to others.
+    pub fn note(&mut self, answered: usize, shown: usize)
+        ensures { self.new.lines ≡ lines_after self.old answered shown }
+    {
+        self.turns = self.turns.saturating_add(1);
+        if answered >= ANSWERED {
+            self.slow();
+        } else if self.turns >= QUIET_TURNS || shown / SHOWN >= self.lines {
+            self.lines = self.lines.saturating_mul(2).min(MOST);
+            self.turns = 0;
+        }
+    }
+
+    /// One line a turn, for now.
+    pub fn slow(&mut self)
+        ensures { self.new.lines ≡ 1 }
+    {
+        self.lines = 1;
+        self.turns = 0;
+    }
+}

@@ -1,0 +1,101 @@
+//! Bytes that were read and wait for their turn.
+ghost use Rattle.std.specs.Prelude.{◌≡◌, ◌≤◌, true, [], take, drop, length};
+
+use std::alloc::Global;
+use std::marker::Model;
+
+/// Bytes that were read of a socket, and were not given on yet.
+#[derive(Drop)]
+pub(crate) struct Rest {
+    bytes: Vec<u8, Global>,
+    /// How many of them were given on.
+    given: usize,
+}
+
+/// In a clause it is the bytes that are left.
+impl Model for Rest {
+    ghost use Rattle.std.specs.Prelude.{List, ℕ, ◌≤◌, drop, length};
+
+    ghost Value = { List ℕ };
+
+    ghost view = { λ rest. drop rest.given rest.bytes.items };
+
+    ghost invariant = { λ rest. rest.given ≤ length rest.bytes.items };
+}
+
+impl Rest {
+    /// Nothing.
+    pub fn new(alloc: Global) -> Self
+        ensures { result ≡ [] }
+    {
+        Rest {
+            bytes: Vec::new(alloc),
+            given: 0,
+        }
+    }
+
+    /// Whether nothing is left.
+    pub fn is_empty(&self) -> bool
+        ensures { result ≡ true → self.now ≡ [] }
+    {
+        self.given >= self.bytes.len()
+    }
+
+    /// Keeps bytes, in place of what there was. Where there is no memory for them, nothing is kept.
+    pub fn keep(&mut self, bytes: &[u8]) -> bool
+        ensures { result ≡ true → self.new ≡ bytes.now }
+    {
+        self.given = 0;
+        self.bytes.clear();
+        self.bytes.extend_from_slice(bytes).is_ok()
+    }
+
+    /// Gives so many lines on, as far as they fit, to the front of a buffer, and tells how many bytes they are.
+    pub fn give(&mut self, buffer: &mut [u8], lines: usize) -> usize
+        ensures within { result ≤ length buffer.old }
+        ensures given { take result buffer.new ≡ take result self.old }
+        ensures left { self.new ≡ drop result self.old }
+    {
+        let left = &self.bytes[self.given..];
+        let count = front_of(left, lines).min(buffer.len());
+        buffer[..count].copy_from_slice(&left[..count]);
+        self.take_off(count);
+        count
+    }
+
+    /// So many bytes were given on.
+    fn take_off(&mut self, count: usize)
+        requires { count ≤ length self.old }
+        ensures { self.new ≡ drop count self.old }
+    {
+        self.given += count;
+        if self.is_empty() {
+            self.forget();
+        }
+    }
+
+    /// Nothing is left, and takes no memory.
+    fn forget(&mut self)
+        ensures { self.new ≡ [] }
+    {
+        self.given = 0;
+        self.bytes.clear();
+        self.bytes.shrink_to_fit();
+    }
+}
+
+/// How many bytes at the front are so many lines, or all where they are fewer.
+pub(crate) fn front_of(bytes: &[u8], lines: usize) -> usize
+    ensures { result ≤ length bytes.now }
+{
+    let mut left = lines;
+    for (place, byte) in bytes.iter().enumerate() {
+        if *byte == b'\n' {
+            left = left.saturating_sub(1);
+            if left == 0 {
+                return place + 1;
+            }
+        }
+    }
+    bytes.len()
+}

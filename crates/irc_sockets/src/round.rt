@@ -1,0 +1,89 @@
+//! A round, and the turn at hand.
+ghost use Rattle.std.specs.Prelude.{◌≡◌, ◌+◌, ◌-◌, true, false, Some, None};
+
+/// The number of the first turn: at turn 0 somebody was told something last to whom nothing was said yet, and that is long ago.
+const FIRST_TURN: u64 = 64;
+
+/// A round: each socket that was ready as it began is reported once. And the turn at hand: what was reported last, and what has come of it.
+#[derive(Drop)]
+pub(crate) struct Round {
+    /// How many sockets are left to be reported.
+    pub left: usize,
+    /// Whether nobody had come as it began: then those who are served have only more of the same to say.
+    pub is_quiet: bool,
+    /// How often somebody has come so far.
+    pub arrivals: u64,
+    /// Which turn this is.
+    pub turn: u64,
+    /// The client that is read in it.
+    pub reader: Option<usize>,
+    /// Whether another turn follows soon, so that writes may wait for it.
+    pub may_wait: bool,
+    /// How many bytes its reader was answered.
+    pub answered: usize,
+    /// How many it has put out to others.
+    pub shown: usize,
+    /// Somebody else, for whom much waits by this turn, and whose socket is full.
+    pub filled: Option<usize>,
+    /// Whether bytes may wait though nothing is in their way: then no wait is due.
+    pub has_more: bool,
+}
+
+impl Round {
+    /// No round.
+    pub fn new() -> Self {
+        Round {
+            left: 0,
+            is_quiet: false,
+            arrivals: 0,
+            turn: FIRST_TURN,
+            reader: None,
+            may_wait: false,
+            answered: 0,
+            shown: 0,
+            filled: None,
+            has_more: false,
+        }
+    }
+
+    /// A round begins, with so many sockets to be reported. Somebody has come, or nobody has.
+    pub fn begin(&mut self, left: usize, has_arrived: bool)
+        ensures left { self.new.left ≡ left }
+        ensures quiet { has_arrived ≡ true → self.new.is_quiet ≡ false }
+    {
+        self.left = left;
+        self.is_quiet = !has_arrived;
+        if has_arrived {
+            self.arrivals = self.arrivals.wrapping_add(1);
+        }
+    }
+
+    /// A turn begins.
+    pub fn begin_turn(&mut self)
+        ensures more { self.new.has_more ≡ false }
+        ensures nobody { self.new.reader ≡ None }
+    {
+        self.turn = self.turn.saturating_add(1);
+        self.reader = None;
+        self.answered = 0;
+        self.shown = 0;
+        self.filled = None;
+        self.has_more = false;
+    }
+
+    /// So many bytes more wait for a socket than before this turn. It is stuck where much waits, and it takes nothing.
+    pub fn note_write(&mut self, number: usize, more: usize, is_stuck: bool)
+        ensures own { self.old.reader ≡ Some number → self.new.filled ≡ self.old.filled }
+        ensures free { is_stuck ≡ false → self.new.filled ≡ self.old.filled }
+        ensures same { self.new.reader ≡ self.old.reader }
+    {
+        if self.reader == Some(number) {
+            self.answered = self.answered.saturating_add(more);
+            return;
+        }
+        self.shown = self.shown.saturating_add(more);
+        if is_stuck && more > 0 {
+            self.filled = Some(number);
+        }
+    }
+}

@@ -1,0 +1,81 @@
+//! What waits for a socket that was put off.
+ghost use Rattle.std.specs.Prelude.{◌≡◌, ◌-◌, nat_lt};
+ghost use Rattle.irc_sockets.specs.Gathering.{is_put_off};
+
+/// So many bytes are written at once, so that nobody's outbox fills by the wait.
+const MANY: usize = 4096;
+
+/// So much waits for somebody where whoever adds to it is held back. It is what lies in one piece that shows, which may be no more than a part
+/// of a small outbox: so it is a quarter of the smallest that is any use.
+const MUCH: usize = 8192;
+
+/// How many turns without anything new a write waits at most: as many as cost no more than it does.
+const PATIENCE: u64 = 16;
+
+/// How many turns a write waits at most.
+const LONGEST: u64 = 64;
+
+/// What waits for a socket.
+#[derive(Drop)]
+pub(crate) struct Waiting {
+    /// How many bytes did behind the last turn, as far as they lay in one piece.
+    bytes: usize,
+    /// The last turn in which there were more.
+    grown_at: u64,
+    /// The turn since which they wait.
+    since: u64,
+}
+
+impl Waiting {
+    /// Nothing waits.
+    pub fn new() -> Self {
+        Waiting {
+            bytes: 0,
+            grown_at: 0,
+            since: 0,
+        }
+    }
+
+    /// How many bytes there are more than behind the last turn, where there are so many now.
+    pub fn more(&self, bytes: usize) -> usize
+        ensures { result ≡ bytes - self.now.bytes }
+    {
+        bytes.saturating_sub(self.bytes)
+    }
+
+    /// Whether something waits.
+    pub fn is_some(&self) -> bool
+        ensures { result ≡ nat_lt 0 self.now.bytes }
+    {
+        self.bytes > 0
+    }
+
+    /// Whether so much waits that whoever adds to it is held back.
+    pub fn is_much(&self) -> bool
+        ensures { result ≡ nat_lt 8192 self.now.bytes }
+    {
+        self.bytes > MUCH
+    }
+
+    /// Whether a write of so many bytes waits in this turn. The first behind a pause does not.
+    pub fn is_put_off(&self, turn: u64, bytes: usize) -> bool
+        ensures { result ≡ is_put_off self.now turn bytes }
+    {
+        bytes < MANY
+            && turn.saturating_sub(self.grown_at) <= PATIENCE
+            && (self.bytes == 0 || turn.saturating_sub(self.since) < LONGEST)
+    }
+
+    /// So many bytes wait behind this turn, of those there were in it.
+    pub fn note(&mut self, turn: u64, bytes: usize, left: usize)
+        ensures { self.new.bytes ≡ left }
+    {
+        if bytes > self.bytes {
+            self.grown_at = turn;
+        }
+        if self.bytes == 0 || left < bytes {
+            self.since = turn;
+        }
+        self.bytes = left;
+    }
+}
