@@ -9,6 +9,7 @@ pub mod Greetings
 pub mod Delivering
 pub mod TurnsAreFew
 pub mod PutOut
+pub mod ClosesNone
 pub mod MetEnds
 pub mod GoodEffects
 pub mod GoodGains

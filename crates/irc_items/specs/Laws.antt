@@ -4,7 +4,9 @@ use Rattle.irc_follow.specs.Tree.{place_in}
 use Rattle.irc_line.specs.Reading.{read_of}
 use Rattle.irc_relay.specs.Links.{Name}
 use Rattle.irc_relay.specs.Relay.{IsFront}
-use Rattle.irc_server.specs.Served.{link_says, link_up, served}
+use Rattle.irc_server.specs.Served.{link_down, link_says, link_up, of_client, served}
+use Rattle.irc_stage.specs.Handle.{Happening}
+use Rattle.irc_stage.specs.View.{View}
 use Rattle.irc_world.specs.Refused.{refused}
 use Rattle.irc_world.specs.Stepping.{Item, link}
 use Rattle.irc_world.specs.WithinLimits.{IsItemWithin}
@@ -65,3 +67,8 @@ pub record OpensBothEnds (net : Network) (near far : Name) : Type 0 where
 
 abbrev pub NewLinkIsOpen : Type 0
 NewLinkIsOpen = (net : Network) (near far : Name) → IsSound net → fault_at_rest net (link near far) ≡ None → OpensBothEnds net near far
+
+-- What a server's clients do closes no link, nor does the loss of another: a server closes one only upon a line of it, or as it is made.
+pub record OnlyLinesClose : Type 0 where
+  pub by_clients : (view : View) (happening : Happening) → closings (served view (of_client happening)).out ≡ []
+  pub by_losses : (view : View) (link : ℕ) → closings (served view (link_down link)).out ≡ []

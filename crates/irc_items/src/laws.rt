@@ -2,7 +2,7 @@
 //! check proves it, and a crate above may cite it.
 ghost use Rattle.irc_items.specs.InAnyOrder.{ClashingNicknamesGo, CrossingBurstsMeet, ItemIsReceived, RejoinJoinsTheRooms, SplitPartsTheRoom};
 ghost use Rattle.irc_items.specs.Kept.{DeliveryKeepsSound, SettlingKeepsSound, TakenAreFew, TurnLeavesFewer, TurnsAreFew};
-ghost use Rattle.irc_items.specs.Laws.{DeliveryKeepsSettings, DeliveryStaysSound, GivenKeepsSettings, GivenStaysSound, NewLinkIsOpen, NewNetworkIsSound, NoLinkIsClosed, ReceivedIsFront, RefusalsAreTheWorlds, RestIsOneRoom};
+ghost use Rattle.irc_items.specs.Laws.{DeliveryKeepsSettings, DeliveryStaysSound, GivenKeepsSettings, GivenStaysSound, NewLinkIsOpen, NewNetworkIsSound, NoLinkIsClosed, OnlyLinesClose, ReceivedIsFront, RefusalsAreTheWorlds, RestIsOneRoom};
 
 /// A network to which nothing was given is sound.
 pub fn new_network_is_sound()
@@ -87,6 +87,11 @@ pub fn no_link_is_closed()
 /// Nor does one of two that are to be linked.
 pub fn new_link_is_open()
     ensures { NewLinkIsOpen }
+{}
+
+/// Nor does any by what its clients do, or as another link is lost.
+pub fn only_lines_close()
+    ensures { OnlyLinesClose }
 {}
 
 /// At rest it is one room.
