@@ -1,3 +1,4 @@
+pub mod Completed
 pub mod LineWords
 pub mod LinesRead
 pub mod Pieces

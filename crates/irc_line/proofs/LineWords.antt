@@ -1,6 +1,6 @@
 -- What is known of the words of a line that was read: each stands in the line.
 use Rattle.std.proofs.Common.{◌≡◌, ℕ, ◌≤◌, ◌-◌, Bool, true, false, not, ◌||◌, ◌&&◌, Result, List, [], ◌∷◌, ◌++◌, length, refl, sym, ◌∙◌, ap, subst, arith, length-append}
-use Rattle.std.specs.List.{list_any, list_all, AllByRecursion}
+use Rattle.std.specs.List.{list_any, AllByRecursion}
 use Rattle.std.specs.Cmp.{first_so, second_so}
 use Rattle.std.proofs.lemmas.List.Folds.{list_all-append}
 use Rattle.irc_line.specs.declared.reading.LineFault.{LineFault}

@@ -95,7 +95,7 @@ below_both old mid piece rest used more rest_is first second k below =
 
 -- Lines that are put into a list.
 
-no_lines : lines [] ≡ []
+pub no_lines : lines [] ≡ []
 unfolding lines
 no_lines = refl
 

@@ -11,12 +11,12 @@ use Rattle.irc_line.specs.Loops.Framing.{line_begun, go_on, IsReady}
 use Rattle.irc_line.specs.Lemmas.CutLaws.{cut-cut_append}
 use Rattle.irc_line.proofs.Pieces.{tail-run, lines-run, tail-end, lines-end, tail_has_no_end, tail_alone, Grows, lines_grow}
 
-is_empty-cut : (xs : List ℕ) → is_empty (cut xs) ≡ is_empty xs
+pub is_empty-cut : (xs : List ℕ) → is_empty (cut xs) ≡ is_empty xs
 unfolding cut
 is_empty-cut [] = refl
 is_empty-cut (x ∷ xs) = refl
 
-neither : (a b : Bool) → (a || b) ≡ false → (a ≡ false) × (b ≡ false)
+pub neither : (a b : Bool) → (a || b) ≡ false → (a ≡ false) × (b ≡ false)
 neither true b none = cc none
 neither false b none = (refl, none)
 
@@ -27,7 +27,7 @@ list_any-take p (suc n) (x ∷ xs) none =
     let both = neither (p x) (list_any p xs) none in
     ap (λ b. b || list_any p (take n xs)) (both.0) ∙ list_any-take p n xs (both.1)
 
-list_any-cut : (p : ℕ → Bool) (xs : List ℕ) → list_any p xs ≡ false → list_any p (cut xs) ≡ false
+pub list_any-cut : (p : ℕ → Bool) (xs : List ℕ) → list_any p xs ≡ false → list_any p (cut xs) ≡ false
 unfolding cut
 list_any-cut p xs none = list_any-take p max_line xs none
 
@@ -100,7 +100,7 @@ no_end_behind : (b : Bool) → list_any is_line_end (cond b (0 ∷ []) []) ≡ f
 no_end_behind true = refl
 no_end_behind false = refl
 
-stream_for_has_no_end : (xs : List ℕ) → list_any is_line_end xs ≡ false → list_any is_line_end (stream_for (begun_of xs)) ≡ false
+pub stream_for_has_no_end : (xs : List ℕ) → list_any is_line_end xs ≡ false → list_any is_line_end (stream_for (begun_of xs)) ≡ false
 stream_for_has_no_end xs none =
     let behind = has_nul xs && not (has_nul (cut xs)) in
     list_any-append is_line_end (cut xs) (cond behind (0 ∷ []) [])

@@ -1,11 +1,11 @@
 -- What a line can carry, and what is known of the words of a line that was read (RFC 2812 section 2.3.1).
-use Rattle.std.specs.Prelude.{◌≢◌, ℕ, ◌≤◌, Bool, not, ◌||◌, List, [], length, IsTrue}
+use Rattle.std.specs.Prelude.{◌≢◌, ℕ, ◌≤◌, Bool, not, ◌||◌, List, [], length, unwrap_or, IsTrue}
 use Rattle.std.specs.List.{list_all, AllByRecursion}
 use Rattle.std.specs.Option.{IfSome}
 use Rattle.irc_line.specs.Limits.{max_parameters}
 use Rattle.irc_line.specs.Bytes.{is_nul, is_line_end}
 use Rattle.irc_line.specs.Lines.{earlier_pieces}
-use Rattle.irc_line.specs.Messages.{Parsed, IsPlainWord}
+use Rattle.irc_line.specs.Messages.{Parsed, Written, prefix_of, IsPlainWord}
 use Rattle.irc_line.specs.Grammar.{HasNoSpace}
 
 -- NUL, CR and LF are in no line
@@ -34,3 +34,11 @@ pub record AreLineWords (line : List ℕ) (message : Parsed) : Type 0 where
   pub params : AllByRecursion (IsWordOf line) message.params
   pub earlier_params : AllByRecursion IsPlainWord (earlier_pieces message.params)
   pub count : length message.params ≤ max_parameters
+
+-- parts of which each is bytes that a line can carry
+pub record AreCarriedParts (parts : Written) : Type 0 where
+  pub sender : IsCarried (unwrap_or (prefix_of parts.sender) [])
+  pub command : IsCarried parts.command
+  pub command_some : parts.command ≢ []
+  pub middle : AllByRecursion IsCarried parts.middle
+  pub last : IsCarried (unwrap_or parts.last [])

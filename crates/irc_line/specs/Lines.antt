@@ -55,6 +55,17 @@ nothing_begun = record { kept = []; nul_seen = false }
 abbrev pub stream_for : Begun → List ℕ
 stream_for framer = framer.kept ++ (if framer.nul_seen && not (has_nul framer.kept) then 0 ∷ [] else [])
 
+-- the lines that bytes complete which come to a framer, and what it is then
+abbrev pub completed : Begun → List ℕ → List (List ℕ)
+completed framer bytes = lines (stream_for framer ++ bytes)
+
+abbrev pub begun_behind : Begun → List ℕ → Begun
+begun_behind framer bytes = begun_of (tail (stream_for framer ++ bytes))
+
+-- whether no byte of a line has come, not even one that is not kept
+abbrev pub has_nothing : Begun → Bool
+has_nothing framer = is_empty framer.kept && not framer.nul_seen
+
 -- what each line is: 1 to 510 bytes, none of them NUL, CR or LF
 pub record IsLine (line : List ℕ) : Type 0 where
   pub some_byte : 0 < length line
@@ -70,3 +81,7 @@ pub record Takes (old : Begun) (bytes : List ℕ) (found : List (List ℕ)) (new
 -- Whatever stream led to the framer old, these bytes more end no line.
 abbrev pub EndsNoLine : Begun → List ℕ → Type 0
 EndsNoLine old bytes = (stream : List ℕ) → HasTaken old stream → lines (stream ++ bytes) ≡ lines stream
+
+-- Whatever stream led to the framer, this is whether its tail is empty.
+abbrev pub TellsTail : Begun → Bool → Type 0
+TellsTail framer none = (stream : List ℕ) → HasTaken framer stream → none ≡ is_empty (tail stream)

@@ -2,7 +2,7 @@
 ghost use Rattle.std.specs.Prelude.{◌≡◌, ℕ, ◌<◌, ◌≤◌, Bool, true, false, [], ◌++◌, length, take, slice_index, map, IsNone, IfSome, IfOk, OnOk};
 ghost use Rattle.std.specs.List.{list_any, flat_map};
 ghost use Rattle.irc_line.specs.Bytes.{is_line_end, has_nul};
-ghost use Rattle.irc_line.specs.Lines.{lines, nothing_begun, stream_for, HasTaken, Takes, EndsNoLine, IsLine};
+ghost use Rattle.irc_line.specs.Lines.{lines, has_nothing, nothing_begun, stream_for, HasTaken, Takes, TellsTail, EndsNoLine, IsLine};
 ghost use Rattle.irc_line.specs.Loops.Framing.{go_on, HasEnded, IsReady, TakesRun, TakesInto};
 ghost use Rattle.irc_line.specs.Framed.{found_in, bytes_of};
 
@@ -77,6 +77,14 @@ impl Framer {
             }
         }
         (used, None)
+    }
+
+    /// Whether no part of a line has come: the bytes so far are none, or the last of them ended a line.
+    pub fn is_empty(&self) -> bool
+        ensures value { result ≡ has_nothing self.now }
+        ensures tail { TellsTail self.now result }
+    {
+        self.kept.is_empty() && !self.nul_seen
     }
 
     /// Says what each framer keeps, and does nothing: some stream leads to it.

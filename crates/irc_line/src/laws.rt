@@ -1,7 +1,7 @@
 //! What holds of reading and writing together. Each law is a function that does nothing, and its contract is the law: the
 //! check proves it, and a crate above may cite it.
 ghost use Rattle.std.specs.Prelude.{◌≡◌};
-ghost use Rattle.irc_line.specs.Laws.{WrittenIsRead, EveryLineIsRead, IsReadSoAlone, LinesAreCarried, WordsAreOfTheLine};
+ghost use Rattle.irc_line.specs.Laws.{EveryLineIsRead, IsReadSoAlone, LinesAreCarried, LinesAreCompleted, PiecesCompleteTheSame, WordsAreOfTheLine, WrittenIsLine, WrittenIsRead};
 ghost use Rattle.irc_line.specs.Limits.{max_line, max_text, max_parameters};
 
 use crate::limits::{MAX_LINE, MAX_PARAMETERS, MAX_TEXT};
@@ -32,4 +32,15 @@ pub fn limits_are_so()
     ensures line { MAX_LINE ≡ max_line }
     ensures text { MAX_TEXT ≡ max_text }
     ensures parameters { MAX_PARAMETERS ≡ max_parameters }
+{}
+
+/// What is written of parts that a line can carry is a line: some bytes, no more than it has room for, and no NUL, CR or LF.
+pub fn written_is_line()
+    ensures { WrittenIsLine }
+{}
+
+/// However a stream is cut, its bytes complete the same lines, each piece behind the one before; and a line with its CR LF completes just that line.
+pub fn pieces_complete_the_same()
+    ensures pieces { PiecesCompleteTheSame }
+    ensures lines { LinesAreCompleted }
 {}
