@@ -1,0 +1,2 @@
+pub mod FirstReported
+pub mod LettingGo

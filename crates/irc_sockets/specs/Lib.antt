@@ -1,3 +1,3 @@
 pub mod Listening
-pub mod Gathering
-pub mod Pacing
+pub mod Numbered
+pub mod SocketTurns

@@ -2,10 +2,8 @@
 ghost use Rattle.std.specs.Prelude.{◌≡◌, ◌≤◌, ◌-◌, ℕ, length, IfOk};
 ghost use Rattle.irc_outbox.specs.Calls.{FitsIn};
 
-use crate::pace::Pace;
-use crate::rest::{Rest, front_of};
-use crate::waiting::Waiting;
 use irc_outbox::{Got, IoFault};
+use irc_turns::{Pace, Rest, Waiting, front_of};
 use mio::event::Event;
 use mio::net::TcpStream;
 use std::alloc::Global;
@@ -53,7 +51,11 @@ pub(crate) struct Socket {
 }
 
 impl Socket {
-    pub fn new(alloc: Global, stream: TcpStream, is_client: bool, serial: u64) -> Self {
+    ghost use Rattle.irc_sockets.specs.SocketTurns.{new_socket, told, takes_again, is_asked, may_take_more, is_stuck, turn_over, held_back, held_no_more, unread_as, unread, unwritten_as, unwritten};
+
+    pub fn new(alloc: Global, stream: TcpStream, is_client: bool, serial: u64) -> Self
+        ensures { result ≡ new_socket stream is_client serial }
+    {
         Socket {
             stream,
             is_client,
@@ -75,7 +77,10 @@ impl Socket {
     }
 
     /// Takes in what the system tells, and whether the socket takes bytes again.
-    pub fn note(&mut self, event: &Event) -> bool {
+    pub fn note(&mut self, event: &Event) -> bool
+        ensures again { result ≡ takes_again self.old event.now }
+        ensures told { self.new ≡ told self.old event.now }
+    {
         let is_over = event.is_read_closed() || event.is_error();
         let has_room = self.is_full && (event.is_writable() || event.is_error());
         self.is_ending |= is_over;
@@ -88,17 +93,23 @@ impl Socket {
 
     /// Whether it has something to say and is to be asked for it. A client is not that is held back, or that has not taken its answers yet.
     /// Links are never kept waiting: two that wait for one another would do so for good.
-    pub fn is_asked(&self) -> bool {
+    pub fn is_asked(&self) -> bool
+        ensures { result ≡ is_asked self.now }
+    {
         self.is_readable && !(self.is_client && (self.is_held || self.is_behind))
     }
 
     /// Whether bytes may wait though nothing keeps the socket from taking them. The system has nothing to tell of it then.
-    pub fn may_take_more(&self) -> bool {
+    pub fn may_take_more(&self) -> bool
+        ensures { result ≡ may_take_more self.now }
+    {
         !self.is_full && (self.has_lagged || self.waiting.is_some())
     }
 
     /// Whether much waits for it, and it takes nothing. A link is never: nobody is to be slow here since another server is.
-    pub fn is_stuck(&self) -> bool {
+    pub fn is_stuck(&self) -> bool
+        ensures { result ≡ is_stuck self.now }
+    {
         self.is_client && self.is_full && self.waiting.is_much()
     }
 
@@ -142,7 +153,9 @@ impl Socket {
 
     /// No bytes were read.
     fn unread(&mut self, kind: ErrorKind) -> Result<Got, IoFault>
-        ensures { (room : ℕ) → FitsIn result room }
+        ensures fits { (room : ℕ) → FitsIn result room }
+        ensures result { result ≡ unread_as kind }
+        ensures socket { self.new ≡ unread kind self.old }
     {
         self.may_have_more = kind == ErrorKind::Interrupted;
         match kind {
@@ -168,7 +181,9 @@ impl Socket {
 
     /// A turn is over in which it was read, was answered so many bytes, and had so many put out to others; and has filled somebody's outbox, or
     /// has not.
-    pub fn end_turn(&mut self, answered: usize, shown: usize, filled: Option<Mark>) {
+    pub fn end_turn(&mut self, answered: usize, shown: usize, filled: Option<Mark>)
+        ensures { self.new ≡ turn_over self.old answered shown filled }
+    {
         if !self.rest.is_empty() {
             self.pace.note(answered, shown);
         }
@@ -178,13 +193,17 @@ impl Socket {
     }
 
     /// It is held back, and begins anew then.
-    pub fn hold(&mut self) {
+    pub fn hold(&mut self)
+        ensures { self.new ≡ held_back self.old }
+    {
         self.is_held = true;
         self.pace.rest();
     }
 
     /// It is held back no more.
-    pub fn let_go(&mut self) {
+    pub fn let_go(&mut self)
+        ensures { self.new ≡ held_no_more self.old }
+    {
         self.was_held = self.is_held;
         self.is_held = false;
     }
@@ -222,7 +241,9 @@ impl Socket {
 
     /// No bytes were written.
     fn unwritten(&mut self, kind: ErrorKind) -> Result<usize, IoFault>
-        ensures { IfOk result (λ count. count ≡ 0) }
+        ensures none { IfOk result (λ count. count ≡ 0) }
+        ensures result { result ≡ unwritten_as kind }
+        ensures socket { self.new ≡ unwritten kind self.old }
     {
         self.has_lagged = true;
         self.is_behind = true;

@@ -1,11 +1,15 @@
 //! The sockets of connections, by their numbers, and which of them are to be reported.
-ghost use Rattle.std.specs.Prelude.{◌≡◌, ◌≤◌, ◌-◌, ℕ, length, IfOk};
+ghost use Rattle.std.specs.Prelude.{◌≡◌, ◌≤◌, ℕ, not, false, length, drop, [], None, IfOk, IfSome, IfNone};
+ghost use Rattle.std.specs.List.{All};
+ghost use Rattle.slab.specs.Slab.{Updates, SameValues};
+ghost use Rattle.irc_turns.specs.HeldBack.{nobody_held};
+ghost use Rattle.irc_turns.specs.Rounds.{once_more};
 ghost use Rattle.irc_outbox.specs.Calls.{FitsIn};
+ghost use Rattle.irc_sockets.specs.Numbered.{QueuesUp, queued};
 
-use crate::holding::Holding;
-use crate::round::Round;
 use crate::socket::{Mark, Socket};
 use irc_outbox::{Got, IoFault, Ready};
+use irc_turns::{Holding, Round};
 use mio::event::Event;
 use mio::net::TcpStream;
 use slab::Slab;
@@ -27,8 +31,15 @@ pub(crate) struct Sockets {
 }
 
 impl Sockets {
+    ghost use Rattle.irc_sockets.specs.Numbered.{socket_at, queue_of, turned, queue_without, ComesLast, SameButQueue, IsAdded, only, tried_again, noted, has_come, is_new_at, asked_again, is_new_again_at, mark_of, mark_of_one, is_full_one, turn_ended, filled_by, IsHeldBy, ReportsFirst, LetsGo, is_due};
+
     /// No sockets.
-    pub fn new(alloc: Global) -> Self {
+    pub fn new(alloc: Global) -> Self
+        ensures sockets { (number : ℕ) → socket_at result number ≡ None }
+        ensures queue { queue_of result ≡ [] }
+        ensures held { result.holding ≡ nobody_held }
+        ensures count { result.count ≡ 0 }
+    {
         Sockets {
             by_number: Slab::new(alloc),
             queue: VecDeque::new(alloc),
@@ -39,12 +50,21 @@ impl Sockets {
     }
 
     /// How many are to be reported.
-    pub fn waiting(&self) -> usize {
+    pub fn waiting(&self) -> usize
+        ensures { result ≡ length (queue_of self.now) }
+    {
         self.queue.len()
     }
 
     /// Takes the socket of a client or of a link in, and gives it a number. Where memory runs out it is closed.
-    pub fn add(&mut self, stream: TcpStream, is_client: bool) -> Option<usize> {
+    pub fn add(&mut self, stream: TcpStream, is_client: bool) -> Option<usize>
+        ensures free { IfSome result (λ number. socket_at self.old number ≡ None) }
+        ensures serial { IfSome result (λ number. self.new.count ≡ once_more self.old.count) }
+        ensures added { IfSome result (IsAdded stream is_client self.old self.new) }
+        ensures none { IfNone result (SameValues self.old.by_number self.new.by_number) }
+        ensures queue { queue_of self.new ≡ queue_of self.old }
+        ensures held { self.new.holding ≡ self.old.holding }
+    {
         self.queue
             .reserve(self.by_number.len().saturating_add(1))
             .ok()?;
@@ -59,7 +79,12 @@ impl Sockets {
     }
 
     /// Closes a socket. Its number is free again.
-    pub fn remove(&mut self, number: usize) {
+    pub fn remove(&mut self, number: usize)
+        ensures removed { Updates self.old.by_number self.new.by_number number None }
+        ensures queue { queue_of self.new ≡ queue_without number self.old }
+        ensures held { self.new.holding ≡ self.old.holding }
+        ensures count { self.new.count ≡ self.old.count }
+    {
         if let Some(socket) = self.by_number.try_remove(number) {
             // where the other end has closed it already there is nothing to be done
             let _closed = socket.stream.shutdown(Shutdown::Both);
@@ -70,7 +95,11 @@ impl Sockets {
     }
 
     /// Takes in what the system tells of a socket, and whether somebody has come by it who was not waiting.
-    pub fn note(&mut self, number: usize, event: &Event) -> bool {
+    pub fn note(&mut self, number: usize, event: &Event) -> bool
+        ensures come { result ≡ has_come event.now (socket_at self.old number) }
+        ensures queue { ComesLast (is_new_at event.now number self.old) number self.old self.new }
+        ensures others { SameButQueue (only (noted event.now) number self.old) self.new }
+    {
         let Some(socket) = self.by_number.get_mut(number) else {
             return false;
         };
@@ -83,7 +112,10 @@ impl Sockets {
     }
 
     /// Puts so many who are first in the queue behind those who came after them: who has just come does not wait for those who have more to say.
-    pub fn put_behind(&mut self, count: usize) {
+    pub fn put_behind(&mut self, count: usize)
+        ensures queue { queue_of self.new ≡ turned count (queue_of self.old) }
+        ensures others { SameButQueue self.old self.new }
+    {
         if count < self.queue.len() {
             self.queue.rotate_left(count);
         }
@@ -92,7 +124,10 @@ impl Sockets {
     /// The report of the socket that is first in the queue. It leaves the queue: only what is left after the read that follows puts it back,
     /// behind the others, so that nobody who sends without end keeps them waiting. Of one that is not to be asked now nothing is told but that it
     /// may take bytes.
-    pub fn report(&mut self, round: &mut Round) -> Option<Ready> {
+    pub fn report(&mut self, round: &mut Round) -> Option<Ready>
+        ensures queue { queue_of self.new ≡ drop 1 (queue_of self.old) }
+        ensures first { ReportsFirst self.old self.new round.old result round.new }
+    {
         let number = self.queue.pop_front()?;
         self.hold(number);
         let socket = self.by_number.get_mut(number)?;
@@ -154,24 +189,40 @@ impl Sockets {
     }
 
     /// A turn is over. A client that was read in it may have filled somebody's outbox.
-    pub fn end_turn(&mut self, round: &Round) {
-        let filled = round.filled.and_then(|number| self.mark(number));
-        if let Some(socket) = round
-            .reader
-            .and_then(|number| self.by_number.get_mut(number))
-        {
+    pub fn end_turn(&mut self, round: &Round)
+        ensures { self.new ≡ turn_ended round.now round.now.reader self.old }
+    {
+        let filled = self.mark_of(round.filled);
+        let Some(reader) = round.reader else {
+            return;
+        };
+        if let Some(socket) = self.by_number.get_mut(reader) {
             socket.end_turn(round.answered, round.shown, filled);
         }
     }
 
+    /// What tells somebody's socket from each other, if there is one.
+    fn mark_of(&self, number: Option<usize>) -> Option<Mark>
+        ensures { result ≡ mark_of_one self.now number }
+    {
+        match number {
+            Some(number) => self.mark(number),
+            None => None,
+        }
+    }
+
     /// What tells a socket from each other, also from one that gets its number later.
-    fn mark(&self, number: usize) -> Option<Mark> {
+    fn mark(&self, number: usize) -> Option<Mark>
+        ensures { result ≡ mark_of self.now number }
+    {
         let serial = self.by_number.get(number)?.serial;
         Some(Mark { number, serial })
     }
 
     /// Holds a client back that has filled somebody's outbox, if that one's socket is full; but one that was let go has a turn first.
-    fn hold(&mut self, number: usize) {
+    fn hold(&mut self, number: usize)
+        ensures { IsHeldBy (filled_by self.old number) number self.old self.new }
+    {
         if let Some(by) = self.filled_by(number)
             && self.holding.hold(number, by)
             && let Some(socket) = self.by_number.get_mut(number)
@@ -181,7 +232,9 @@ impl Sockets {
     }
 
     /// Whose outbox a client has filled that is to be asked, if that one's socket is full.
-    fn filled_by(&self, number: usize) -> Option<usize> {
+    fn filled_by(&self, number: usize) -> Option<usize>
+        ensures { result ≡ filled_by self.now number }
+    {
         let socket = self.by_number.get(number)?;
         let mark = socket.fills?;
         let filled = self.by_number.get(mark.number)?;
@@ -190,14 +243,19 @@ impl Sockets {
     }
 
     /// Whether a socket is full.
-    fn is_full(&self, number: usize) -> bool {
+    fn is_full(&self, number: usize) -> bool
+        ensures { result ≡ is_full_one (socket_at self.now number) }
+    {
         self.by_number
             .get(number)
             .is_some_and(|socket| socket.is_full)
     }
 
     /// Lets go whoever was held back long enough, or by a socket that takes bytes again or is gone.
-    pub fn let_go(&mut self) {
+    pub fn let_go(&mut self)
+        ensures one_by_one { LetsGo self.old self.new }
+        ensures all { All (λ held. is_due self.old held ≡ false) self.new.holding.held }
+    {
         let mut place = 0;
         while place < self.holding.len() {
             match self.holding.at(place) {
@@ -213,7 +271,7 @@ impl Sockets {
 
     /// A socket that was full is tried again: the system tells only of much room that it takes bytes.
     fn try_again(&mut self, number: usize)
-        ensures { self.new.holding ≡ self.old.holding }
+        ensures { self.new ≡ only tried_again number self.old }
     {
         if let Some(socket) = self.by_number.get_mut(number) {
             socket.is_full = false;
@@ -222,7 +280,8 @@ impl Sockets {
 
     /// A client is held back no more.
     fn ask_again(&mut self, number: usize)
-        ensures { self.new.holding ≡ self.old.holding }
+        ensures queue { ComesLast (is_new_again_at number self.old) number self.old self.new }
+        ensures others { SameButQueue (only asked_again number self.old) self.new }
     {
         if let Some(socket) = self.by_number.get_mut(number) {
             socket.let_go();
@@ -234,7 +293,10 @@ impl Sockets {
 }
 
 /// Has a socket reported, if it is not to be already. There is room: it was made as the socket came.
-fn queue_up(socket: &mut Socket, number: usize, queue: &mut VecDeque<usize, Global>) {
+fn queue_up(socket: &mut Socket, number: usize, queue: &mut VecDeque<usize, Global>)
+    ensures socket { socket.new ≡ queued socket.old }
+    ensures queue { QueuesUp (not socket.old.is_queued) number queue.old queue.new }
+{
     if !socket.is_queued {
         socket.is_queued = true;
         let _queued = queue.push_back(number);

@@ -1,6 +1,17 @@
-use Rattle.std.proofs.Common.{◌-◌, length}
+use Rattle.std.proofs.Common.{◌≡◌, ◌-◌, ◌<◌, ℕ, true, false, length, get_or}
+use Rattle.irc_turns.specs.declared.holding.Held.{Held}
+use Rattle.irc_sockets.specs.Numbered.{socket_at, is_full_one, is_due, LetsGo}
 use Rattle.irc_sockets.proofs.sockets.Sockets.let_go.Given as goal
+
+-- those that were looked at and are held still were not due, and no socket has become full
+abbrev pub invariant-loop-place : goal.invariant-loop-place
+invariant-loop-place l = record {
+  one_by_one : LetsGo l.fn.self l.self;
+  all : (k : ℕ) → k < l.place → (d : Held) → is_due l.fn.self (get_or l.self.holding.held k d) ≡ false;
+  full : (number : ℕ) → is_full_one (socket_at l.self number) ≡ true → is_full_one (socket_at l.fn.self number) ≡ true;
+  passed : l.self.holding.passed ≡ l.fn.self.holding.passed;
+}
 
 -- each client that was looked at is held back still, or let go
 abbrev pub decreases-loop-place : goal.decreases-loop-place
-decreases-loop-place l = length l.self.holding.held.items - l.place
+decreases-loop-place l = length l.self.holding.held - l.place

@@ -1,12 +1,13 @@
 //! Bytes that were read and wait for their turn.
-ghost use Rattle.std.specs.Prelude.{◌≡◌, ◌≤◌, true, [], take, drop, length};
+ghost use Rattle.std.specs.Prelude.{◌≡◌, ◌≤◌, ◌++◌, true, false, min, nat_eq, [], take, drop, length};
+ghost use Rattle.irc_turns.specs.Fronts.{front_length};
 
 use std::alloc::Global;
 use std::marker::Model;
 
 /// Bytes that were read of a socket, and were not given on yet.
 #[derive(Drop)]
-pub(crate) struct Rest {
+pub struct Rest {
     bytes: Vec<u8, Global>,
     /// How many of them were given on.
     given: usize,
@@ -36,14 +37,15 @@ impl Rest {
 
     /// Whether nothing is left.
     pub fn is_empty(&self) -> bool
-        ensures { result ≡ true → self.now ≡ [] }
+        ensures { result ≡ nat_eq 0 (length self.now) }
     {
         self.given >= self.bytes.len()
     }
 
     /// Keeps bytes, in place of what there was. Where there is no memory for them, nothing is kept.
     pub fn keep(&mut self, bytes: &[u8]) -> bool
-        ensures { result ≡ true → self.new ≡ bytes.now }
+        ensures kept { result ≡ true → self.new ≡ bytes.now }
+        ensures none { result ≡ false → self.new ≡ [] }
     {
         self.given = 0;
         self.bytes.clear();
@@ -52,8 +54,8 @@ impl Rest {
 
     /// Gives so many lines on, as far as they fit, to the front of a buffer, and tells how many bytes they are.
     pub fn give(&mut self, buffer: &mut [u8], lines: usize) -> usize
-        ensures within { result ≤ length buffer.old }
-        ensures given { take result buffer.new ≡ take result self.old }
+        ensures count { result ≡ min (front_length lines self.old) (length buffer.old) }
+        ensures given { buffer.new ≡ take result self.old ++ drop result buffer.old }
         ensures left { self.new ≡ drop result self.old }
     {
         let left = &self.bytes[self.given..];
@@ -84,9 +86,10 @@ impl Rest {
     }
 }
 
-/// How many bytes at the front are so many lines, or all where they are fewer.
-pub(crate) fn front_of(bytes: &[u8], lines: usize) -> usize
-    ensures { result ≤ length bytes.now }
+/// How many bytes at the front are so many lines, or one, or all where they are fewer.
+pub fn front_of(bytes: &[u8], lines: usize) -> usize
+    ensures within { result ≤ length bytes.now }
+    ensures front { result ≡ front_length lines bytes.now }
 {
     let mut left = lines;
     for (place, byte) in bytes.iter().enumerate() {

@@ -1,6 +1,8 @@
 //! What waits for a socket that was put off.
 ghost use Rattle.std.specs.Prelude.{◌≡◌, ◌-◌, nat_lt};
-ghost use Rattle.irc_sockets.specs.Gathering.{is_put_off};
+ghost use Rattle.irc_turns.specs.Gathering.{nothing_waits, is_put_off, waits_behind};
+
+use std::marker::Model;
 
 /// So many bytes are written at once, so that nobody's outbox fills by the wait.
 const MANY: usize = 4096;
@@ -17,7 +19,7 @@ const LONGEST: u64 = 64;
 
 /// What waits for a socket.
 #[derive(Drop)]
-pub(crate) struct Waiting {
+pub struct Waiting {
     /// How many bytes did behind the last turn, as far as they lay in one piece.
     bytes: usize,
     /// The last turn in which there were more.
@@ -26,9 +28,19 @@ pub(crate) struct Waiting {
     since: u64,
 }
 
+impl Model for Waiting {
+    ghost use Rattle.irc_turns.specs.Gathering.{Gathered, gathered};
+
+    ghost Value = { Gathered };
+
+    ghost view = { λ w. gathered w.bytes w.grown_at w.since };
+}
+
 impl Waiting {
     /// Nothing waits.
-    pub fn new() -> Self {
+    pub fn new() -> Self
+        ensures { result ≡ nothing_waits }
+    {
         Waiting {
             bytes: 0,
             grown_at: 0,
@@ -68,7 +80,7 @@ impl Waiting {
 
     /// So many bytes wait behind this turn, of those there were in it.
     pub fn note(&mut self, turn: u64, bytes: usize, left: usize)
-        ensures { self.new.bytes ≡ left }
+        ensures { self.new ≡ waits_behind self.old turn bytes left }
     {
         if bytes > self.bytes {
             self.grown_at = turn;

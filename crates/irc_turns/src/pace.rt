@@ -4,7 +4,9 @@
 //! So a client gets few lines a turn, and more of them only while nobody comes: who comes then waits for a small part of the time in which
 //! nobody did.
 ghost use Rattle.std.specs.Prelude.{◌≡◌};
-ghost use Rattle.irc_sockets.specs.Pacing.{lines_for, lines_after};
+ghost use Rattle.irc_turns.specs.Pacing.{at_first, at_rest, slowed, lines_for, at_turn, behind_turn};
+
+use std::marker::Model;
 
 /// How many lines a turn takes of one who has sent nothing that is left.
 const FIRST: usize = 2;
@@ -23,7 +25,7 @@ const ANSWERED: usize = 4096;
 
 /// How many lines of a client one turn takes.
 #[derive(Drop)]
-pub(crate) struct Pace {
+pub struct Pace {
     lines: usize,
     /// How many turns have taken so many.
     turns: usize,
@@ -33,9 +35,19 @@ pub(crate) struct Pace {
     is_idle: bool,
 }
 
+impl Model for Pace {
+    ghost use Rattle.irc_turns.specs.Pacing.{Paced, paced};
+
+    ghost Value = { Paced };
+
+    ghost view = { λ p. paced p.lines p.turns p.arrivals p.is_idle };
+}
+
 impl Pace {
     /// That of a client who has sent nothing.
-    pub fn new() -> Self {
+    pub fn new() -> Self
+        ensures { result ≡ at_first }
+    {
         Pace {
             lines: FIRST,
             turns: 0,
@@ -45,13 +57,16 @@ impl Pace {
     }
 
     /// Nothing of it is left.
-    pub fn rest(&mut self) {
+    pub fn rest(&mut self)
+        ensures { self.new ≡ at_rest self.old }
+    {
         self.is_idle = true;
     }
 
     /// How many lines the turn at hand takes, where somebody has come so often so far: just one, where somebody has come since the last.
     pub fn lines(&mut self, arrivals: u64) -> usize
-        ensures { result ≡ lines_for self.old arrivals }
+        ensures lines { result ≡ lines_for self.old arrivals }
+        ensures turn { self.new ≡ at_turn self.old arrivals }
     {
         if self.is_idle {
             self.lines = FIRST;
@@ -66,7 +81,7 @@ impl Pace {
 
     /// A turn has taken all the lines that it might: the client was answered so many bytes, and so many were put out to others.
     pub fn note(&mut self, answered: usize, shown: usize)
-        ensures { self.new.lines ≡ lines_after self.old answered shown }
+        ensures { self.new ≡ behind_turn self.old answered shown }
     {
         self.turns = self.turns.saturating_add(1);
         if answered >= ANSWERED {
@@ -79,7 +94,7 @@ impl Pace {
 
     /// One line a turn, for now.
     pub fn slow(&mut self)
-        ensures { self.new.lines ≡ 1 }
+        ensures { self.new ≡ slowed self.old }
     {
         self.lines = 1;
         self.turns = 0;

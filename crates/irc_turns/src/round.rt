@@ -1,12 +1,12 @@
 //! A round, and the turn at hand.
-ghost use Rattle.std.specs.Prelude.{◌≡◌, ◌+◌, ◌-◌, true, false, Some, None};
+ghost use Rattle.std.specs.Prelude.{◌≡◌};
 
 /// The number of the first turn: at turn 0 somebody was told something last to whom nothing was said yet, and that is long ago.
 const FIRST_TURN: u64 = 64;
 
 /// A round: each socket that was ready as it began is reported once. And the turn at hand: what was reported last, and what has come of it.
 #[derive(Drop)]
-pub(crate) struct Round {
+pub struct Round {
     /// How many sockets are left to be reported.
     pub left: usize,
     /// Whether nobody had come as it began: then those who are served have only more of the same to say.
@@ -30,8 +30,12 @@ pub(crate) struct Round {
 }
 
 impl Round {
+    ghost use Rattle.irc_turns.specs.Rounds.{no_round, round_begun, turn_begun, wait_more};
+
     /// No round.
-    pub fn new() -> Self {
+    pub fn new() -> Self
+        ensures { result ≡ no_round }
+    {
         Round {
             left: 0,
             is_quiet: false,
@@ -48,8 +52,7 @@ impl Round {
 
     /// A round begins, with so many sockets to be reported. Somebody has come, or nobody has.
     pub fn begin(&mut self, left: usize, has_arrived: bool)
-        ensures left { self.new.left ≡ left }
-        ensures quiet { has_arrived ≡ true → self.new.is_quiet ≡ false }
+        ensures { self.new ≡ round_begun self.old left has_arrived }
     {
         self.left = left;
         self.is_quiet = !has_arrived;
@@ -60,8 +63,7 @@ impl Round {
 
     /// A turn begins.
     pub fn begin_turn(&mut self)
-        ensures more { self.new.has_more ≡ false }
-        ensures nobody { self.new.reader ≡ None }
+        ensures { self.new ≡ turn_begun self.old }
     {
         self.turn = self.turn.saturating_add(1);
         self.reader = None;
@@ -73,9 +75,7 @@ impl Round {
 
     /// So many bytes more wait for a socket than before this turn. It is stuck where much waits, and it takes nothing.
     pub fn note_write(&mut self, number: usize, more: usize, is_stuck: bool)
-        ensures own { self.old.reader ≡ Some number → self.new.filled ≡ self.old.filled }
-        ensures free { is_stuck ≡ false → self.new.filled ≡ self.old.filled }
-        ensures same { self.new.reader ≡ self.old.reader }
+        ensures { self.new ≡ wait_more self.old number more is_stuck }
     {
         if self.reader == Some(number) {
             self.answered = self.answered.saturating_add(more);

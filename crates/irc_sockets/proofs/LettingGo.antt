@@ -1,0 +1,130 @@
+-- Some are let go, one after another.
+use Rattle.std.proofs.Common.{◌≡◌, ◌≢◌, ℕ, ◌+◌, ◌-◌, ◌<◌, ◌==◌, Bool, true, false, not, ◌&&◌, cond, nat_lt, Option, Some, None, List, length, get_or, refl, sym, ◌∙◌, ap, subst, arith}
+use Rattle.std.proofs.lemmas.Bool.{eqb-true, eqb-false}
+use Rattle.std.proofs.lemmas.List.{get_or-take, get_or-set_other}
+use Rattle.std.proofs.lemmas.Option.{slice_get-get_or}
+use Rattle.std.specs.List.{slice_get, swap_remove}
+use Rattle.slab.specs.Slab.{Slab, get, with_value}
+use Rattle.slab.proofs.SlabLemmas.{Updates-with_value}
+use Rattle.std.specs.Option.{IsSome}
+use Rattle.irc_turns.specs.HeldBack.{HeldBack, held_still, held_at}
+use Rattle.irc_turns.specs.declared.holding.Held.{Held}
+use Rattle.irc_sockets.specs.declared.socket.Socket.{Socket}
+use Rattle.irc_sockets.specs.declared.sockets.Sockets.{Sockets}
+use Rattle.irc_sockets.specs.Numbered.{socket_at, changed_if, changed_at, only, tried_again, asked_again, is_new_again, is_full_one, is_due, ComesLast, QueuesUp, SameButQueue, LetsOneGo}
+
+-- ---- those before the place from which one was taken stay
+
+pub before_place : (xs : List Held) (i k : ℕ) (last d : Held) → k < i → i < length xs → get_or (swap_remove xs i last) k d ≡ get_or xs k d
+before_place xs i k last d before within =
+    get_or-take (length xs - 1) _ k d (omega arith) ∙ get_or-set_other xs i k _ d (apart k i before)
+  where
+    apart : (k i : ℕ) → k < i → k ≢ i
+    apart k i before same = omega arith
+
+-- ---- who is due
+
+-- whose time is not over, by a socket that takes bytes
+takes_bytes : (passed : ℕ) (sockets : Sockets) (held : Held) (by : ℕ) (b : Bool) → cond b (Some held.by) None ≡ Some by
+    → is_full_one (socket_at sockets by) ≡ false → not (b && is_full_one (socket_at sockets held.by)) ≡ true
+takes_bytes passed sockets held by true one free = ap (λ o. not (is_full_of o)) one ∙ ap not free
+  where
+    is_full_of : Option ℕ → Bool
+    is_full_of None = false
+    is_full_of (Some number) = is_full_one (socket_at sockets number)
+takes_bytes passed sockets held by false one free = refl
+
+pub due_by_room : (sockets : Sockets) (place by : ℕ) (held : Held) → slice_get sockets.holding.held place ≡ Some held
+    → held_at sockets.holding place ≡ Some by → is_full_one (socket_at sockets by) ≡ false → is_due sockets held ≡ true
+due_by_room sockets place by held there one free =
+    takes_bytes sockets.holding.passed sockets held by (nat_lt sockets.holding.passed held.until)
+    (sym (ap (held_still sockets.holding.passed) there) ∙ one) free
+
+over : (sockets : Sockets) (held : Held) (b : Bool) → cond b (Some held.by) None ≡ None → not (b && is_full_one (socket_at sockets held.by)) ≡ true
+over sockets held true none = cc none
+over sockets held false none = refl
+
+pub due_by_time : (sockets : Sockets) (place : ℕ) (held : Held) → slice_get sockets.holding.held place ≡ Some held
+    → held_at sockets.holding place ≡ None → is_due sockets held ≡ true
+due_by_time sockets place held there none =
+    over sockets held (nat_lt sockets.holding.passed held.until) (sym (ap (held_still sockets.holding.passed) there) ∙ none)
+
+in_time : (old : Sockets) (held : Held) (by : ℕ) (b : Bool) → cond b (Some held.by) None ≡ Some by → is_full_one (socket_at old by) ≡ true
+    → not (b && is_full_one (socket_at old held.by)) ≡ false
+in_time old held by true one full = ap (λ o. not (is_full_of o)) one ∙ ap not full
+  where
+    is_full_of : Option ℕ → Bool
+    is_full_of None = false
+    is_full_of (Some number) = is_full_one (socket_at old number)
+in_time old held by false one full = cc one
+
+-- whoever is held still was not due before, since no socket has become full
+pub not_due : (old sockets : Sockets) (place by : ℕ) (d : Held) → place < length sockets.holding.held → held_at sockets.holding place ≡ Some by
+    → is_full_one (socket_at sockets by) ≡ true → ((number : ℕ) → is_full_one (socket_at sockets number) ≡ true → is_full_one (socket_at old number) ≡ true)
+    → sockets.holding.passed ≡ old.holding.passed → is_due old (get_or sockets.holding.held place d) ≡ false
+not_due old sockets place by d within one full fuller passed =
+    let held = get_or sockets.holding.held place d in
+    in_time old held by (nat_lt old.holding.passed held.until)
+    (ap (λ p. cond (nat_lt p held.until) (Some held.by) None) (sym passed)
+    ∙ sym (ap (held_still sockets.holding.passed) (slice_get-get_or sockets.holding.held place d within)) ∙ one)
+    (fuller by full)
+
+-- ---- no socket becomes full
+
+written : (slab : Slab Socket) (number n : ℕ) (old new : Socket) → get slab number ≡ Some old → (new.is_full ≡ true → old.is_full ≡ true)
+    → is_full_one (get (with_value slab number new) n) ≡ true → is_full_one (get slab n) ≡ true
+written slab number n old new there keeps full =
+    let changes = Updates-with_value slab number new (subst (λ o. IsSome o) (sym there) refl) in
+    elim (n == number) as (λ b. (n == number) ≡ b → is_full_one (get slab n) ≡ true) [
+      | true ↦ λ (e : (n == number) ≡ true).
+          let same = eqb-true n number e in
+          ap (λ k. is_full_one (get slab k)) same ∙ ap is_full_one there
+          ∙ keeps (sym (ap (λ k. is_full_one (get (with_value slab number new) k)) same ∙ ap is_full_one changes.changed) ∙ full)
+      | false ↦ λ (e : (n == number) ≡ false). ap is_full_one (sym (changes.others n (eqb-false n number e))) ∙ full
+    ] refl
+
+full_in : (change : Socket → Socket) (number n : ℕ) (slab : Slab Socket) (slot : Option Socket) → get slab number ≡ slot
+    → ((s : Socket) → (change s).is_full ≡ true → s.is_full ≡ true) → is_full_one (get (changed_if change number slab slot) n) ≡ true
+    → is_full_one (get slab n) ≡ true
+full_in change number n slab None there keeps full = full
+full_in change number n slab (Some socket) there keeps full = written slab number n socket (change socket) there (keeps socket) full
+
+pub fuller : (between after new : Sockets) (by who : ℕ) → after.by_number ≡ changed_at tried_again by between.by_number
+    → new.by_number ≡ changed_at asked_again who after.by_number → (n : ℕ) → is_full_one (socket_at new n) ≡ true → is_full_one (socket_at between n) ≡ true
+fuller between after new by who tried asked n full =
+    full_in tried_again by n between.by_number _ refl (λ s e. cc e)
+    (ap (λ slab. is_full_one (get slab n)) (sym tried)
+    ∙ full_in asked_again who n after.by_number _ refl (λ s e. e) (ap (λ slab. is_full_one (get slab n)) (sym asked) ∙ full))
+
+-- ---- one is let go
+
+holding_is : (h : HeldBack) (held : List Held) (passed : ℕ) → h.held ≡ held → h.passed ≡ passed → h ≡ record { held = held; passed = passed }
+holding_is h held passed same_held same_passed =
+    ap (λ xs. record { held = xs; passed = h.passed }) same_held ∙ ap (λ p. record { held = held; passed = p }) same_passed
+
+pub gone : (between after new : Sockets) (holding : HeldBack) (place : ℕ) (held : Held) → slice_get between.holding.held place ≡ Some held
+    → is_due between held ≡ true → holding.held ≡ swap_remove between.holding.held place held → holding.passed ≡ between.holding.passed
+    → after ≡ only tried_again held.by (record between { holding = holding }) → ComesLast (is_new_again (socket_at after held.who)) held.who after new
+    → SameButQueue (only asked_again held.who after) new → LetsOneGo between new place held
+gone between after new holding place held there due left passed tried queue others = record {
+  there = there;
+  due = due;
+  queue = subst (λ (s : Sockets). QueuesUp (is_new_again (socket_at s held.who)) held.who s.queue new.queue) tried queue;
+  others =
+      others
+      ∙ ap (λ (s : Sockets). record (only asked_again held.who s) { queue = new.queue }) tried
+      ∙ ap (λ h. record (only asked_again held.who (only tried_again held.by (record between { holding = h }))) { queue = new.queue })
+      (holding_is holding _ _ left passed);
+}
+
+-- ---- place by place
+
+pub one_further : (P : ℕ → Type 0) (place : ℕ) → ((k : ℕ) → k < place → P k) → P place → (k : ℕ) → k < place + 1 → P k
+one_further P place before here k below =
+    elim (k == place) as (λ b. (k == place) ≡ b → P k) [
+      | true ↦ λ (e : (k == place) ≡ true). subst P (sym (eqb-true k place e)) here
+      | false ↦ λ (e : (k == place) ≡ false). before k (lower k place below (eqb-false k place e))
+    ] refl
+  where
+    lower : (k place : ℕ) → k < place + 1 → k ≢ place → k < place
+    lower k place below apart = omega arith

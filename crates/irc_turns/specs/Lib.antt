@@ -1,0 +1,5 @@
+pub mod Fronts
+pub mod Gathering
+pub mod HeldBack
+pub mod Pacing
+pub mod Rounds

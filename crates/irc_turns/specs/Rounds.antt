@@ -1,0 +1,52 @@
+-- A round, and the turn at hand.
+use Rattle.std.specs.Prelude.{ℕ, Bool, false, not, ◌&&◌, ◌+◌, ◌%◌, min, nat_eq, nat_lt, if◌then◌else◌, Option, Some, None}
+use Rattle.irc_turns.specs.declared.round.Round.{Round}
+
+-- before the first round, and before turn 65
+abbrev pub no_round : Round
+no_round = record {
+  left = 0;
+  is_quiet = false;
+  arrivals = 0;
+  turn = 64;
+  reader = None;
+  may_wait = false;
+  answered = 0;
+  shown = 0;
+  filled = None;
+  has_more = false;
+}
+
+-- how often somebody has come, once somebody has: a count that begins anew behind 2 ^ 64 - 1
+abbrev pub once_more : ℕ → ℕ
+once_more arrivals = (arrivals + 1) % 18446744073709551616
+
+-- a round begins, with so many sockets: it is quiet where nobody has come
+abbrev pub round_begun : Round → ℕ → Bool → Round
+round_begun round left has_come =
+    record round { left = left; is_quiet = not has_come; arrivals = if has_come then once_more round.arrivals else round.arrivals }
+
+-- a sum of which no more is told than that it is as large as a number can be
+abbrev pub at_most_word : ℕ → ℕ
+at_most_word sum = min sum 18446744073709551615
+
+-- a turn begins: nobody is read in it yet, and nothing has come of it
+abbrev pub turn_begun : Round → Round
+turn_begun round =
+    record round { turn = at_most_word (round.turn + 1); reader = None; answered = 0; shown = 0; filled = None; has_more = false }
+
+-- whether it is the client that is read
+abbrev pub is_one : ℕ → Option ℕ → Bool
+is_one number None = false
+is_one number (Some other) = nat_eq other number
+
+-- so many bytes more wait for a socket: its reader's own, which are its answer, or another's, to whom they are shown; that one is filled if it is
+-- stuck, and there are any
+abbrev pub wait_more : Round → ℕ → ℕ → Bool → Round
+wait_more round number more is_stuck =
+    if is_one number round.reader
+    then record round { answered = at_most_word (round.answered + more) }
+    else record round {
+      shown = at_most_word (round.shown + more);
+      filled = if is_stuck && nat_lt 0 more then Some number else round.filled;
+    }
