@@ -2,7 +2,7 @@
 use Rattle.std.proofs.Common.{◌≡◌, ℕ, Bool, true, false, cond, ◌&&◌, ◌||◌, is_some, Option, Some, None, List, [], ◌∷◌, ◌++◌, refl, sym, ◌∙◌, ap, map, filter, filter_map, if◌then◌else◌}
 use Rattle.std.proofs.lemmas.List.Folds.{list_all-map}
 use Rattle.std.specs.FinMap.{FinMap, contains_key-keys, entries, find, get, keys}
-use Rattle.std.specs.List.{cons_option, flat_map, list_all, list_any}
+use Rattle.std.specs.List.{AllByRecursion, cons_option, flat_map, list_all, list_any}
 use Rattle.std.specs.Ordering.{nat_cmp}
 use Rattle.irc_routes.specs.Known.{link_key}
 use Rattle.irc_stage.specs.Lemmas.Numbers.{one_number, same_number, same_number-refl}
@@ -55,6 +55,11 @@ pub all-weaker : {X : Type 0} (p q : X → Bool) → ((x : X) → p x ≡ true �
 all-weaker p q gives [] all = refl
 all-weaker p q gives (x ∷ xs) all =
     both (q x) (list_all q xs) (gives x (first (p x) (list_all p xs) all)) (all-weaker p q gives xs (rest (p x) (list_all p xs) all))
+
+-- what the test tells of each
+pub all-told : {X : Type 0} (p : X → Bool) (P : X → Type 0) → ((x : X) → p x ≡ true → P x) → (xs : List X) → list_all p xs ≡ true → AllByRecursion P xs
+all-told p P tells [] all = tt
+all-told p P tells (x ∷ xs) all = (tells x (first (p x) (list_all p xs) all), all-told p P tells xs (rest (p x) (list_all p xs) all))
 
 pub all-filter : {X : Type 0} (p b : X → Bool) (xs : List X) → list_all p xs ≡ true → list_all p (filter b xs) ≡ true
 all-filter p b [] all = refl

@@ -1,4 +1,5 @@
 pub mod AllOf
+pub mod LinesEnd
 pub mod MetEnds
 pub mod OwnKept
 pub mod OwnServed

@@ -1,4 +1,5 @@
 //! What holds of one server with links, whatever happens.
+ghost use Rattle.irc_server_laws.specs.LineEnds.{ServedLinesEnd};
 ghost use Rattle.irc_server_laws.specs.Own.{ServedGoesToItsOwn, ServedKeepsEnds};
 
 /// Each server that a server knows stays behind a link that counts.
@@ -9,4 +10,9 @@ pub fn served_keeps_ends()
 /// What a server puts out goes to its own clients and on its open links alone, or on the link that is being opened.
 pub fn served_goes_to_its_own()
     ensures { ServedGoesToItsOwn }
+{}
+
+/// Each line that a server puts out on a link ends in CR LF.
+pub fn served_lines_end()
+    ensures { ServedLinesEnd }
 {}
