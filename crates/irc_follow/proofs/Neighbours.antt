@@ -4,7 +4,8 @@ use Rattle.std.proofs.Common.{◌≡◌, ◌≢◌, ℕ, Bool, true, false, ◌&
 use Rattle.std.proofs.lemmas.Bool.{eqb-true, eq-eqb}
 use Rattle.std.specs.FinMap.{get}
 use Rattle.std.specs.Option.{option_map_or}
-use Rattle.irc_line.specs.Laws.{WrittenIsRead, IsReadSoAlone}
+use Rattle.irc_line.specs.Carried.{AreCarriedParts}
+use Rattle.irc_line.specs.Laws.{IsReadSoAlone, WrittenIsLine, WrittenIsRead}
 use Rattle.irc_line.specs.Messages.{IsPlain, Written, line_text, message_of}
 use Rattle.irc_line.specs.Reading.{read_of}
 use Rattle.irc_names.specs.Names.{is_nick, is_server}
@@ -44,6 +45,7 @@ use Rattle.irc_follow.proofs.ServerLines.{line_heard}
 pub record IsKnownOfLines : Type 0 where
   pub written : WrittenIsRead
   pub alone : IsReadSoAlone
+  pub as_line : WrittenIsLine
   pub names : NamesAreLineWords
 
 pub both : (a b : Bool) → a ≡ true → b ≡ true → (a && b) ≡ true
@@ -163,10 +165,16 @@ module _ (s : Fixed) (p t u : Name) (w : of_side.Part) (view other : View) (take
         line_heard known.written known.alone other (number s t) readers_end.end parts plain whole (ap is_some readers_end.named) ∙ ap of_met meant
 
     -- one line goes there, and says the deed
-    pub goes_on : (deed : Deed) (said : List Told) (line : List ℕ) (client : ℕ) → saying s w t u deed ≡ tells said
+    pub goes_on : AreCarriedParts parts → (deed : Deed) (said : List Told) (line : List ℕ) (client : ℕ) → saying s w t u deed ≡ tells said
         → deeds_meant other.room other.routes (number s t) (message_of parts) ≡ Ok said → IsDoable s w deed
         → lines_on (number s u) (asked s p view line).out ≡ line_text parts ∷ []
         → GoesOn s t u w other deed ((machine s client).sends t p view line u)
-    goes_on deed said line client saying_is meant doable lines = told (line_text parts)
+    goes_on carried deed said line client saying_is meant doable lines = told (line_text parts)
         (ap (λ b. if b then [] else lines_on (number s u) (asked s p view line).out) (same_unless u p apart) ∙ lines)
-        (record { end = readers_end.end; is_end = readers_end.there; means = heard_so said meant ∙ sym saying_is; doable = doable })
+        (record {
+          is_line = known.as_line parts carried;
+          end = readers_end.end;
+          is_end = readers_end.there;
+          means = heard_so said meant ∙ sym saying_is;
+          doable = doable;
+        })

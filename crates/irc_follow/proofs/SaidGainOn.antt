@@ -46,6 +46,7 @@ use Rattle.irc_follow.specs.Part as of_side
 use Rattle.irc_follow.specs.Fits.{Fits}
 use Rattle.irc_follow.specs.Laws.{GoesOn, SaidGainGoesOn}
 use Rattle.irc_follow.specs.Says.{asked, body, lines_on, machine, saying, Says, IsDoableGain}
+use Rattle.irc_follow.proofs.CarriedLines.{server_carried}
 use Rattle.irc_follow.proofs.MemberLines.{other_byte}
 use Rattle.irc_follow.proofs.Neighbours.{IsKnownOfLines, both}
 use Rattle.irc_follow.proofs.Neighbours as beside
@@ -362,6 +363,7 @@ module _ (known : IsKnownOfLines) (uplink name words : List ℕ) (s : Fixed) (p 
   goes = beside.goes_on s p t u w view other takes next apart writer reader known parts plain
       (server_fits written uplink name words
       (record { uplink_named = uplink_named; named = name_named; described = described; distance = distance_most; number = token_most }))
+      (server_carried known.names uplink uplink_named written name words name_named described distance_most token_most)
       (gains uplink name words) (a_server uplink name links ours words ∷ []) line client saying_is meant doable lines
 
 pub said_gain_goes_on : IsKnownOfLines → SaidGainGoesOn

@@ -37,6 +37,7 @@ use Rattle.irc_follow.specs.Part as of_side
 use Rattle.irc_follow.specs.Fits.{Fits}
 use Rattle.irc_follow.specs.Laws.{GoesOn, SaidKillGoesOn}
 use Rattle.irc_follow.specs.Says.{asked, lines_on, machine, Says, IsDoableKill}
+use Rattle.irc_follow.proofs.CarriedLines.{kill_carried}
 use Rattle.irc_follow.proofs.LinesOn.{lines_behind, none_to_viewer, none_to_viewers}
 use Rattle.irc_follow.proofs.Neighbours.{IsKnownOfLines, both}
 use Rattle.irc_follow.proofs.Neighbours as beside
@@ -157,7 +158,7 @@ module _ (known : IsKnownOfLines) (server nick : List ℕ) (s : Fixed) (p t u : 
 
   goes : GoesOn s t u w other (kills server nick) ((machine s client).sends t p view line u)
   goes = beside.goes_on s p t u w view other takes next apart writer reader known parts plain
-      (kill_fits server nick server_named nick_named) (kills server nick) (a_deed (kills server nick) ∷ []) line client refl meant doable lines
+      (kill_fits server nick server_named nick_named) (kill_carried known.names server server_named nick nick_named) (kills server nick) (a_deed (kills server nick) ∷ []) line client refl meant doable lines
 
 pub said_kill_goes_on : IsKnownOfLines → SaidKillGoesOn
 said_kill_goes_on known server nick s p t u w view other line client fixed takes next apart writer reader says =

@@ -210,7 +210,7 @@ module _ (read_back : EachIsReadBack) (s : Fixed) (fixed : IsFixed s) (p t u : N
       (ap is_some readers_end.named)
 
   says_there : Says s t u w other (does effect) (line_text parts)
-  says_there = record { end = readers_end.end; is_end = readers_end.there; means = heard_so; doable = doable }
+  says_there = record { is_line = back.is_line; end = readers_end.end; is_end = readers_end.there; means = heard_so; doable = doable }
 
   -- ---- which lines go there
 

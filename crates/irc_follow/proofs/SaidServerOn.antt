@@ -44,6 +44,7 @@ use Rattle.irc_follow.specs.Part as of_side
 use Rattle.irc_follow.specs.Fits.{Fits}
 use Rattle.irc_follow.specs.Laws.{GoesOn, SaidLossGoesOn, SaidMembersGoOn, SaidModesGoOn, SaidTopicGoesOn}
 use Rattle.irc_follow.specs.Says.{asked, lines_on, machine, Says, AreOfFar, AreToldMembers, IsDoableByServer, IsDoableLoss, IsFar, IsFarChannel, IsOfFar, IsToldMember}
+use Rattle.irc_follow.proofs.CarriedLines.{members_carried, modes_carried, squit_carried, topic_carried}
 use Rattle.irc_follow.proofs.LinesOn.{ends_by_all, none_by_all}
 use Rattle.irc_follow.proofs.MemberLines.{AreNicks, all_new}
 use Rattle.irc_follow.proofs.SaidKillOn.{stored_named}
@@ -130,7 +131,8 @@ module _ (known : IsKnownOfLines) (s : Fixed) (p t u : Name) (w : of_side.Part) 
 
     pub loss_goes : GoesOn s t u w other (loses server name text) ((machine s client).sends t p view line u)
     loss_goes = beside.goes_on s p t u w view other takes next apart writer reader known parts plain
-        (squit_fits server name text server_named name_named (le-leb (length text) max_words doable.by_server.told.fits)) (loses server name text) (a_deed (loses server name text) ∷ []) line client
+        (squit_fits server name text server_named name_named (le-leb (length text) max_words doable.by_server.told.fits))
+        (squit_carried known.names server server_named name text name_named doable.by_server.told) (loses server name text) (a_deed (loses server name text) ∷ []) line client
         refl meant doable loss_lines
 
   -- ---- a channel all of whose members are far
@@ -186,6 +188,7 @@ module _ (known : IsKnownOfLines) (s : Fixed) (p t u : Name) (w : of_side.Part) 
     topic_goes = beside.goes_on s p t u w view other takes next apart writer reader known topic_written
         (topic_plain known.names server server_named channel topic by_server.told.named by_server.within.0)
         (topic_whole known.names server server_named channel topic by_server.told.named by_server.within.0)
+        (topic_carried known.names server server_named channel topic by_server.told.named by_server.within.0)
         (tops server channel topic) (a_deed (tops server channel topic) ∷ []) line client refl topic_meant by_server topic_lines
 
   -- ---- modes
@@ -213,6 +216,7 @@ module _ (known : IsKnownOfLines) (s : Fixed) (p t u : Name) (w : of_side.Part) 
     modes_go = beside.goes_on s p t u w view other takes next apart writer reader known modes_written
         (modes_plain known.names server server_named channel changes w.hall.room by_setter.told.far.named by_setter.told.readable by_setter.told.sent)
         (modes_whole known.names server server_named channel changes by_setter.told.far.named by_setter.told.readable)
+        (modes_carried known.names server server_named w.hall.room sound.within channel changes by_setter.told.far.named by_setter.told.sent)
         (sets server channel changes) (a_deed (sets server channel changes) ∷ []) line client refl modes_meant by_setter modes_lines
 
   -- ---- members
@@ -281,6 +285,7 @@ module _ (known : IsKnownOfLines) (s : Fixed) (p t u : Name) (w : of_side.Part) 
     members_go = beside.goes_on s p t u w view other takes next apart writer reader known members_written
         (members_plain known.names server server_named channel members told_members.named nicks)
         (members_whole known.names server server_named channel members told_members.named nicks told_members.few)
+        (members_carried known.names server server_named channel members told_members.named nicks)
         (brings server channel members) (a_deed (brings server channel members) ∷ []) line client refl members_meant by_bringer members_lines
 
 pub said_loss_goes_on : IsKnownOfLines → SaidLossGoesOn

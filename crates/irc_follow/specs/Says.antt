@@ -3,6 +3,7 @@ use Rattle.std.specs.Prelude.{◌≡◌, ◌≢◌, ◌≤◌, ◌⊎◌, ⊤, �
 use Rattle.std.specs.List.{filter_map, list_any, AllByRecursion}
 use Rattle.std.specs.FinMap.{get, keys}
 use Rattle.irc_batch.specs.Batches.{Sent, line_on}
+use Rattle.irc_line.specs.Lines.{IsLine}
 use Rattle.irc_line.specs.Reading.{read_of}
 use Rattle.irc_names.specs.Fold.{key}
 use Rattle.irc_names.specs.Names.{IsChannel}
@@ -179,6 +180,7 @@ saying s w p t (gains uplink name info) = if same name p then meets name info el
 saying s w p t deed = tells (told_as s w p t deed ∷ [])
 
 pub record Says (s : Fixed) (p t : Name) (w : Part) (view : View) (deed : Deed) (line : List ℕ) : Type 0 where
+  pub is_line : IsLine line
   pub end : End
   pub is_end : get view.ends (number s p) ≡ Some end
   pub means : heard view (number s p) end (read_of line) ≡ saying s w p t deed
@@ -194,6 +196,7 @@ IsNothing (tells []) = ⊤
 IsNothing other = ⊥
 
 pub record Aside (s : Fixed) (p t : Name) (w : Part) (view : View) (line : List ℕ) : Type 0 where
+  pub is_line : IsLine line
   pub end : End
   pub is_end : get view.ends (number s p) ≡ Some end
   pub nothing : IsNothing (heard view (number s p) end (read_of line))

@@ -41,6 +41,7 @@ pub fn said_effect_goes_on()
 pub fn said_kill_goes_on()
     ensures { SaidKillGoesOn }
 {
+    irc_line::laws::written_is_line();
     irc_line::laws::written_is_read();
     irc_line::laws::every_line_is_read();
     irc_room::laws::names_are_line_words();
@@ -50,6 +51,7 @@ pub fn said_kill_goes_on()
 pub fn said_loss_goes_on()
     ensures { SaidLossGoesOn }
 {
+    irc_line::laws::written_is_line();
     irc_line::laws::written_is_read();
     irc_line::laws::every_line_is_read();
     irc_room::laws::names_are_line_words();
@@ -59,6 +61,7 @@ pub fn said_loss_goes_on()
 pub fn said_topic_goes_on()
     ensures { SaidTopicGoesOn }
 {
+    irc_line::laws::written_is_line();
     irc_line::laws::written_is_read();
     irc_line::laws::every_line_is_read();
     irc_room::laws::names_are_line_words();
@@ -68,6 +71,7 @@ pub fn said_topic_goes_on()
 pub fn said_modes_go_on()
     ensures { SaidModesGoOn }
 {
+    irc_line::laws::written_is_line();
     irc_line::laws::written_is_read();
     irc_line::laws::every_line_is_read();
     irc_room::laws::names_are_line_words();
@@ -77,6 +81,7 @@ pub fn said_modes_go_on()
 pub fn said_members_go_on()
     ensures { SaidMembersGoOn }
 {
+    irc_line::laws::written_is_line();
     irc_line::laws::written_is_read();
     irc_line::laws::every_line_is_read();
     irc_room::laws::names_are_line_words();
@@ -86,6 +91,7 @@ pub fn said_members_go_on()
 pub fn said_gain_goes_on()
     ensures { SaidGainGoesOn }
 {
+    irc_line::laws::written_is_line();
     irc_line::laws::written_is_read();
     irc_line::laws::every_line_is_read();
     irc_room::laws::names_are_line_words();

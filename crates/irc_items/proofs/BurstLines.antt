@@ -4,6 +4,7 @@ use Rattle.std.proofs.lemmas.Bool.{and_parts, eq-eqb, eqb-true}
 use Rattle.std.specs.FinMap.{keys}
 use Rattle.std.specs.List.{list_all, AllByRecursion}
 use Rattle.std.specs.Option.{option_map_or, IfSome}
+use Rattle.irc_line.specs.Lines.{IsLine}
 use Rattle.irc_line.specs.Messages.{IsPlain, Written, line_text, message_of}
 use Rattle.irc_line.specs.Reading.{read_of}
 use Rattle.irc_names.specs.Fold.{key}
@@ -58,6 +59,7 @@ use Rattle.irc_follow.specs.Says.{Aside, AreOfFar, IsDoableEffect, IsFar, IsNoth
 use Rattle.irc_follow.specs.Tree.{Shape, shape, shape_in, IsSoundTree}
 use Rattle.irc_follow.proofs.BehindLinks.{row_is_there}
 use Rattle.irc_follow.proofs.MemberLines.{AreNicks}
+use Rattle.irc_follow.proofs.CarriedLines.{members_carried, modes_carried, topic_carried}
 use Rattle.irc_follow.proofs.Neighbours.{HasEnd, IsKnownOfLines, met_end}
 use Rattle.irc_follow.proofs.Places.{one_place}
 use Rattle.irc_follow.proofs.ReadNext.{distance_at, link_of, shape_at, token_found}
@@ -139,8 +141,8 @@ module _ (laws : IsKnownOfLines) (s : Fixed) (b t : Name) (w : Part) (view : Vie
   heard_so parts told plain whole meant =
       line_heard laws.written laws.alone view (number s b) met.end parts plain whole (ap is_some met.named) ∙ ap of_met meant
 
-  stands_aside : (line : List ℕ) → heard view (number s b) met.end (read_of line) ≡ tells [] → Aside s b t w view line
-  stands_aside line silent = record { end = met.end; is_end = met.there; nothing = subst IsNothing (sym silent) tt }
+  stands_aside : (line : List ℕ) → IsLine line → heard view (number s b) met.end (read_of line) ≡ tells [] → Aside s b t w view line
+  stands_aside line is_line silent = record { is_line = is_line; end = met.end; is_end = met.there; nothing = subst IsNothing (sym silent) tt }
 
   -- a user who is behind the link
   of_far : (fold : List ℕ) → home_passes far w.hall.room.users fold ≡ true → IsOfFar s w (home_under w.hall.room fold)
@@ -185,10 +187,14 @@ module _ (laws : IsKnownOfLines) (s : Fixed) (b t : Name) (w : Part) (view : Vie
     told_each (member ∷ more) stored passes =
         (record { stored = stored.0; far = of_far (key member.0) passes.0 }, told_each more stored.1 passes.1)
 
+    members_line : IsLine (line_text (njoin_parts b channel members))
+    members_line = laws.as_line (njoin_parts b channel members) (members_carried laws.names b b_named channel members theirs.named nicks)
+
     pub members_said : (more : List (List ℕ × Flags)) → new_members (is_behind_link view.routes (number s b)) w.hall.room channel members ≡ more → more ≢ []
         → AreComing (is_behind_link view.routes (number s b)) w.hall.room channel more → map (as_stored w.hall.room) more ≡ more
         → Says s b t w view (brings b channel more) (line_text (njoin_parts b channel members))
     members_said more new some coming stored = record {
+      is_line = members_line;
       end = met.end;
       is_end = met.there;
       means = members_heard (a_deed (brings b channel more) ∷ [])
@@ -206,7 +212,7 @@ module _ (laws : IsKnownOfLines) (s : Fixed) (b t : Name) (w : Part) (view : Vie
 
     pub members_aside : new_members (is_behind_link view.routes (number s b)) w.hall.room channel members ≡ []
         → Aside s b t w view (line_text (njoin_parts b channel members))
-    members_aside none = stands_aside (line_text (njoin_parts b channel members)) (members_heard [] (members_meant [] none))
+    members_aside none = stands_aside (line_text (njoin_parts b channel members)) members_line (members_heard [] (members_meant [] none))
 
   -- ---- a channel all of whose members are far, or not
 
@@ -240,10 +246,16 @@ module _ (laws : IsKnownOfLines) (s : Fixed) (b t : Name) (w : Part) (view : Vie
         ∙ ap (λ (deeds : List Deed). Ok (map a_deed deeds))
         (read_alike.one (sets b channel changes) ∙ ap (λ d. if d then sets b channel changes ∷ [] else []) all))
 
+    modes_line : IsLine (line_text (mode_parts b channel changes))
+    modes_line =
+        laws.as_line (mode_parts b channel changes)
+        (modes_carried laws.names b b_named w.hall.room sound.within channel changes theirs.named (theirs.sent w.hall.room))
+
     pub modes_said : all_far (is_behind_link view.routes (number s b)) w.hall.room channel ≡ true
         → EachInTurn DoesSomething w.hall.room (ChangeModes by.Home channel changes ∷ [])
         → Says s b t w view (sets b channel changes) (line_text (mode_parts b channel changes))
     modes_said all each = record {
+      is_line = modes_line;
       end = met.end;
       is_end = met.there;
       means = modes_heard true all;
@@ -258,7 +270,7 @@ module _ (laws : IsKnownOfLines) (s : Fixed) (b t : Name) (w : Part) (view : Vie
 
     pub modes_aside : all_far (is_behind_link view.routes (number s b)) w.hall.room channel ≡ false
         → Aside s b t w view (line_text (mode_parts b channel changes))
-    modes_aside not_all = stands_aside (line_text (mode_parts b channel changes)) (modes_heard false not_all)
+    modes_aside not_all = stands_aside (line_text (mode_parts b channel changes)) modes_line (modes_heard false not_all)
 
   -- ---- a topic
 
@@ -274,10 +286,14 @@ module _ (laws : IsKnownOfLines) (s : Fixed) (b t : Name) (w : Part) (view : Vie
         ∙ ap (λ (deeds : List Deed). Ok (map a_deed deeds))
         (read_alike.one (tops b channel topic) ∙ ap (λ d. if d then tops b channel topic ∷ [] else []) all))
 
+    topic_line : IsLine (line_text (topic_parts b channel topic))
+    topic_line = laws.as_line (topic_parts b channel topic) (topic_carried laws.names b b_named channel topic theirs.named theirs.carried)
+
     pub topic_said : all_far (is_behind_link view.routes (number s b)) w.hall.room channel ≡ true
         → EachInTurn DoesSomething w.hall.room (SetTopic by.Home channel topic ∷ [])
         → Says s b t w view (tops b channel topic) (line_text (topic_parts b channel topic))
     topic_said all each = record {
+      is_line = topic_line;
       end = met.end;
       is_end = met.there;
       means = topic_heard true all;
@@ -292,7 +308,7 @@ module _ (laws : IsKnownOfLines) (s : Fixed) (b t : Name) (w : Part) (view : Vie
 
     pub topic_aside : all_far (is_behind_link view.routes (number s b)) w.hall.room channel ≡ false
         → Aside s b t w view (line_text (topic_parts b channel topic))
-    topic_aside not_all = stands_aside (line_text (topic_parts b channel topic)) (topic_heard false not_all)
+    topic_aside not_all = stands_aside (line_text (topic_parts b channel topic)) topic_line (topic_heard false not_all)
 
   -- ---- a user
 
@@ -316,6 +332,7 @@ module _ (laws : IsKnownOfLines) (s : Fixed) (b t : Name) (w : Part) (view : Vie
         → AgreesOnServer known (reader_of view.room view.routes (number s b)) (AddUser user)
         → Says s b t w view (does (AddUser user)) (line_text (wire their_room known (AddUser user)))
     user_said read_back their_room known readable agrees = record {
+      is_line = (read_back their_room known view.room view.routes (number s b) (AddUser user) readable agrees).is_line;
       end = met.end;
       is_end = met.there;
       means = effect_heard their_room known view (number s b) met.end (AddUser user)

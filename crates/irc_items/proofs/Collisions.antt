@@ -43,6 +43,7 @@ use Rattle.irc_follow.specs.Part.{Fixed, Part, info_in, number, IsFixed}
 use Rattle.irc_follow.specs.Says.{IsDoableKill, Says}
 use Rattle.irc_follow.specs.Tree.{shape_in}
 use Rattle.irc_follow.proofs.BehindLinks.{joined_test}
+use Rattle.irc_follow.proofs.CarriedLines.{kill_carried}
 use Rattle.irc_follow.proofs.Neighbours.{HasEnd, IsKnownOfLines, both, met_end}
 use Rattle.irc_follow.proofs.ReadNext.{link_of, shape_at}
 use Rattle.irc_follow.proofs.SaidEffect.{own_name, rooms_alike}
@@ -103,20 +104,23 @@ module _ (s : Fixed) (b t : Name) (w : Part) (view : View) (is : IsBurstReader s
     pub user_collides : IsKnownOfLines → EachIsReadBack → (their_room : Room) → IsWithinLimits their_room
         → Says s b t w view (kills t holder.nick) (line_text (wire their_room (routes b) (AddUser user)))
     user_collides laws read_back their_room room_within = record {
+      is_line = back.is_line;
       end = end.end;
       is_end = end.there;
       means =
-          collision_heard their_room (routes b) view (number s b) end.end user holder
-          (read_back their_room (routes b) view.room view.routes (number s b) (AddUser user)
-          (user_readable s b t w view is l links routes new user on_side home_known within their_room room_within)
-          (user_agrees s b t w view is l links routes new user on_side home_known within))
-          taken_here (ap is_some end.named)
+          collision_heard their_room (routes b) view (number s b) end.end user holder back taken_here (ap is_some end.named)
           ∙ ap (λ own. tells (a_deed (kills own holder.nick) ∷ [])) (own_name s b t w view is.takes is.fits);
       doable = may_be_killed (key user.nick) holder taken;
     }
       where
         end : HasEnd view (number s b) b
         end = met laws s b t w view is
+
+        back : IsReadBack their_room (routes b) view.room view.routes (number s b) (AddUser user)
+        back =
+            read_back their_room (routes b) view.room view.routes (number s b) (AddUser user)
+            (user_readable s b t w view is l links routes new user on_side home_known within their_room room_within)
+            (user_agrees s b t w view is l links routes new user on_side home_known within)
 
 -- ---- the KILL that goes back
 
@@ -182,6 +186,7 @@ module _ (s : Fixed) (world : World) (routes : Name → Known) (p t : Name) (vie
 
     unheard : IsUnheard s t view (line_text (kill_parts t nick))
     unheard = record {
+      is_line = laws.as_line (kill_parts t nick) (kill_carried laws.names t t_named nick nick_named);
       end = neighbour_met.end;
       is_end = neighbour_met.there;
       nothing =

@@ -45,6 +45,7 @@ use Rattle.irc_follow.specs.Fits.{Fits}
 use Rattle.irc_follow.specs.Laws.{DoneStaysSound}
 use Rattle.irc_follow.specs.Part.{Fixed, Part, done, info_in, number, IsFixed, IsSoundPart}
 use Rattle.irc_follow.specs.Says.{asked, machine, play, IsDoableLoss, IsFar, Says}
+use Rattle.irc_follow.proofs.CarriedLines.{squit_carried}
 use Rattle.irc_follow.proofs.Neighbours.{both, met_end, HasEnd, IsKnownOfLines}
 use Rattle.irc_follow.proofs.ServerLines.{all_so}
 use Rattle.irc_follow.proofs.ReadNext.{link_of, shape_at}
@@ -158,7 +159,14 @@ module _ (known : IsKnownOfLines) (s : Fixed) (fixed : IsFixed s) (t u : Name) (
       ∙ ap of_met meant
 
   pub loss_said : Says s t u w other (loses t name text) (line_text parts)
-  loss_said = record { end = readers_end.end; is_end = readers_end.there; means = heard_so; doable = doable }
+  loss_said = record {
+    is_line = known.as_line parts
+        (squit_carried known.names t (rule t doable.by_server.known) name text (rule name doable.can.known) doable.by_server.told);
+    end = readers_end.end;
+    is_end = readers_end.there;
+    means = heard_so;
+    doable = doable;
+  }
 
 -- ---- lines that say deeds in turn
 

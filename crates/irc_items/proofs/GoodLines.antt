@@ -131,7 +131,7 @@ module _ (s : Fixed) (asks : Answering) (world : World) (routes : Name → Known
   module _ (known : IsKnownOfLine) (fixed : IsFixed s) where
     unanswered : (deed : Deed) → Says s p t w view deed line → IsGoodReply s world.links p t view (asked s p view line) [] → Good
     unanswered deed says good =
-        record { end = says.end; is_end = says.is_end; back = []; good = good; answer = no_answer s asks world routes p t line }
+        record { is_line = says.is_line; end = says.end; is_end = says.is_end; back = []; good = good; answer = no_answer s asks world routes p t line }
 
     said_good : (deed : Deed) → MayKill s asks world routes p t deed line → Says s p t w view deed line → Good
     said_good (does effect) may says =
@@ -143,6 +143,7 @@ module _ (s : Fixed) (asks : Answering) (world : World) (routes : Name → Known
     said_good (loses server name text) may says =
         unanswered (loses server name text) says (loses_goes_well s world.links p t w view takes fits alike_here server name text line says known_beside)
     said_good (kills server nick) may says = record {
+      is_line = says.is_line;
       end = says.end;
       is_end = says.is_end;
       back = own_kill s asks world routes p t line (same server t) nick;
@@ -199,6 +200,7 @@ module _ (s : Fixed) (asks : Answering) (world : World) (routes : Name → Known
 
   aside_good : IsKnownOfLine → Aside s p t w view line → Good
   aside_good known aside = record {
+    is_line = aside.is_line;
     end = aside.end;
     is_end = aside.is_end;
     back = [];

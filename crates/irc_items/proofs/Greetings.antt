@@ -1,4 +1,6 @@
 -- The lines of a handshake are read as they are written, and what comes of them.
+use Rattle.irc_follow.proofs.CarriedLines.{info_carried}
+use Rattle.irc_line.specs.Lines.{IsLine}
 use Rattle.std.proofs.Common.{◌≡◌, ℕ, Bool, true, false, cond, ◌&&◌, is_some, Option, Some, None, Ok, Err, List, [], ◌∷◌, refl, sym, ap, ◌∙◌, unwrap_or, lit≤, if◌then◌else◌}
 use Rattle.std.specs.FinMap.{get, insert}
 use Rattle.std.specs.List.{list_all}
@@ -60,6 +62,15 @@ pub greeting_is_read : IsKnownOfHandshakes → (known : Known) → IsServer know
 greeting_is_read laws known name info =
     sym (laws.lines.alone (line_text (greeting known)) (Ok (message_of (greeting known)))
     (laws.lines.written (greeting known) (greeting_plain laws known name info) (laws.names known name info)))
+
+pub greeting_is_line : IsKnownOfHandshakes → (known : Known) → IsServer known.name → IsInfo known.info → IsLine (line_text (greeting known))
+greeting_is_line laws known name info = laws.lines.as_line (greeting known) (record {
+  sender = refl;
+  command = refl;
+  command_some = λ e. cc e;
+  middle = ((laws.lines.names.server known.name name).carried, (refl, (refl, tt)));
+  last = info_carried known.info info;
+})
 
 pub greeting_opening : (known : Known) → IsInfo known.info → (has_password : Bool)
     → opening_of has_password (message_of (greeting known)) ≡ Some (greeting_opens has_password (Some (known.name, known.info)))

@@ -221,7 +221,7 @@ module _ (s : Fixed) (h : Name) (w : Part) (view : View) (writer : Fits s h w vi
           ∙ ap of_met meant
 
       says_there : Says s h u w other (does effect) (line_text (parts effect))
-      says_there = record { end = readers_end.end; is_end = readers_end.there; means = heard_so; doable = doable }
+      says_there = record { is_line = back.is_line; end = readers_end.end; is_end = readers_end.there; means = heard_so; doable = doable }
 
       abbrev Goes : List (List ℕ) → Type 0
       Goes lines = GoesOn s h u w other (does effect) lines

@@ -1,4 +1,6 @@
 -- What one end of a new link tells the other: the other's side comes to know the servers of this one, one by one, and then what its room has.
+use Rattle.irc_link_words.specs.Numbers.{max_number}
+use Rattle.irc_follow.proofs.CarriedLines.{server_carried}
 use Rattle.std.proofs.Common.{count_by, ◌≤◌, ◌≡◌, ◌≢◌, ◌⊎◌, inl, inr, ℕ, ◌+◌, ◌<◌, suc, Bool, true, false, not, ◌&&◌, ◌||◌, Option, Some, None, Ok, Err, List, [], ◌∷◌, ◌++◌, is_some, length, map, nat_eq, refl, sym, ◌∙◌, ap, subst, arith, unwrap_or, option_map, if◌then◌else◌}
 use Rattle.std.proofs.lemmas.Bool.{eq-eqb}
 use Rattle.std.proofs.lemmas.List.{length-append, length-map}
@@ -18,7 +20,7 @@ use Rattle.irc_handshake.specs.Peers.{not_taken, refusal}
 use Rattle.irc_handshake.specs.declared.openings.Opening.TheVariants as opening
 use Rattle.irc_burst.specs.DeedsMeant.{a_server}
 use Rattle.irc_burst_lines.specs.BurstLines.{burst_parts, is_near}
-use Rattle.irc_burst_lines.specs.DeedLines.{deed_parts}
+use Rattle.irc_burst_lines.specs.DeedLines.{deed_parts, server_parts}
 use Rattle.irc_link_reader.specs.Reader.{is_behind_link}
 use Rattle.irc_link_writer.specs.Written.{next_distance}
 use Rattle.irc_merge.specs.AsideInvitations.{BurstTellsNoInvitation}
@@ -61,7 +63,7 @@ use Rattle.irc_follow.proofs.TreeGains as tree_of
 use Rattle.irc_items.specs.GoodLines.{Answering}
 use Rattle.irc_items.proofs.Collisions.{answers_of, count_but_first, introduces, pass_introduces_nobody}
 use Rattle.irc_items.proofs.GoodLines.{AsideWell, IsWithinSide, SaysWell, good_terms}
-use Rattle.irc_items.proofs.Greetings.{IsKnownOfHandshakes, heard_is}
+use Rattle.irc_items.proofs.Greetings.{IsKnownOfHandshakes, heard_is, greeting_is_line}
 use Rattle.irc_items.proofs.LinkGains.{or_in_turn, or_none}
 use Rattle.irc_items.proofs.LinkOver.{over_link, way_over, IsOver}
 use Rattle.irc_items.proofs.LinkRooms.{AreRooms}
@@ -69,7 +71,7 @@ use Rattle.irc_items.proofs.LinkServersTold.{told_are_that_side}
 use Rattle.irc_items.proofs.LinkSides.{deeds_of_link, room_deeds, routes_after, side_of}
 use Rattle.irc_items.proofs.BurstWritten.{burst_written, near_all, server_line}
 use Rattle.irc_items.proofs.MetEnds.{linked_as_itself}
-use Rattle.irc_items.proofs.PassLines.{pass_heard, pass_served, with_word, word_kept}
+use Rattle.irc_items.proofs.PassLines.{pass_heard, pass_served, with_word, word_kept, pass_is_line}
 use Rattle.irc_items.proofs.ServerLines.{IsNewTo, IsWritten, server_heard}
 use Rattle.irc_items.proofs.ToldFirst.{ComeInTurn, IsNext, come_in_turn}
 
@@ -254,6 +256,9 @@ module _ (known : IsKnownOfSides) (s : Fixed) (l : Link) (world : World) (routes
           pub b_says : SaysWell s answers linked_world linked_routes b t w view (gains t b (info b)) (line_text (greeting (routes b)))
           b_says = record {
             says = record {
+              is_line =
+                  greeting_is_line laws (routes b) (subst IsServer (sym b_name) (is.fixed.servers.named b is.b_among))
+                  (subst IsInfo (sym b_info) (is.fixed.servers.described b is.b_among));
               end = end;
               is_end = is_end;
               means = b_heard
@@ -391,6 +396,11 @@ module _ (known : IsKnownOfSides) (s : Fixed) (l : Link) (world : World) (routes
         pub r_says : SaysWell s answers linked_world linked_routes b t w view (gains r.uplink r.name r.info) (server_line (routes b) r)
         r_says = record {
           says = record {
+            is_line =
+                laws.lines.as_line (server_parts (routes b) r.uplink r.name r.info)
+                (server_carried laws.lines.names r.uplink written.uplink_named (routes b) r.name r.info written.named written.described
+                (subst (λ n. n ≤ max_number) (sym written.distance) written.distance_most)
+                (subst (λ n. n ≤ max_number) (sym written.number) written.number_most));
             end = met.end;
             is_end = met.there;
             means = server_heard laws.lines (routes b) r.uplink r.name r.info away_from_t r.ours written view (number s b) is_new met.end (ap is_some met.named)
@@ -557,6 +567,7 @@ module _ (known : IsKnownOfSides) (s : Fixed) (l : Link) (world : World) (routes
         aside : AsideWell s linked_world b t first view pass_line
         aside = record {
           aside = record {
+            is_line = pass_is_line laws word is_word;
             end = end;
             is_end = is_end;
             nothing = subst IsNothing (sym (pass_heard laws word is_word view (number s b) end not_met no_word)) tt;

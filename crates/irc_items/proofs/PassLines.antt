@@ -1,5 +1,8 @@
 -- PASS of a handshake is read as it is written, and its password is kept.
-use Rattle.std.proofs.Common.{◌≡◌, ◌≢◌, ℕ, Bool, true, false, cond, not, ◌&&◌, ◌||◌, Option, Some, None, Ok, Err, List, [], ◌∷◌, is_some, lit≤, refl, sym, ◌∙◌, ap, unwrap_or, if◌then◌else◌}
+use Rattle.std.proofs.lemmas.Bool.{and_from}
+use Rattle.irc_line.specs.Carried.{IsCarried, is_carried_byte}
+use Rattle.irc_line.specs.Lines.{IsLine}
+use Rattle.std.proofs.Common.{◌≡◌, ◌≢◌, ℕ, Bool, true, false, cond, not, ◌&&◌, ◌||◌, Option, Some, None, Ok, Err, List, [], ◌∷◌, is_some, lit≤, refl, sym, ◌∙◌, ap, unwrap_or, if◌then◌else◌, nat_eq}
 use Rattle.std.specs.Char.{is_ascii_graphic}
 use Rattle.std.specs.Cmp.{first_so, second_so}
 use Rattle.std.specs.FinMap.{get, insert}
@@ -56,6 +59,27 @@ password_plain word is =
     let graphic = second_so (starts_without_colon word) _ both in
     record { is_some = some_bytes word starts; no_space = no_space word graphic; no_colon = no_colon word starts; no_nul = no_nul word graphic }
 
+graphic_carried : (bytes : List ℕ) → list_all is_ascii_graphic bytes ≡ true → IsCarried bytes
+graphic_carried [] all = refl
+graphic_carried (byte ∷ bytes) all =
+    and_from (is_carried_byte byte) _
+    (by (nat_eq byte 0) (nat_eq byte 13) (nat_eq byte 10) (other_byte is_ascii_graphic 0x00 byte refl graphic) (other_byte is_ascii_graphic 0x0D byte refl graphic)
+    (other_byte is_ascii_graphic 0x0A byte refl graphic))
+    (graphic_carried bytes (second_so (is_ascii_graphic byte) _ all))
+  where
+    graphic : is_ascii_graphic byte ≡ true
+    graphic = first_so (is_ascii_graphic byte) _ all
+
+    by : (nul return feed : Bool) → nul ≡ false → return ≡ false → feed ≡ false → not (nul || (return || feed)) ≡ true
+    by true return feed a b c = cc a
+    by false true feed a b c = cc b
+    by false false true a b c = cc c
+    by false false false a b c = refl
+
+password_carried : (word : List ℕ) → is_password word ≡ true → IsCarried word
+password_carried word is =
+    graphic_carried word (second_so (starts_without_colon word) _ (first_so (starts_without_colon word && list_all is_ascii_graphic word) _ is))
+
 -- ---- PASS
 
 module _ (laws : IsKnownOfHandshakes) (word : List ℕ) (is : is_password word ≡ true) where
@@ -68,6 +92,15 @@ module _ (laws : IsKnownOfHandshakes) (word : List ℕ) (is : is_password word �
     last_no_nul = refl;
     count = lit≤ tt;
   }
+
+  pub pass_is_line : IsLine (line_text (pass_parts word))
+  pass_is_line = laws.lines.as_line (pass_parts word) (record {
+    sender = refl;
+    command = refl;
+    command_some = λ e. cc e;
+    middle = (password_carried word is, (refl, (refl, tt)));
+    last = refl;
+  })
 
   pub pass_is_read : read_of (line_text (pass_parts word)) ≡ Ok (message_of (pass_parts word))
   pass_is_read = sym (laws.lines.alone (line_text (pass_parts word)) (Ok (message_of (pass_parts word)))

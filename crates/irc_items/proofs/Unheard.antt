@@ -63,6 +63,7 @@ module _ (s : Fixed) (t p : Name) (view : View) where
 
       goes_well : (line : List ℕ) → IsUnheard s t view line → IsGoodLine s asks world routes t p view line
       goes_well line un = record {
+        is_line = un.is_line;
         end = un.end;
         is_end = un.is_end;
         back = [];

@@ -1,4 +1,4 @@
--- What is so of each line of a link when its turn comes: it closes no link, and what is put out upon it goes to the server's own clients and on its links
+-- What is so of each line of a link when its turn comes: its bytes are a line, it closes no link, and what is put out upon it goes to the server's own clients and on its links
 -- alone. On the link by which it came goes what was owed there, and perhaps one line more: the KILL of a nickname that is on both sides (RFC 2812 section
 -- 3.7.1).
 --
@@ -12,6 +12,7 @@ use Rattle.std.specs.FinMap.{get}
 use Rattle.std.specs.List.{filter_map, AllByRecursion}
 use Rattle.irc_batch.specs.Batches.{Sent, end_of_link}
 use Rattle.irc_batch.specs.declared.close_reason.CloseReason.{CloseReason}
+use Rattle.irc_line.specs.Lines.{IsLine}
 use Rattle.irc_line.specs.Reading.{read_of}
 use Rattle.irc_relay.specs.Links.{Name, Link, AreLinked}
 use Rattle.irc_relay.specs.Relay.{AnswersOnce}
@@ -63,6 +64,7 @@ no_answers = record { answered = λ line. false; one = []; other = [] }
 
 -- a line of t does nothing at such a server
 pub record IsUnheard (s : Fixed) (t : Name) (view : View) (line : List ℕ) : Type 0 where
+  pub is_line : IsLine line
   pub end : End
   pub is_end : get view.ends (number s t) ≡ Some end
   pub nothing : heard view (number s t) end (read_of line) ≡ tells []
@@ -77,6 +79,7 @@ pub record IsAnswered (s : Fixed) (asks : Answering) (world : World) (routes : N
 
 -- of a line that t takes from p
 pub record IsGoodLine (s : Fixed) (asks : Answering) (world : World) (routes : Name → Known) (p t : Name) (view : View) (line : List ℕ) : Type 0 where
+  pub is_line : IsLine line
   pub end : End
   pub is_end : get view.ends (number s p) ≡ Some end
   pub back : List (List ℕ)

@@ -1,6 +1,8 @@
 -- What holds of networks of servers, whatever the order in which lines are delivered.
 use Rattle.std.specs.Prelude.{◌≡◌, ℕ, true, Some, None, List, [], ◌∷◌}
+use Rattle.std.specs.List.{AllByRecursion}
 use Rattle.irc_follow.specs.Tree.{place_in}
+use Rattle.irc_line.specs.Lines.{IsLine}
 use Rattle.irc_line.specs.Reading.{read_of}
 use Rattle.irc_relay.specs.Links.{Name}
 use Rattle.irc_relay.specs.Relay.{IsFront}
@@ -10,7 +12,7 @@ use Rattle.irc_stage.specs.View.{View}
 use Rattle.irc_world.specs.Refused.{refused}
 use Rattle.irc_world.specs.Stepping.{Item, link}
 use Rattle.irc_world.specs.WithinLimits.{IsItemWithin}
-use Rattle.irc_network.specs.Network.{Course, Network, delivered, given, is_at_rest, received_by}
+use Rattle.irc_network.specs.Network.{Course, Network, Site, delivered, given, is_at_rest, received_by, site_at, waiting}
 use Rattle.irc_network.specs.Refusing.{fault_at_rest}
 use Rattle.irc_items.specs.OneRoom.{IsOneRoom}
 use Rattle.irc_items.specs.GoodLines.{closings}
@@ -51,6 +53,11 @@ GivenKeepsSettings = (net : Network) (item : Item) → settings_of (given item n
 
 abbrev pub DeliveryKeepsSettings : Type 0
 DeliveryKeepsSettings = (from to : ℕ) (old new : Course) → delivered from to old ≡ Some new → settings_of new.net ≡ settings_of old.net
+
+-- Each line that waits on a way is one: 1 to 510 bytes, none of them NUL, CR or LF. So a stream that carries it with its CR LF gives it as it was put out
+-- (RFC 2812 section 2.3).
+abbrev pub WaitingAreLines : Type 0
+WaitingAreLines = (net : Network) (place to : ℕ) (site : Site) → IsSound net → site_at net place ≡ Some site → AllByRecursion IsLine (waiting site to)
 
 -- No server closes a link upon the line that it takes next from another.
 abbrev pub ClosesNoLink : Network → Type 0

@@ -2,7 +2,7 @@
 //! check proves it, and a crate above may cite it.
 ghost use Rattle.irc_items.specs.InAnyOrder.{ClashingNicknamesGo, CrossingBurstsMeet, ItemIsReceived, RejoinJoinsTheRooms, SplitPartsTheRoom};
 ghost use Rattle.irc_items.specs.Kept.{DeliveryKeepsSound, SettlingKeepsSound, TakenAreFew, TurnLeavesFewer, TurnsAreFew};
-ghost use Rattle.irc_items.specs.Laws.{DeliveryKeepsSettings, DeliveryStaysSound, GivenKeepsSettings, GivenStaysSound, NewLinkIsOpen, NewNetworkIsSound, NoLinkIsClosed, OnlyLinesClose, ReceivedIsFront, RefusalsAreTheWorlds, RestIsOneRoom};
+ghost use Rattle.irc_items.specs.Laws.{DeliveryKeepsSettings, DeliveryStaysSound, GivenKeepsSettings, GivenStaysSound, NewLinkIsOpen, NewNetworkIsSound, NoLinkIsClosed, OnlyLinesClose, ReceivedIsFront, RefusalsAreTheWorlds, RestIsOneRoom, WaitingAreLines};
 
 /// A network to which nothing was given is sound.
 pub fn new_network_is_sound()
@@ -16,6 +16,7 @@ pub fn new_network_is_sound()
 pub fn given_stays_sound()
     ensures { GivenStaysSound }
 {
+    irc_line::laws::written_is_line();
     irc_line::laws::written_is_read();
     irc_line::laws::every_line_is_read();
     irc_line::laws::words_are_of_the_line();
@@ -69,6 +70,7 @@ pub fn given_stays_sound()
 pub fn delivery_stays_sound()
     ensures { DeliveryStaysSound }
 {
+    irc_line::laws::written_is_line();
     irc_line::laws::written_is_read();
     irc_line::laws::every_line_is_read();
     irc_room::laws::names_are_line_words();
@@ -80,6 +82,13 @@ pub fn delivery_stays_sound()
 /// No server closes a link upon the line that it takes next from another.
 pub fn no_link_is_closed()
     ensures { NoLinkIsClosed }
+{
+    irc_world::laws::taken_make_world();
+}
+
+/// What waits on a way are lines, each of which a stream of bytes carries as it is.
+pub fn waiting_are_lines()
+    ensures { WaitingAreLines }
 {
     irc_world::laws::taken_make_world();
 }
@@ -225,6 +234,7 @@ pub fn taken_are_few()
 pub fn turns_are_few()
     ensures { TurnsAreFew }
 {
+    irc_line::laws::written_is_line();
     irc_line::laws::written_is_read();
     irc_line::laws::every_line_is_read();
     irc_room::laws::names_are_line_words();

@@ -22,6 +22,7 @@ use Rattle.irc_link_reader.specs.Reader.{Reader, reader_of}
 use Rattle.irc_wire.specs.WholeLines.{IsToldUser, ToldFitsItsLine}
 use Rattle.irc_link_words.specs.Words.{no_mode, with_i}
 use Rattle.irc_link_writer.specs.Written.{from, introduction, next_distance, wire, written_token}
+use Rattle.irc_wire.proofs.CarriedParts.{told_is_carried}
 use Rattle.irc_wire.proofs.EffectsRead.{far_may_come}
 use Rattle.irc_wire.proofs.LinesBack.{IsKnownBelow, carried_no_nul, command_plain, from_plain, read_again}
 use Rattle.irc_wire.proofs.ModesRead.{words_written}
@@ -85,6 +86,7 @@ user_back below room known other others link user is agrees =
     let reader = reader_of other others link in
     let told : IsToldUser known user = record { within = agrees.within; number = agrees.number_most; distance = agrees.distance_most } in
     record {
+      is_line = below.lines.as_line (introduction known user) (told_is_carried below.lines.names room known (AddUser user) is.room_within told);
       line =
           read_again below.lines (introduction known user) (introduction_plain below.lines.names known reader user agrees)
           (below.fits room known (AddUser user) is.room_within told);
@@ -123,6 +125,9 @@ modes_back below room known other others link nick channel changes is =
     (words_written room changes sent.words_sent) in
     let far = subst (λ n. is_user_far reader n ≡ true) doer.as_is is.doer_far in
     record {
+      is_line =
+          below.lines.as_line (wire room known (ChangeModes (by.User nick) channel changes))
+          (told_is_carried below.lines.names room known (ChangeModes (by.User nick) channel changes) is.room_within sent);
       line =
           read_again below.lines (wire room known (ChangeModes (by.User nick) channel changes))
           (subst IsPlain (sym parts)

@@ -1,3 +1,4 @@
+pub mod CarriedParts
 pub mod NameKinds
 pub mod StoredNames
 pub mod EffectsRead

@@ -6,7 +6,7 @@ use Rattle.std.proofs.lemmas.Bool.Decides.{nat_tests}
 use Rattle.std.proofs.lemmas.List.Folds.{list_all-append, list_any-append}
 use Rattle.irc_line.specs.Bytes.{space, is_nul, is_space, is_colon, has_nul, begins}
 use Rattle.irc_line.specs.Carried.{is_carried, IsCarried}
-use Rattle.irc_line.specs.Laws.{WrittenIsRead, IsReadSoAlone}
+use Rattle.irc_line.specs.Laws.{IsReadSoAlone, WrittenIsLine, WrittenIsRead}
 use Rattle.irc_line.specs.Limits.{max_parameters}
 use Rattle.irc_line.specs.Messages.{IsPlain, IsPlainWord, Written, joined_text, line_text, message_of, middle_text, prefix_text}
 use Rattle.irc_line.specs.Reading.{read_of}
@@ -247,6 +247,7 @@ wire_whole shown shorter room known (UserMode nick invisible) plain within sent 
 pub record IsKnownBelow : Type 0 where
   pub written : WrittenIsRead
   pub alone : IsReadSoAlone
+  pub as_line : WrittenIsLine
   pub names : NamesAreLineWords
   pub shown : SentFitsItsLine
   pub shorter : NamedIsWholeToo

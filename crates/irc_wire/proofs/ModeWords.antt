@@ -225,12 +225,15 @@ letters_word changes readable =
     (and_from (starts_without_colon letters) (no_spaces letters) (letters_start changes readable.filled) (letters_pass _ spaces_pass changes))
     (grind (arith, nat_tests))
 
+pub letters_carried : (changes : List ModeChange) → is_carried (letters_text changes) ≡ true
+letters_carried changes = letters_pass is_carried_byte carried_pass changes
+
 pub letters_plain : (changes : List ModeChange) → AreReadable changes → IsPlainWord (letters_text changes)
 letters_plain changes readable = record {
   is_some = some changes readable.filled;
   no_space = letters_pass _ spaces_pass changes;
   no_colon = no_first_colon (letters_text changes) (letters_start changes readable.filled);
-  no_nul = carried_no_nul (letters_text changes) (letters_pass is_carried_byte carried_pass changes);
+  no_nul = carried_no_nul (letters_text changes) (letters_carried changes);
 }
   where
     some : (changes : List ModeChange) → is_nil changes ≡ false → letters_text changes ≢ []
@@ -280,6 +283,12 @@ digit_carried byte is = grind (arith, nat_tests)
 digit_no_colon : (byte : ℕ) → is_ascii_digit byte ≡ true → not (nat_eq byte 58) ≡ true
 digit_no_colon byte is = grind (arith, nat_tests)
 
+pub digits_carried : (digits : List ℕ) → list_all is_ascii_digit digits ≡ true → is_carried digits ≡ true
+digits_carried [] all = refl
+digits_carried (byte ∷ bytes) all =
+    and_from (is_carried_byte byte) _ (digit_carried byte (first_so (is_ascii_digit byte) (list_all is_ascii_digit bytes) all))
+    (digits_carried bytes (second_so (is_ascii_digit byte) (list_all is_ascii_digit bytes) all))
+
 -- digits are a word that is read again
 pub digits_plain : (digits : List ℕ) → list_all is_ascii_digit digits ≡ true → digits ≢ [] → IsPlainWord digits
 digits_plain [] all some = absurd (some refl)
@@ -289,12 +298,6 @@ digits_plain (byte ∷ bytes) all some = record {
   no_colon = no_first_colon (byte ∷ bytes) (digit_no_colon byte (first_so (is_ascii_digit byte) (list_all is_ascii_digit bytes) all));
   no_nul = carried_no_nul (byte ∷ bytes) (digits_carried (byte ∷ bytes) all);
 }
-  where
-    digits_carried : (digits : List ℕ) → list_all is_ascii_digit digits ≡ true → is_carried digits ≡ true
-    digits_carried [] all = refl
-    digits_carried (byte ∷ bytes) all =
-        and_from (is_carried_byte byte) _ (digit_carried byte (first_so (is_ascii_digit byte) (list_all is_ascii_digit bytes) all))
-        (digits_carried bytes (second_so (is_ascii_digit byte) (list_all is_ascii_digit bytes) all))
 
 limit_digits : (word : List ℕ) → is_limit word ≡ true → list_all is_ascii_digit word ≡ true
 unfolding is_limit

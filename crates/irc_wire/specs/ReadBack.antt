@@ -2,6 +2,7 @@
 use Rattle.std.specs.Prelude.{◌≡◌, ℕ, true, false, ⊤, is_some, Bool, Ok, List, [], ◌∷◌}
 use Rattle.std.specs.List.{list_all}
 use Rattle.std.specs.Option.{option_map_or, IfSome}
+use Rattle.irc_line.specs.Lines.{IsLine}
 use Rattle.irc_line.specs.Messages.{line_text, message_of}
 use Rattle.irc_line.specs.Reading.{read_of}
 use Rattle.irc_room.specs.declared.effect.Effect.{Effect}
@@ -38,6 +39,7 @@ IsPlainEffect other = ⊤
 
 -- what is written of it is a line that is one message, which means just this effect
 pub record IsReadBack (room : Room) (known : Known) (other : Room) (others : Known) (link : ℕ) (effect : Effect) : Type 0 where
+  pub is_line : IsLine (line_text (wire room known effect))
   pub line : read_of (line_text (wire room known effect)) ≡ Ok (message_of (wire room known effect))
   pub meaning : means other others link (message_of (wire room known effect)) ≡ Ok (effect ∷ [])
 

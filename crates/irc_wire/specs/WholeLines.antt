@@ -1,6 +1,7 @@
 -- No line that a server writes to another is cut, by the limits (RFC 2812 section 2.3: 510 bytes before CR LF).
 use Rattle.std.specs.Prelude.{◌≡◌, ◌≤◌, ℕ, List}
 use Rattle.std.specs.List.{AllByRecursion}
+use Rattle.irc_line.specs.Carried.{AreCarriedParts}
 use Rattle.irc_line.specs.Messages.{text}
 use Rattle.irc_names.specs.Names.{IsServer}
 use Rattle.irc_users.specs.declared.user.User.{User}
@@ -51,3 +52,7 @@ ToldFitsItsLine = (room : Room) (known : Known) (effect : Effect) → IsWithinLi
 abbrev pub ToldIsWhole : Type 0
 ToldIsWhole = (room : Room) (known : Known) (effect : Effect) → IsWithinLimits room → IsTellable room known effect
     → text (wire room known effect) ≡ whole_text (wire room known effect)
+
+-- and a line can carry each word of it
+abbrev pub ToldIsCarried : Type 0
+ToldIsCarried = (room : Room) (known : Known) (effect : Effect) → IsWithinLimits room → IsTellable room known effect → AreCarriedParts (wire room known effect)

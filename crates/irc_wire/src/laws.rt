@@ -5,13 +5,14 @@ ghost use Rattle.irc_wire.specs.Introductions.{IntroducedIsRead};
 ghost use Rattle.irc_wire.specs.ModesTaken.{OtherwiseWrittenIsRefused, TakenCanBeSentOn, TakenIsReadAgain, TakenIsReadByTheNext, TakenIsWrittenSo, WrittenChangesAreRead};
 ghost use Rattle.irc_wire.specs.OtherInvitations.{AlikeMeanAlike, AlikeWriteAlike, ReadAtHome, WrittenAtHome};
 ghost use Rattle.irc_wire.specs.ReadBack.{WrittenIsReadBack};
-ghost use Rattle.irc_wire.specs.WholeLines.{ToldFitsItsLine, ToldIsWhole};
+ghost use Rattle.irc_wire.specs.WholeLines.{ToldFitsItsLine, ToldIsCarried, ToldIsWhole};
 
 /// What is written on a link of an effect, but for a user who comes and for changes of a channel's modes, is one line, and it is read as just that
 /// effect: by a server that knows the users whom it names, where the server of the user whom it is from is behind the link.
 pub fn written_is_read_back()
     ensures { WrittenIsReadBack }
 {
+    irc_line::laws::written_is_line();
     irc_line::laws::written_is_read();
     irc_line::laws::every_line_is_read();
     irc_room::laws::names_are_line_words();
@@ -54,10 +55,11 @@ pub fn taken_can_be_sent_on()
 }
 
 /// No line that tells another server of an effect is cut (RFC 2812 section 2.3: 510 bytes before CR LF), where the effect can be sent, or is one by which
-/// the server itself sets modes or the topic of a channel.
+/// the server itself sets modes or the topic of a channel; and no word of it has a byte that a line cannot carry.
 pub fn told_is_whole()
     ensures fits { ToldFitsItsLine }
     ensures whole { ToldIsWhole }
+    ensures carried { ToldIsCarried }
 {
     irc_room::laws::names_are_line_words();
     irc_room::laws::sent_is_shown_whole();
@@ -68,6 +70,7 @@ pub fn told_is_whole()
 pub fn each_is_read_back()
     ensures { EachIsReadBack }
 {
+    irc_line::laws::written_is_line();
     irc_line::laws::written_is_read();
     irc_line::laws::every_line_is_read();
     irc_room::laws::names_are_line_words();

@@ -5,5 +5,6 @@ pub returns : goal.returns
 returns c = said_gain_goes_on (record {
   written = c.written_is_read.ensures;
   alone = c.every_line_is_read.ensures.alone;
+  as_line = c.written_is_line.ensures;
   names = c.names_are_line_words.ensures;
 })

@@ -83,7 +83,7 @@ returns c = given_stays_sound (record { rest = c.rest_is_one_room.ensures; world
         after_cut = c.tree_after_cut.ensures;
         squits = c.squits_split.ensures;
       };
-      lines = record { written = c.written_is_read.ensures; alone = c.every_line_is_read.ensures.alone; names = c.names_are_line_words.ensures };
+      lines = record { written = c.written_is_read.ensures; alone = c.every_line_is_read.ensures.alone; as_line = c.written_is_line.ensures; names = c.names_are_line_words.ensures };
       done = c.done_stays_sound.ensures;
       kept = c.keeps_its_setting.ensures;
       step_keeps = c.step_keeps_world.ensures;
@@ -96,7 +96,7 @@ returns c = given_stays_sound (record { rest = c.rest_is_one_room.ensures; world
       rooms = record {
         sides = record {
           handshakes = record {
-            lines = record { written = c.written_is_read.ensures; alone = c.every_line_is_read.ensures.alone; names = c.names_are_line_words.ensures };
+            lines = record { written = c.written_is_read.ensures; alone = c.every_line_is_read.ensures.alone; as_line = c.written_is_line.ensures; names = c.names_are_line_words.ensures };
             passwords = c.lines_fit.ensures.passwords;
             names = c.lines_fit.ensures.names;
           };

@@ -8,6 +8,7 @@ returns c =
       lines = record {
         written = c.written_is_read.ensures;
         alone = c.every_line_is_read.ensures.alone;
+        as_line = c.written_is_line.ensures;
         names = c.names_are_line_words.ensures;
         shown = c.sent_is_shown_whole.ensures.fits;
         shorter = c.sent_is_shown_whole.ensures.by_nickname;

@@ -1,3 +1,4 @@
+use Rattle.irc_wire.proofs.CarriedParts.{told_is_carried}
 use Rattle.irc_wire.proofs.WholeLines.{told_fits_its_line, told_is_whole}
 use Rattle.irc_wire.proofs.laws.told_is_whole.Goals as goal
 
@@ -7,3 +8,6 @@ returns-clause-fits c =
 
 pub returns-clause-whole : goal.returns-clause-whole
 returns-clause-whole c = told_is_whole c.sent_is_shown_whole.ensures.fits c.sent_is_shown_whole.ensures.by_nickname c.names_are_line_words.ensures
+
+pub returns-clause-carried : goal.returns-clause-carried
+returns-clause-carried c = told_is_carried c.names_are_line_words.ensures

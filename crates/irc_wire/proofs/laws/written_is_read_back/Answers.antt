@@ -1,3 +1,5 @@
+use Rattle.irc_link_writer.specs.Written.{wire}
+use Rattle.irc_wire.proofs.CarriedParts.{plain_tellable, told_is_carried}
 use Rattle.irc_wire.proofs.LinesBack.{line_back}
 use Rattle.irc_wire.proofs.MeaningsBack.{meant_back}
 use Rattle.irc_link_reader.specs.Reader.{reader_of}
@@ -5,9 +7,12 @@ use Rattle.irc_wire.proofs.laws.written_is_read_back.Goals as goal
 
 pub returns : goal.returns
 returns c room known other others link effect plain is = record {
+  is_line = c.written_is_line.ensures (wire room known effect)
+      (told_is_carried c.names_are_line_words.ensures room known effect is.room_within (plain_tellable room known effect plain is.sendable));
   line = line_back (record {
     written = c.written_is_read.ensures;
     alone = c.every_line_is_read.ensures.alone;
+    as_line = c.written_is_line.ensures;
     names = c.names_are_line_words.ensures;
     shown = c.sent_is_shown_whole.ensures.fits;
     shorter = c.sent_is_shown_whole.ensures.by_nickname;
