@@ -2,5 +2,6 @@ pub mod Kept
 pub mod Places
 pub mod AtRest
 pub mod Taking
+pub mod WaitingLines
 pub mod Parties
 pub mod Received

@@ -2,3 +2,4 @@
 pub mod Codes
 pub mod Courses
 pub mod Parties
+pub mod Waiting

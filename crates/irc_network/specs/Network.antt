@@ -118,6 +118,10 @@ max_count = 18446744073709551615
 abbrev pub counted : Network → Network
 counted net = record net { taken = min (net.taken + 1) max_count }
 
+-- a server is asked for a line that has come from another, and the line is counted
+abbrev pub heard : ℕ → ℕ → Course → List ℕ → Course
+heard from to course bytes = asked to (link_says from (read_of bytes)) (record course { net = counted course.net })
+
 abbrev pub taken_of : ℕ → ℕ → Course → Site → List (List ℕ) → Option Course
 taken_of from to course site [] = None
 taken_of from to course site (first ∷ rest) =

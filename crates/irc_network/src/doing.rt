@@ -1,14 +1,16 @@
 //! A server of a network is asked for something, and what it puts out goes its way.
-ghost use Rattle.std.specs.Prelude.{◌≡◌, ◌≤◌, length, not, IfOk, OnOk};
+ghost use Rattle.std.specs.Prelude.{◌≡◌, ◌<◌, ◌≤◌, length, not, IfOk, IfSome, OnOk};
 ghost use Rattle.std.specs.List.{slice_get};
 ghost use Rattle.std.specs.Option.{option_map};
 ghost use Rattle.irc_line.specs.Limits.{max_text};
 ghost use Rattle.irc_server.specs.Happening.{occurrence_of};
-ghost use Rattle.irc_network.specs.Loops.Courses.{course, delivery_in, direction_now, sent_at, DeliversAt, IsLineTaken};
-ghost use Rattle.irc_network.specs.Network.{all_sent_out, asked, changed_at, delivered, first_direction, has_received, is_at_rest, next_in_turn, queued};
+ghost use Rattle.irc_network.specs.Loops.Courses.{course, delivery_in, direction_now, sent_at, DeliversAt, IsFirstTaken, IsLineTaken};
+ghost use Rattle.irc_network.specs.Loops.Waiting.{lines_waiting};
+ghost use Rattle.irc_network.specs.Network.{all_sent_out, asked, changed_at, delivered, first_direction, has_received, heard, is_at_rest, next_in_turn, queued};
 
 use crate::desk::Desk;
 use crate::network::Network;
+use crate::put_out::PutOut;
 use crate::receipt::Receipt;
 use irc_batch::Out;
 use irc_line::Line;
@@ -101,9 +103,39 @@ impl Network {
         let Some(line) = self.take_line(from, to) else {
             return Ok(false);
         };
-        self.taken = self.taken.saturating_add(1);
-        self.ask(to, &Event::LinkLine(from as u64, line), desk)?;
+        self.hear(from, to, line, desk)?;
         Ok(true)
+    }
+
+    /// A server is asked for a line that has come from another, and the line is counted. What clients receive by it is on the desk, behind what was there.
+    ///
+    /// # Errors
+    /// Where memory runs out: nothing is promised of the network then, and nothing more is to be asked of it.
+    pub fn hear(
+        &mut self,
+        from: usize,
+        to: usize,
+        line: Line,
+        desk: &mut Desk,
+    ) -> Result<(), AllocError>
+        ensures { OnOk result (course self.new desk.new.lines.items ≡ heard from to (course self.old desk.old.lines.items) line.items) }
+    {
+        self.taken = self.taken.saturating_add(1);
+        self.ask(to, &Event::LinkLine(from as u64, line), desk)
+    }
+
+    /// Takes the oldest line of the first way on which one waits, by the place that it is from and then that where it goes; none where none waits.
+    pub fn take_put_out(&mut self) -> Option<PutOut>
+        ensures taken { IsFirstTaken result self.old self.new }
+        ensures fewer { IfSome result (λ _. lines_waiting self.new < lines_waiting self.old) }
+    {
+        let Some((from, to)) = self.first_direction() else {
+            return None;
+        };
+        let Some(line) = self.take_line(from, to) else {
+            return None;
+        };
+        Some(PutOut { from, to, line })
     }
 
     /// Takes the oldest line that waits on the way from one server to another, by their names, if one does, and asks the other for it. Answers whether one

@@ -7,12 +7,14 @@ mod giving;
 mod item;
 pub mod laws;
 mod network;
+mod put_out;
 mod receipt;
 mod refusal;
 mod refusing;
 
 pub use desk::Desk;
 pub use item::Item;
-pub use network::Network;
+pub use network::{Ends, Network};
+pub use put_out::PutOut;
 pub use receipt::Receipt;
 pub use refusal::Refusal;

@@ -18,8 +18,10 @@ use std::marker::Model;
 
 /// Where two servers are.
 #[derive(Clone, Copy, Drop)]
-pub(crate) struct Ends {
+pub struct Ends {
+    /// The place of the first.
     pub near: usize,
+    /// The place of the other.
     pub far: usize,
 }
 
@@ -154,7 +156,7 @@ impl Network {
     }
 
     /// Where two servers are, if both are there.
-    pub(crate) fn ends_of(&self, near: &ServerName, far: &ServerName) -> Option<Ends>
+    pub fn ends_of(&self, near: &ServerName, far: &ServerName) -> Option<Ends>
         ensures ends { option_map ends_now result ≡ ends_of self.now near.now far.now }
         ensures within { IfSome result (λ ends. AreWithin self.now ends) }
         ensures named { IfSome result (λ ends. AreNamed self.now ends near.now far.now) }

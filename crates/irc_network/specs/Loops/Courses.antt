@@ -8,7 +8,8 @@ use Rattle.irc_relay.specs.Links.{Name}
 use Rattle.irc_forest.specs.Forests.{name_at}
 use Rattle.irc_network.specs.declared.receipt.Receipt.{Receipt as KeptReceipt}
 use Rattle.irc_network.specs.declared.network.Ends.{Ends as KeptEnds}
-use Rattle.irc_network.specs.Network.{Course, Direction, Ends, Network, Site, delivered, ends_of, left, sent_out, waiting, with_site}
+use Rattle.irc_network.specs.declared.put_out.PutOut.{PutOut}
+use Rattle.irc_network.specs.Network.{Course, Direction, Ends, Network, Site, delivered, ends_of, is_at_rest, left, sent_out, waiting, with_site}
 use Rattle.irc_network.specs.Views.{receipts_of}
 
 abbrev pub course : Network → List KeptReceipt → Course
@@ -58,6 +59,11 @@ IsEmptyAt to (Some site) = waiting site to ≡ []
 abbrev pub IsLineTaken : ℕ → ℕ → Option (ArrayVec ℕ) → Network → Network → Type 0
 IsLineTaken from to None old new = IsEmptyAt to (slice_get old.sites from) × (new ≡ old)
 IsLineTaken from to (Some line) old new = TakesLine from to line.items old new
+
+-- the oldest line of the first way on which one waits is taken; none waits anywhere
+abbrev pub IsFirstTaken : Option PutOut → Network → Network → Type 0
+IsFirstTaken None old new = (is_at_rest old ≡ true) × (new ≡ old)
+IsFirstTaken (Some put) old new = TakesLine put.from put.to put.line.items old new
 
 abbrev pub delivery_in : Course → Name → Name → Option Course
 delivery_in course from to = option_and_then (λ (ends : Ends). delivered ends.near ends.far course) (ends_of course.net from to)
