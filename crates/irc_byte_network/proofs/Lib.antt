@@ -1,0 +1,13 @@
+pub mod Behind
+pub mod Calls
+pub mod Coming
+pub mod Delivered
+pub mod GivenLines
+pub mod Refilled
+pub mod Resting
+pub mod SitesStay
+pub mod StillWires
+pub mod Ways
+pub mod WaysStay
+pub mod WireLines
+pub mod WritingOut

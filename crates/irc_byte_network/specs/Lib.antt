@@ -1,0 +1,5 @@
+pub mod Behind
+pub mod ByteNetwork
+pub mod Turns
+pub mod Whole
+pub mod Loops

@@ -1,0 +1,12 @@
+-- A network as what waits in it is written, line by line.
+use Rattle.std.specs.Prelude.{◌≡◌, ℕ, length}
+use Rattle.irc_network.specs.Network.{Network}
+use Rattle.irc_wires.specs.Wires.{Wires, wire_at}
+use Rattle.irc_byte_network.specs.Behind.{emptied}
+use Rattle.irc_byte_network.specs.ByteNetwork.{all_written, waiting_at}
+
+-- some lines are written, and those that wait still will make of each wire the same
+pub record IsWriting (old : Network) (before : Wires) (new : Network) (wires : Wires) : Type 0 where
+  pub emptied_is : emptied new ≡ emptied old
+  pub wires_are : (from to : ℕ) → all_written (waiting_at new from to) (wire_at wires from to) ≡ all_written (waiting_at old from to) (wire_at before from to)
+  pub rows : length wires ≡ length new.sites

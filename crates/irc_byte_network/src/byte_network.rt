@@ -1,0 +1,195 @@
+//! A network of servers whose links carry bytes.
+ghost use Rattle.std.specs.Prelude.{◌≡◌, [], length, min, replicate, IfOk, OnOk};
+ghost use Rattle.std.specs.FinMap.{empty};
+ghost use Rattle.std.specs.Option.{option_map};
+ghost use Rattle.irc_line.specs.Framed.{bytes_of};
+ghost use Rattle.irc_network.specs.Loops.Courses.{course, ends_now};
+ghost use Rattle.irc_network.specs.Views.{item_of, receipts_of};
+ghost use Rattle.irc_wires.specs.Wires.{first_direction, through_line_feed, wire_at};
+ghost use Rattle.irc_byte_network.specs.Turns.{TurnsBy};
+ghost use Rattle.irc_byte_network.specs.Loops.Directions.{direction_between};
+ghost use Rattle.irc_byte_network.specs.ByteNetwork.{all_heard, completed_in, cut_ends, is_byte_rest, lost_along, Come, HasRows, IsGivenTo, IsWritten};
+
+use crate::came::Came;
+use irc_line::Line;
+use irc_network::{Desk, Ends, Item, Network};
+use irc_wires::Wires;
+use std::alloc::{AllocError, Global};
+use std::marker::Model;
+
+/// A network of servers, and the bytes that are on their way along its links. No line waits in it between calls: what a server puts out is written at once.
+#[derive(Drop)]
+pub struct ByteNetwork {
+    alloc: Global,
+    network: Network,
+    wires: Wires,
+}
+
+/// In a clause it is the network and its wires.
+impl Model for ByteNetwork {
+    ghost use Rattle.irc_byte_network.specs.ByteNetwork.{ByteNetwork};
+    ghost use Rattle.irc_byte_network.specs.Loops.Codes.{byte_network_code};
+    ghost use Rattle.irc_network.specs.contracts.network.Network.{the_row as network_row};
+    ghost use Rattle.irc_wires.specs.contracts.wires.Wires.{the_row as wires_row};
+
+    ghost Value = { ByteNetwork };
+
+    ghost coded = { byte_network_code network_row.coded wires_row.coded };
+
+    ghost view = { λ n. record { network = n.network; wires = n.wires } };
+}
+
+impl ByteNetwork {
+    /// A network of so many servers, along whose links nothing is on its way.
+    ///
+    /// # Errors
+    /// Where memory runs out.
+    pub fn new(alloc: Global, network: Network, servers: usize) -> Result<Self, AllocError>
+        ensures { IfOk result (λ net. net ≡ record { network = network; wires = replicate servers empty }) }
+    {
+        Ok(ByteNetwork {
+            alloc,
+            network,
+            wires: Wires::new(alloc, servers)?,
+        })
+    }
+
+    /// Whether no byte is on its way, and no part of a line has come anywhere.
+    pub fn is_at_rest(&self) -> bool
+        ensures { result ≡ is_byte_rest self.now }
+    {
+        self.wires.are_still()
+    }
+
+    /// The network, of which no line waits.
+    pub fn network(&self) -> &Network
+        ensures { result.now ≡ self.now.network }
+    {
+        &self.network
+    }
+
+    /// How many bytes are on their way from the first of two servers to the other up to and with the next LF; all where there is none.
+    pub fn through_line_feed(&self, ends: Ends) -> usize
+        ensures { result ≡ through_line_feed (wire_at self.now.wires ends.near ends.far).bytes }
+    {
+        self.wires.through_line_feed(ends.near, ends.far as u64)
+    }
+
+    /// The first direction in which a byte is on its way, by the place that it is from and then that where it goes.
+    pub fn first_direction(&self) -> Option<Ends>
+        ensures { option_map direction_between result ≡ first_direction self.now.wires }
+    {
+        match self.wires.first_direction() {
+            Some((near, far)) => Some(Ends {
+                near,
+                far: far as usize,
+            }),
+            None => None,
+        }
+    }
+
+    /// An item that is not refused is taken, and kept, and what servers put out upon it is written. What clients receive by it is on the desk, on which
+    /// nothing is before.
+    ///
+    /// # Errors
+    /// Where memory runs out: nothing is promised of the network then, and nothing more is to be asked of it.
+    pub fn give(&mut self, item: Item, desk: &mut Desk) -> Result<(), AllocError>
+        requires rows { HasRows self.old }
+        requires begins { desk.old.lines.items ≡ [] }
+        ensures { OnOk result (IsGivenTo self.old (item_of item) self.new (receipts_of desk.new.lines.items)) }
+    {
+        let ends = self.cut_ends(&item);
+        self.network.give(item, desk)?;
+        lose(ends, &mut self.wires);
+        write_out(&mut self.network, &mut self.wires)
+    }
+
+    /// The ends of the link that an item cuts, if it cuts one.
+    fn cut_ends(&self, item: &Item) -> Option<Ends>
+        ensures { option_map ends_now result ≡ cut_ends self.now.network (item_of item.now) }
+    {
+        match item {
+            Item::Cut(near, far) => self.network.ends_of(near, far),
+            _ => None,
+        }
+    }
+
+    /// So many bytes come from one server to another, or all that are on their way where there are fewer. The server that they come to is asked for each line
+    /// that they complete, in turn. What clients receive by them is on the desk, behind what was there.
+    ///
+    /// # Errors
+    /// Where memory runs out: nothing is promised of the network then, and nothing more is to be asked of it.
+    pub fn come(&mut self, ends: Ends, count: usize, desk: &mut Desk) -> Result<Came, AllocError>
+        requires rows { HasRows self.old }
+        ensures bytes { IfOk result (λ came. came.bytes ≡ min count (length (wire_at self.old.wires ends.near ends.far).bytes)) }
+        ensures lines { IfOk result (λ came. came.lines ≡ length (completed_in self.old ends.near ends.far count)) }
+        ensures come { OnOk result (Come self.old ends.near ends.far count (receipts_of desk.old.lines.items) self.new (receipts_of desk.new.lines.items)) }
+    {
+        let mut lines = Vec::new(self.alloc);
+        let bytes = self
+            .wires
+            .take(ends.near, ends.far as u64, count, &mut lines)?;
+        let came = Came {
+            bytes,
+            lines: lines.len(),
+        };
+        hear_all(&mut self.network, ends, lines, desk)?;
+        write_out(&mut self.network, &mut self.wires)?;
+        Ok(came)
+    }
+
+    /// The bytes through the next LF come in the first direction in which a byte is on its way. The number is how many lines they complete; none where no byte
+    /// is on its way. What clients receive by them is on the desk, behind what was there.
+    ///
+    /// # Errors
+    /// Where memory runs out: nothing is promised of the network then, and nothing more is to be asked of it.
+    pub fn come_in_turn(&mut self, desk: &mut Desk) -> Result<Option<usize>, AllocError>
+        requires rows { HasRows self.old }
+        ensures { IfOk result (λ lines. TurnsBy lines self.old (receipts_of desk.old.lines.items) self.new (receipts_of desk.new.lines.items)) }
+    {
+        let Some(ends) = self.first_direction() else {
+            return Ok(None);
+        };
+        let came = self.come(ends, self.through_line_feed(ends), desk)?;
+        Ok(Some(came.lines))
+    }
+}
+
+/// What is on its way along a link is lost, and the framers at its ends begin anew.
+fn lose(ends: Option<Ends>, wires: &mut Wires)
+    ensures { wires.new ≡ lost_along (option_map ends_now ends) wires.old }
+{
+    if let Some(ends) = ends {
+        wires.close(ends.near, ends.far as u64);
+        wires.close(ends.far, ends.near as u64);
+    }
+}
+
+/// What servers have put out is written on its way.
+fn write_out(network: &mut Network, wires: &mut Wires) -> Result<(), AllocError>
+    requires rows { length wires.old ≡ length network.old.sites }
+    ensures { OnOk result (IsWritten network.old wires.old (record { network = network.new; wires = wires.new })) }
+{
+    irc_network::laws::rest_stays();
+    while let Some(put) = network.take_put_out() {
+        wires.write(put.from, put.to as u64, put.line.as_slice())?;
+    }
+    wires.are_lean();
+    Ok(())
+}
+
+/// A server is asked for lines that have come from another, in turn.
+fn hear_all(
+    network: &mut Network,
+    ends: Ends,
+    lines: Vec<Line, Global>,
+    desk: &mut Desk,
+) -> Result<(), AllocError>
+    ensures { OnOk result (course network.new desk.new.lines.items ≡ all_heard ends.near ends.far (course network.old desk.old.lines.items) (bytes_of lines.items)) }
+{
+    let mut rest = lines.into_iter();
+    while let Some(line) = rest.next() {
+        network.hear(ends.near, ends.far, line, desk)?;
+    }
+    Ok(())
+}

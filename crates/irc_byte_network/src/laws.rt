@@ -1,0 +1,24 @@
+//! What holds of any network whose links carry bytes.
+ghost use Rattle.irc_byte_network.specs.Whole.{BytesComeAsLines, GivenAsLines, NoByteRests, RestAsLines};
+
+/// An item that is given at rest does what it does where links carry lines.
+pub fn given_as_lines()
+    ensures { GivenAsLines }
+{
+    irc_line::laws::pieces_complete_the_same();
+}
+
+/// Bytes that come deliver the lines that they complete, in turn, where links carry lines.
+pub fn bytes_come_as_lines()
+    ensures { BytesComeAsLines }
+{
+    irc_line::laws::pieces_complete_the_same();
+}
+
+/// Where nothing is on its way, no line is where links carry lines; and where no byte is on its way, no part of a line has come either.
+pub fn rest_as_lines()
+    ensures lines { RestAsLines }
+    ensures bytes { NoByteRests }
+{
+    irc_line::laws::pieces_complete_the_same();
+}

@@ -1,0 +1,119 @@
+-- What is on its way along links: in each direction bytes, and at the far end a framer that makes lines of them (RFC 2812 section 2.3).
+--
+-- a.net has written `PING x` and CR LF to b.net, of which `PI` has come there:
+--   begun    `PI`, which is no line yet
+--   bytes    `NG x` and CR LF; once the CR has come, b.net has the line `PING x`
+use Rattle.std.specs.Prelude.{◌≡◌, ℕ, suc, ◌+◌, Bool, true, false, not, ◌&&◌, ◌==◌, Option, Some, None, List, [], ◌∷◌, ◌++◌, drop, take, length, unwrap_or, if◌then◌else◌}
+use Rattle.std.specs.FinMap.{FinMap, get, insert, keys, remove}
+use Rattle.std.specs.List.{AllByRecursion, find, list_all, slice_get, slice_set}
+use Rattle.std.specs.Option.{option_map_or}
+use Rattle.std.specs.Ordering.{nat_cmp}
+use Rattle.irc_line.specs.Bytes.{crlf, line_feed}
+use Rattle.irc_line.specs.Lines.{Begun, begun_behind, completed, has_nothing, nothing_begun}
+
+-- ---- one direction of a link
+
+pub record Wire : Type 0 where
+  pub begun : Begun
+  pub bytes : List ℕ
+
+abbrev pub new_wire : Wire
+new_wire = record { begun = nothing_begun; bytes = [] }
+
+-- a line is written behind what is on its way, with its CR LF
+abbrev pub written : List ℕ → Wire → Wire
+written line wire = record wire { bytes = wire.bytes ++ (line ++ crlf) }
+
+-- so many bytes have come to the far end, or all where there are fewer
+abbrev pub advanced : ℕ → Wire → Wire
+advanced count wire = record { begun = begun_behind wire.begun (take count wire.bytes); bytes = drop count wire.bytes }
+
+-- the lines that they complete there
+abbrev pub lines_by : ℕ → Wire → List (List ℕ)
+lines_by count wire = completed wire.begun (take count wire.bytes)
+
+-- the lines that all that is on its way will complete
+abbrev pub lines_to_come : Wire → List (List ℕ)
+lines_to_come wire = completed wire.begun wire.bytes
+
+abbrev pub is_none : List ℕ → Bool
+is_none [] = true
+is_none (byte ∷ bytes) = false
+
+-- whether a byte is on its way
+abbrev pub has_byte : Wire → Bool
+has_byte wire = not (is_none wire.bytes)
+
+-- no byte is on its way, and no part of a line has come
+abbrev pub is_still : Wire → Bool
+is_still wire = is_none wire.bytes && has_nothing wire.begun
+
+-- how many bytes there are up to and with the next LF; all where there is none
+abbrev pub through_line_feed : List ℕ → ℕ
+through_line_feed [] = 0
+through_line_feed (byte ∷ bytes) = if byte == line_feed then 1 else suc (through_line_feed bytes)
+
+-- ---- all directions of all links
+
+-- Of each server, by its place, the wires from it, under the places of the servers that they go to.
+abbrev pub Wires : Type 0
+Wires = List (FinMap nat_cmp Wire)
+
+abbrev pub from_at : Wires → ℕ → Option (FinMap nat_cmp Wire)
+from_at wires from = slice_get wires from
+
+-- a direction in which nothing was ever written is as one in which all has come
+abbrev pub wire_in : ℕ → FinMap nat_cmp Wire → Wire
+wire_in to row = unwrap_or (get row to) new_wire
+
+abbrev pub wire_at : Wires → ℕ → ℕ → Wire
+wire_at wires from to = option_map_or (wire_in to) (from_at wires from) new_wire
+
+-- a wire is kept only while something is on its way along it
+abbrev pub put_in : ℕ → Wire → FinMap nat_cmp Wire → FinMap nat_cmp Wire
+put_in to wire row = if is_still wire then remove row to else insert row to wire
+
+-- a wire is changed, where there is a server at the place that it is from
+abbrev pub with_wire : ℕ → ℕ → Wire → Wires → Wires
+with_wire from to wire wires =
+    option_map_or (λ row. slice_set wires from (put_in to wire row)) (from_at wires from) wires
+
+-- nothing is on its way any more in a direction, and its framer begins anew
+abbrev pub without_wire : ℕ → ℕ → Wires → Wires
+without_wire from to wires =
+    option_map_or (λ row. slice_set wires from (remove row to)) (from_at wires from) wires
+
+abbrev pub are_still_in : FinMap nat_cmp Wire → Bool
+are_still_in row = list_all (λ to. is_still (wire_in to row)) (keys row)
+
+abbrev pub are_still : Wires → Bool
+are_still wires = list_all are_still_in wires
+
+pub record Direction : Type 0 where
+  pub from : ℕ
+  pub to : ℕ
+
+abbrev pub first_in : FinMap nat_cmp Wire → Option ℕ
+first_in row = find (λ to. has_byte (wire_in to row)) (keys row)
+
+-- the first direction in which a byte is on its way, by the place that it is from and then the one where it goes
+abbrev pub first_from : ℕ → Wires → Option Direction
+first_from place [] = None
+first_from place (row ∷ wires) = option_map_or (λ to. Some (record { from = place; to = to })) (first_in row) (first_from (place + 1) wires)
+
+abbrev pub first_direction : Wires → Option Direction
+first_direction wires = first_from 0 wires
+
+-- ---- one representation
+
+-- no wire that is still is kept
+abbrev pub IsLean : FinMap nat_cmp Wire → Type 0
+IsLean row = (to : ℕ) (wire : Wire) → get row to ≡ Some wire → is_still wire ≡ false
+
+abbrev pub AreLean : Wires → Type 0
+AreLean wires = AllByRecursion IsLean wires
+
+-- wires of as many servers that carry the same are the same
+abbrev pub SameWires : Type 0
+SameWires = (one other : Wires) → AreLean one → AreLean other → length one ≡ length other
+    → ((from to : ℕ) → wire_at one from to ≡ wire_at other from to) → one ≡ other

@@ -1,0 +1,10 @@
+//! What is on its way along the links of a network: bytes, and at each far end a framer that makes lines of them. Definitions are in `specs/`.
+#![tactic(auto)]
+
+pub mod laws;
+mod row;
+mod wire;
+mod wires;
+
+pub use wire::Wire;
+pub use wires::Wires;

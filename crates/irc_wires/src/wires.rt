@@ -1,0 +1,148 @@
+//! What is on its way along all links of a network.
+ghost use Rattle.std.specs.Prelude.{◌≡◌, ◌≤◌, ◌++◌, min, length, replicate, IfOk, OnOk};
+ghost use Rattle.std.specs.FinMap.{empty};
+ghost use Rattle.std.specs.Option.{option_map};
+ghost use Rattle.irc_line.specs.Framed.{bytes_of};
+ghost use Rattle.irc_line.specs.Limits.{max_line};
+ghost use Rattle.irc_wires.specs.Wires.{AreLean, advanced, are_still, first_direction, lines_by, through_line_feed, wire_at, with_wire, without_wire, written};
+ghost use Rattle.irc_wires.specs.Loops.Rows.{direction_of};
+
+use crate::row::Row;
+use irc_line::Line;
+use std::alloc::{AllocError, Global};
+use std::marker::Model;
+
+/// The wires of all links of a network, by the places of its servers. None that is still is kept, so equal wires have one representation.
+#[derive(Drop)]
+pub struct Wires {
+    alloc: Global,
+    /// Those from each server, by its place.
+    rows: Vec<Row, Global>,
+}
+
+/// In a clause it is the maps of wires, one for each server.
+impl Model for Wires {
+    ghost use Rattle.std.specs.Coded.{coded_list};
+    ghost use Rattle.irc_wires.specs.Wires.{AreLean, Wires};
+    ghost use Rattle.irc_wires.specs.contracts.row.Row.{the_row as row_row};
+
+    ghost Value = { Wires };
+
+    ghost coded = { coded_list row_row.coded };
+
+    ghost view = { λ wires. wires.rows.items };
+
+    ghost invariant = { λ wires. AreLean wires.rows.items };
+}
+
+impl Wires {
+    /// Those of so many servers, along which nothing was written yet.
+    ///
+    /// # Errors
+    /// Where memory runs out.
+    pub fn new(alloc: Global, servers: usize) -> Result<Self, AllocError>
+        ensures { IfOk result (λ wires. wires ≡ replicate servers empty) }
+    {
+        let mut rows = Vec::new(alloc);
+        for _ in 0..servers {
+            rows.push(Row::new(alloc))?;
+        }
+        Ok(Wires { alloc, rows })
+    }
+
+    /// Says what is kept of all wires, and does nothing: none that is still.
+    pub fn are_lean(&self)
+        ensures { AreLean self.now }
+    {
+        let _rows = &self.rows;
+    }
+
+    /// A server writes a line without its CR LF to another. Where no server is at the place that it is from, nothing changes.
+    ///
+    /// # Errors
+    /// Where memory runs out.
+    pub fn write(&mut self, from: usize, to: u64, line: &[u8]) -> Result<(), AllocError>
+        requires fits { length line.now ≤ max_line }
+        ensures { OnOk result (self.new ≡ with_wire from to (written line.now (wire_at self.old from to)) self.old) }
+    {
+        let alloc = self.alloc;
+        let Some(row) = self.rows.get_mut(from) else {
+            return Ok(());
+        };
+        let done = row.write(alloc, to, line);
+        row.is_lean();
+        done
+    }
+
+    /// So many bytes come from one server to another, or all that are on their way where there are fewer, and each line that they complete is put behind
+    /// the others. The number is how many have come.
+    ///
+    /// # Errors
+    /// Where memory runs out.
+    pub fn take(
+        &mut self,
+        from: usize,
+        to: u64,
+        count: usize,
+        lines: &mut Vec<Line, Global>,
+    ) -> Result<usize, AllocError>
+        ensures taken { IfOk result (λ taken. taken ≡ min count (length (wire_at self.old from to).bytes)) }
+        ensures lines { OnOk result (bytes_of lines.new.items ≡ bytes_of lines.old.items ++ lines_by count (wire_at self.old from to)) }
+        ensures wires { OnOk result (self.new ≡ with_wire from to (advanced count (wire_at self.old from to)) self.old) }
+    {
+        let Some(row) = self.rows.get_mut(from) else {
+            return Ok(0);
+        };
+        let taken = row.take(to, count, lines);
+        row.is_lean();
+        taken
+    }
+
+    /// How many bytes are on their way from one server to another up to and with the next LF; none where no byte is.
+    pub fn through_line_feed(&self, from: usize, to: u64) -> usize
+        ensures { result ≡ through_line_feed (wire_at self.now from to).bytes }
+    {
+        match self.rows.get(from) {
+            Some(row) => row.through_line_feed(to),
+            None => 0,
+        }
+    }
+
+    /// Nothing is on its way any more from one server to another, and the framer there begins anew.
+    pub fn close(&mut self, from: usize, to: u64)
+        ensures { self.new ≡ without_wire from to self.old }
+    {
+        if let Some(row) = self.rows.get_mut(from) {
+            row.close(to);
+            row.is_lean();
+        }
+    }
+
+    /// Whether nothing is on its way, and no part of a line has come anywhere.
+    pub fn are_still(&self) -> bool
+        ensures { result ≡ are_still self.now }
+    {
+        for row in self.rows.as_slice() {
+            if !row.is_still() {
+                return false;
+            }
+        }
+        true
+    }
+
+    /// The first direction in which a byte is on its way, by the place that it is from and then the one where it goes.
+    pub fn first_direction(&self) -> Option<(usize, u64)>
+        ensures { option_map direction_of result ≡ first_direction self.now }
+    {
+        let mut from = 0;
+        let mut rest = self.rows.as_slice();
+        while let Some((row, more)) = rest.split_first() {
+            if let Some(to) = row.first() {
+                return Some((from, to));
+            }
+            from += 1;
+            rest = more;
+        }
+        None
+    }
+}
