@@ -1,4 +1,4 @@
 -- Words of this crate's code alone. No rule stands here.
 pub mod Codes
-pub mod Directions
+pub mod Coming
 pub mod Writing

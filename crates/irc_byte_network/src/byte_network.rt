@@ -2,13 +2,11 @@
 ghost use Rattle.std.specs.Prelude.{◌≡◌, [], length, min, replicate, IfOk, OnOk};
 ghost use Rattle.std.specs.FinMap.{empty};
 ghost use Rattle.std.specs.Option.{option_map};
-ghost use Rattle.irc_line.specs.Framed.{bytes_of};
 ghost use Rattle.irc_network.specs.Loops.Courses.{course, ends_now};
 ghost use Rattle.irc_network.specs.Views.{item_of, receipts_of};
 ghost use Rattle.irc_wires.specs.Wires.{first_direction, through_line_feed, wire_at};
-ghost use Rattle.irc_byte_network.specs.Turns.{TurnsBy};
-ghost use Rattle.irc_byte_network.specs.Loops.Directions.{direction_between};
-ghost use Rattle.irc_byte_network.specs.ByteNetwork.{all_heard, completed_in, cut_ends, is_byte_rest, lost_along, Come, HasRows, IsGivenTo, IsWritten};
+ghost use Rattle.irc_byte_network.specs.Loops.Coming.{HasHeard, HaveCome, IsTurn, bytes_between, direction_between, lines_between};
+ghost use Rattle.irc_byte_network.specs.ByteNetwork.{cut_ends, is_byte_rest, lost_along, HasRows, IsGivenTo, IsWritten};
 
 use crate::came::Came;
 use irc_line::Line;
@@ -121,9 +119,9 @@ impl ByteNetwork {
     /// Where memory runs out: nothing is promised of the network then, and nothing more is to be asked of it.
     pub fn come(&mut self, ends: Ends, count: usize, desk: &mut Desk) -> Result<Came, AllocError>
         requires rows { HasRows self.old }
-        ensures bytes { IfOk result (λ came. came.bytes ≡ min count (length (wire_at self.old.wires ends.near ends.far).bytes)) }
-        ensures lines { IfOk result (λ came. came.lines ≡ length (completed_in self.old ends.near ends.far count)) }
-        ensures come { OnOk result (Come self.old ends.near ends.far count (receipts_of desk.old.lines.items) self.new (receipts_of desk.new.lines.items)) }
+        ensures bytes { IfOk result (λ came. came.bytes ≡ min count (bytes_between self.old ends)) }
+        ensures lines { IfOk result (λ came. came.lines ≡ lines_between self.old ends count) }
+        ensures come { OnOk result (HaveCome self.old ends count desk.old.lines.items self.new desk.new.lines.items) }
     {
         let mut lines = Vec::new(self.alloc);
         let bytes = self
@@ -145,7 +143,7 @@ impl ByteNetwork {
     /// Where memory runs out: nothing is promised of the network then, and nothing more is to be asked of it.
     pub fn come_in_turn(&mut self, desk: &mut Desk) -> Result<Option<usize>, AllocError>
         requires rows { HasRows self.old }
-        ensures { IfOk result (λ lines. TurnsBy lines self.old (receipts_of desk.old.lines.items) self.new (receipts_of desk.new.lines.items)) }
+        ensures { IfOk result (λ lines. IsTurn lines self.old desk.old.lines.items self.new desk.new.lines.items) }
     {
         let Some(ends) = self.first_direction() else {
             return Ok(None);
@@ -185,7 +183,7 @@ fn hear_all(
     lines: Vec<Line, Global>,
     desk: &mut Desk,
 ) -> Result<(), AllocError>
-    ensures { OnOk result (course network.new desk.new.lines.items ≡ all_heard ends.near ends.far (course network.old desk.old.lines.items) (bytes_of lines.items)) }
+    ensures { OnOk result (HasHeard ends lines.items (course network.old desk.old.lines.items) (course network.new desk.new.lines.items)) }
 {
     let mut rest = lines.into_iter();
     while let Some(line) = rest.next() {
