@@ -7,7 +7,7 @@ use Rattle.std.specs.Option.{option_and_then, option_map_or}
 use Rattle.irc_batch.specs.Batches.{Sent, line_to as line_out, end_of, line_on, end_of_link}
 use Rattle.irc_line.specs.Reading.{read_of}
 use Rattle.irc_network.specs.Laws.{ReceiptsAreReceived}
-use Rattle.irc_network.specs.Network.{Course, Ends, Network, Receipt, Site, TakesInTurn, all_sent_out, asked, asked_at, asked_of, begun, changed_at, delivered, done_by, ends_of, given, has_received, has_received_at, home_place, left, lost, made, none_yet, place_of, queued, receipt, received_by, reply, sent_out, site_at, taken_of, then_one, waiting, with_client, with_reply, with_site, line_for, lines_for}
+use Rattle.irc_network.specs.Network.{Course, Ends, Network, Receipt, Site, TakesInTurn, all_sent_out, asked, asked_at, asked_of, begun, changed_at, counted, delivered, done_by, ends_of, given, has_received, has_received_at, home_place, left, lost, made, none_yet, place_of, queued, receipt, received_by, reply, sent_out, site_at, taken_of, then_one, waiting, with_client, with_reply, with_site, line_for, lines_for}
 use Rattle.irc_relay.specs.Links.{Name}
 use Rattle.irc_server.specs.Served.{Occurrence, link_says}
 use Rattle.irc_stage.specs.View.{View}
@@ -197,6 +197,9 @@ given_told item net = told_still (received_by net) (done_by item net) (given ite
 
 pub receipts_are_received : ReceiptsAreReceived
 receipts_are_received = record {
+  heard = λ from to bytes net between are.
+      asked_told (received_by net) to (link_says from (read_of bytes)) (record between { net = counted between.net })
+      (told_still (received_by net) between (record between { net = counted between.net }) refl refl are);
   given = λ item net. given_told item net;
   delivered = λ from to net new is. delivered_told (received_by net) from to (begun net) new is (nothing_told net);
   in_turn = λ count net new takes. taken_told (received_by net) takes (nothing_told net);

@@ -1,12 +1,12 @@
 //! A server of a network is asked for something, and what it puts out goes its way.
-ghost use Rattle.std.specs.Prelude.{◌≡◌, ◌<◌, ◌≤◌, length, not, IfOk, IfSome, OnOk};
+ghost use Rattle.std.specs.Prelude.{◌≡◌, ◌<◌, ◌≤◌, length, IfSome, OnOk};
 ghost use Rattle.std.specs.List.{slice_get};
 ghost use Rattle.std.specs.Option.{option_map};
 ghost use Rattle.irc_line.specs.Limits.{max_text};
 ghost use Rattle.irc_server.specs.Happening.{occurrence_of};
-ghost use Rattle.irc_network.specs.Loops.Courses.{course, delivery_in, direction_now, sent_at, DeliversAt, IsFirstTaken, IsLineTaken};
+ghost use Rattle.irc_network.specs.Loops.Courses.{course, direction_now, sent_at, IsFirstTaken, IsLineTaken};
 ghost use Rattle.irc_network.specs.Loops.Waiting.{lines_waiting};
-ghost use Rattle.irc_network.specs.Network.{all_sent_out, asked, changed_at, delivered, first_direction, has_received, heard, is_at_rest, next_in_turn, queued};
+ghost use Rattle.irc_network.specs.Network.{all_sent_out, asked, changed_at, first_direction, has_received, heard, queued};
 
 use crate::desk::Desk;
 use crate::network::Network;
@@ -14,7 +14,7 @@ use crate::put_out::PutOut;
 use crate::receipt::Receipt;
 use irc_batch::Out;
 use irc_line::Line;
-use irc_names::{ServerName, copied};
+use irc_names::copied;
 use irc_server::Event;
 use std::alloc::{AllocError, Global};
 
@@ -96,17 +96,6 @@ impl Network {
         site.queue(to, text)
     }
 
-    /// Takes the oldest line from one server to another, if one waits there, and asks the other for it. Answers whether one did.
-    fn deliver(&mut self, from: usize, to: usize, desk: &mut Desk) -> Result<bool, AllocError>
-        ensures { IfOk result (λ was_taken. DeliversAt (delivered from to (course self.old desk.old.lines.items)) was_taken (course self.old desk.old.lines.items) (course self.new desk.new.lines.items)) }
-    {
-        let Some(line) = self.take_line(from, to) else {
-            return Ok(false);
-        };
-        self.hear(from, to, line, desk)?;
-        Ok(true)
-    }
-
     /// A server is asked for a line that has come from another, and the line is counted. What clients receive by it is on the desk, behind what was there.
     ///
     /// # Errors
@@ -138,25 +127,6 @@ impl Network {
         Some(PutOut { from, to, line })
     }
 
-    /// Takes the oldest line that waits on the way from one server to another, by their names, if one does, and asks the other for it. Answers whether one
-    /// did; what clients receive by it is on the desk, behind what was there.
-    ///
-    /// # Errors
-    /// Where memory runs out: nothing is promised of the network then, and nothing more is to be asked of it.
-    pub fn deliver_between(
-        &mut self,
-        from: &ServerName,
-        to: &ServerName,
-        desk: &mut Desk,
-    ) -> Result<bool, AllocError>
-        ensures { IfOk result (λ was_taken. DeliversAt (delivery_in (course self.old desk.old.lines.items) from.now to.now) was_taken (course self.old desk.old.lines.items) (course self.new desk.new.lines.items)) }
-    {
-        match self.ends_of(from, to) {
-            Some(ends) => self.deliver(ends.near, ends.far, desk),
-            None => Ok(false),
-        }
-    }
-
     fn take_line(&mut self, from: usize, to: usize) -> Option<Line>
         ensures { IsLineTaken from to result self.old self.new }
     {
@@ -180,20 +150,5 @@ impl Network {
             rest = more;
         }
         None
-    }
-
-    /// Takes the oldest line of the first way on which one waits, if one does, and asks the server there for it. Answers whether one did: none does just
-    /// where no line is on its way; what clients receive by it is on the desk, behind what was there.
-    ///
-    /// # Errors
-    /// Where memory runs out: nothing is promised of the network then, and nothing more is to be asked of it.
-    pub fn deliver_first(&mut self, desk: &mut Desk) -> Result<bool, AllocError>
-        ensures taken { IfOk result (λ was_taken. DeliversAt (next_in_turn (course self.old desk.old.lines.items)) was_taken (course self.old desk.old.lines.items) (course self.new desk.new.lines.items)) }
-        ensures rest { IfOk result (λ was_taken. was_taken ≡ not (is_at_rest self.old)) }
-    {
-        let Some((from, to)) = self.first_direction() else {
-            return Ok(false);
-        };
-        self.deliver(from, to, desk)
     }
 }

@@ -4,7 +4,7 @@ ghost use Rattle.std.specs.Option.{option_copied, option_map};
 ghost use Rattle.irc_forest.specs.Forests.{name_at};
 ghost use Rattle.irc_network.specs.Loops.Courses.{AreNamed, AreWithin, ends_now, inbox_of};
 ghost use Rattle.irc_sites.specs.Loops.Queues.{bytes_of};
-ghost use Rattle.irc_network.specs.Network.{ends_of, home_place, is_at_rest, next_client, number_given, place_of, received_by, site_at};
+ghost use Rattle.irc_network.specs.Network.{ends_of, home_place, next_client, number_given, place_of, received_by, site_at};
 ghost use Rattle.irc_network.specs.Views.{item_of, items_of};
 ghost use Rattle.irc_world.specs.World.{home_in};
 
@@ -116,13 +116,6 @@ impl Network {
             Item::Connect(_, _) => Some(self.next_client()),
             _ => None,
         }
-    }
-
-    /// Whether no line is on its way.
-    pub fn is_at_rest(&self) -> bool
-        ensures { result ≡ is_at_rest self.now }
-    {
-        self.sites.iter().all(Site::is_quiet)
     }
 
     /// Where the server is that a client has connected to.

@@ -1,4 +1,3 @@
 pub mod Outcomes
 pub mod Replying
 pub mod Ways
-pub mod Quiet

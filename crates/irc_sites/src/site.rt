@@ -6,7 +6,7 @@ ghost use Rattle.irc_line.specs.Limits.{max_text};
 ghost use Rattle.irc_server.specs.Happening.{occurrence_of};
 ghost use Rattle.irc_server.specs.Loops.Acting.{room_kept, room_of};
 ghost use Rattle.irc_stage.specs.View.{password_for, View};
-ghost use Rattle.irc_sites.specs.Site.{body, first_way, is_quiet, queued, waits, with_way, without_way};
+ghost use Rattle.irc_sites.specs.Site.{body, first_way, queued, waits, with_way, without_way};
 ghost use Rattle.irc_sites.specs.Loops.Queues.{bytes_of};
 ghost use Rattle.irc_sites.specs.Loops.Sites.{is_want, IsAnswered, IsTaken};
 
@@ -89,13 +89,6 @@ impl Site {
             return Err(AllocError);
         }
         Ok(())
-    }
-
-    /// Whether no line is on its way from it.
-    pub fn is_quiet(&self) -> bool
-        ensures { result ≡ is_quiet self.now }
-    {
-        self.first_way().is_none()
     }
 
     /// Where the first way goes, in order of places, on which a line waits.

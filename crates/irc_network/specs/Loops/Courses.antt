@@ -1,7 +1,6 @@
 -- A network as its code has it while something is done to it.
-use Rattle.std.specs.Prelude.{◌≡◌, ◌<◌, ℕ, zero, suc, Bool, true, false, Option, Some, None, List, [], ◌∷◌, length}
+use Rattle.std.specs.Prelude.{◌≡◌, ◌<◌, ℕ, zero, suc, true, Option, Some, None, List, [], ◌∷◌, length}
 use Rattle.std.specs.List.{slice_get}
-use Rattle.std.specs.Option.{option_and_then}
 use Rattle.arrayvec.specs.ArrayVec.{ArrayVec}
 use Rattle.irc_batch.specs.Batches.{Sent}
 use Rattle.irc_relay.specs.Links.{Name}
@@ -9,7 +8,7 @@ use Rattle.irc_forest.specs.Forests.{name_at}
 use Rattle.irc_network.specs.declared.receipt.Receipt.{Receipt as KeptReceipt}
 use Rattle.irc_network.specs.declared.network.Ends.{Ends as KeptEnds}
 use Rattle.irc_network.specs.declared.put_out.PutOut.{PutOut}
-use Rattle.irc_network.specs.Network.{Course, Direction, Ends, Network, Site, delivered, ends_of, is_at_rest, left, sent_out, waiting, with_site}
+use Rattle.irc_network.specs.Network.{Course, Direction, Ends, Network, Site, is_at_rest, left, sent_out, waiting, with_site}
 use Rattle.irc_network.specs.Views.{receipts_of}
 
 abbrev pub course : Network → List KeptReceipt → Course
@@ -64,11 +63,3 @@ IsLineTaken from to (Some line) old new = TakesLine from to line.items old new
 abbrev pub IsFirstTaken : Option PutOut → Network → Network → Type 0
 IsFirstTaken None old new = (is_at_rest old ≡ true) × (new ≡ old)
 IsFirstTaken (Some put) old new = TakesLine put.from put.to put.line.items old new
-
-abbrev pub delivery_in : Course → Name → Name → Option Course
-delivery_in course from to = option_and_then (λ (ends : Ends). delivered ends.near ends.far course) (ends_of course.net from to)
-
--- whether one was taken, and where it comes to
-abbrev pub DeliversAt : Option Course → Bool → Course → Course → Type 0
-DeliversAt None was_taken old new = (was_taken ≡ false) × (new ≡ old)
-DeliversAt (Some course) was_taken old new = (was_taken ≡ true) × (new ≡ course)
