@@ -9,12 +9,15 @@ use Rattle.irc_network.specs.Network.{Course, Network, Receipt, Site, site_at, w
 use Rattle.irc_wires.specs.Wires.{Wire, Wires, advanced, lines_to_come, wire_at, with_wire}
 use Rattle.irc_wires.specs.Lemmas.PutWires.{IsSetAt, it, nowhere, other_from, other_to, wire_set}
 use Rattle.irc_byte_network.specs.Behind.{Ahead, behind, course_behind, emptied, site_behind}
-use Rattle.irc_byte_network.specs.ByteNetwork.{ByteNetwork, Come, all_heard, all_written, completed_in, in_lines, lines_ahead, waiting_at}
+use Rattle.irc_byte_network.specs.ByteNetwork.{ByteNetwork, all_heard, all_written, bytes_come, completed_in, in_lines, lines_ahead, waiting_at, written_out}
+use Rattle.irc_byte_network.specs.Loops.Writing.{IsWritten}
 use Rattle.irc_byte_network.specs.Whole.{AreLines, BytesComeAsLines, ComeAsLines, Delivers, IsWhole, IsWholeNet, has_way, no_more, one_first}
 use Rattle.irc_byte_network.proofs.Behind.{at-behind}
+use Rattle.irc_byte_network.proofs.Calls.{rows_after_lines}
 use Rattle.irc_byte_network.proofs.Delivered.{IsLeftOn, one_delivered, same_sites}
-use Rattle.irc_byte_network.proofs.GivenLines.{none_there}
+use Rattle.irc_byte_network.proofs.GivenLines.{none_there, with_net}
 use Rattle.irc_byte_network.proofs.Refilled.{emptied_waits, emptied_ways, refilled}
+use Rattle.irc_byte_network.proofs.RowsWritten.{is_written, lean_with}
 use Rattle.irc_byte_network.proofs.Ways.{waiting_behind}
 use Rattle.irc_byte_network.proofs.WaysStay.{heard_ways}
 use Rattle.irc_byte_network.proofs.WireLines.{AreWritten, IsKnownOfStreams, advanced_is_whole, all_are_written, lines_parted, new_has_none, new_is_real, new_is_whole}
@@ -88,8 +91,7 @@ module _ (from to : ℕ) (ahead : Ahead) (rest : List (List ℕ)) where
 
 -- ---- bytes
 
-module _ (known : IsKnownOfStreams) (old new : ByteNetwork) (from to count : ℕ) (before after : List Receipt) (whole : IsWholeNet old)
-    (come : Come old from to count before new after) where
+module _ (known : IsKnownOfStreams) (old : ByteNetwork) (from to count : ℕ) (before : List Receipt) (whole : IsWholeNet old) where
   abbrev wire : Wire
   wire = wire_at old.wires from to
 
@@ -197,9 +199,9 @@ module _ (known : IsKnownOfStreams) (old new : ByteNetwork) (from to count : ℕ
       by_site None at = tt
       by_site (Some site) at = by_way site at (get site.queues y) refl
 
-  module _ (are : AreLines (behind now last.net)) where
+  module _ (new : ByteNetwork) (written : IsWritten last.net between new) (are : AreLines (behind now last.net)) where
     wire_is : (x y : ℕ) → wire_at new.wires x y ≡ all_written (waiting_at last.net x y) (wire_at between x y)
-    wire_is x y = come.written.wires_are x y ∙ ap (λ (c : Course). all_written (waiting_at c.net x y) (wire_at between x y)) come.last_is
+    wire_is x y = written.wires_are x y
 
     are_written : (x y : ℕ) → AreWritten known (wire_at between x y) (waiting_at last.net x y)
     are_written x y = all_are_written known (wire_at between x y) (waiting_at last.net x y) (wire_ahead x y).ends_lines (put_out_are are x y)
@@ -208,7 +210,7 @@ module _ (known : IsKnownOfStreams) (old new : ByteNetwork) (from to count : ℕ
     lines_are x y = ap lines_to_come (wire_is x y) ∙ (are_written x y).lines_are ∙ ap (λ front. front ++ waiting_at last.net x y) (wire_ahead x y).lines_come
 
     network_is : new.network ≡ emptied last.net
-    network_is = come.written.network_is ∙ ap (λ (c : Course). emptied c.net) come.last_is
+    network_is = written.network_is
 
     after_is : in_lines new ≡ behind now last.net
     after_is = ap (behind (lines_ahead new.wires)) network_is ∙ refilled now (lines_ahead new.wires) last.net lines_are
@@ -233,22 +235,31 @@ module _ (known : IsKnownOfStreams) (old new : ByteNetwork) (from to count : ℕ
 
     whole_now : IsWholeNet new
     whole_now = record {
+      tidy = record {
+        quiet = λ x y. subst (λ n. waiting_at n x y ≡ []) (sym network_is) (emptied_waits last.net x y);
+        rows = written.rows;
+        lean = written.lean;
+      };
       whole = λ x y. subst IsWhole (sym (wire_is x y)) (are_written x y).whole;
-      quiet = λ x y. subst (λ n. waiting_at n x y ≡ []) (sym network_is) (emptied_waits last.net x y);
       ways = λ x y none.
           let before = sym (same_ways_now x y) ∙ none in
           lines_are x y ∙ ap (λ front. front ++ waiting_at last.net x y) (none_now x y before)
           ∙ none_there last.net x y (all_ways lines start x y ∙ before);
     }
 
-  pub as_lines : ComeAsLines old from to count before new after
+  all_is_written : IsWritten last.net between (written_out last.net between)
+  all_is_written =
+      is_written last.net between (lean_with from to (advanced count wire) old.wires whole.tidy.lean)
+      (rows_after_lines old from to count lines before last between whole.tidy.rows refl refl)
+
+  as_lines : ComeAsLines from to count (record { net = old; receipts = before })
+  unfolding bytes_come
   as_lines = record {
     last = course_behind now last;
     delivers = delivers;
-    received = come.received ∙ ap (λ (c : Course). c.receipts) come.last_is;
-    after_is = after_is;
-    whole = whole_now;
+    as_lines = λ are. ap (with_net last) (after_is (written_out last.net between) all_is_written are);
+    whole = whole_now (written_out last.net between) all_is_written;
   }
 
 pub bytes_come_as_lines : IsKnownOfStreams → BytesComeAsLines
-bytes_come_as_lines known old new from to count before after whole come = as_lines known old new from to count before after whole come
+bytes_come_as_lines known from to count old whole = as_lines known old.net from to count old.receipts whole

@@ -4,15 +4,21 @@ use Rattle.std.specs.FinMap.{get}
 use Rattle.std.specs.List.{AllByRecursion}
 use Rattle.std.specs.Option.{option_and_then, option_map_or}
 use Rattle.irc_line.specs.Lines.{HasTaken, IsLine, nothing_begun, stream_for}
-use Rattle.irc_network.specs.Network.{Network, Receipt, Site, given, site_at, waiting}
+use Rattle.irc_network.specs.Network.{Course, Network, Site, given, site_at, waiting}
 use Rattle.irc_world.specs.Stepping.{Item}
 use Rattle.irc_wires.specs.Wires.{Wires, lines_to_come, new_wire, wire_at}
 use Rattle.irc_byte_network.specs.Behind.{behind}
-use Rattle.irc_byte_network.specs.ByteNetwork.{ByteNetwork, IsGivenTo, all_written, in_lines, is_byte_rest, lines_ahead, waiting_at, wires_after, cut_ends}
-use Rattle.irc_byte_network.specs.Whole.{AreLines, GivenAsLines, IsGivenAsLines, IsWhole, IsWholeNet, has_way}
+use Rattle.irc_byte_network.specs.ByteNetwork.{ByteNetwork, all_written, cut_ends, in_lines, is_byte_rest, item_given, lines_ahead, waiting_at, wires_after, written_out}
+use Rattle.irc_byte_network.specs.Loops.Writing.{IsWritten}
+use Rattle.irc_byte_network.specs.Whole.{AreLines, GivenAsLines, IsGivenAsLines, IsTidy, IsWhole, IsWholeNet, has_way}
+use Rattle.irc_byte_network.proofs.Calls.{rows_after_item}
 use Rattle.irc_byte_network.proofs.Refilled.{alone, emptied_waits, emptied_ways, refilled}
+use Rattle.irc_byte_network.proofs.RowsWritten.{is_written, lean_along}
 use Rattle.irc_byte_network.proofs.StillWires.{all_new, nothing_lost}
 use Rattle.irc_byte_network.proofs.WireLines.{IsKnownOfStreams, all_are_written, new_has_none, new_is_whole}
+
+abbrev pub with_net : Course → Network → Course
+with_net course net = record course { net = net }
 
 -- what waits at a place are lines
 pub lines_there : (net : Network) → AreLines net → (from to : ℕ) → AllByRecursion IsLine (waiting_at net from to)
@@ -34,9 +40,8 @@ none_there net from to none = by_site (site_at net from) none
     by_site None none = refl
     by_site (Some site) none = by_way (get site.queues to) none
 
-module _ (known : IsKnownOfStreams) (real_new : HasTaken nothing_begun (stream_for nothing_begun)) (old new : ByteNetwork) (item : Item)
-    (receipts : List Receipt)
-    (rest : is_byte_rest old ≡ true) (given_to : IsGivenTo old item new receipts) where
+module _ (known : IsKnownOfStreams) (real_new : HasTaken nothing_begun (stream_for nothing_begun)) (old : ByteNetwork) (item : Item)
+    (rest : is_byte_rest old ≡ true) where
   still : (from to : ℕ) → wire_at old.wires from to ≡ new_wire
   still = all_new old.wires rest
 
@@ -52,10 +57,10 @@ module _ (known : IsKnownOfStreams) (real_new : HasTaken nothing_begun (stream_f
   as_new : (from to : ℕ) → wire_at wires from to ≡ new_wire
   as_new = nothing_lost (cut_ends old.network item) old.wires still
 
-  wire_is : (from to : ℕ) → wire_at new.wires from to ≡ all_written (waiting_at net from to) new_wire
-  wire_is from to = given_to.written.wires_are from to ∙ ap (all_written (waiting_at net from to)) (as_new from to)
+  module _ (new : ByteNetwork) (written : IsWritten net wires new) (are : AreLines net) where
+    wire_is : (from to : ℕ) → wire_at new.wires from to ≡ all_written (waiting_at net from to) new_wire
+    wire_is from to = written.wires_are from to ∙ ap (all_written (waiting_at net from to)) (as_new from to)
 
-  module _ (are : AreLines net) where
     lines_are : (from to : ℕ) → lines_ahead new.wires from to ≡ waiting_at net from to
     lines_are from to =
         ap lines_to_come (wire_is from to)
@@ -64,25 +69,36 @@ module _ (known : IsKnownOfStreams) (real_new : HasTaken nothing_begun (stream_f
 
     after : in_lines new ≡ net
     after =
-        ap (behind (lines_ahead new.wires)) given_to.written.network_is
+        ap (behind (lines_ahead new.wires)) written.network_is
         ∙ refilled (λ from to. []) (lines_ahead new.wires) net lines_are
         ∙ alone (λ from to. []) net (λ from to. refl)
 
     whole_now : IsWholeNet new
     whole_now = record {
+      tidy = record {
+        quiet = λ from to. subst (λ n. waiting_at n from to ≡ []) (sym written.network_is) (emptied_waits net from to);
+        rows = written.rows;
+        lean = written.lean;
+      };
       whole = λ from to. subst IsWhole (sym (wire_is from to))
           (all_are_written known new_wire (waiting_at net from to) (new_is_whole known real_new) (lines_there net are from to)).whole;
-      quiet = λ from to. subst (λ n. waiting_at n from to ≡ []) (sym given_to.written.network_is) (emptied_waits net from to);
       ways = λ from to none. lines_are from to
-          ∙ none_there net from to (sym (emptied_ways net from to) ∙ subst (λ n. has_way n from to ≡ false) given_to.written.network_is none);
+          ∙ none_there net from to (sym (emptied_ways net from to) ∙ subst (λ n. has_way n from to ≡ false) written.network_is none);
     }
 
-  as_lines : IsGivenAsLines old item new
-  as_lines = record {
-    before = before;
-    after = λ are. after (subst (λ n. AreLines (given item n).net) before are) ∙ ap (λ n. (given item n).net) (sym before);
-    whole = λ are. whole_now (subst (λ n. AreLines (given item n).net) before are);
-  }
+  all_is_written : IsTidy old → IsWritten net wires (written_out net wires)
+  all_is_written tidy =
+      is_written net wires (lean_along (cut_ends old.network item) old.wires tidy.lean)
+      (rows_after_item old item net wires tidy.rows refl refl)
+
+  as_lines : IsTidy old → AreLines (given item (in_lines old)).net → IsGivenAsLines old item
+  unfolding item_given
+  as_lines tidy are =
+      let are_now = subst (λ n. AreLines (given item n).net) before are in
+      record {
+        as_lines = ap (with_net (given item old.network)) (after (written_out net wires) (all_is_written tidy) are_now) ∙ ap (given item) (sym before);
+        whole = whole_now (written_out net wires) (all_is_written tidy) are_now;
+      }
 
 pub given_as_lines : IsKnownOfStreams → HasTaken nothing_begun (stream_for nothing_begun) → GivenAsLines
-given_as_lines known real_new old new item receipts whole rest given_to = as_lines known real_new old new item receipts rest given_to
+given_as_lines known real_new old item whole rest are = as_lines known real_new old item rest whole.tidy are

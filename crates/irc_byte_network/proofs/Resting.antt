@@ -15,6 +15,12 @@ use Rattle.irc_byte_network.proofs.Refilled.{alone}
 use Rattle.irc_byte_network.proofs.StillWires.{all_new}
 use Rattle.irc_byte_network.proofs.WireLines.{IsKnownOfStreams, new_has_none, new_is_real}
 
+abbrev way : ℕ → ℕ → Direction
+way place to = record { from = place; to = to }
+
+abbrev Row : Type 0
+Row = FinMap nat_cmp Wire
+
 -- ---- no line waits
 
 none_of : (p : ℕ → Bool) (numbers : List ℕ) → ((n : ℕ) → p n ≡ false) → list_any p numbers ≡ false
@@ -28,18 +34,43 @@ all_quiet : (sites : List Site) → ((place to : ℕ) → option_map_or (λ site
 all_quiet [] none = refl
 all_quiet (site ∷ sites) none = and_from (is_quiet site) (list_all is_quiet sites) (quiet site (none 0)) (all_quiet sites (λ place. none (suc place)))
 
-pub rest_as_lines : IsKnownOfStreams → RestAsLines
-rest_as_lines known net whole rest =
-    ap is_at_rest (alone (lines_ahead net.wires) net.network (λ from to. ap lines_to_come (all_new net.wires rest from to) ∙ new_has_none known new_is_real))
-    ∙ all_quiet net.network.sites whole.quiet
-
 -- ---- no byte is on its way
 
-abbrev way : ℕ → ℕ → Direction
-way place to = record { from = place; to = to }
+none_found : (p : ℕ → Bool) (numbers : List ℕ) → list_all (λ n. not (p n)) numbers ≡ true → find p numbers ≡ None
+none_found p [] none = refl
+none_found p (n ∷ numbers) none = by (p n) (none_found p numbers) none
+  where
+    by : (b : Bool) → (list_all (λ m. not (p m)) numbers ≡ true → find p numbers ≡ None) → (not b && list_all (λ m. not (p m)) numbers) ≡ true
+        → cond b (Some n) (find p numbers) ≡ None
+    by true later none = cc none
+    by false later none = later none
 
-abbrev Row : Type 0
-Row = FinMap nat_cmp Wire
+moves_not : (wire : Wire) → is_still wire ≡ true → not (has_byte wire) ≡ true
+moves_not wire still = ap (λ b. not (not b)) (first_so (is_none wire.bytes) (has_nothing wire.begun) still)
+
+none_moves : (row : Row) (numbers : List ℕ) → list_all (λ to. is_still (wire_in to row)) numbers ≡ true
+    → list_all (λ to. not (has_byte (wire_in to row))) numbers ≡ true
+none_moves row [] still = refl
+none_moves row (to ∷ numbers) still =
+    and_from (not (has_byte (wire_in to row))) (list_all (λ q. not (has_byte (wire_in q row))) numbers)
+    (moves_not (wire_in to row) (first_so (is_still (wire_in to row)) (list_all (λ q. is_still (wire_in q row)) numbers) still))
+    (none_moves row numbers (second_so (is_still (wire_in to row)) (list_all (λ q. is_still (wire_in q row)) numbers) still))
+
+pub no_direction : (place : ℕ) (wires : Wires) → are_still wires ≡ true → first_from place wires ≡ None
+no_direction place [] still = refl
+no_direction place (row ∷ wires) still =
+    ap (λ o. option_map_or (λ to. Some (way place to)) o (first_from (place + 1) wires))
+    (none_found (λ to. has_byte (wire_in to row)) (keys row) (none_moves row (keys row) (first_so (are_still_in row) (are_still wires) still)))
+    ∙ no_direction (place + 1) wires (second_so (are_still_in row) (are_still wires) still)
+
+pub rest_as_lines : IsKnownOfStreams → RestAsLines
+rest_as_lines known net whole rest =
+    let same = alone (lines_ahead net.wires) net.network (λ from to. ap lines_to_come (all_new net.wires rest from to) ∙ new_has_none known new_is_real) in
+    record {
+      as_lines = same;
+      at_rest = ap is_at_rest same ∙ all_quiet net.network.sites whole.tidy.quiet;
+      no_byte = no_direction 0 net.wires rest;
+    }
 
 not_found : (p : ℕ → Bool) (numbers : List ℕ) → find p numbers ≡ None → list_all (λ n. not (p n)) numbers ≡ true
 not_found p [] none = refl

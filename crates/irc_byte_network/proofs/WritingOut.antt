@@ -12,8 +12,8 @@ use Rattle.irc_network.specs.Network.{Course, Network, Site, begun, delivered, i
 use Rattle.irc_wires.specs.Wires.{AreLean, Wire, Wires, new_wire, put_in, wire_at, wire_in, with_wire, written}
 use Rattle.irc_wires.specs.Lemmas.PutWires.{IsSetAt, get_set, it, nowhere, other_from, other_to, wire_put, wire_set}
 use Rattle.irc_byte_network.specs.Behind.{each_way, emptied, emptied_site}
-use Rattle.irc_byte_network.specs.ByteNetwork.{IsWritten, all_written, waiting_at}
-use Rattle.irc_byte_network.specs.Loops.Writing.{IsWriting}
+use Rattle.irc_byte_network.specs.ByteNetwork.{all_written, waiting_at}
+use Rattle.irc_byte_network.specs.Loops.Writing.{IsWriting, IsWritten}
 use Rattle.irc_byte_network.proofs.Ways.{get-each_way, same_ways}
 use Rattle.irc_byte_network.proofs.Refilled.{no_line}
 

@@ -7,16 +7,26 @@
 --   1 byte    more, the CR: the line is complete, b.net is asked for it, and bo has received it
 --   1 byte    more, the LF: it completes nothing
 use Rattle.std.specs.Prelude.{◌≡◌, ℕ, Bool, Option, Some, None, List, [], ◌∷◌, length}
+use Rattle.std.specs.FinMap.{FinMap, entries}
 use Rattle.std.specs.Option.{option_map_or}
+use Rattle.std.specs.Ordering.{nat_cmp}
 use Rattle.irc_world.specs.Stepping.{Item, cut}
-use Rattle.irc_network.specs.Network.{Course, Ends, Network, Receipt, ends_of, given, heard, site_at, waiting}
-use Rattle.irc_wires.specs.Wires.{AreLean, Wire, Wires, advanced, are_still, lines_by, lines_to_come, wire_at, with_wire, without_wire, written}
+use Rattle.irc_network.specs.Network.{Course, Ends, Network, Receipt, Site, ends_of, given, heard, site_at, waiting}
+use Rattle.irc_wires.specs.Wires.{Wire, Wires, advanced, are_still, lines_by, lines_to_come, put_in, wire_at, wire_in, with_wire, without_wire, written}
 use Rattle.irc_byte_network.specs.Behind.{Ahead, behind, emptied}
 
 -- The servers, links and clients, and what is on its way along the links. No line waits in the network: it is written.
 pub record ByteNetwork : Type 0 where
   pub network : Network
   pub wires : Wires
+
+-- a network while something is done to it, and what clients have received by that so far, in order
+pub record ByteCourse : Type 0 where
+  pub net : ByteNetwork
+  pub receipts : List Receipt
+
+abbrev pub byte_begun : ByteNetwork → ByteCourse
+byte_begun net = record { net = net; receipts = [] }
 
 -- each server has a row of wires
 abbrev pub HasRows : ByteNetwork → Type 0
@@ -30,6 +40,9 @@ lines_ahead wires from to = lines_to_come (wire_at wires from to)
 
 abbrev pub in_lines : ByteNetwork → Network
 in_lines net = behind (lines_ahead net.wires) net.network
+
+abbrev pub course_in_lines : ByteCourse → Course
+course_in_lines course = record { net = in_lines course.net; receipts = course.receipts }
 
 -- ---- at rest
 
@@ -47,12 +60,23 @@ all_written (line ∷ lines) wire = all_written lines (written line wire)
 abbrev pub waiting_at : Network → ℕ → ℕ → List (List ℕ)
 waiting_at net from to = option_map_or (λ site. waiting site to) (site_at net from) []
 
--- Each way's lines are written on its wire, and none waits any more. Each server has its row of wires, and no wire is kept on which nothing is on its way.
-pub record IsWritten (network : Network) (wires : Wires) (new : ByteNetwork) : Type 0 where
-  pub network_is : new.network ≡ emptied network
-  pub wires_are : (from to : ℕ) → wire_at new.wires from to ≡ all_written (waiting_at network from to) (wire_at wires from to)
-  pub rows : HasRows new
-  pub lean : AreLean new.wires
+-- of one server, way by way, each under the place where it goes
+abbrev pub row_written : List (ℕ × List (List ℕ)) → FinMap nat_cmp Wire → FinMap nat_cmp Wire
+row_written [] row = row
+row_written (way ∷ ways) row = row_written ways (put_in way.0 (all_written way.1 (wire_in way.0 row)) row)
+
+-- of all servers, by their places
+abbrev pub rows_written : List Site → Wires → Wires
+rows_written [] wires = wires
+rows_written (site ∷ sites) [] = []
+rows_written (site ∷ sites) (row ∷ wires) = row_written (entries site.queues) row ∷ rows_written sites wires
+
+-- What waits is written along these wires, and waits no more.
+abbrev pub written_out : Network → Wires → ByteNetwork
+written_out net wires = record { network = emptied net; wires = rows_written net.sites wires }
+
+abbrev pub course_written : Course → Wires → ByteCourse
+course_written course wires = record { net = written_out course.net wires; receipts = course.receipts }
 
 -- ---- what is given
 
@@ -69,9 +93,8 @@ lost_along (Some ends) wires = without_wire ends.far ends.near (without_wire end
 abbrev pub wires_after : Network → Item → Wires → Wires
 wires_after net item wires = lost_along (cut_ends net item) wires
 
-pub record IsGivenTo (old : ByteNetwork) (item : Item) (new : ByteNetwork) (receipts : List Receipt) : Type 0 where
-  pub written : IsWritten (given item old.network).net (wires_after old.network item old.wires) new
-  pub received : receipts ≡ (given item old.network).receipts
+unfoldable pub item_given : Item → ByteNetwork → ByteCourse
+item_given item net = course_written (given item net.network) (wires_after net.network item net.wires)
 
 -- ---- bytes come
 
@@ -80,13 +103,19 @@ abbrev pub all_heard : ℕ → ℕ → Course → List (List ℕ) → Course
 all_heard from to course [] = course
 all_heard from to course (line ∷ lines) = all_heard from to (heard from to course line) lines
 
+-- the lines that so many bytes complete which come from one server to another
 abbrev pub completed_in : ByteNetwork → ℕ → ℕ → ℕ → List (List ℕ)
 completed_in net from to count = lines_by count (wire_at net.wires from to)
 
+-- the wires once they have come
+abbrev pub wires_come : ByteNetwork → ℕ → ℕ → ℕ → Wires
+wires_come net from to count = with_wire from to (advanced count (wire_at net.wires from to)) net.wires
+
+abbrev pub course_without_wires : ByteCourse → Course
+course_without_wires course = record { net = course.net.network; receipts = course.receipts }
+
 -- So many bytes come from one server to another, or all that are on their way where there are fewer. The server that they come to is asked for each line that
 -- they complete, in turn.
-pub record Come (old : ByteNetwork) (from to count : ℕ) (before : List Receipt) (new : ByteNetwork) (after : List Receipt) : Type 0 where
-  pub last : Course
-  pub last_is : last ≡ all_heard from to (record { net = old.network; receipts = before }) (completed_in old from to count)
-  pub written : IsWritten last.net (with_wire from to (advanced count (wire_at old.wires from to)) old.wires) new
-  pub received : after ≡ last.receipts
+unfoldable pub bytes_come : ℕ → ℕ → ℕ → ByteCourse → ByteCourse
+bytes_come from to count course =
+    course_written (all_heard from to (course_without_wires course) (completed_in course.net from to count)) (wires_come course.net from to count)

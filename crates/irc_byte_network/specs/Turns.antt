@@ -4,29 +4,49 @@
 --   a turn    the LF comes to b.net, and completes nothing
 --   a turn    the line comes to c.net, with its CR LF
 --   at rest   nothing is on its way
-use Rattle.std.specs.Prelude.{◌≡◌, ℕ, ◌+◌, Option, Some, None, List, length}
-use Rattle.irc_network.specs.Network.{Receipt}
+use Rattle.std.specs.Prelude.{◌≡◌, ℕ, ◌+◌, ◌<◌, Option, Some, None, length}
+use Rattle.std.specs.Option.{option_map, option_map_or}
 use Rattle.irc_wires.specs.Wires.{Direction, first_direction, through_line_feed, wire_at}
-use Rattle.irc_byte_network.specs.ByteNetwork.{ByteNetwork, Come, completed_in}
+use Rattle.irc_byte_network.specs.ByteNetwork.{ByteCourse, ByteNetwork, bytes_come, completed_in}
 
 -- how many bytes come in a direction by a turn
 abbrev pub bytes_in_turn : ByteNetwork → Direction → ℕ
 bytes_in_turn net d = through_line_feed (wire_at net.wires d.from d.to).bytes
 
--- one turn, by which so many lines are completed
-pub record Turns (old : ByteNetwork) (before : List Receipt) (lines : ℕ) (new : ByteNetwork) (after : List Receipt) : Type 0 where
-  pub direction : Direction
-  pub is_first : first_direction old.wires ≡ Some direction
-  pub come : Come old direction.from direction.to (bytes_in_turn old direction) before new after
-  pub lines_are : lines ≡ length (completed_in old direction.from direction.to (bytes_in_turn old direction))
+abbrev pub turn_in : ByteCourse → Direction → ByteCourse
+turn_in course d = bytes_come d.from d.to (bytes_in_turn course.net d) course
 
--- a turn, or none where no byte is on its way
-abbrev pub TurnsBy : Option ℕ → ByteNetwork → List Receipt → ByteNetwork → List Receipt → Type 0
-TurnsBy None old before new after = (first_direction old.wires ≡ None) × (new ≡ old) × (after ≡ before)
-TurnsBy (Some lines) old before new after = Turns old before lines new after
+-- none where no byte is on its way
+abbrev pub turn_taken : ByteCourse → Option ByteCourse
+turn_taken course = option_map (turn_in course) (first_direction course.net.wires)
+
+-- how many lines the turn completes
+abbrev pub lines_in : ByteNetwork → Direction → ℕ
+lines_in net d = length (completed_in net d.from d.to (bytes_in_turn net d))
+
+abbrev pub lines_in_turn : ByteNetwork → ℕ
+lines_in_turn net = option_map_or (lines_in net) (first_direction net.wires) 0
+
+-- a turn that completes so many lines, or none
+abbrev pub TurnsBy : Option ℕ → ByteCourse → ByteCourse → Type 0
+TurnsBy None old new = (turn_taken old ≡ None) × (new ≡ old)
+TurnsBy (Some lines) old new = (turn_taken old ≡ Some new) × (lines ≡ lines_in_turn old.net)
 
 -- turn by turn, by which so many lines are completed in all
-pub data TurnsGo : ℕ → ByteNetwork → List Receipt → ByteNetwork → List Receipt → Type 0 where
-  none_yet : {net : ByteNetwork} {receipts : List Receipt} → TurnsGo 0 net receipts net receipts
-  then_one : {count lines : ℕ} {old between last : ByteNetwork} {before mid after : List Receipt} → TurnsGo count old before between mid
-      → Turns between mid lines last after → TurnsGo (count + lines) old before last after
+pub data TurnsGo : ℕ → ByteCourse → ByteCourse → Type 0 where
+  none_yet : {course : ByteCourse} → TurnsGo 0 course course
+  turn_first : {all count : ℕ} {course between last : ByteCourse} → turn_taken course ≡ Some between → all ≡ lines_in_turn course.net + count
+      → TurnsGo count between last → TurnsGo all course last
+
+-- turns that complete none, and behind them one that completes so many
+pub record GoesToLine (lines : ℕ) (old new : ByteCourse) : Type 0 where
+  pub between : ByteCourse
+  pub goes : TurnsGo 0 old between
+  pub turn : turn_taken between ≡ Some new
+  pub lines_are : lines ≡ lines_in_turn between.net
+  pub some : 0 < lines
+
+-- until one completes a line, or no byte is on its way
+abbrev pub ComesToLine : Option ℕ → ByteCourse → ByteCourse → Type 0
+ComesToLine None old new = TurnsGo 0 old new × (turn_taken new ≡ None)
+ComesToLine (Some lines) old new = GoesToLine lines old new

@@ -3,10 +3,12 @@ ghost use Rattle.std.specs.Prelude.{◌≡◌, [], length, min, replicate, IfOk,
 ghost use Rattle.std.specs.FinMap.{empty};
 ghost use Rattle.std.specs.Option.{option_map};
 ghost use Rattle.irc_network.specs.Loops.Courses.{course, ends_now};
-ghost use Rattle.irc_network.specs.Views.{item_of, receipts_of};
+ghost use Rattle.irc_network.specs.Views.{item_of};
 ghost use Rattle.irc_wires.specs.Wires.{first_direction, through_line_feed, wire_at};
-ghost use Rattle.irc_byte_network.specs.Loops.Coming.{HasHeard, HaveCome, IsTurn, bytes_between, direction_between, lines_between};
-ghost use Rattle.irc_byte_network.specs.ByteNetwork.{cut_ends, is_byte_rest, lost_along, HasRows, IsGivenTo, IsWritten};
+ghost use Rattle.irc_byte_network.specs.Loops.Coming.{HasHeard, byte_course, bytes_between, come_between, direction_between, lines_between};
+ghost use Rattle.irc_byte_network.specs.ByteNetwork.{cut_ends, is_byte_rest, item_given, lost_along, written_out, HasRows};
+ghost use Rattle.irc_byte_network.specs.Turns.{ComesToLine, TurnsBy};
+ghost use Rattle.irc_byte_network.specs.Whole.{IsTidy};
 
 use crate::came::Came;
 use irc_line::Line;
@@ -94,7 +96,7 @@ impl ByteNetwork {
     pub fn give(&mut self, item: Item, desk: &mut Desk) -> Result<(), AllocError>
         requires rows { HasRows self.old }
         requires begins { desk.old.lines.items ≡ [] }
-        ensures { OnOk result (IsGivenTo self.old (item_of item) self.new (receipts_of desk.new.lines.items)) }
+        ensures { OnOk result (byte_course self.new desk.new.lines.items ≡ item_given (item_of item) self.old) }
     {
         let ends = self.cut_ends(&item);
         self.network.give(item, desk)?;
@@ -121,7 +123,7 @@ impl ByteNetwork {
         requires rows { HasRows self.old }
         ensures bytes { IfOk result (λ came. came.bytes ≡ min count (bytes_between self.old ends)) }
         ensures lines { IfOk result (λ came. came.lines ≡ lines_between self.old ends count) }
-        ensures come { OnOk result (HaveCome self.old ends count desk.old.lines.items self.new desk.new.lines.items) }
+        ensures come { OnOk result (byte_course self.new desk.new.lines.items ≡ come_between ends count (byte_course self.old desk.old.lines.items)) }
     {
         let mut lines = Vec::new(self.alloc);
         let bytes = self
@@ -143,13 +145,30 @@ impl ByteNetwork {
     /// Where memory runs out: nothing is promised of the network then, and nothing more is to be asked of it.
     pub fn come_in_turn(&mut self, desk: &mut Desk) -> Result<Option<usize>, AllocError>
         requires rows { HasRows self.old }
-        ensures { IfOk result (λ lines. IsTurn lines self.old desk.old.lines.items self.new desk.new.lines.items) }
+        ensures { IfOk result (λ lines. TurnsBy lines (byte_course self.old desk.old.lines.items) (byte_course self.new desk.new.lines.items)) }
     {
         let Some(ends) = self.first_direction() else {
             return Ok(None);
         };
         let came = self.come(ends, self.through_line_feed(ends), desk)?;
         Ok(Some(came.lines))
+    }
+
+    /// Bytes come in turn until they complete a line. The number is how many lines they complete; none where none is on its way, and then no byte is any
+    /// more. What clients receive is on the desk, behind what was there.
+    ///
+    /// # Errors
+    /// Where memory runs out: nothing is promised of the network then, and nothing more is to be asked of it.
+    pub fn come_to_line(&mut self, desk: &mut Desk) -> Result<Option<usize>, AllocError>
+        requires tidy { IsTidy self.old }
+        ensures { IfOk result (λ lines. ComesToLine lines (byte_course self.old desk.old.lines.items) (byte_course self.new desk.new.lines.items)) }
+    {
+        while let Some(lines) = self.come_in_turn(desk)? {
+            if lines > 0 {
+                return Ok(Some(lines));
+            }
+        }
+        Ok(None)
     }
 }
 
@@ -166,9 +185,11 @@ fn lose(ends: Option<Ends>, wires: &mut Wires)
 /// What servers have put out is written on its way.
 fn write_out(network: &mut Network, wires: &mut Wires) -> Result<(), AllocError>
     requires rows { length wires.old ≡ length network.old.sites }
-    ensures { OnOk result (IsWritten network.old wires.old (record { network = network.new; wires = wires.new })) }
+    ensures { OnOk result (record { network = network.new; wires = wires.new } ≡ written_out network.old wires.old) }
 {
     irc_network::laws::rest_stays();
+    irc_wires::laws::same_wires();
+    wires.are_lean();
     while let Some(put) = network.take_put_out() {
         wires.write(put.from, put.to as u64, put.line.as_slice())?;
     }

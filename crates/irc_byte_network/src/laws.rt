@@ -1,5 +1,12 @@
 //! What holds of any network whose links carry bytes.
-ghost use Rattle.irc_byte_network.specs.Whole.{BytesComeAsLines, GivenAsLines, NoByteRests, RestAsLines};
+ghost use Rattle.irc_byte_network.specs.Whole.{BytesComeAsLines, EachComesToLine, GivenAsLines, NewIsWhole, NoByteRests, RestAsLines, TurnAsLines};
+
+/// A network in which nothing is on its way yet is as one whose links carry lines.
+pub fn new_is_whole()
+    ensures { NewIsWhole }
+{
+    irc_line::laws::pieces_complete_the_same();
+}
 
 /// An item that is given at rest does what it does where links carry lines.
 pub fn given_as_lines()
@@ -14,6 +21,19 @@ pub fn bytes_come_as_lines()
 {
     irc_line::laws::pieces_complete_the_same();
 }
+
+/// By a turn no line is completed, or just that which is the next in turn where links carry lines.
+pub fn turn_as_lines()
+    ensures { TurnAsLines }
+{
+    irc_line::laws::pieces_complete_the_same();
+    bytes_come_as_lines();
+}
+
+/// Bytes that come in turn complete a line in the end, or no byte is on its way.
+pub fn each_comes_to_line()
+    ensures { EachComesToLine }
+{}
 
 /// Where nothing is on its way, no line is where links carry lines; and where no byte is on its way, no part of a line has come either.
 pub fn rest_as_lines()

@@ -1,5 +1,5 @@
 -- What comes along links, as the code has it.
-use Rattle.std.specs.Prelude.{◌≡◌, ℕ, Option, List, length}
+use Rattle.std.specs.Prelude.{◌≡◌, ℕ, List, length}
 use Rattle.arrayvec.specs.ArrayVec.{ArrayVec}
 use Rattle.irc_line.specs.Framed.{bytes_of}
 use Rattle.irc_network.specs.declared.network.Ends.{Ends}
@@ -7,8 +7,10 @@ use Rattle.irc_network.specs.declared.receipt.Receipt.{Receipt}
 use Rattle.irc_network.specs.Network.{Course}
 use Rattle.irc_network.specs.Views.{receipts_of}
 use Rattle.irc_wires.specs.Wires.{Direction, wire_at}
-use Rattle.irc_byte_network.specs.ByteNetwork.{ByteNetwork, Come, all_heard, completed_in}
-use Rattle.irc_byte_network.specs.Turns.{TurnsBy}
+use Rattle.irc_byte_network.specs.ByteNetwork.{ByteCourse, ByteNetwork, all_heard, bytes_come, completed_in}
+
+abbrev pub byte_course : ByteNetwork → List Receipt → ByteCourse
+byte_course net lines = record { net = net; receipts = receipts_of lines }
 
 abbrev pub direction_between : Ends → Direction
 direction_between ends = record { from = ends.near; to = ends.far }
@@ -21,11 +23,8 @@ bytes_between net ends = length (wire_at net.wires ends.near ends.far).bytes
 abbrev pub lines_between : ByteNetwork → Ends → ℕ → ℕ
 lines_between net ends count = length (completed_in net ends.near ends.far count)
 
-abbrev pub HaveCome : ByteNetwork → Ends → ℕ → List Receipt → ByteNetwork → List Receipt → Type 0
-HaveCome old ends count before new after = Come old ends.near ends.far count (receipts_of before) new (receipts_of after)
-
-abbrev pub IsTurn : Option ℕ → ByteNetwork → List Receipt → ByteNetwork → List Receipt → Type 0
-IsTurn lines old before new after = TurnsBy lines old (receipts_of before) new (receipts_of after)
+abbrev pub come_between : Ends → ℕ → ByteCourse → ByteCourse
+come_between ends count course = bytes_come ends.near ends.far count course
 
 -- the second server was asked for these lines, in turn
 abbrev pub HasHeard : Ends → List (ArrayVec ℕ) → Course → Course → Type 0

@@ -1,9 +1,10 @@
-use Rattle.std.proofs.Common.{◌++◌, ◌∙◌, ap, refl, subst, sym}
+use Rattle.std.proofs.Common.{◌≡◌, ◌++◌, ◌∙◌, ap, refl, subst, sym}
 use Rattle.irc_line.specs.Framed.{bytes_of}
 use Rattle.irc_network.specs.Loops.Courses.{course}
 use Rattle.irc_network.specs.Views.{receipts_of}
 use Rattle.irc_wires.specs.Wires.{lines_by, wire_at}
-use Rattle.irc_byte_network.specs.ByteNetwork.{ByteNetwork, Come, HasRows, all_heard}
+use Rattle.irc_byte_network.specs.ByteNetwork.{ByteNetwork, HasRows, all_heard}
+use Rattle.irc_byte_network.specs.Loops.Coming.{byte_course, come_between}
 use Rattle.irc_byte_network.proofs.Calls.{have_come, rows_after_lines}
 use Rattle.irc_byte_network.proofs.byte_network.ByteNetwork.come.Goals as goal
 
@@ -18,18 +19,18 @@ write_out-requires c =
 
 pub returns-clause-come : goal.returns-clause-come
 returns-clause-come c =
-    let old : ByteNetwork = record { network = c.self.inside.network; wires = c.self.inside.wires } in
     let near = c.args.ends.near in
     let far = c.args.ends.far in
     let start = course c.self.inside.network c.args.desk.now.lines.items in
     subst
-    (λ (before : ByteNetwork). Come before near far c.args.count (receipts_of c.args.desk.now.lines.items)
-    (record { network = c.write_out.new.network; wires = c.write_out.new.wires }) (receipts_of c.hear_all.new.desk.lines.items))
+    (λ (before : ByteNetwork). byte_course (record { network = c.write_out.new.network; wires = c.write_out.new.wires }) c.hear_all.new.desk.lines.items
+    ≡ come_between c.args.ends c.args.count (byte_course before c.args.desk.now.lines.items))
     c.self.view_is
-    (have_come old (record { network = c.write_out.new.network; wires = c.write_out.new.wires }) near far c.args.count
-    (receipts_of c.args.desk.now.lines.items) (receipts_of c.hear_all.new.desk.lines.items) c.take.new.self
-    (course c.hear_all.new.network c.hear_all.new.desk.lines.items) c.in_ok-bytes.ensures.wires
+    (have_come near far c.args.count
+    (byte_course (record { network = c.self.inside.network; wires = c.self.inside.wires }) c.args.desk.now.lines.items)
+    (record { network = c.write_out.new.network; wires = c.write_out.new.wires }) (receipts_of c.hear_all.new.desk.lines.items)
+    (course c.hear_all.new.network c.hear_all.new.desk.lines.items) c.take.new.self
     (c.in_ok-hear_all.ensures
     ∙ ap (all_heard near far start)
     (c.in_ok-bytes.ensures.lines ∙ ap (λ items. bytes_of items ++ lines_by c.args.count (wire_at c.self.inside.wires near far)) c.new-lines.ensures.items))
-    c.in_ok-write_out.ensures refl)
+    c.in_ok-bytes.ensures.wires c.in_ok-write_out.ensures refl)
