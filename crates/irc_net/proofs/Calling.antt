@@ -1,5 +1,6 @@
 -- What comes of a call, from what the network has done.
-use Rattle.std.proofs.Common.{◌≡◌, ◌+◌, ◌++◌, ◌∷◌, ℕ, zero, suc, take, drop, length, ◌≤◌, arith, Bool, true, false, Option, Some, None, Result, Ok, Err, IsErrAnd, List, [], refl, sym, subst, ap, if◌then◌else◌}
+use Rattle.std.specs.Option.{option_and_then, option_map, option_map_or}
+use Rattle.std.proofs.Common.{◌≡◌, ◌+◌, ◌++◌, ◌∷◌, ◌∙◌, ◌||◌, ◌==◌, not, inl, inr, is_some, min, ℕ, zero, suc, take, drop, length, ◌≤◌, arith, Bool, true, false, Option, Some, None, Result, Ok, Err, IsErrAnd, List, [], refl, sym, subst, ap, if◌then◌else◌}
 use Rattle.std.specs.List.{slice_get}
 use Rattle.irc_relay.specs.Links.{Name}
 use Rattle.irc_world.specs.Stepping.{Item}
@@ -11,13 +12,22 @@ use Rattle.irc_net.specs.declared.step.Step.{Step}
 use Rattle.irc_net.specs.declared.step.StepAnswer.{StepAnswer}
 use Rattle.irc_net.specs.declared.step.StepAnswer.TheVariants.{Refused}
 use Rattle.irc_room.specs.Lemmas.Rows.{same_some}
-use Rattle.irc_net.specs.Calls.{ArePlayed, Breaks, Delivers, IsDelivered, IsGiven, IsSettled, IsStep, IsStepDone, NetView, Plays, Settles, StopsAt, standing, step_refused, then_one}
+use Rattle.irc_byte_network.specs.ByteNetwork.{ByteCourse, ByteNetwork, byte_begun}
+use Rattle.irc_byte_network.specs.Loops.Coming.{byte_course, bytes_between, come_between}
+use Rattle.irc_line.specs.Bytes.{line_feed}
+use Rattle.irc_relay.specs.Links.{linked as are_linked}
+use Rattle.irc_world.specs.Refused.{Refusal, no_such_server, not_linked}
+use Rattle.irc_wires.specs.Wires.{is_none, through_line_feed}
+use Rattle.irc_net.specs.Calls.{ArePlayed, AreTaken, Breaks, Delivers, IsDelivered, IsGiven, IsSettled, IsStep, IsStepDone, NetView, Plays, Settles, StopsAt, count_between, delivery, line_between, piece, piece_between, standing, step_refused, then_one, wire_between}
+use Rattle.irc_net.specs.Loops.Coming.{AreEnds, ComesTo, HaveComeTo, IsNoWay}
 use Rattle.irc_net.specs.Calls as calls
-use Rattle.irc_net.specs.Faults.{deliver_fault, is_refusal, item_fault}
+use Rattle.irc_net.specs.Faults.{deliver_fault, fault_by, is_refusal, item_fault}
 use Rattle.irc_net.specs.Loops.Settling.{SettlesAt}
-use Rattle.irc_network.specs.Loops.Courses.{DeliversAt, course}
-use Rattle.irc_network.specs.Network.{Course, Network, begun}
-use Rattle.irc_net.specs.Views.{answers_now, delivered_now, settled_now}
+use Rattle.irc_network.specs.declared.network.Ends.{Ends as KeptEnds}
+use Rattle.irc_network.specs.Loops.Courses.{ends_now}
+use Rattle.irc_network.specs.Network.{Ends, Network, Receipt, ends_of, place_of}
+use Rattle.irc_network.specs.Refusing.{way_fault}
+use Rattle.irc_net.specs.Views.{answers_now, counted_now, delivered_now}
 use Rattle.irc_network.specs.Views.{receipts_of}
 use Rattle.std.specs.Global.{Vec}
 
@@ -28,30 +38,148 @@ pub given_wants : (old new : NetView) (item : Item) (r : Result Answer NetFault)
 given_wants old new item (Ok answer) is stands none failed = absurd is
 given_wants old new item (Err e) is stands none failed = subst (λ e. IsGiven old item (Err e) new) (sym is) (calls.given_wants_memory stands none failed)
 
-pub delivery_wants : (old new : NetView) (from to : Name) (r : Result (Bool × Vec KeptReceipt) NetFault) → IsErrAnd r (λ e. e ≡ Memory) → old.failed ≡ false
-    → deliver_fault old.network from to ≡ None → new.failed ≡ true → IsDelivered old from to (delivered_now r) new
-delivery_wants old new from to (Ok answer) is stands none failed = absurd is
-delivery_wants old new from to (Err e) is stands none failed =
-    subst (λ e. IsDelivered old from to (Err e) new) (sym is) (calls.delivery_wants_memory stands none failed)
-
 pub settling_wants : (old new : NetView) (r : Result (ℕ × Vec KeptReceipt) NetFault) → IsErrAnd r (λ e. e ≡ Memory) → old.failed ≡ false → new.failed ≡ true
-    → IsSettled old (settled_now r) new
+    → IsSettled old (counted_now r) new
 settling_wants old new (Ok answer) is stands failed = absurd is
 settling_wants old new (Err e) is stands failed = subst (λ e. IsSettled old (Err e) new) (sym is) (calls.settling_wants_memory stands failed)
 
+-- ---- two servers that are not linked, or a network for which memory ran out
+
+no_delivery : (net : NetView) (from to : Name) (fault : NetFault) → IsNoWay net from to fault → IsDelivered net from to (Err fault) net
+no_delivery net from to fault (inl failed) = subst (λ e. IsDelivered net from to (Err e) net) (sym failed.1) (calls.delivery_by_failed failed.0)
+no_delivery net from to fault (inr refused) = calls.delivery_refused refused.0 refused.1
+
+pub delivery_fails : (net : NetView) (from to : Name) (fault : NetFault) (r : Result (Bool × Vec KeptReceipt) NetFault) → IsErrAnd r (λ e. e ≡ fault)
+    → IsNoWay net from to fault → IsDelivered net from to (delivered_now r) net
+delivery_fails net from to fault (Ok answer) is no_way = absurd is
+delivery_fails net from to fault (Err e) is no_way = subst (λ f. IsDelivered net from to (Err f) net) (sym is) (no_delivery net from to fault no_way)
+
+no_taking : (net : NetView) (from to : Name) (count : ℕ) (fault : NetFault) → IsNoWay net from to fault → AreTaken net from to count (Err fault) net
+no_taking net from to count fault (inl failed) = subst (λ e. AreTaken net from to count (Err e) net) (sym failed.1) (calls.taking_by_failed failed.0)
+no_taking net from to count fault (inr refused) = calls.taking_refused refused.0 refused.1
+
+pub taking_fails : (net : NetView) (from to : Name) (count : ℕ) (fault : NetFault) (r : Result (ℕ × Vec KeptReceipt) NetFault) → IsErrAnd r (λ e. e ≡ fault)
+    → IsNoWay net from to fault → AreTaken net from to count (counted_now r) net
+taking_fails net from to count fault (Ok answer) is no_way = absurd is
+taking_fails net from to count fault (Err e) is no_way =
+    subst (λ f. AreTaken net from to count (Err f) net) (sym is) (no_taking net from to count fault no_way)
+
+-- linked servers are there
+placed : (net : Network) (near far : Name) → way_fault net near far ≡ None → (ends : Ends) × (ends_of net near far ≡ Some ends)
+placed net near far none = by (place_of net near) (place_of net far) none
+  where
+    by : (one other : Option ℕ)
+        → (if not (is_some one) || not (is_some other) then Some no_such_server else (if are_linked net.links near far then None else Some not_linked)) ≡ None
+        → (ends : Ends) × (option_and_then (λ x. option_map (λ y. record { near = x; far = y }) other) one ≡ Some ends)
+    by None other is = cc is
+    by (Some one) None is = cc is
+    by (Some one) (Some other) is = (record { near = one; far = other }, refl)
+
+pub are_placed : (net : ByteNetwork) (near far : Name) → deliver_fault net near far ≡ None → ends_of net.network near far ≡ None → ⊥
+unfolding deliver_fault
+are_placed net near far none nowhere = by (way_fault net.network near far) refl none
+  where
+    by : (o : Option Refusal) → way_fault net.network near far ≡ o → option_map fault_by o ≡ None → ⊥
+    by None is left = let there = placed net.network near far is in cc (sym nowhere ∙ there.1)
+    by (Some refusal) is left = cc left
+
 -- ---- what was done
 
-pub delivers_by : (o : Option Course) (net new : Network) (lines : List KeptReceipt) (was_taken : Bool) → DeliversAt o was_taken (begun net) (course new lines)
-    → Delivers o net was_taken (receipts_of lines) (standing new)
-delivers_by None net new lines was_taken so = (so.0, ap (λ (c : Course). c.receipts) so.1, ap (λ (c : Course). standing c.net) so.1)
-delivers_by (Some last) net new lines was_taken so = (so.0, ap (λ (c : Course). c.receipts) so.1, ap (λ (c : Course). standing c.net) so.1)
+-- memory is there for it
+pub stands_so : (net : NetView) → net.failed ≡ false → net ≡ standing net.network
+stands_so net stands = ap (λ b. record { failed = b; network = net.network }) stands
 
-pub settles_by : (net new : Network) (lines : List KeptReceipt) (count : ℕ) → SettlesAt count (begun net) (course new lines)
+no_feed : (bytes : List ℕ) → through_line_feed bytes ≡ 0 → not (is_none bytes) ≡ false
+no_feed [] is = refl
+no_feed (byte ∷ bytes) is = by (byte == line_feed) is
+  where
+    by : (b : Bool) → (if b then 1 else suc (through_line_feed bytes)) ≡ 0 → true ≡ false
+    by true none = cc none
+    by false none = cc none
+
+some_feed : (bytes : List ℕ) → (through_line_feed bytes ≡ 0 → ⊥) → not (is_none bytes) ≡ true
+some_feed [] some = absurd (some refl)
+some_feed (byte ∷ bytes) some = refl
+
+-- between two servers at these places
+between_none : (net : ByteNetwork) (from to : Name) (ends : Ends) → ends_of net.network from to ≡ Some ends
+    → through_line_feed (wire_between net ends).bytes ≡ 0 → delivery net from to ≡ None
+between_none net from to ends is none =
+    ap (option_and_then (line_between net)) is
+    ∙ ap (λ b. if b then Some (piece_between (through_line_feed (wire_between net ends).bytes) net ends) else None) (no_feed (wire_between net ends).bytes none)
+
+between_some : (net : ByteNetwork) (from to : Name) (ends : Ends) → ends_of net.network from to ≡ Some ends
+    → (through_line_feed (wire_between net ends).bytes ≡ 0 → ⊥)
+    → delivery net from to ≡ Some (piece_between (through_line_feed (wire_between net ends).bytes) net ends)
+between_some net from to ends is some =
+    ap (option_and_then (line_between net)) is
+    ∙ ap (λ b. if b then Some (piece_between (through_line_feed (wire_between net ends).bytes) net ends) else None) (some_feed (wire_between net ends).bytes some)
+
+-- no byte was on its way
+pub none_came : (net : NetView) (from to : Name) (ends : KeptEnds) (lines : List KeptReceipt) → AreEnds net from to ends
+    → through_line_feed (wire_between net.network (ends_now ends)).bytes ≡ 0 → lines ≡ [] → IsDelivered net from to (Ok (false, receipts_of lines)) net
+none_came net from to ends lines are none nothing =
+    calls.delivers_it are.stands are.none
+    (subst (λ o. Delivers o net.network false (receipts_of lines) net) (sym (between_none net.network from to (ends_now ends) are.ends_are none))
+    (refl, ap receipts_of nothing, stands_so net are.stands))
+
+-- some were
+pub some_came : (old new : NetView) (from to : Name) (ends : KeptEnds) (count taken : ℕ) (lines : List KeptReceipt) → AreEnds old from to ends
+    → count ≡ through_line_feed (wire_between old.network (ends_now ends)).bytes → (count ≡ 0 → ⊥) → ComesTo old ends count taken (receipts_of lines) new
+    → IsDelivered old from to (Ok (true, receipts_of lines)) new
+some_came old new from to ends count taken lines are is some comes =
+    calls.delivers_it are.stands are.none
+    (subst (λ o. Delivers o old.network true (receipts_of lines) new)
+    (sym (between_some old.network from to (ends_now ends) are.ends_are (λ none. some (is ∙ none))
+    ∙ ap (λ n. Some (piece_between n old.network (ends_now ends))) (sym is)))
+    (refl, comes.received, comes.after))
+
+pub line_wants : (old new : NetView) (from to : Name) (ends : KeptEnds) (fault : NetFault) (r : Result (Bool × Vec KeptReceipt) NetFault)
+    → IsErrAnd r (λ e. e ≡ fault) → AreEnds old from to ends → (fault ≡ Memory) × (new.failed ≡ true) → IsDelivered old from to (delivered_now r) new
+line_wants old new from to ends fault (Ok answer) is are wants = absurd is
+line_wants old new from to ends fault (Err e) is are wants =
+    subst (λ f. IsDelivered old from to (Err f) new) (sym (is ∙ wants.0)) (calls.delivery_wants_memory are.stands are.none wants.1)
+
+-- so many bytes came, or memory ran out
+pub pieces_came : (old new : NetView) (from to : Name) (ends : KeptEnds) (count : ℕ) (r : Result (ℕ × List Receipt) NetFault) → AreEnds old from to ends
+    → HaveComeTo old ends count r new → AreTaken old from to count r new
+pieces_came old new from to ends count (Ok pair) are comes =
+    calls.takes_them are.stands (record {
+      none = are.none;
+      taken_is = comes.taken_is ∙ sym (ap (λ o. option_map_or (count_between count old.network) o 0) are.ends_are);
+      received = comes.received ∙ sym (ap (λ (c : ByteCourse). c.receipts) at);
+      after = comes.after ∙ sym (ap (λ (c : ByteCourse). standing c.net) at);
+    })
+  where
+    at : piece count old.network from to ≡ piece_between count old.network (ends_now ends)
+    at = ap (λ o. option_map_or (piece_between count old.network) o (byte_begun old.network)) are.ends_are
+pieces_came old new from to ends count (Err fault) are wants =
+    subst (λ f. AreTaken old from to count (Err f) new) (sym wants.0) (calls.taking_wants_memory are.stands are.none wants.1)
+
+-- as the code answers it
+pub came_to : (old : NetView) (net new : ByteNetwork) (ends : KeptEnds) (count taken : ℕ) (lines none : List KeptReceipt) → net ≡ old.network → none ≡ []
+    → taken ≡ min count (bytes_between net ends) → byte_course new lines ≡ come_between ends count (byte_course net none)
+    → ComesTo old ends count taken (receipts_of lines) (standing new)
+came_to old net new ends count taken lines none same begins taken_is comes = record {
+  taken_is = taken_is ∙ ap (λ n. min count (bytes_between n ends)) same;
+  received = ap (λ (c : ByteCourse). c.receipts) so;
+  after = ap (λ (c : ByteCourse). standing c.net) so;
+}
+  where
+    so : byte_course new lines ≡ piece_between count old.network (ends_now ends)
+    so = comes ∙ ap (λ n. come_between ends count (byte_course n none)) same ∙ ap (λ ls. come_between ends count (byte_course old.network ls)) begins
+
+pub coming_wants : (old new : NetView) (ends : KeptEnds) (count : ℕ) (r : Result (ℕ × Vec KeptReceipt) NetFault) → IsErrAnd r (λ e. e ≡ Memory)
+    → new.failed ≡ true → HaveComeTo old ends count (counted_now r) new
+coming_wants old new ends count (Ok answer) is failed = absurd is
+coming_wants old new ends count (Err e) is failed = (is, failed)
+
+pub settles_by : (net new : ByteNetwork) (lines : List KeptReceipt) (count : ℕ) → SettlesAt count (byte_begun net) (byte_course new lines)
     → Settles net count (receipts_of lines) (standing new)
 settles_by net new lines count so = record {
   count = so.turns.count;
-  last = course new lines;
-  takes = so.turns.takes;
+  last = byte_course new lines;
+  goes = so.turns.goes;
   rest = so.rest;
   counts = so.turns.counts;
   received = refl;

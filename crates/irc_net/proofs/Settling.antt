@@ -1,58 +1,189 @@
--- Lines that are taken in turn, and counted.
-use Rattle.std.proofs.Common.{◌≡◌, ℕ, suc, ◌+◌, ◌<◌, ◌≤◌, min, Bool, true, false, not, Option, Some, None, refl, sym, subst, ◌∙◌, arith}
-use Rattle.irc_items.specs.Kept.{KeepsItems, SettlingKeepsSound, TurnLeavesFewer}
+-- Bytes that come in turn until nothing is on its way.
+use Rattle.std.proofs.Common.{◌≡◌, ℕ, true, zero, suc, ◌+◌, ◌<◌, ◌≤◌, min, List, Option, Some, None, option_map, refl, sym, subst, ◌∙◌, ap, arith}
+use Rattle.irc_items.specs.Kept.{TurnLeavesFewer}
 use Rattle.irc_items.specs.Sound.{most_now}
-use Rattle.irc_net.specs.Loops.Settling.{SettlesAt, TakesCounted}
+use Rattle.irc_byte_network.specs.ByteNetwork.{ByteCourse, ByteNetwork, byte_begun, course_in_lines, in_lines, is_byte_rest}
+use Rattle.irc_byte_network.specs.Turns.{ComesToLine, GoesToLine, TurnsGo, lines_in_turn, none_yet, turn_first, turn_in, turn_taken}
+use Rattle.irc_byte_network.specs.Whole.{ComesToSome, EachComesToLine, NoByteRests}
+use Rattle.irc_net.specs.Calls.{NetView, Settles, standing}
+use Rattle.irc_net.specs.Laws.{SettlesOnce}
+use Rattle.irc_net.specs.Loops.Settling.{GoesCounted, SettlesAt}
 use Rattle.irc_net.specs.OneRoom.{IsKeptSound}
-use Rattle.irc_network.proofs.Taking.{one_turn_more, turn_taken}
-use Rattle.irc_network.specs.Loops.Courses.{DeliversAt}
-use Rattle.irc_network.specs.Network.{Course, is_at_rest, lines_left, max_count, next_in_turn, none_yet}
+use Rattle.irc_net.proofs.StaysOneRoom.{AreTurning, IsTurnOf, next_line, nothing, turn_is, turns_kept}
+use Rattle.irc_network.specs.Network.{Receipt, lines_left, max_count, next_in_turn}
+use Rattle.irc_wires.specs.Wires.{Direction, first_direction}
 
-pub none_counted : (course : Course) → TakesCounted 0 course course
-none_counted course = record { count = 0; takes = none_yet; counts = omega arith }
+-- ---- turns behind others
 
--- a turn that was taken, which the code's Bool says
-turn_is : (between last : Course) (was_taken : Bool) → was_taken ≡ true → DeliversAt (next_in_turn between) was_taken between last
-    → next_in_turn between ≡ Some last
-turn_is between last was_taken is delivers =
-    turn_taken (next_in_turn between) between last (subst (λ b. DeliversAt (next_in_turn between) b between last) is delivers)
+none_first : (n : ℕ) → n ≡ 0 + n
+none_first n = omega arith
 
-pub turn_counted : {first : Course} (between last : Course) (counted more : ℕ) (was_taken : Bool) → TakesCounted counted first between → was_taken ≡ true
-    → DeliversAt (next_in_turn between) was_taken between last → more ≡ min (counted + 1) max_count → TakesCounted more first last
-turn_counted between last counted more was_taken turns is delivers one = record {
-  count = suc turns.count;
-  takes = one_turn_more turns.takes (turn_is between last was_taken is delivers);
-  counts = added turns.count counted more turns.counts one;
+pub turns_both : {one other : ℕ} {a b c : ByteCourse} → TurnsGo one a b → TurnsGo other b c → TurnsGo (one + other) a c
+turns_both {other = other} {a = a} {c = c} none_yet more = subst (λ n. TurnsGo n a c) (none_first other) more
+turns_both {one = one} {other = other} {a = a} {c = c} (turn_first {count = count} turn all_is rest) more =
+    turn_first turn (behind one (lines_in_turn a.net) count other all_is) (turns_both rest more)
+  where
+    behind : (x y n m : ℕ) → x ≡ y + n → x + m ≡ y + (n + m)
+    behind x y n m is = omega (arith, is)
+
+pub one_turn : (lines : ℕ) (old new : ByteCourse) → turn_taken old ≡ Some new → lines ≡ lines_in_turn old.net → TurnsGo lines old new
+one_turn lines old new turn is = turn_first turn (is ∙ alone (lines_in_turn old.net)) none_yet
+  where
+    alone : (n : ℕ) → n ≡ n + 0
+    alone n = omega arith
+
+pub to_line : (lines : ℕ) (old new : ByteCourse) → GoesToLine lines old new → TurnsGo lines old new
+to_line lines old new goes =
+    subst (λ n. TurnsGo n old new) (sym (none_first lines)) (turns_both goes.goes (one_turn lines goes.between new goes.turn goes.lines_are))
+
+-- ---- as the code counts them
+
+pub none_counted : (course : ByteCourse) → GoesCounted 0 course course
+none_counted course = record { count = 0; goes = none_yet; counts = omega arith }
+
+pub lines_counted : {first : ByteCourse} (old new : ByteCourse) (counted lines more : ℕ) → GoesCounted counted first old → GoesToLine lines old new
+    → more ≡ min (counted + lines) max_count → GoesCounted more first new
+lines_counted old new counted lines more turns goes is = record {
+  count = turns.count + lines;
+  goes = turns_both turns.goes (to_line lines old new goes);
+  counts = added turns.count counted lines more max_count turns.counts is;
 }
   where
-    added : (count counted more : ℕ) → counted ≡ min count max_count → more ≡ min (counted + 1) max_count → more ≡ min (suc count) max_count
-    added count counted more before one = omega (arith, before, one)
+    added : (count counted lines more most : ℕ) → counted ≡ min count most → more ≡ min (counted + lines) most → more ≡ min (count + lines) most
+    added count counted lines more most before one = omega (arith, before, one)
 
--- it leaves fewer
-pub turn_fewer : SettlingKeepsSound → TurnLeavesFewer → {first : Course} (between last : Course) (counted : ℕ) (was_taken : Bool) → IsKeptSound first.net
-    → TakesCounted counted first between → was_taken ≡ true → DeliversAt (next_in_turn between) was_taken between last
-    → lines_left (most_now first.net) last < lines_left (most_now first.net) between
-turn_fewer keeping fewer {first = first} between last counted was_taken kept turns is delivers =
-    fewer (most_now first.net) between last (keeps.sound kept.sound) (same (most_now between.net) (most_now first.net) keeps.most)
-    (turn_is between last was_taken is delivers)
+-- ---- no byte is left
+
+no_direction : (course : ByteCourse) → turn_taken course ≡ None → first_direction course.net.wires ≡ None
+no_direction course none = by (first_direction course.net.wires) none
   where
-    keeps : KeepsItems turns.count first.net between.net
-    keeps = keeping turns.count first between turns.takes kept.counted
+    by : (o : Option Direction) → option_map (turn_in course) o ≡ None → o ≡ None
+    by None is = refl
+    by (Some d) is = cc is
 
-    same : (a b : ℕ) → a ≡ b → a ≤ b
-    same a b is = omega (arith, is)
+pub rests : NoByteRests → (course : ByteCourse) → IsKeptSound course.net → turn_taken course ≡ None → is_byte_rest course.net ≡ true
+rests no_byte course kept none = no_byte course.net kept.whole (no_direction course none)
 
--- none was left
-pub settles_at : {first : Course} (between last : Course) (counted : ℕ) (was_taken : Bool) → TakesCounted counted first between → was_taken ≡ false
-    → DeliversAt (next_in_turn between) was_taken between last → was_taken ≡ not (is_at_rest between.net) → SettlesAt counted first last
-settles_at {first = first} between last counted was_taken turns is delivers rest =
-    subst (SettlesAt counted first) (sym (stays (next_in_turn between) delivers))
-    (record { turns = turns; rest = at_rest (is_at_rest between.net) (sym is ∙ rest) })
-  where
-    stays : (o : Option Course) → DeliversAt o was_taken between last → last ≡ between
-    stays None so = so.1
-    stays (Some next) so = absurd (let no = sym is ∙ so.0 in cc no)
+-- ---- each line leaves fewer
 
-    at_rest : (b : Bool) → false ≡ not b → b ≡ true
-    at_rest true e = refl
-    at_rest false e = cc e
+none_then : (n m : ℕ) → 0 ≡ n + m → (n ≡ 0) × (m ≡ 0)
+none_then n m is = (omega (arith, is), omega (arith, is))
+
+module _ (laws : AreTurning) where
+  -- turns that complete nothing change nothing where links carry lines
+  pub same_lines : {count : ℕ} {old new : ByteCourse} → TurnsGo count old new → count ≡ 0 → IsKeptSound old.net → course_in_lines new ≡ course_in_lines old
+  same_lines none_yet is kept = refl
+  same_lines {old = old} {new = new} (turn_first {count = left} {between = between} turn all_is rest) is kept =
+      let none = none_then (lines_in_turn old.net) left (sym is ∙ all_is) in
+      same_lines rest none.1 (turns_kept laws (one_turn (lines_in_turn old.net) old between turn refl) kept).kept
+      ∙ by (turn_is laws old between kept turn) none.0
+    where
+      by : IsTurnOf old between → lines_in_turn old.net ≡ 0 → course_in_lines between ≡ course_in_lines old
+      by (nothing none same) zero_is = same
+      by (next_line one next) zero_is = cc (sym one ∙ zero_is)
+
+  pub leaves_fewer : TurnLeavesFewer → (most lines : ℕ) (old new : ByteCourse) → IsKeptSound old.net → most_now (in_lines old.net) ≤ most
+      → GoesToLine lines old new → lines_left most (course_in_lines new) < lines_left most (course_in_lines old)
+  leaves_fewer fewer most lines old new kept few goes = by (turn_is laws goes.between new (turns_kept laws goes.goes kept).kept goes.turn)
+    where
+      never : (n : ℕ) → n ≡ 0 → 0 < n → ⊥
+      never n is some = omega (arith, is, some)
+
+      by : IsTurnOf goes.between new → lines_left most (course_in_lines new) < lines_left most (course_in_lines old)
+      by (nothing none alike) = absurd (never lines (goes.lines_are ∙ none) goes.some)
+      by (next_line one next) =
+          let same = same_lines goes.goes refl kept in
+          fewer most (course_in_lines old) (course_in_lines new) kept.sound few (sym (ap next_in_turn same) ∙ next)
+
+  pub kept_settled : (net last : ByteNetwork) (counted : ℕ) (receipts : List Receipt) → IsKeptSound net → Settles net counted receipts (standing last)
+      → IsKeptSound last
+  kept_settled net last counted receipts kept settles =
+      subst IsKeptSound (sym (ap (λ (v : NetView). v.network) settles.after)) (turns_kept laws settles.goes kept).kept
+
+  -- ---- as the code counts them
+
+  pub counted_kept : {first : ByteCourse} (now : ByteCourse) (counted : ℕ) → IsKeptSound first.net → GoesCounted counted first now → IsKeptSound now.net
+  counted_kept now counted kept turns = (turns_kept laws turns.goes kept).kept
+
+  pub counted_fewer : TurnLeavesFewer → {first : ByteCourse} (old new : ByteCourse) (counted lines : ℕ) → IsKeptSound first.net
+      → GoesCounted counted first old → GoesToLine lines old new
+      → lines_left (most_now (in_lines first.net)) (course_in_lines new) < lines_left (most_now (in_lines first.net)) (course_in_lines old)
+  counted_fewer fewer {first = first} old new counted lines kept turns goes =
+      let now = turns_kept laws turns.goes kept in
+      leaves_fewer fewer (most_now (in_lines first.net)) lines old new now.kept (same (most_now (in_lines old.net)) (most_now (in_lines first.net)) now.keeps.most) goes
+    where
+      same : (a b : ℕ) → a ≡ b → a ≤ b
+      same a b is = omega (arith, is)
+
+  -- none is left
+  pub settles_at : NoByteRests → {first : ByteCourse} (old new : ByteCourse) (counted : ℕ) → IsKeptSound first.net → GoesCounted counted first old
+      → ComesToLine None old new → SettlesAt counted first new
+  settles_at no_byte {first = first} old new counted kept turns so = record {
+    turns = record {
+      count = turns.count + 0;
+      goes = turns_both turns.goes so.0;
+      counts = turns.counts ∙ ap (λ n. min n max_count) (alone turns.count);
+    };
+    rest = rests no_byte new (turns_kept laws so.0 (counted_kept old counted kept turns)).kept so.1;
+  }
+    where
+      alone : (n : ℕ) → n ≡ n + 0
+      alone n = omega arith
+
+  -- ---- some end
+
+  record Settling (course : ByteCourse) : Type 0 where
+    count : ℕ
+    last : ByteCourse
+    goes : TurnsGo count course last
+    rest : is_byte_rest last.net ≡ true
+
+  settling : TurnLeavesFewer → EachComesToLine → NoByteRests → (fuel most : ℕ) (course : ByteCourse) → IsKeptSound course.net
+      → most_now (in_lines course.net) ≤ most → lines_left most (course_in_lines course) < fuel → Settling course
+  settling fewer comes no_byte zero most course kept few less = absurd (nothing_less (lines_left most (course_in_lines course)) less)
+    where
+      nothing_less : (n : ℕ) → n < 0 → ⊥
+      nothing_less n less = omega (arith, less)
+  settling fewer comes no_byte (suc fuel) most course kept few less =
+      by (comes course kept.whole.tidy) (λ next. settling fewer comes no_byte fuel most next)
+    where
+      further : (a b n : ℕ) → a < b → b < suc n → a < n
+      further a b n one other = omega (arith, one, other)
+
+      at : (lines : Option ℕ) (new : ByteCourse) → ComesToLine lines course new
+          → ((next : ByteCourse) → IsKeptSound next.net → most_now (in_lines next.net) ≤ most → lines_left most (course_in_lines next) < fuel → Settling next)
+          → Settling course
+      at None new so on = record { count = 0; last = new; goes = so.0; rest = rests no_byte new (turns_kept laws so.0 kept).kept so.1 }
+      at (Some lines) new so on =
+          let now = turns_kept laws (to_line lines course new so) kept in
+          let less_now = leaves_fewer fewer most lines course new kept few so in
+          let more = on new now.kept (subst (λ n. n ≤ most) (sym now.keeps.most) few)
+          (further (lines_left most (course_in_lines new)) (lines_left most (course_in_lines course)) fuel less_now less) in
+          record {
+            count = lines + more.count;
+            last = more.last;
+            goes = turns_both (to_line lines course new so) more.goes;
+            rest = more.rest;
+          }
+
+      by : ComesToSome course
+          → ((next : ByteCourse) → IsKeptSound next.net → most_now (in_lines next.net) ≤ most → lines_left most (course_in_lines next) < fuel → Settling next)
+          → Settling course
+      by some on = at some.lines some.new some.comes on
+
+  pub each_settles : TurnLeavesFewer → EachComesToLine → NoByteRests → (net : ByteNetwork) → IsKeptSound net → SettlesOnce net
+  each_settles fewer comes no_byte net kept =
+      let most = most_now (in_lines net) in
+      let so = settling fewer comes no_byte (suc (lines_left most (course_in_lines (byte_begun net)))) most (byte_begun net) kept (same most) (less _) in
+      record {
+        counted = min so.count max_count;
+        receipts = so.last.receipts;
+        last = so.last.net;
+        settles = record { count = so.count; last = so.last; goes = so.goes; rest = so.rest; counts = refl; received = refl; after = refl };
+      }
+    where
+      same : (n : ℕ) → n ≤ n
+      same n = omega arith
+
+      less : (n : ℕ) → n < suc n
+      less n = omega arith

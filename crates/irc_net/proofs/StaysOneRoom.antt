@@ -1,21 +1,25 @@
 -- What a network keeps, and what it is to its clients then.
-use Rattle.std.proofs.Common.{◌≡◌, ◌+◌, ◌≤◌, min, ℕ, Bool, true, false, Option, Some, None, List, refl, sym, ◌∙◌, ap, subst, arith, if◌then◌else◌}
+use Rattle.std.proofs.Common.{◌≡◌, ◌+◌, ◌≤◌, min, ℕ, zero, suc, Bool, true, false, Option, Some, None, List, [], refl, sym, ◌∙◌, ap, subst, arith, if◌then◌else◌}
 use Rattle.std.specs.Option.{option_and_then, option_map}
 use Rattle.irc_world.specs.Stepping.{Item}
-use Rattle.irc_world.specs.Refused.{Refusal}
+use Rattle.irc_world.specs.Refused.{Refusal, refused}
 use Rattle.irc_world.specs.WithinLimits.{IsItemWithin}
-use Rattle.irc_relay.specs.Links.{Name}
 use Rattle.irc_relay.specs.Relay.{IsFront}
-use Rattle.irc_network.specs.declared.receipt.Receipt.{Receipt as KeptReceipt}
-use Rattle.irc_net.specs.Loops.Settling.{SettlesAt}
-use Rattle.irc_network.specs.Loops.Courses.{DeliversAt, course}
-use Rattle.irc_network.specs.Network.{Course, Ends, Network, begun, delivered, ends_of, given, is_at_rest, max_count, received_by}
+use Rattle.irc_network.specs.Network.{Course, Direction, Network, delivered, first_direction, given, max_count, next_in_turn, received_by}
 use Rattle.irc_network.specs.Refusing.{fault_at_rest}
-use Rattle.irc_items.specs.Kept.{DeliveryKeepsSound, KeepsItems, SettlingKeepsSound, TakenAreFew}
-use Rattle.irc_items.specs.Laws.{GivenStaysSound, NewLinkIsOpen, NewNetworkIsSound, NoLinkIsClosed, ReceivedIsFront, RefusalsAreTheWorlds, RestIsOneRoom}
-use Rattle.irc_items.specs.Sound.{most_now, owed_now}
-use Rattle.irc_items.specs.SetUp.{IsNew}
-use Rattle.irc_net.specs.Calls.{NetView, delivery}
+use Rattle.irc_items.specs.Kept.{DeliveryKeepsSound, KeepsItems, TakenAreFew}
+use Rattle.irc_items.specs.Laws.{GivenStaysSound, IsGivenAtRest, NewLinkIsOpen, NewNetworkIsSound, NoLinkIsClosed, ReceivedIsFront, RefusalsAreTheWorlds, RestIsOneRoom, WaitingAreLines}
+use Rattle.irc_items.specs.OneRoom.{IsOneRoom}
+use Rattle.irc_items.specs.Sound.{IsSound, most_now, owed_now, world_now}
+use Rattle.irc_items.specs.SetUp.{IsNew, settings_of}
+use Rattle.irc_byte_network.specs.ByteNetwork.{ByteCourse, ByteNetwork, byte_begun, bytes_come, course_in_lines, in_lines, is_byte_rest, item_given}
+use Rattle.irc_byte_network.specs.Turns.{TurnsGo, lines_in_turn, none_yet, turn_first, turn_taken}
+use Rattle.irc_byte_network.specs.Whole.{AreLines, BytesComeAsLines, Delivers, GivenAsLines, NewIsWhole, RestAsLines, TurnAsLines, TurnsAsLines, no_line, no_more, no_wires, one_first, one_line}
+use Rattle.irc_byte_network.specs.Loops.Coming.{byte_course, come_between}
+use Rattle.irc_net.specs.Calls.{NetView}
+use Rattle.irc_net.specs.Laws.{StaysKept}
+use Rattle.irc_network.specs.declared.network.Ends.{Ends as KeptEnds}
+use Rattle.irc_network.specs.declared.receipt.Receipt.{Receipt as KeptReceipt}
 use Rattle.irc_net.specs.Faults.{fault_by, item_fault}
 use Rattle.irc_net.specs.declared.fault.NetFault.TheVariants as fault
 use Rattle.irc_net.specs.OneRoom.{IsKeptSound, IsOneRoomNet, IsOwed, RefusesAsTheWorld, TakesFew}
@@ -24,50 +28,68 @@ use Rattle.irc_net.specs.OneRoom.{IsKeptSound, IsOneRoomNet, IsOwed, RefusesAsTh
 abbrev pub IsKept : NetView → Type 0
 IsKept net = net.failed ≡ false → IsKeptSound net.network
 
-at_most : (a b : ℕ) → min a b ≤ b
-at_most a b = omega arith
-
 -- ---- what a network is to its clients
 
-pub owed : ReceivedIsFront → RestIsOneRoom → (net : NetView) (client : ℕ) (lines : List (List ℕ)) → IsKept net → lines ≡ received_by net.network client
-    → IsOwed net client lines
-owed is_front one_room net client lines kept is = record {
-  front = λ whole. subst (λ ls. IsFront ls (owed_now net.network client)) (sym is) (is_front net.network client (kept whole).sound);
-  all = λ whole rest. is ∙ (one_room net.network (kept whole).sound rest).received client;
-}
+-- of who it is, bytes on their way change nothing
+pub same_received : (net : ByteNetwork) (client : ℕ) → received_by (in_lines net) client ≡ received_by net.network client
+same_received net zero = refl
+same_received net (suc earlier) = refl
 
-pub takes_few : TakenAreFew → (net : NetView) (count : ℕ) → IsKept net → count ≡ net.network.taken → TakesFew net count
-takes_few few net count kept is whole = subst (λ n. n ≤ most_now net.network) (sym is) (few net.network (kept whole).sound)
+pub owed : ReceivedIsFront → RestIsOneRoom → RestAsLines → (net : NetView) (client : ℕ) (lines : List (List ℕ)) → IsKept net
+    → lines ≡ received_by net.network.network client → IsOwed net client lines
+owed is_front one_room resting net client lines kept is = record {
+  front = λ stands. subst (λ ls. IsFront ls (owed_now (in_lines net.network) client)) (sym same) (is_front (in_lines net.network) client (kept stands).sound);
+  all = λ stands rest.
+      same ∙ (one_room (in_lines net.network) (kept stands).sound (resting net.network (kept stands).whole rest).at_rest).received client;
+}
+  where
+    same : lines ≡ received_by (in_lines net.network) client
+    same = is ∙ sym (same_received net.network client)
+
+pub takes_few : TakenAreFew → (net : NetView) (count : ℕ) → IsKept net → count ≡ net.network.network.taken → TakesFew net count
+takes_few few net count kept is stands = subst (λ n. n ≤ most_now (in_lines net.network)) (sym is) (few (in_lines net.network) (kept stands).sound)
 
 -- of what a network is before a call
-pub refuses : RefusalsAreTheWorlds → (net old : NetView) (item : Item) → IsKept net → net ≡ old → RefusesAsTheWorld old item
-refuses refusals net old item kept is =
-    subst (λ old. RefusesAsTheWorld old item) is (λ whole rest. refusals net.network item (kept whole).sound rest)
+abbrev RefusesSo : Item → Network → Type 0
+RefusesSo item net = fault_at_rest net item ≡ refused (settings_of net) (world_now net) item
 
-pub one_room : RestIsOneRoom → NoLinkIsClosed → NewLinkIsOpen → (net : NetView) → IsKept net → IsOneRoomNet net
-one_room at_rest no_link new_link net kept = record {
-  coming = λ whole. (kept whole).sound;
-  at_rest = λ whole rest. at_rest net.network (kept whole).sound rest;
-  closes_none = λ whole. no_link net.network (kept whole).sound;
-  opens = λ whole near far. new_link net.network near far (kept whole).sound;
+pub refuses : RefusalsAreTheWorlds → RestAsLines → (net old : NetView) (item : Item) → IsKept net → net ≡ old → RefusesAsTheWorld old item
+refuses refusals resting net old item kept is = subst (λ old. RefusesAsTheWorld old item) is (λ stands rest.
+    let resting_so = resting net.network (kept stands).whole rest in
+    subst (RefusesSo item) resting_so.as_lines (refusals (in_lines net.network) item (kept stands).sound resting_so.at_rest))
+
+pub one_room : RestIsOneRoom → NoLinkIsClosed → NewLinkIsOpen → RestAsLines → (net : NetView) → IsKept net → IsOneRoomNet net
+one_room at_rest no_link new_link resting net kept = record {
+  coming = λ stands. (kept stands).sound;
+  at_rest = λ stands rest.
+      let resting_so = resting net.network (kept stands).whole rest in
+      subst IsOneRoom resting_so.as_lines (at_rest (in_lines net.network) (kept stands).sound resting_so.at_rest);
+  closes_none = λ stands. no_link (in_lines net.network) (kept stands).sound;
+  opens = λ stands near far. new_link (in_lines net.network) near far (kept stands).sound;
 }
 
 -- ---- a new one
 
-pub kept_new : NewNetworkIsSound → (net : Network) → IsNew net → IsKeptSound net
-kept_new law net new = record { sound = law net new; counted = subst (λ n. n ≤ max_count) (sym new.taken) (omega arith) }
+pub kept_new : NewNetworkIsSound → NewIsWhole → (net : Network) → IsNew net → IsKeptSound (no_wires net)
+kept_new law as_new net new =
+    let so = as_new net new.queues in
+    record {
+      sound = subst IsSound (sym so.as_lines) (law net new);
+      whole = so.whole;
+      counted = subst (λ n. n ≤ max_count) (sym new.taken) (omega arith);
+    }
 
 -- ---- an item
 
-pub record IsFree (net : Network) (item : Item) : Type 0 where
-  pub at_rest : is_at_rest net ≡ true
-  pub none : fault_at_rest net item ≡ None
+pub record IsFree (net : ByteNetwork) (item : Item) : Type 0 where
+  pub at_rest : is_byte_rest net ≡ true
+  pub none : fault_at_rest net.network item ≡ None
 
-free : (net : Network) (item : Item) → item_fault net item ≡ None → IsFree net item
+free : (net : ByteNetwork) (item : Item) → item_fault net item ≡ None → IsFree net item
 unfolding item_fault
-free net item = by (is_at_rest net) refl (fault_at_rest net item) refl
+free net item = by (is_byte_rest net) refl (fault_at_rest net.network item) refl
   where
-    by : (b : Bool) → is_at_rest net ≡ b → (o : Option Refusal) → fault_at_rest net item ≡ o
+    by : (b : Bool) → is_byte_rest net ≡ b → (o : Option Refusal) → fault_at_rest net.network item ≡ o
         → (if b then option_map fault_by o else Some fault.NotAtRest) ≡ None → IsFree net item
     by false rest o is none = cc none
     by true rest (Some refusal) is none = cc none
@@ -77,39 +99,172 @@ given_taken : (net : Network) (item : Item) → (given item net).net.taken ≡ 0
 unfolding given
 given_taken net item = refl
 
-pub kept_given : GivenStaysSound → (net new : Network) (item : Item) → IsKeptSound net → item_fault net item ≡ None → IsItemWithin item
-    → new ≡ (given item net).net → IsKeptSound new
-kept_given law net new item kept none within is = subst IsKeptSound (sym is) (record {
-  sound = law net item kept.sound (record { at_rest = (free net item none).at_rest; taken = (free net item none).none; within = within });
-  counted = subst (λ n. n ≤ max_count) (sym (given_taken net item)) (omega arith);
-})
+-- what waits in a sound network are lines
+pub are_lines : WaitingAreLines → (net : Network) → IsSound net → AreLines net
+are_lines waiting net sound place to site is = waiting net place to site sound is
 
--- ---- a delivery
+pub kept_given : GivenStaysSound → WaitingAreLines → GivenAsLines → RestAsLines → (net : ByteNetwork) (item : Item) → IsKeptSound net
+    → item_fault net item ≡ None → IsItemWithin item → IsKeptSound (item_given item net).net
+kept_given given_sound waiting as_lines resting net item kept none within =
+    let is_free = free net item none in
+    let resting_so = resting net kept.whole is_free.at_rest in
+    let at : IsGivenAtRest (in_lines net) item = record {
+      at_rest = resting_so.at_rest;
+      taken = ap (λ (n : Network). fault_at_rest n item) resting_so.as_lines ∙ is_free.none;
+      within = within;
+    } in
+    let sound = given_sound (in_lines net) item kept.sound at in
+    let so = as_lines net item kept.whole is_free.at_rest (are_lines waiting (given item (in_lines net)).net sound) in
+    record {
+      sound = subst IsSound (sym (ap (λ (c : Course). c.net) so.as_lines)) sound;
+      whole = so.whole;
+      counted = subst (λ n. n ≤ max_count) (sym (ap (λ (c : Course). c.net.taken) so.as_lines ∙ given_taken (in_lines net) item)) (omega arith);
+    }
 
-kept_on : (count : ℕ) (old new : Network) → KeepsItems count old new → IsKeptSound old → IsKeptSound new
-kept_on count old new keeps kept = record {
-  sound = keeps.sound kept.sound;
-  counted = subst (λ n. n ≤ max_count) (sym keeps.taken) (at_most (old.taken + count) max_count);
-}
+-- ---- lines that are delivered
 
-pub kept_delivered : DeliveryKeepsSound → (net new : Network) (from to : Name) (lines : List KeptReceipt) (was_taken : Bool) → IsKeptSound net
-    → DeliversAt (delivery net from to) was_taken (begun net) (course new lines) → IsKeptSound new
-kept_delivered law net new from to lines was_taken kept = by (ends_of net from to)
+at_most : (a b : ℕ) → min a b ≤ b
+at_most a b = omega arith
+
+none_kept : (net : Network) → net.taken ≤ max_count → KeepsItems 0 net net
+none_kept net few = record { sound = λ sound. sound; most = refl; taken = no_more_of net.taken max_count few }
   where
-    took : (ends : Ends) (o : Option Course) → delivered ends.near ends.far (begun net) ≡ o → DeliversAt o was_taken (begun net) (course new lines)
-        → IsKeptSound new
-    took ends None is so = subst IsKeptSound (sym (ap (λ (c : Course). c.net) so.1)) kept
-    took ends (Some last) is so =
-        subst IsKeptSound (sym (ap (λ (c : Course). c.net) so.1)) (kept_on 1 net last.net (law ends.near ends.far (begun net) last is kept.counted) kept)
+    no_more_of : (n most : ℕ) → n ≤ most → n ≡ min (n + 0) most
+    no_more_of n most few = omega (arith, few)
 
-    by : (o : Option Ends) → DeliversAt (option_and_then (λ (ends : Ends). delivered ends.near ends.far (begun net)) o) was_taken (begun net) (course new lines)
-        → IsKeptSound new
-    by None so = subst IsKeptSound (sym (ap (λ (c : Course). c.net) so.1)) kept
-    by (Some ends) so = took ends (delivered ends.near ends.far (begun net)) refl so
+both_kept : (one other : ℕ) (a b c : Network) → KeepsItems one a b → KeepsItems other b c → KeepsItems (one + other) a c
+both_kept one other a b c p q = record {
+  sound = λ sound. q.sound (p.sound sound);
+  most = q.most ∙ p.most;
+  taken = added a.taken b.taken c.taken one other max_count p.taken q.taken;
+}
+  where
+    added : (x y z n m most : ℕ) → y ≡ min (x + n) most → z ≡ min (y + m) most → z ≡ min (x + (n + m)) most
+    added x y z n m most first second = omega (arith, first, second)
 
--- ---- settling
+few_now : (count : ℕ) (old new : Network) → KeepsItems count old new → new.taken ≤ max_count
+few_now count old new keeps = subst (λ n. n ≤ max_count) (sym keeps.taken) (at_most (old.taken + count) max_count)
 
-pub kept_settled : SettlingKeepsSound → (net new : Network) (lines : List KeptReceipt) (count : ℕ) → IsKeptSound net
-    → SettlesAt count (begun net) (course new lines) → IsKeptSound new
-kept_settled law net new lines count kept so =
-    kept_on so.turns.count net new (law so.turns.count (begun net) (course new lines) so.turns.takes kept.counted) kept
+one_more : (n : ℕ) → 1 + n ≡ suc n
+one_more n = omega arith
+
+pub deliveries_keep : DeliveryKeepsSound → {from to count : ℕ} {old new : Course} → Delivers from to count old new → old.net.taken ≤ max_count
+    → KeepsItems count old.net new.net
+deliveries_keep law {old = old} no_more few = none_kept old.net few
+deliveries_keep law {from = from} {to = to} {old = old} {new = new} (one_first {count = count} {between = between} is rest) few =
+    let first = law from to old between is few in
+    subst (λ n. KeepsItems n old.net new.net) (one_more count)
+    (both_kept 1 count old.net between.net new.net first (deliveries_keep law rest (few_now 1 old.net between.net first)))
+
+-- ---- bytes that come
+
+pub kept_come : DeliveryKeepsSound → WaitingAreLines → BytesComeAsLines → (net : ByteNetwork) (from to count : ℕ) → IsKeptSound net
+    → IsKeptSound (bytes_come from to count (byte_begun net)).net
+kept_come law waiting as_lines net from to count kept =
+    let come = as_lines from to count (byte_begun net) kept.whole in
+    let keeps = deliveries_keep law come.delivers kept.counted in
+    let sound = keeps.sound kept.sound in
+    let are = are_lines waiting come.last.net sound in
+    let same = come.as_lines are in
+    record {
+      sound = subst IsSound (sym (ap (λ (c : Course). c.net) same)) sound;
+      whole = come.whole are;
+      counted = subst (λ n. n ≤ max_count) (sym (ap (λ (c : Course). c.net.taken) same)) (few_now _ (in_lines net) come.last.net keeps);
+    }
+
+-- as the code lets them come
+pub kept_by : StaysKept → (net new : ByteNetwork) (ends : KeptEnds) (count : ℕ) (none lines : List KeptReceipt) → IsKeptSound net → none ≡ []
+    → byte_course new lines ≡ come_between ends count (byte_course net none) → IsKeptSound new
+kept_by stays net new ends count none lines kept begins comes =
+    subst IsKeptSound (sym (ap (λ (c : ByteCourse). c.net) (comes ∙ ap (λ ls. come_between ends count (byte_course net ls)) begins)))
+    (stays.come net ends.near ends.far count kept)
+
+pub kept_item : StaysKept → (net new : ByteNetwork) (item : Item) (lines : List KeptReceipt) → IsKeptSound net → item_fault net item ≡ None
+    → IsItemWithin item → byte_course new lines ≡ item_given item net → IsKeptSound new
+kept_item stays net new item lines kept none within is =
+    subst IsKeptSound (sym (ap (λ (c : ByteCourse). c.net) is)) (stays.given net item kept none within)
+
+-- ---- turns
+
+pub record AreTurning : Type 0 where
+  pub delivered : DeliveryKeepsSound
+  pub waiting : WaitingAreLines
+  pub turns : TurnAsLines
+
+-- a turn keeps a network sound, and counts for the lines that it completes
+pub record IsTurnKept (old new : ByteCourse) : Type 0 where
+  pub kept : IsKeptSound new.net
+  pub keeps : KeepsItems (lines_in_turn old.net) (in_lines old.net) (in_lines new.net)
+
+pub data IsTurnOf (old new : ByteCourse) : Type 0 where
+  nothing : lines_in_turn old.net ≡ 0 → course_in_lines new ≡ course_in_lines old → IsTurnOf old new
+  next_line : lines_in_turn old.net ≡ 1 → next_in_turn (course_in_lines old) ≡ Some (course_in_lines new) → IsTurnOf old new
+
+delivery_of : (old new : Course) → next_in_turn old ≡ Some new → (d : Direction) × (delivered d.from d.to old ≡ Some new)
+delivery_of old new is = by (first_direction old.net) is
+  where
+    by : (o : Option Direction) → option_and_then (λ (d : Direction). delivered d.from d.to old) o ≡ Some new
+        → (d : Direction) × (delivered d.from d.to old ≡ Some new)
+    by None none = cc none
+    by (Some d) some = (d, some)
+
+module _ (laws : AreTurning) where
+  pub turn_as : (old new : ByteCourse) → IsKeptSound old.net → turn_taken old ≡ Some new → TurnsAsLines old new
+  turn_as old new kept turn = laws.turns old new kept.whole (are_lines laws.waiting (in_lines old.net) kept.sound) turn
+
+  pub turn_kept : (old new : ByteCourse) → IsKeptSound old.net → turn_taken old ≡ Some new → IsTurnKept old new
+  turn_kept old new kept turn = by (turn_as old new kept turn)
+    where
+      by : TurnsAsLines old new → IsTurnKept old new
+      by (no_line none same whole) =
+          let net_is : in_lines old.net ≡ in_lines new.net = sym (ap (λ (c : Course). c.net) same) in
+          record {
+            kept = record {
+              sound = subst IsSound net_is kept.sound;
+              whole = whole;
+              counted = subst (λ (n : Network). n.taken ≤ max_count) net_is kept.counted;
+            };
+            keeps = subst (λ n. KeepsItems n (in_lines old.net) (in_lines new.net)) (sym none)
+                (subst (KeepsItems 0 (in_lines old.net)) net_is (none_kept (in_lines old.net) kept.counted));
+          }
+      by (one_line last one next same whole) =
+          let d = delivery_of (course_in_lines old) last next in
+          let keeps = laws.delivered d.0.from d.0.to (course_in_lines old) last d.1 kept.counted in
+          let sound = keeps.sound kept.sound in
+          let are = are_lines laws.waiting last.net sound in
+          let net_is : last.net ≡ in_lines new.net = sym (ap (λ (c : Course). c.net) (same are)) in
+          record {
+            kept = record {
+              sound = subst IsSound net_is sound;
+              whole = whole are;
+              counted = subst (λ (n : Network). n.taken ≤ max_count) net_is (few_now 1 (in_lines old.net) last.net keeps);
+            };
+            keeps = subst (λ n. KeepsItems n (in_lines old.net) (in_lines new.net)) (sym one) (subst (KeepsItems 1 (in_lines old.net)) net_is keeps);
+          }
+
+  -- where links carry lines it is nothing, or the next line in turn
+  pub turn_is : (old new : ByteCourse) → IsKeptSound old.net → turn_taken old ≡ Some new → IsTurnOf old new
+  turn_is old new kept turn = by (turn_as old new kept turn)
+    where
+      by : TurnsAsLines old new → IsTurnOf old new
+      by (no_line none same whole) = nothing none same
+      by (one_line last one next same whole) =
+          let d = delivery_of (course_in_lines old) last next in
+          let sound = (laws.delivered d.0.from d.0.to (course_in_lines old) last d.1 kept.counted).sound kept.sound in
+          next_line one (next ∙ ap Some (sym (same (are_lines laws.waiting last.net sound))))
+
+  -- so do turns one after another
+  pub record AreTurnsKept (count : ℕ) (old new : ByteCourse) : Type 0 where
+    pub kept : IsKeptSound new.net
+    pub keeps : KeepsItems count (in_lines old.net) (in_lines new.net)
+
+  pub turns_kept : {count : ℕ} {old new : ByteCourse} → TurnsGo count old new → IsKeptSound old.net → AreTurnsKept count old new
+  turns_kept {old = old} none_yet kept = record { kept = kept; keeps = none_kept (in_lines old.net) kept.counted }
+  turns_kept {old = old} {new = new} (turn_first {count = count} {between = between} turn all_is rest) kept =
+      let one = turn_kept old between kept turn in
+      let more = turns_kept rest one.kept in
+      record {
+        kept = more.kept;
+        keeps = subst (λ n. KeepsItems n (in_lines old.net) (in_lines new.net)) (sym all_is)
+            (both_kept (lines_in_turn old.net) count (in_lines old.net) (in_lines between.net) (in_lines new.net) one.keeps more.keeps);
+      }

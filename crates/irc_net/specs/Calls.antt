@@ -1,7 +1,7 @@
 -- What comes of each call of a network. Where memory ran out nothing is promised of it but that it refuses everything from then on.
-use Rattle.std.specs.Prelude.{◌≡◌, ⊤, ℕ, Bool, true, false, Option, Some, None, Result, Ok, Err, List, [], ◌∷◌, ◌++◌, min, if◌then◌else◌}
+use Rattle.std.specs.Prelude.{◌≡◌, ⊤, ℕ, Bool, true, false, Option, Some, None, Result, Ok, Err, List, [], ◌∷◌, ◌++◌, length, min, if◌then◌else◌}
 use Rattle.std.specs.List.{AllByRecursion}
-use Rattle.std.specs.Option.{option_and_then}
+use Rattle.std.specs.Option.{option_and_then, option_map_or}
 use Rattle.irc_line.specs.Carried.{IsCarried}
 use Rattle.irc_relay.specs.Links.{Name}
 use Rattle.irc_world.specs.Stepping.{Item, line}
@@ -9,19 +9,22 @@ use Rattle.irc_net.specs.declared.answer.Answer.{Answer}
 use Rattle.irc_net.specs.declared.fault.NetFault.{NetFault}
 use Rattle.irc_net.specs.declared.fault.NetFault.TheVariants.{Memory, Failed}
 use Rattle.irc_net.specs.declared.step.Step.{Step}
-use Rattle.irc_net.specs.declared.step.Step.TheVariants.{Give, Deliver, Settle}
+use Rattle.irc_net.specs.declared.step.Step.TheVariants.{Bytes, Deliver, Give, Settle}
 use Rattle.irc_net.specs.declared.step.StepAnswer.{StepAnswer}
-use Rattle.irc_net.specs.declared.step.StepAnswer.TheVariants.{Given, Delivered, Settled, Refused}
+use Rattle.irc_net.specs.declared.step.StepAnswer.TheVariants.{Delivered, Given, Refused, Settled, Taken}
 use Rattle.irc_net.specs.Faults.{deliver_fault, is_refusal, item_fault}
-use Rattle.irc_network.specs.Network.{Course, Ends, Network, Receipt, TakesInTurn, begun, delivered, ends_of, given, is_at_rest, max_count, number_given}
+use Rattle.irc_network.specs.Network.{Ends, Receipt, ends_of, max_count, number_given}
 use Rattle.irc_network.specs.Views.{item_of, receipts_of}
+use Rattle.irc_wires.specs.Wires.{Wire, has_byte, through_line_feed, wire_at}
+use Rattle.irc_byte_network.specs.ByteNetwork.{ByteCourse, ByteNetwork, byte_begun, bytes_come, is_byte_rest, item_given}
+use Rattle.irc_byte_network.specs.Turns.{TurnsGo}
 
 -- a network, and whether memory ran out for it
 pub record NetView : Type 0 where
   pub failed : Bool
-  pub network : Network
+  pub network : ByteNetwork
 
-abbrev pub standing : Network → NetView
+abbrev pub standing : ByteNetwork → NetView
 standing network = record { failed = false; network = network }
 
 -- ---- an item
@@ -38,11 +41,11 @@ IsPlayable step = ⊤
 abbrev pub ArePlayable : List Step → Type 0
 ArePlayable = AllByRecursion IsPlayable
 
-pub record Gives (net : Network) (item : Item) (answer : Answer) (new : NetView) : Type 0 where
+pub record Gives (net : ByteNetwork) (item : Item) (answer : Answer) (new : NetView) : Type 0 where
   pub none : item_fault net item ≡ None
-  pub after : new ≡ standing (given item net).net
-  pub client : answer.client ≡ number_given net item
-  pub receipts : receipts_of answer.lines.items ≡ (given item net).receipts
+  pub after : new ≡ standing (item_given item net).net
+  pub client : answer.client ≡ number_given net.network item
+  pub receipts : receipts_of answer.lines.items ≡ (item_given item net).receipts
 
 pub data IsGiven : NetView → Item → Result Answer NetFault → NetView → Type 0 where
   given_it : {old new : NetView} {item : Item} {answer : Answer} → old.failed ≡ false → Gives old.network item answer new
@@ -53,14 +56,54 @@ pub data IsGiven : NetView → Item → Result Answer NetFault → NetView → T
       → IsGiven old item (Err Memory) new
   given_to_failed : {old : NetView} {item : Item} → old.failed ≡ true → IsGiven old item (Err Failed) old
 
+-- ---- bytes that come
+
+abbrev pub wire_between : ByteNetwork → Ends → Wire
+wire_between net ends = wire_at net.wires ends.near ends.far
+
+-- so many bytes come from one server to another, or all that are on their way where there are fewer
+abbrev pub piece_between : ℕ → ByteNetwork → Ends → ByteCourse
+piece_between count net ends = bytes_come ends.near ends.far count (byte_begun net)
+
+abbrev pub piece : ℕ → ByteNetwork → Name → Name → ByteCourse
+piece count net from to = option_map_or (piece_between count net) (ends_of net.network from to) (byte_begun net)
+
+-- how many come
+abbrev pub count_between : ℕ → ByteNetwork → Ends → ℕ
+count_between count net ends = min count (length (wire_between net ends).bytes)
+
+abbrev pub piece_count : ℕ → ByteNetwork → Name → Name → ℕ
+piece_count count net from to = option_map_or (count_between count net) (ends_of net.network from to) 0
+
+-- how many came, and what clients received by them
+pub record Takes (net : ByteNetwork) (from to : Name) (count taken : ℕ) (receipts : List Receipt) (new : NetView) : Type 0 where
+  pub none : deliver_fault net from to ≡ None
+  pub taken_is : taken ≡ piece_count count net from to
+  pub received : receipts ≡ (piece count net from to).receipts
+  pub after : new ≡ standing (piece count net from to).net
+
+pub data AreTaken : NetView → Name → Name → ℕ → Result (ℕ × List Receipt) NetFault → NetView → Type 0 where
+  takes_them : {old new : NetView} {from to : Name} {count taken : ℕ} {receipts : List Receipt} → old.failed ≡ false
+      → Takes old.network from to count taken receipts new → AreTaken old from to count (Ok (taken, receipts)) new
+  taking_refused : {old : NetView} {from to : Name} {count : ℕ} {fault : NetFault} → old.failed ≡ false
+      → deliver_fault old.network from to ≡ Some fault → AreTaken old from to count (Err fault) old
+  taking_wants_memory : {old new : NetView} {from to : Name} {count : ℕ} → old.failed ≡ false → deliver_fault old.network from to ≡ None
+      → new.failed ≡ true → AreTaken old from to count (Err Memory) new
+  taking_by_failed : {old : NetView} {from to : Name} {count : ℕ} → old.failed ≡ true → AreTaken old from to count (Err Failed) old
+
 -- ---- a delivery
 
--- the oldest line that waits on the way from one server to another is taken; none where none waits
-abbrev pub delivery : Network → Name → Name → Option Course
-delivery net from to = option_and_then (λ (ends : Ends). delivered ends.near ends.far (begun net)) (ends_of net from to)
+-- all bytes up to and with the next LF
+abbrev pub line_between : ByteNetwork → Ends → Option ByteCourse
+line_between net ends =
+    if has_byte (wire_between net ends) then Some (piece_between (through_line_feed (wire_between net ends).bytes) net ends) else None
 
--- whether one was taken, and what clients received by it
-abbrev pub Delivers : Option Course → Network → Bool → List Receipt → NetView → Type 0
+-- none where no byte is on its way from one server to another
+abbrev pub delivery : ByteNetwork → Name → Name → Option ByteCourse
+delivery net from to = option_and_then (line_between net) (ends_of net.network from to)
+
+-- whether some came, and what clients received by them
+abbrev pub Delivers : Option ByteCourse → ByteNetwork → Bool → List Receipt → NetView → Type 0
 Delivers None net was_taken receipts new = (was_taken ≡ false) × (receipts ≡ []) × (new ≡ standing net)
 Delivers (Some course) net was_taken receipts new = (was_taken ≡ true) × (receipts ≡ course.receipts) × (new ≡ standing course.net)
 
@@ -76,12 +119,12 @@ pub data IsDelivered : NetView → Name → Name → Result (Bool × List Receip
 
 -- ---- settling
 
--- Lines are taken until none is on its way. They are counted up to 2^64 - 1.
-pub record Settles (net : Network) (counted : ℕ) (receipts : List Receipt) (new : NetView) : Type 0 where
+-- Bytes come in turn until nothing is on its way. The lines that they complete are counted up to 2^64 - 1.
+pub record Settles (net : ByteNetwork) (counted : ℕ) (receipts : List Receipt) (new : NetView) : Type 0 where
   pub count : ℕ
-  pub last : Course
-  pub takes : TakesInTurn count (begun net) last
-  pub rest : is_at_rest last.net ≡ true
+  pub last : ByteCourse
+  pub goes : TurnsGo count (byte_begun net) last
+  pub rest : is_byte_rest last.net ≡ true
   pub counts : counted ≡ min count max_count
   pub received : receipts ≡ last.receipts
   pub after : new ≡ standing last.net
@@ -100,6 +143,8 @@ IsStep old (Give item) (Given answer) new = IsGiven old (item_of item) (Ok answe
 IsStep old (Give item) (Refused fault) new = IsGiven old (item_of item) (Err fault) new × (is_refusal fault ≡ true)
 IsStep old (Deliver from to) (Delivered was_taken lines) new = IsDelivered old from to (Ok (was_taken, receipts_of lines.items)) new
 IsStep old (Deliver from to) (Refused fault) new = IsDelivered old from to (Err fault) new × (is_refusal fault ≡ true)
+IsStep old (Bytes from to count) (Taken taken lines) new = AreTaken old from to count (Ok (taken, receipts_of lines.items)) new
+IsStep old (Bytes from to count) (Refused fault) new = AreTaken old from to count (Err fault) new × (is_refusal fault ≡ true)
 IsStep old Settle (Settled counted lines) new = IsSettled old (Ok (counted, receipts_of lines.items)) new
 IsStep old step answer new = ⊥
 
@@ -107,6 +152,7 @@ IsStep old step answer new = ⊥
 abbrev pub Breaks : NetView → Step → NetFault → NetView → Type 0
 Breaks old (Give item) fault new = IsGiven old (item_of item) (Err fault) new
 Breaks old (Deliver from to) fault new = IsDelivered old from to (Err fault) new
+Breaks old (Bytes from to count) fault new = AreTaken old from to count (Err fault) new
 Breaks old Settle fault new = IsSettled old (Err fault) new
 
 -- a refusal is the answer of a step, and want of memory is not

@@ -6,7 +6,7 @@ use Rattle.irc_world.specs.Refused.{Refusal, disagree, link_refused, no_such_cli
 use Rattle.irc_world.specs.Stepping.{Item}
 use Rattle.irc_net.specs.declared.fault.NetFault.{NetFault}
 use Rattle.irc_net.specs.declared.fault.NetFault.TheVariants as fault
-use Rattle.irc_network.specs.Network.{Network, is_at_rest}
+use Rattle.irc_byte_network.specs.ByteNetwork.{ByteNetwork, is_byte_rest}
 pub use Rattle.irc_network.specs.Refusing.{are_agreed, fault_at_rest, way_fault}
 
 abbrev pub fault_by : Refusal → NetFault
@@ -16,12 +16,12 @@ fault_by not_linked = fault.NotLinked
 fault_by link_refused = fault.LinkRefused
 fault_by disagree = fault.Disagree
 
--- Nothing is taken while a line is on its way.
-unfoldable pub item_fault : Network → Item → Option NetFault
-item_fault net item = if is_at_rest net then option_map fault_by (fault_at_rest net item) else Some fault.NotAtRest
+-- Nothing is taken while a byte is on its way, or a part of a line has come somewhere.
+unfoldable pub item_fault : ByteNetwork → Item → Option NetFault
+item_fault net item = if is_byte_rest net then option_map fault_by (fault_at_rest net.network item) else Some fault.NotAtRest
 
-unfoldable pub deliver_fault : Network → Name → Name → Option NetFault
-deliver_fault net from to = option_map fault_by (way_fault net from to)
+unfoldable pub deliver_fault : ByteNetwork → Name → Name → Option NetFault
+deliver_fault net from to = option_map fault_by (way_fault net.network from to)
 
 -- a refusal is the answer to a step; want of memory is none
 abbrev pub is_refusal : NetFault → Bool

@@ -1,19 +1,51 @@
--- What holds of what calls of a network answer.
-use Rattle.std.specs.Prelude.{◌≡◌, ℕ, Bool, Ok, List, ◌++◌}
+-- What holds of networks, and of what their calls answer.
+use Rattle.std.specs.Prelude.{◌≡◌, ℕ, Bool, None, Ok, List, ◌++◌}
 use Rattle.irc_relay.specs.Links.{Name}
 use Rattle.irc_world.specs.Stepping.{Item}
+use Rattle.irc_world.specs.WithinLimits.{IsItemWithin}
+use Rattle.irc_items.specs.SetUp.{IsNew}
+use Rattle.irc_byte_network.specs.ByteNetwork.{ByteNetwork, byte_begun, bytes_come, item_given}
+use Rattle.irc_byte_network.specs.Whole.{no_wires}
 use Rattle.irc_net.specs.declared.answer.Answer.{Answer}
-use Rattle.irc_net.specs.Calls.{IsDelivered, IsGiven, IsSettled, NetView}
-use Rattle.irc_network.specs.Network.{Receipt, lines_for, received_by}
+use Rattle.irc_net.specs.Calls.{AreTaken, IsDelivered, IsGiven, IsSettled, NetView, Settles, standing}
+use Rattle.irc_net.specs.Faults.{item_fault}
+use Rattle.irc_net.specs.OneRoom.{IsKeptSound}
+use Rattle.irc_network.specs.Network.{Network, Receipt, lines_for, received_by}
 use Rattle.irc_network.specs.Views.{receipts_of}
 
+-- ---- what is answered
+
 -- Each client has received just its lines among these, behind all that it had.
-abbrev pub HasReceived : NetView → NetView → List Receipt → Type 0
+abbrev pub HasReceived : ByteNetwork → ByteNetwork → List Receipt → Type 0
 HasReceived old new receipts = (client : ℕ) → received_by new.network client ≡ received_by old.network client ++ lines_for client receipts
 
 -- What a call answers is what clients have received by it.
 pub record AnswersAreReceived : Type 0 where
-  pub given : (old new : NetView) (item : Item) (answer : Answer) → IsGiven old item (Ok answer) new → HasReceived old new (receipts_of answer.lines.items)
+  pub given : (old new : NetView) (item : Item) (answer : Answer) → IsGiven old item (Ok answer) new
+      → HasReceived old.network new.network (receipts_of answer.lines.items)
+  pub taken : (old new : NetView) (from to : Name) (count taken : ℕ) (receipts : List Receipt) → AreTaken old from to count (Ok (taken, receipts)) new
+      → HasReceived old.network new.network receipts
   pub delivered : (old new : NetView) (from to : Name) (was_taken : Bool) (receipts : List Receipt) → IsDelivered old from to (Ok (was_taken, receipts)) new
-      → HasReceived old new receipts
-  pub settled : (old new : NetView) (counted : ℕ) (receipts : List Receipt) → IsSettled old (Ok (counted, receipts)) new → HasReceived old new receipts
+      → HasReceived old.network new.network receipts
+  pub settled : (old new : NetView) (counted : ℕ) (receipts : List Receipt) → IsSettled old (Ok (counted, receipts)) new
+      → HasReceived old.network new.network receipts
+
+-- ---- what is kept
+
+-- A new network is sound, and it stays so by each item that is taken, by bytes that come, and as it settles.
+pub record StaysKept : Type 0 where
+  pub new : (net : Network) → IsNew net → IsKeptSound (no_wires net)
+  pub given : (net : ByteNetwork) (item : Item) → IsKeptSound net → item_fault net item ≡ None → IsItemWithin item → IsKeptSound (item_given item net).net
+  pub come : (net : ByteNetwork) (from to count : ℕ) → IsKeptSound net → IsKeptSound (bytes_come from to count (byte_begun net)).net
+  pub settled : (net last : ByteNetwork) (counted : ℕ) (receipts : List Receipt) → IsKeptSound net → Settles net counted receipts (standing last)
+      → IsKeptSound last
+
+-- and it does settle
+pub record SettlesOnce (net : ByteNetwork) : Type 0 where
+  pub counted : ℕ
+  pub receipts : List Receipt
+  pub last : ByteNetwork
+  pub settles : Settles net counted receipts (standing last)
+
+abbrev pub EachSettles : Type 0
+EachSettles = (net : ByteNetwork) → IsKeptSound net → SettlesOnce net

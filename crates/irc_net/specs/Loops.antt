@@ -1,4 +1,5 @@
 -- Words of this crate's code alone. No rule stands here.
 pub mod Codes
+pub mod Coming
 pub mod Ordering
 pub mod Settling

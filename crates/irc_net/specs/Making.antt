@@ -13,6 +13,8 @@ use Rattle.irc_server.specs.declared.config.ConfigFault.TheVariants as one
 use Rattle.irc_net.specs.declared.making.NetConfigFault.{NetConfigFault}
 use Rattle.irc_net.specs.declared.making.NetConfigFault.TheVariants.{BadName, DoubleName, TooMany, Memory}
 use Rattle.irc_net.specs.Calls.{NetView}
+use Rattle.irc_byte_network.specs.ByteNetwork.{ByteNetwork}
+use Rattle.irc_byte_network.specs.Whole.{no_wires}
 use Rattle.irc_network.specs.Network.{Network, Site}
 
 abbrev pub name_of : Config → Name
@@ -58,12 +60,12 @@ new_site config = record { server = Some (made_view config); queues = empty }
 abbrev pub made_of : List Config → Network
 made_of ordered = record { names = map name_of ordered; sites = map new_site ordered; links = []; homes = []; received = []; items = []; taken = 0 }
 
--- in order of name
-pub record IsMadeOf (configs : List Config) (network : Network) : Type 0 where
+-- in order of name, and nothing is on its way
+pub record IsMadeOf (configs : List Config) (net : ByteNetwork) : Type 0 where
   pub ordered : List Config
   pub same_ones : IsPermutation configs ordered
   pub in_order : IsSortedByKey name_of (slice_cmp nat_cmp) ordered
-  pub network_is : network ≡ made_of ordered
+  pub network_is : net ≡ no_wires (made_of ordered)
 
 -- what comes of configurations
 abbrev pub IsMade : List Config → Result NetView NetConfigFault → Type 0

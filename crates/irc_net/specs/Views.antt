@@ -14,8 +14,8 @@ map_ok f (Err e) = Err e
 abbrev pub delivered_now : Result (Bool × Vec KeptReceipt) NetFault → Result (Bool × List Receipt) NetFault
 delivered_now = map_ok (λ (pair : Bool × Vec KeptReceipt). (pair.0, receipts_of pair.1.items))
 
-abbrev pub settled_now : Result (ℕ × Vec KeptReceipt) NetFault → Result (ℕ × List Receipt) NetFault
-settled_now = map_ok (λ (pair : ℕ × Vec KeptReceipt). (pair.0, receipts_of pair.1.items))
+abbrev pub counted_now : Result (ℕ × Vec KeptReceipt) NetFault → Result (ℕ × List Receipt) NetFault
+counted_now = map_ok (λ (pair : ℕ × Vec KeptReceipt). (pair.0, receipts_of pair.1.items))
 
 abbrev pub answers_now : Result (Vec StepAnswer) NetFault → Result (List StepAnswer) NetFault
 answers_now = map_ok (λ (answers : Vec StepAnswer). answers.items)

@@ -10,7 +10,7 @@ use thiserror::Error;
 /// change nothing.
 #[derive(Clone, Copy, Debug, Drop, Error, PartialEq, Eq)]
 pub enum NetFault {
-    /// A line is on its way.
+    /// A byte is on its way between servers, or a part of a line has come.
     #[error("a line is on its way")]
     NotAtRest = 1,
     /// No server has this name.

@@ -1,15 +1,17 @@
 //! A network of servers, as those above have it.
-ghost use Rattle.std.specs.Prelude.{◌≡◌, true, [], ◌∷◌, ◌++◌, map, IfOk, OnOk};
+ghost use Rattle.std.specs.Prelude.{◌≡◌, true, false, [], ◌∷◌, ◌++◌, map, IfOk, OnOk};
 ghost use Rattle.std.specs.Option.{option_map};
-ghost use Rattle.irc_net.specs.declared.step.Step.TheVariants.{Deliver, Give, Settle};
-ghost use Rattle.irc_net.specs.Calls.{step_refused, ArePlayable, ArePlayed, IsDelivered, IsGivable, IsGiven, IsPlayable, IsSettled, IsStepDone};
+ghost use Rattle.irc_byte_network.specs.ByteNetwork.{is_byte_rest};
+ghost use Rattle.irc_byte_network.specs.Loops.Coming.{byte_course};
+ghost use Rattle.irc_net.specs.declared.step.Step.TheVariants.{Bytes, Deliver, Give, Settle};
+ghost use Rattle.irc_net.specs.Calls.{step_refused, ArePlayable, ArePlayed, AreTaken, IsDelivered, IsGivable, IsGiven, IsPlayable, IsSettled, IsStepDone};
 ghost use Rattle.irc_net.specs.Faults.{are_agreed, deliver_fault, fault_by, item_fault};
 ghost use Rattle.irc_net.specs.Making.{IsMade};
+ghost use Rattle.irc_net.specs.Loops.Coming.{AreLinkedEnds, HaveComeTo};
 ghost use Rattle.irc_net.specs.Loops.Settling.{SettlesAt};
 ghost use Rattle.irc_net.specs.OneRoom.{IsKeptSound, IsOneRoomNet, IsOwed, RefusesAsTheWorld, TakesFew};
-ghost use Rattle.irc_net.specs.Views.{answers_now, delivered_now, settled_now};
-ghost use Rattle.irc_network.specs.Loops.Courses.{course};
-ghost use Rattle.irc_network.specs.Network.{is_at_rest, received_by, view_of};
+ghost use Rattle.irc_net.specs.Views.{answers_now, counted_now, delivered_now};
+ghost use Rattle.irc_network.specs.Network.{received_by, view_of};
 ghost use Rattle.irc_network.specs.Views.{item_of, items_of, refusal_of};
 ghost use Rattle.irc_sites.specs.Loops.Queues.{bytes_of};
 ghost use Rattle.irc_world.specs.WithinLimits.{IsItemWithin};
@@ -18,21 +20,22 @@ use crate::answer::Answer;
 use crate::fault::NetFault;
 use crate::making::{NetConfigFault, configs_fault, forest_of, in_order, sites_of};
 use crate::step::{Step, StepAnswer};
+use irc_byte_network::ByteNetwork;
 use irc_items::laws;
 use irc_line::Text;
 use irc_names::ServerName;
-use irc_network::{Desk, Item, Network, Receipt, Refusal};
+use irc_network::{Desk, Ends, Item, Network, Receipt, Refusal};
 use irc_server::Config;
 use std::alloc::{AllocError, Global};
 use std::marker::Model;
 
-/// A network of servers: what is given to it is done by the servers, each of which knows of the others by lines alone, and those lines are delivered in any
-/// order that one asks for.
+/// A network of servers: what is given to it is done by the servers, each of which knows of the others by the bytes of lines alone, and those come in pieces
+/// and in any order that one asks for.
 #[derive(Drop)]
 pub struct Net {
     alloc: Global,
     failed: bool,
-    network: Network,
+    network: ByteNetwork,
 }
 
 /// In a clause it is the network, and whether memory ran out for it. Until then it is sound.
@@ -41,7 +44,7 @@ impl Model for Net {
     ghost use Rattle.irc_net.specs.Calls.{NetView};
     ghost use Rattle.irc_net.specs.Loops.Codes.{net_code};
     ghost use Rattle.irc_net.specs.OneRoom.{IsKeptSound};
-    ghost use Rattle.irc_network.specs.contracts.network.Network.{the_row as network_row};
+    ghost use Rattle.irc_byte_network.specs.contracts.byte_network.ByteNetwork.{the_row as network_row};
 
     ghost Value = { NetView };
 
@@ -60,59 +63,61 @@ impl Net {
     pub fn new(alloc: Global, configs: Vec<Config, Global>) -> Result<Self, NetConfigFault>
         ensures { IsMade configs.items result }
     {
-        laws::new_network_is_sound();
+        crate::laws::networks_stay_sound();
         if let Some(fault) = configs_fault(&configs) {
             return Err(fault);
         }
         let ordered = in_order(configs);
         let forest = forest_of(alloc, &ordered)?;
         let sites = sites_of(alloc, ordered)?;
+        let count = sites.len();
         Ok(Net {
             alloc,
             failed: false,
-            network: Network::new(alloc, forest, sites),
+            network: ByteNetwork::new(alloc, Network::new(alloc, forest, sites), count)?,
         })
     }
 
     /// What a client has received, whole lines; also once it is closed. Nothing for a number that was never given. They are a front of the lines that one
     /// room machine for its joined part sends it, and at rest all of them.
     pub fn received(&self, client: u64) -> &[Text]
-        ensures lines { map bytes_of result.now ≡ received_by self.now.network client }
+        ensures lines { map bytes_of result.now ≡ received_by self.now.network.network client }
         ensures owed { IsOwed self.now client (map bytes_of result.now) }
     {
         laws::received_is_front();
         laws::rest_is_one_room();
-        self.network.received(client)
+        irc_byte_network::laws::rest_as_lines();
+        self.network.network().received(client)
     }
 
     /// What was given, in turn.
     pub fn items(&self) -> &[Item]
-        ensures { items_of result.now ≡ self.now.network.items }
+        ensures { items_of result.now ≡ self.now.network.network.items }
     {
-        self.network.items()
+        self.network.network().items()
     }
 
-    /// Whether no line is on its way.
+    /// Whether no byte is on its way between servers, and no part of a line has come to one.
     pub fn at_rest(&self) -> bool
-        ensures { result ≡ is_at_rest self.now.network }
+        ensures { result ≡ is_byte_rest self.now.network }
     {
         self.network.is_at_rest()
     }
 
     /// How many lines were taken since the last item, at most 2^64 - 1. They are no more than servers need to tell each other of that item.
     pub fn lines_taken(&self) -> u64
-        ensures taken { result ≡ self.now.network.taken }
+        ensures taken { result ≡ self.now.network.network.taken }
         ensures few { TakesFew self.now result }
     {
         laws::taken_are_few();
-        self.network.lines_taken()
+        self.network.network().lines_taken()
     }
 
     /// Whether two servers agree on all channels that both would have if they were linked; false where no server has one of these names.
     pub fn agrees(&self, one: &ServerName, other: &ServerName) -> bool
-        ensures { result ≡ are_agreed (view_of self.now.network one.now) (view_of self.now.network other.now) }
+        ensures { result ≡ are_agreed (view_of self.now.network.network one.now) (view_of self.now.network.network other.now) }
     {
-        self.network.agrees(one, other)
+        self.network.network().agrees(one, other)
     }
 
     /// An item is given. At rest just that is refused which the network as its people know it refuses.
@@ -124,8 +129,9 @@ impl Net {
         ensures given { IsGiven self.old (item_of item) result self.new }
         ensures refused { RefusesAsTheWorld self.old (item_of item) }
     {
-        laws::given_stays_sound();
+        crate::laws::networks_stay_sound();
         laws::refusals_are_the_worlds();
+        irc_byte_network::laws::rest_as_lines();
         keeps_limits(&item);
         if self.failed {
             return Err(NetFault::Failed);
@@ -133,7 +139,7 @@ impl Net {
         if let Some(fault) = item_fault(&self.network, &item) {
             return Err(fault);
         }
-        let client = self.network.number_given(&item);
+        let client = self.network.network().number_given(&item);
         let mut desk = Desk::new(self.alloc);
         self.failed = true;
         self.network.give(item, &mut desk)?;
@@ -144,8 +150,8 @@ impl Net {
         })
     }
 
-    /// Takes the oldest line that waits on the way from one server to another, if one does, and asks the other for it. Answers whether one did, and what
-    /// clients have received by it.
+    /// The bytes up to and with the next LF come from one server to another, if one is on its way. Answers whether one was, and what clients have received by
+    /// the line that they complete, if they do.
     ///
     /// # Errors
     /// [`NetFault::NoSuchServer`], then [`NetFault::NotLinked`], with nothing changed; [`NetFault::Memory`], [`NetFault::Failed`].
@@ -156,30 +162,77 @@ impl Net {
     ) -> Result<(bool, Vec<Receipt, Global>), NetFault>
         ensures { IsDelivered self.old from.now to.now (delivered_now result) self.new }
     {
-        laws::delivery_keeps_sound();
+        let ends = self.ends_linked(from, to)?;
+        let count = self.network.through_line_feed(ends);
+        if count == 0 {
+            return Ok((false, Vec::new(self.alloc)));
+        }
+        let (_, lines) = self.come(ends, count)?;
+        Ok((true, lines))
+    }
+
+    /// So many bytes come from one server to another, or all that are on their way where there are fewer. Answers how many came, and what clients have received
+    /// by the lines that they complete.
+    ///
+    /// # Errors
+    /// [`NetFault::NoSuchServer`], then [`NetFault::NotLinked`], with nothing changed; [`NetFault::Memory`], [`NetFault::Failed`].
+    pub fn deliver_bytes(
+        &mut self,
+        from: &ServerName,
+        to: &ServerName,
+        count: usize,
+    ) -> Result<(usize, Vec<Receipt, Global>), NetFault>
+        ensures { AreTaken self.old from.now to.now count (counted_now result) self.new }
+    {
+        let ends = self.ends_linked(from, to)?;
+        self.come(ends, count)
+    }
+
+    /// Where two linked servers are.
+    ///
+    /// # Errors
+    /// As above.
+    fn ends_linked(&self, from: &ServerName, to: &ServerName) -> Result<Ends, NetFault>
+        ensures { AreLinkedEnds self.now from.now to.now result }
+    {
         if self.failed {
             return Err(NetFault::Failed);
         }
         if let Some(fault) = deliver_fault(&self.network, from, to) {
             return Err(fault);
         }
-        let mut desk = Desk::new(self.alloc);
-        self.failed = true;
-        let was_taken = self.network.deliver_between(from, to, &mut desk)?;
-        self.failed = false;
-        Ok((was_taken, desk.lines))
+        match self.network.network().ends_of(from, to) {
+            Some(ends) => Ok(ends),
+            None => Err(NetFault::NoSuchServer),
+        }
     }
 
-    /// Takes lines, each time the oldest on the first way, by the names of its ends, on which one waits, until none is on its way. Answers how many, at most
-    /// 2^64 - 1, and what clients have received by them.
+    /// So many bytes come from the first of two linked servers to the other.
+    ///
+    /// # Errors
+    /// Where memory runs out.
+    fn come(&mut self, ends: Ends, count: usize) -> Result<(usize, Vec<Receipt, Global>), NetFault>
+        requires stands { self.old.failed ≡ false }
+        ensures { HaveComeTo self.old ends count (counted_now result) self.new }
+    {
+        crate::laws::networks_stay_sound();
+        let mut desk = Desk::new(self.alloc);
+        self.failed = true;
+        let came = self.network.come(ends, count, &mut desk)?;
+        self.failed = false;
+        Ok((came.bytes, desk.lines))
+    }
+
+    /// Bytes come in turn, each time those up to and with the next LF in the first direction, by the names of its ends, in which one is on its way, until
+    /// nothing is. Answers how many lines they completed, at most 2^64 - 1, and what clients have received by them.
     ///
     /// # Errors
     /// [`NetFault::Memory`], [`NetFault::Failed`].
     pub fn settle(&mut self) -> Result<(u64, Vec<Receipt, Global>), NetFault>
-        ensures settled { IsSettled self.old (settled_now result) self.new }
-        ensures rest { IfOk result (λ _. is_at_rest self.new.network ≡ true) }
+        ensures settled { IsSettled self.old (counted_now result) self.new }
+        ensures rest { IfOk result (λ _. is_byte_rest self.new.network ≡ true) }
     {
-        laws::settling_keeps_sound();
+        crate::laws::networks_stay_sound();
         if self.failed {
             return Err(NetFault::Failed);
         }
@@ -200,6 +253,7 @@ impl Net {
         laws::rest_is_one_room();
         laws::no_link_is_closed();
         laws::new_link_is_open();
+        irc_byte_network::laws::rest_as_lines();
         let _ = &self.network;
     }
 
@@ -226,6 +280,7 @@ impl Net {
         match step {
             Step::Give(item) => self.step_by_item(item),
             Step::Deliver(from, to) => self.step_by_delivery(from, to),
+            Step::Bytes(from, to, count) => self.step_by_bytes(from, to, *count),
             Step::Settle => self.step_by_settling(),
         }
     }
@@ -237,6 +292,21 @@ impl Net {
     {
         match self.item(item.copy()) {
             Ok(answer) => Ok(StepAnswer::Given(answer)),
+            Err(fault) => refused(fault),
+        }
+    }
+
+    /// Lets bytes come, as a step.
+    fn step_by_bytes(
+        &mut self,
+        from: &ServerName,
+        to: &ServerName,
+        count: usize,
+    ) -> Result<StepAnswer, NetFault>
+        ensures { IsStepDone self.old (Bytes from.now to.now count) result self.new }
+    {
+        match self.deliver_bytes(from, to, count) {
+            Ok((taken, lines)) => Ok(StepAnswer::Taken(taken, lines)),
             Err(fault) => refused(fault),
         }
     }
@@ -266,16 +336,20 @@ impl Net {
     }
 }
 
-/// Takes lines of a sound network in turn until none is on its way, and counts them. They come to an end since each of them leaves fewer.
-fn take_all(network: &mut Network, desk: &mut Desk) -> Result<u64, AllocError>
+/// Lets bytes of a sound network come in turn until nothing is on its way, and counts the lines that they complete. They come to an end since each of those
+/// leaves fewer.
+fn take_all(network: &mut ByteNetwork, desk: &mut Desk) -> Result<u64, AllocError>
     requires sound { IsKeptSound network.old }
-    ensures { IfOk result (λ count. SettlesAt count (course network.old desk.old.lines.items) (course network.new desk.new.lines.items)) }
+    ensures { IfOk result (λ count. SettlesAt count (byte_course network.old desk.old.lines.items) (byte_course network.new desk.new.lines.items)) }
 {
-    laws::settling_keeps_sound();
+    laws::delivery_keeps_sound();
     laws::turn_leaves_fewer();
+    laws::waiting_are_lines();
+    irc_byte_network::laws::turn_as_lines();
+    irc_byte_network::laws::rest_as_lines();
     let mut count: u64 = 0;
-    while network.deliver_first(desk)? {
-        count = count.saturating_add(1);
+    while let Some(lines) = network.come_to_line(desk)? {
+        count = count.saturating_add(lines as u64);
     }
     Ok(count)
 }
@@ -292,21 +366,21 @@ fn keeps_limits(item: &Item)
 
 /// Why an item is not taken, if it is not.
 #[tactic(auto, unfolding(crate::specs::Faults::item_fault))]
-fn item_fault(network: &Network, item: &Item) -> Option<NetFault>
+fn item_fault(network: &ByteNetwork, item: &Item) -> Option<NetFault>
     ensures { result ≡ item_fault network.now (item_of item.now) }
 {
     if !network.is_at_rest() {
         return Some(NetFault::NotAtRest);
     }
-    fault_of(network.refusal(item))
+    fault_of(network.network().refusal(item))
 }
 
-/// Why no line is delivered from one server to another, if none is.
+/// Why nothing comes from one server to another, if it does not.
 #[tactic(auto, unfolding(crate::specs::Faults::deliver_fault))]
-fn deliver_fault(network: &Network, from: &ServerName, to: &ServerName) -> Option<NetFault>
+fn deliver_fault(network: &ByteNetwork, from: &ServerName, to: &ServerName) -> Option<NetFault>
     ensures { result ≡ deliver_fault network.now from.now to.now }
 {
-    fault_of(network.way_refusal(from, to))
+    fault_of(network.network().way_refusal(from, to))
 }
 
 /// A refusal of the network as one of those above.

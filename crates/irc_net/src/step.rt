@@ -10,9 +10,11 @@ use std::alloc::Global;
 pub enum Step {
     /// An item is given.
     Give(Item),
-    /// The oldest line that waits on the way from the first server to the second is taken.
+    /// The bytes up to and with the next LF come from the first server to the second.
     Deliver(ServerName, ServerName),
-    /// Lines are taken until none is on its way.
+    /// So many bytes come from the first server to the second, or all that are on their way where there are fewer.
+    Bytes(ServerName, ServerName, usize),
+    /// Bytes come in turn until nothing is on its way.
     Settle,
 }
 
@@ -21,9 +23,11 @@ pub enum Step {
 pub enum StepAnswer {
     /// The item is taken.
     Given(Answer),
-    /// Whether a line was taken, and what clients have received by it.
+    /// Whether a byte was on its way, and what clients have received.
     Delivered(bool, Vec<Receipt, Global>),
-    /// How many lines were taken, and what clients have received by them.
+    /// How many bytes came, and what clients have received by them.
+    Taken(usize, Vec<Receipt, Global>),
+    /// How many lines came, and what clients have received by them.
     Settled(u64, Vec<Receipt, Global>),
     /// It is refused, and nothing has changed.
     Refused(NetFault),

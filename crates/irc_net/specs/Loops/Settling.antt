@@ -1,14 +1,16 @@
--- Lines that are taken in turn, as the code counts them.
+-- Bytes that come in turn, as the code counts the lines that they complete.
 use Rattle.std.specs.Prelude.{◌≡◌, ℕ, min, true}
-use Rattle.irc_network.specs.Network.{Course, TakesInTurn, is_at_rest, max_count}
+use Rattle.irc_network.specs.Network.{max_count}
+use Rattle.irc_byte_network.specs.ByteNetwork.{ByteCourse, is_byte_rest}
+use Rattle.irc_byte_network.specs.Turns.{TurnsGo}
 
--- some lines were taken, and counted up to 2^64 - 1
-pub record TakesCounted (counted : ℕ) (old new : Course) : Type 0 where
+-- some lines were completed, and counted up to 2^64 - 1
+pub record GoesCounted (counted : ℕ) (old new : ByteCourse) : Type 0 where
   pub count : ℕ
-  pub takes : TakesInTurn count old new
+  pub goes : TurnsGo count old new
   pub counts : counted ≡ min count max_count
 
--- and none is left
-pub record SettlesAt (counted : ℕ) (old new : Course) : Type 0 where
-  pub turns : TakesCounted counted old new
-  pub rest : is_at_rest new.net ≡ true
+-- and nothing is on its way any more
+pub record SettlesAt (counted : ℕ) (old new : ByteCourse) : Type 0 where
+  pub turns : GoesCounted counted old new
+  pub rest : is_byte_rest new.net ≡ true

@@ -1,24 +1,46 @@
-use Rattle.irc_network.specs.Loops.Courses.{course}
-use Rattle.irc_net.proofs.Settling.{none_counted, settles_at, turn_counted, turn_fewer}
+use Rattle.std.proofs.Common.{subst}
+use Rattle.irc_byte_network.specs.Loops.Coming.{byte_course}
+use Rattle.irc_byte_network.specs.Turns.{ComesToLine}
+use Rattle.irc_net.proofs.Settling.{counted_fewer, counted_kept, lines_counted, none_counted, settles_at}
 use Rattle.irc_net.proofs.net.take_all.Goals as goal
 
-pub loop-count-init : goal.loop-count-init
-loop-count-init c = none_counted _
+pub loop-lines-init : goal.loop-lines-init
+loop-lines-init c = none_counted _
 
-pub loop-count-preserved : goal.loop-count-preserved
-loop-count-preserved c =
-    turn_counted (course c.loop-count.network c.loop-count.desk.lines.items) (course c.deliver_first.new.self c.deliver_first.new.desk.lines.items)
-    c.loop-count.count c.saturating_add-count.result c.in_ok-deliver_first.field-0 c.loop-count.invariant c.if-branch.true
-    c.in_ok-deliver_first.ensures.taken c.saturating_add-count.ensures
+pub come_to_line-requires : goal.come_to_line-requires
+come_to_line-requires c =
+    record {
+      tidy = (counted_kept (record {
+        delivered = c.delivery_keeps_sound.ensures;
+        waiting = c.waiting_are_lines.ensures;
+        turns = c.turn_as_lines.ensures;
+      }) (byte_course c.loop-lines.network c.loop-lines.desk.lines.items) c.loop-lines.count c.requires.sound c.loop-lines.invariant).whole.tidy;
+    }
 
-pub loop-count-smaller : goal.loop-count-smaller
-loop-count-smaller c =
-    turn_fewer c.settling_keeps_sound.ensures c.turn_leaves_fewer.ensures (course c.loop-count.network c.loop-count.desk.lines.items)
-    (course c.deliver_first.new.self c.deliver_first.new.desk.lines.items) c.loop-count.count c.in_ok-deliver_first.field-0 c.requires.sound
-    c.loop-count.invariant c.if-branch.true c.in_ok-deliver_first.ensures.taken
+pub loop-lines-preserved : goal.loop-lines-preserved
+loop-lines-preserved c =
+    lines_counted (byte_course c.loop-lines.network c.loop-lines.desk.lines.items) (byte_course c.come_to_line.new.self c.come_to_line.new.desk.lines.items)
+    c.loop-lines.count c.in-Some.lines c.saturating_add-count.result c.loop-lines.invariant (subst (λ lines. ComesToLine lines (byte_course c.loop-lines.network c.loop-lines.desk.lines.items) (byte_course c.come_to_line.new.self c.come_to_line.new.desk.lines.items))
+    c.in-Some.is c.in_ok-lines.ensures) c.saturating_add-count.ensures
+
+pub loop-lines-smaller : goal.loop-lines-smaller
+loop-lines-smaller c =
+    counted_fewer (record {
+      delivered = c.delivery_keeps_sound.ensures;
+      waiting = c.waiting_are_lines.ensures;
+      turns = c.turn_as_lines.ensures;
+    }) c.turn_leaves_fewer.ensures (byte_course c.loop-lines.network c.loop-lines.desk.lines.items)
+    (byte_course c.come_to_line.new.self c.come_to_line.new.desk.lines.items) c.loop-lines.count c.in-Some.lines c.requires.sound c.loop-lines.invariant
+    (subst (λ lines. ComesToLine lines (byte_course c.loop-lines.network c.loop-lines.desk.lines.items) (byte_course c.come_to_line.new.self c.come_to_line.new.desk.lines.items))
+    c.in-Some.is c.in_ok-lines.ensures)
 
 pub returns : goal.returns
 returns c =
-    settles_at (course c.loop-count.network c.loop-count.desk.lines.items) (course c.deliver_first.new.self c.deliver_first.new.desk.lines.items)
-    c.loop-count.count c.in_ok-deliver_first.field-0 c.loop-count.invariant c.if-branch.false c.in_ok-deliver_first.ensures.taken
-    c.in_ok-deliver_first.ensures.rest
+    settles_at (record {
+      delivered = c.delivery_keeps_sound.ensures;
+      waiting = c.waiting_are_lines.ensures;
+      turns = c.turn_as_lines.ensures;
+    }) c.rest_as_lines.ensures.bytes (byte_course c.loop-lines.network c.loop-lines.desk.lines.items)
+    (byte_course c.come_to_line.new.self c.come_to_line.new.desk.lines.items) c.loop-lines.count c.requires.sound c.loop-lines.invariant
+    (subst (λ lines. ComesToLine lines (byte_course c.loop-lines.network c.loop-lines.desk.lines.items) (byte_course c.come_to_line.new.self c.come_to_line.new.desk.lines.items))
+    c.in_default.is c.in_ok-lines.ensures)

@@ -1,48 +1,33 @@
-use Rattle.std.proofs.Common.{◌∙◌, Ok, ap, sym, subst, refl}
-use Rattle.irc_net.specs.Calls.{IsDelivered, NetView, delivers_it, delivery, delivery_by_failed, delivery_refused, standing}
-use Rattle.irc_net.specs.Faults.{deliver_fault}
-use Rattle.irc_network.specs.Loops.Courses.{DeliversAt, course, delivery_in}
-use Rattle.irc_network.specs.Views.{receipts_of}
-use Rattle.irc_net.proofs.Calling.{delivers_by, delivery_wants}
-use Rattle.irc_net.proofs.StaysOneRoom.{kept_delivered}
+use Rattle.std.proofs.Common.{◌∙◌, ap, sym}
+use Rattle.irc_net.specs.Calls.{NetView, wire_between}
+use Rattle.irc_network.specs.Loops.Courses.{ends_now}
+use Rattle.irc_wires.specs.Wires.{through_line_feed}
+use Rattle.irc_net.proofs.Calling.{delivery_fails, line_wants, none_came, some_came}
 use Rattle.irc_net.proofs.net.Net.deliver.Goals as goal
 
-pub returns-then-self : goal.returns-then-self
-returns-then-self c = delivery_by_failed (ap (λ (n : NetView). n.failed) (sym c.self.view_is) ∙ c.if-self.true)
+pub returns-in_err-ends : goal.returns-in_err-ends
+returns-in_err-ends c =
+    delivery_fails c.args.self.now c.args.from.now c.args.to.now c.in_err-ends.field-0.0 c.from_residual.result c.from_residual.ensures.1 c.in_err-ends.ensures
 
-pub returns-in-Some : goal.returns-in-Some
-unfolding deliver_fault
-returns-in-Some c =
-    delivery_refused (ap (λ (n : NetView). n.failed) (sym c.self.view_is) ∙ c.if-self.false)
-    (ap (λ (n : NetView). deliver_fault n.network c.args.from.now c.args.to.now) (sym c.self.view_is) ∙ sym c.in-Some.ensures)
+pub returns-then-count-eq0 : goal.returns-then-count-eq0
+returns-then-count-eq0 c =
+    none_came c.args.self.now c.args.from.now c.args.to.now c.in_ok-ends.ends c.new.result.items c.in_ok-ends.ensures
+    (sym (c.through_line_feed-count.ensures
+    ∙ ap (λ (n : NetView). through_line_feed (wire_between n.network (ends_now c.in_ok-ends.ends)).bytes) c.self.view_is)
+    ∙ c.if-count-eq0.true) c.new.ensures.items
 
-pub returns-in_err-was_taken : goal.returns-in_err-was_taken
-unfolding deliver_fault
-returns-in_err-was_taken c =
-    delivery_wants c.args.self.now _ c.args.from.now c.args.to.now c.from_residual.result c.from_residual.ensures.1
-    (ap (λ (n : NetView). n.failed) (sym c.self.view_is) ∙ c.if-self.false)
-    (ap (λ (n : NetView). deliver_fault n.network c.args.from.now c.args.to.now) (sym c.self.view_is) ∙ sym c.in_default.ensures) refl
+pub come-requires : goal.come-requires
+come-requires c = record { stands = c.in_ok-ends.ensures.stands }
 
-pub invariant_of-self-2 : goal.invariant_of-self-2
-unfolding deliver_fault
-invariant_of-self-2 c =
-    let net = c.self.inside.network in
-    let new = c.deliver_between.new.self in
-    let lines = c.deliver_between.new.desk.lines.items in
-    λ _. kept_delivered c.delivery_keeps_sound.ensures net new c.args.from.now c.args.to.now lines c.in_ok-was_taken.was_taken
-    (c.self.invariant c.if-self.false)
-    (subst (λ ls. DeliversAt (delivery_in (course net ls) c.args.from.now c.args.to.now) c.in_ok-was_taken.was_taken (course net ls) (course new lines))
-    c.new-desk.ensures c.in_ok-was_taken.ensures)
+pub returns-in_err-lines : goal.returns-in_err-lines
+returns-in_err-lines c =
+    line_wants c.args.self.now c.come.new.self c.args.from.now c.args.to.now c.in_ok-ends.ends c.in_err-lines.field-0.0 c.from_residual-in_err-lines.result
+    c.from_residual-in_err-lines.ensures.1 c.in_ok-ends.ensures c.in_err-lines.ensures
 
 pub returns : goal.returns
-unfolding deliver_fault
 returns c =
-    let net = c.self.inside.network in
-    let lines = c.deliver_between.new.desk.lines.items in
-    subst (λ (old : NetView). IsDelivered old c.args.from.now c.args.to.now (Ok (c.in_ok-was_taken.was_taken, receipts_of lines))
-    (standing c.deliver_between.new.self)) c.self.view_is
-    (delivers_it c.if-self.false (sym c.in_default.ensures)
-    (delivers_by (delivery net c.args.from.now c.args.to.now) net c.deliver_between.new.self lines c.in_ok-was_taken.was_taken
-    (subst (λ ls. DeliversAt (delivery_in (course net ls) c.args.from.now c.args.to.now) c.in_ok-was_taken.was_taken (course net ls)
-    (course c.deliver_between.new.self lines))
-    c.new-desk.ensures c.in_ok-was_taken.ensures)))
+    some_came c.args.self.now c.come.new.self c.args.from.now c.args.to.now c.in_ok-ends.ends c.through_line_feed-count.result _ c.in_ok-lines.lines.items
+    c.in_ok-ends.ensures
+    (c.through_line_feed-count.ensures
+    ∙ ap (λ (n : NetView). through_line_feed (wire_between n.network (ends_now c.in_ok-ends.ends)).bytes) c.self.view_is)
+    c.if-count-eq0.false c.in_ok-lines.ensures

@@ -2,15 +2,16 @@ use Rattle.std.proofs.Common.{◌∙◌, Ok, ap, sym, subst, refl}
 use Rattle.irc_net.specs.declared.answer.Answer.{Answer}
 use Rattle.irc_net.specs.Calls.{IsGiven, NetView, given_it, given_refused, given_to_failed, standing}
 use Rattle.irc_net.specs.Faults.{item_fault}
-use Rattle.irc_network.specs.Network.{Course}
+use Rattle.irc_byte_network.specs.ByteNetwork.{ByteCourse}
 use Rattle.irc_network.specs.Views.{item_of}
+use Rattle.irc_network.specs.Network.{Network, number_given}
 use Rattle.irc_net.proofs.Calling.{given_wants}
-use Rattle.irc_net.proofs.StaysOneRoom.{kept_given, refuses}
+use Rattle.irc_net.proofs.StaysOneRoom.{kept_item, refuses}
 use Rattle.irc_net.proofs.net.Net.item.Goals as goal
 
 pub returns-then-self-clause-refused : goal.returns-then-self-clause-refused
 returns-then-self-clause-refused c =
-    refuses c.refusals_are_the_worlds.ensures (record { failed = c.self.inside.failed; network = c.self.inside.network }) c.args.self.now (item_of c.args.item)
+    refuses c.refusals_are_the_worlds.ensures c.rest_as_lines.ensures.lines (record { failed = c.self.inside.failed; network = c.self.inside.network }) c.args.self.now (item_of c.args.item)
     c.self.invariant c.self.view_is
 
 pub returns-then-self-clause-given : goal.returns-then-self-clause-given
@@ -18,7 +19,7 @@ returns-then-self-clause-given c = given_to_failed (ap (λ (n : NetView). n.fail
 
 pub returns-in-Some-clause-refused : goal.returns-in-Some-clause-refused
 returns-in-Some-clause-refused c =
-    refuses c.refusals_are_the_worlds.ensures (record { failed = c.self.inside.failed; network = c.self.inside.network }) c.args.self.now (item_of c.args.item)
+    refuses c.refusals_are_the_worlds.ensures c.rest_as_lines.ensures.lines (record { failed = c.self.inside.failed; network = c.self.inside.network }) c.args.self.now (item_of c.args.item)
     c.self.invariant c.self.view_is
 
 pub returns-in-Some-clause-given : goal.returns-in-Some-clause-given
@@ -28,7 +29,7 @@ returns-in-Some-clause-given c =
 
 pub returns-in_err-give-clause-refused : goal.returns-in_err-give-clause-refused
 returns-in_err-give-clause-refused c =
-    refuses c.refusals_are_the_worlds.ensures (record { failed = c.self.inside.failed; network = c.self.inside.network }) c.args.self.now (item_of c.args.item)
+    refuses c.refusals_are_the_worlds.ensures c.rest_as_lines.ensures.lines (record { failed = c.self.inside.failed; network = c.self.inside.network }) c.args.self.now (item_of c.args.item)
     c.self.invariant c.self.view_is
 
 pub returns-in_err-give-clause-given : goal.returns-in_err-give-clause-given
@@ -37,14 +38,17 @@ returns-in_err-give-clause-given c =
     (ap (λ (n : NetView). n.failed) (sym c.self.view_is) ∙ c.if-self.false)
     (ap (λ (n : NetView). item_fault n.network (item_of c.args.item)) (sym c.self.view_is) ∙ sym c.in_default.ensures) refl
 
+pub give-requires-clause-rows : goal.give-requires-clause-rows
+give-requires-clause-rows c = (c.self.invariant c.if-self.false).whole.tidy.rows
+
 pub invariant_of-self-2 : goal.invariant_of-self-2
 invariant_of-self-2 c = λ _.
-    kept_given c.given_stays_sound.ensures c.self.inside.network c.give.new.self (item_of c.args.item) (c.self.invariant c.if-self.false)
-    (sym c.in_default.ensures) c.keeps_limits.ensures (ap (λ (last : Course). last.net) c.in_ok-give.ensures)
+    kept_item c.networks_stay_sound.ensures c.self.inside.network c.give.new.self (item_of c.args.item) c.give.new.desk.lines.items
+    (c.self.invariant c.if-self.false) (sym c.in_default.ensures) c.keeps_limits.ensures c.in_ok-give.ensures
 
 pub returns-clause-refused : goal.returns-clause-refused
 returns-clause-refused c =
-    refuses c.refusals_are_the_worlds.ensures (record { failed = c.self.inside.failed; network = c.self.inside.network }) c.args.self.now (item_of c.args.item)
+    refuses c.refusals_are_the_worlds.ensures c.rest_as_lines.ensures.lines (record { failed = c.self.inside.failed; network = c.self.inside.network }) c.args.self.now (item_of c.args.item)
     c.self.invariant c.self.view_is
 
 pub returns-clause-given : goal.returns-clause-given
@@ -55,7 +59,7 @@ returns-clause-given c =
     subst (λ (old : NetView). IsGiven old item (Ok answer) new) c.self.view_is
     (given_it c.if-self.false (record {
       none = sym c.in_default.ensures;
-      after = ap (λ (last : Course). standing last.net) c.in_ok-give.ensures;
-      client = c.number_given-client.ensures;
-      receipts = ap (λ (last : Course). last.receipts) c.in_ok-give.ensures;
+      after = ap (λ (last : ByteCourse). standing last.net) c.in_ok-give.ensures;
+      client = c.number_given-client.ensures ∙ ap (λ (net : Network). number_given net item) c.network.ensures;
+      receipts = ap (λ (last : ByteCourse). last.receipts) c.in_ok-give.ensures;
     }))

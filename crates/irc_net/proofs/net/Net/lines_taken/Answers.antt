@@ -1,4 +1,5 @@
-use Rattle.std.proofs.Common.{subst}
+use Rattle.std.proofs.Common.{◌∙◌, ap, subst}
+use Rattle.irc_network.specs.Network.{Network}
 use Rattle.irc_net.specs.Calls.{NetView}
 use Rattle.irc_net.specs.OneRoom.{TakesFew}
 use Rattle.irc_net.proofs.StaysOneRoom.{takes_few}
@@ -8,4 +9,4 @@ pub returns-clause-few : goal.returns-clause-few
 returns-clause-few c =
     subst (λ (net : NetView). TakesFew net c.lines_taken.result) c.self.view_is
     (takes_few c.taken_are_few.ensures (record { failed = c.self.inside.failed; network = c.self.inside.network }) c.lines_taken.result c.self.invariant
-    c.lines_taken.ensures)
+    (c.lines_taken.ensures ∙ ap (λ (net : Network). net.taken) c.network.ensures))

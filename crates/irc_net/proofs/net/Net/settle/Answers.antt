@@ -1,10 +1,9 @@
 use Rattle.std.proofs.Common.{◌∙◌, Ok, ap, sym, subst, refl}
+use Rattle.irc_byte_network.specs.Loops.Coming.{byte_course}
 use Rattle.irc_net.specs.Calls.{IsSettled, NetView, settles_it, settling_by_failed, standing}
 use Rattle.irc_net.specs.Loops.Settling.{SettlesAt}
-use Rattle.irc_network.specs.Loops.Courses.{course}
 use Rattle.irc_network.specs.Views.{receipts_of}
 use Rattle.irc_net.proofs.Calling.{settles_by, settling_wants}
-use Rattle.irc_net.proofs.StaysOneRoom.{kept_settled}
 use Rattle.irc_net.proofs.net.Net.settle.Goals as goal
 
 pub returns-then-self-clause-settled : goal.returns-then-self-clause-settled
@@ -19,8 +18,9 @@ pub invariant_of-self-2 : goal.invariant_of-self-2
 invariant_of-self-2 c =
     let net = c.self.inside.network in
     let lines = c.take_all.new.desk.lines.items in
-    λ _. kept_settled c.settling_keeps_sound.ensures net c.take_all.new.network lines c.in_ok-count.count (c.self.invariant c.if-self.false)
-    (subst (λ ls. SettlesAt c.in_ok-count.count (course net ls) (course c.take_all.new.network lines)) c.new-desk.ensures c.in_ok-count.ensures)
+    λ _. c.networks_stay_sound.ensures.settled net c.take_all.new.network c.in_ok-count.count (receipts_of lines) (c.self.invariant c.if-self.false)
+    (settles_by net c.take_all.new.network lines c.in_ok-count.count
+    (subst (λ ls. SettlesAt c.in_ok-count.count (byte_course net ls) (byte_course c.take_all.new.network lines)) c.new-desk.ensures c.in_ok-count.ensures))
 
 pub returns-clause-rest : goal.returns-clause-rest
 returns-clause-rest c = c.in_ok-count.ensures.rest
@@ -32,4 +32,4 @@ returns-clause-settled c =
     subst (λ (old : NetView). IsSettled old (Ok (c.in_ok-count.count, receipts_of lines)) (standing c.take_all.new.network)) c.self.view_is
     (settles_it c.if-self.false
     (settles_by net c.take_all.new.network lines c.in_ok-count.count
-    (subst (λ ls. SettlesAt c.in_ok-count.count (course net ls) (course c.take_all.new.network lines)) c.new-desk.ensures c.in_ok-count.ensures)))
+    (subst (λ ls. SettlesAt c.in_ok-count.count (byte_course net ls) (byte_course c.take_all.new.network lines)) c.new-desk.ensures c.in_ok-count.ensures)))
