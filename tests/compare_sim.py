@@ -1,7 +1,7 @@
 #!/usr/bin/env python3
 """Compares what `ircd sim` prints with what a model prints, on generated scripts.
 
-    python3 tests/compare_sim.py [--servers K] [--scripts N] [--seed S] [--program PATH]
+    python3 tests/compare_sim.py [--servers K] [--pieces] [--scripts N] [--seed S] [--program PATH]
 
 Not part of the gate. The scripts are those of generate.py, in turn plain, wild (more lines that are not well formed), plain, and
 damaged (one byte changed or a line put in, which often makes a bad script). model.py says what has to be printed, with which
@@ -15,7 +15,8 @@ With K servers, more than one, a script is compared client by client: between ea
 how many lines were taken) each client receives the same lines in the same order; these answers are the same; and the model sees to it
 that no item takes more lines than it may. In which order lines of two clients stand is compared with --order alone. The other
 generator is then called as `gen.py SEED --servers K`, in turn plain, with `--wild`, with `--deliver` and with both, and what is printed
-is given to `compare.py SCRIPT OUTPUT`, whose status is 0 where all is well.
+is given to `compare.py SCRIPT OUTPUT`, whose status is 0 where all is well. With --pieces each of its deliveries is bytes instead, so many by chance
+that they end anywhere, in that direction and others.
 
 It prints how many scripts were compared, and the first that differs; the status is 1 where one differs.
 """
@@ -24,6 +25,7 @@ import argparse
 import multiprocessing
 import os
 import pathlib
+import random
 import subprocess
 import sys
 import tempfile
@@ -38,6 +40,8 @@ PROCESSES = 4
 SECONDS = 60
 KINDS = [[], ["--wild"], ["--clean"], []]
 KINDS_OF_NETWORKS = [[], ["--wild"], ["--deliver"], ["--deliver", "--wild"]]
+KINDS_OF_PIECES = [["--deliver"], ["--deliver", "--wild"]]
+SIZES = [0, 1, 1, 2, 3, 7, 24, 25, 26, 40, 80, 509, 1000]
 WILD = 1
 DAMAGED = 3
 
@@ -56,7 +60,23 @@ class Task(NamedTuple):
     upto: str
     servers: int
     in_order: bool
+    pieces: bool
     seed: int
+
+
+def in_pieces(script, seed):
+    """A script whose deliveries are pieces, each followed by others in the same direction and back."""
+    chance = random.Random(seed)
+    rows = []
+    for row in script.splitlines(keepends=True):
+        words = row.split()
+        if len(words) != 3 or not row.startswith(b"deliver "):
+            rows.append(row)
+            continue
+        for _ in range(chance.randint(1, 4)):
+            pair = words[1:] if chance.random() < 0.7 else words[:0:-1]
+            rows.append(b"bytes %b %b %d\n" % (*pair, chance.choice(SIZES)))
+    return b"".join(rows)
 
 
 def made(task):
@@ -64,8 +84,10 @@ def made(task):
     kind = task.seed % len(KINDS)
     if task.oracle:
         options = KINDS[kind] + ["--no-settle"] if task.servers == 1 else KINDS_OF_NETWORKS[kind]
+        options = KINDS_OF_PIECES[task.seed % len(KINDS_OF_PIECES)] if task.pieces else options
         command = [sys.executable, f"{task.oracle}/gen.py", str(task.seed), "--servers", str(task.servers), *options]
         script = subprocess.run(command, capture_output=True, timeout=SECONDS, check=True).stdout
+        script = in_pieces(script, task.seed) if task.pieces else script
     else:
         script = generate.script(task.seed, kind == WILD, task.servers)
     is_damaged = kind == DAMAGED and not (task.oracle and task.servers > 1)
@@ -142,6 +164,7 @@ def main():
     parser.add_argument("--scripts", type=int, default=2000)
     parser.add_argument("--seed", type=int, default=1)
     parser.add_argument("--servers", type=int, default=1, choices=range(1, len(generate.SERVERS) + 1), metavar="K")
+    parser.add_argument("--pieces", action="store_true", help="with ORACLE and several servers, deliver bytes by chance")
     parser.add_argument("--order", action="store_true", help="with several servers, compare the order of all lines")
     parser.add_argument("--upto", default="channels", help="with ORACLE, how far the program is built; empty: whole")
     parser.add_argument("--program", default=str(REPOSITORY / "crates/ircd/out/ircd"))
@@ -149,11 +172,13 @@ def main():
     oracle = os.environ.get("ORACLE")
     if oracle and not pathlib.Path(oracle, "oracle.py").is_file():
         sys.exit(f"no oracle.py in {oracle}, which ORACLE names")
+    if options.pieces and not (oracle and options.servers > 1):
+        sys.exit("--pieces wants ORACLE and several servers")
     if not pathlib.Path(options.program).is_file():
         sys.exit(f"no program {options.program}: ./ircd build makes it")
     start = time.monotonic()
     seeds = range(options.seed, options.seed + options.scripts)
-    tasks = [Task(options.program, oracle, options.upto, options.servers, options.order, seed) for seed in seeds]
+    tasks = [Task(options.program, oracle, options.upto, options.servers, options.order, options.pieces, seed) for seed in seeds]
     lines = differences = 0
     with multiprocessing.Pool(PROCESSES) as pool:
         for seed, count, difference in pool.imap(compared, tasks, chunksize=8):

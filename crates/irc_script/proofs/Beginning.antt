@@ -9,6 +9,8 @@ use Rattle.std.specs.List.Sorted.{IsPermutation, IsSortedByKey}
 use Rattle.std.specs.Ordering.{is_lt, nat_cmp}
 use Rattle.std.specs.declared.cmp.Ordering.{Ordering}
 use Rattle.std.specs.declared.cmp.Ordering.TheVariants.{Less, Equal, Greater}
+use Rattle.irc_byte_network.specs.ByteNetwork.{ByteNetwork}
+use Rattle.irc_byte_network.specs.Whole.{no_wires}
 use Rattle.irc_net.specs.Making.{IsMadeOf, name_of, new_site}
 use Rattle.irc_network.specs.Network.{Network, Site}
 use Rattle.irc_relay.specs.Links.{Name}
@@ -17,7 +19,7 @@ use Rattle.irc_room.specs.Laws.{no_room}
 use Rattle.irc_server.specs.declared.config.Config.{Config}
 use Rattle.irc_stage.specs.View.{KnownPeer, known_peer}
 use Rattle.irc_script.specs.Loops.Configs.{AreConfigured, IsOwnConfig}
-use Rattle.irc_script.specs.Networks.{exceeds, first_network, first_site, in_order, is_greater}
+use Rattle.irc_script.specs.Networks.{exceeds, first_net, first_site, in_order, is_greater}
 use Rattle.irc_script.specs.RunLaws.{are_ordered}
 use Rattle.irc_script.proofs.InOrder.{both_so, exceeds_one, is_in_order, neither, none_less, none_less_too, one_order, order_moves, turned}
 
@@ -73,8 +75,8 @@ sites_are names (config ∷ configs) all =
 abbrev with_names : List Name → List Site → Network
 with_names names sites = record { names = names; sites = sites; links = []; homes = []; received = []; items = []; taken = 0 }
 
-pub made_first : (names : List Name) (configs : List Config) (net : Network) → AreConfigured names names configs → IsMadeOf configs net
-    → net ≡ first_network names
+pub made_first : (names : List Name) (configs : List Config) (net : ByteNetwork) → AreConfigured names names configs → IsMadeOf configs net
+    → net ≡ first_net names
 made_first names configs net are made =
     let named : IsPermutation names (map name_of made.ordered) =
     subst (λ ns. IsPermutation ns (map name_of made.ordered)) are.named (IsPermutation-map name_of configs made.ordered made.same_ones) in
@@ -85,5 +87,5 @@ made_first names configs net are made =
     let all : AllByRecursion (IsOwnConfig names) made.ordered =
     recursion_from_All (IsOwnConfig names) made.ordered
     (All-permutation (IsOwnConfig names) configs made.ordered made.same_ones (All-from_recursion (IsOwnConfig names) configs are.each)) in
-    made.network_is ∙ ap (with_names (map name_of made.ordered)) (sites_are names made.ordered all)
-    ∙ ap (λ ns. with_names ns (map (first_site names) ns)) ordered
+    made.network_is ∙ ap (λ sites. no_wires (with_names (map name_of made.ordered) sites)) (sites_are names made.ordered all)
+    ∙ ap (λ ns. no_wires (with_names ns (map (first_site names) ns))) ordered

@@ -3,7 +3,7 @@ use Rattle.std.proofs.Common.{◌≡◌, ℕ, Option, Result, Ok, Err, IsErr, Is
 use Rattle.irc_script.specs.Loops.Steps.{RunInto, ScriptsRunOn}
 use Rattle.irc_script.specs.RunLaws.{PrintsOneRoom}
 use Rattle.irc_script.specs.Runs.{IsTextOf, CutShort, EndsEarly, Ran}
-use Rattle.irc_script.specs.Networks.{first_network}
+use Rattle.irc_script.specs.Networks.{first_net}
 use Rattle.irc_script.specs.Scripts.{Asked, script_read}
 use Rattle.irc_script.specs.Sinks.{sink}
 use Rattle.irc_script.specs.Faults.{fault_of as fault_by}
@@ -15,7 +15,7 @@ use Rattle.irc_script.specs.declared.fault.Trouble.TheVariants.{Memory, Device a
 -- a run that was broken off
 pub cut_short : PrintsOneRoom → ScriptsRunOn → (remaining old new : Option (List ℕ)) (text : List ℕ) (asked : Asked) → IsTextOf text remaining
     → script_read text ≡ Ok asked
-    → RunInto (first_network asked.servers) asked.requests (sink old []) (sink new []) → CutShort remaining old new
+    → RunInto (first_net asked.servers) asked.requests (sink old []) (sink new []) → CutShort remaining old new
 cut_short law on remaining old new text asked is_text read p = let run = on text asked p.text read p.begins in record {
   text = text;
   is_text = is_text;

@@ -1,38 +1,39 @@
 -- What a move comes to, by what the network answered.
 use Rattle.std.proofs.Common.{◌≡◌, ℕ, Bool, true, false, cond, Option, Some, None, Result, Ok, Err, IsErr, List, [], ◌∷◌, ap, sym, subst, refl, ◌∙◌}
 use Rattle.std.specs.List.{flat_map}
+use Rattle.irc_byte_network.specs.ByteNetwork.{ByteCourse, ByteNetwork, item_given}
 use Rattle.irc_net.specs.declared.answer.Answer.{Answer}
 use Rattle.irc_network.specs.declared.receipt.Receipt.{Receipt as KeptReceipt}
 use Rattle.irc_net.specs.declared.fault.NetFault.{NetFault}
-use Rattle.irc_net.specs.Calls.{NetView, IsGiven, IsDelivered, Delivers, IsSettled, delivery, given_it, given_refused, given_wants_memory, given_to_failed, delivers_it, delivery_refused, delivery_wants_memory, delivery_by_failed, settles_it}
+use Rattle.irc_net.specs.Calls.{NetView, AreTaken, IsGiven, IsDelivered, Delivers, IsSettled, delivery, piece, piece_count, takes_them, taking_refused, taking_wants_memory, taking_by_failed, given_it, given_refused, given_wants_memory, given_to_failed, delivers_it, delivery_refused, delivery_wants_memory, delivery_by_failed, settles_it}
 use Rattle.irc_net.specs.Faults.{deliver_fault, is_refusal}
-use Rattle.irc_network.specs.Network.{Course, Network, Receipt, given}
+use Rattle.irc_network.specs.Network.{Receipt}
 use Rattle.irc_network.specs.Views.{receipts_of}
 use Rattle.irc_relay.specs.Links.{Name}
 use Rattle.irc_world.specs.Stepping.{Item}
 use Rattle.irc_script.specs.declared.fault.Trouble.{Trouble}
 use Rattle.irc_script.specs.Loops.Steps.{Breaks, IsFaultPrinted, IsPlayed, taken_count}
-use Rattle.irc_script.specs.Moves.{Move, gives, delivers_line, settles_all}
+use Rattle.irc_script.specs.Moves.{Move, gives, delivers_line, takes_bytes, settles_all}
 use Rattle.irc_script.specs.Printing.{fault_number, printed, refusal_number, taken_text}
-use Rattle.irc_script.specs.Runs.{Comes, Outcome, delivered_by, delivered_or, given_or, lines_received, refused}
+use Rattle.irc_script.specs.Runs.{Comes, Outcome, delivered_by, delivered_or, given_or, lines_received, refused, taken_or}
 use Rattle.irc_script.specs.Sinks.{Sink, IsPrinted}
 use Rattle.irc_script.proofs.Playing.{breaks_first, played_one, playing_failed}
 
 -- a move by what it comes to, in other words
-played_as : (r : Result (Unit {0}) Trouble) (first : Network) (m : Move) (outcome : Outcome) (text : List ℕ) (last : Network) (old new : Sink)
+played_as : (r : Result (Unit {0}) Trouble) (first : ByteNetwork) (m : Move) (outcome : Outcome) (text : List ℕ) (last : ByteNetwork) (old new : Sink)
     → Comes first m outcome
     → text ≡ outcome.text → last ≡ outcome.network → IsPrinted r old new text → IsPlayed r first (m ∷ []) last old new
 played_as r first m outcome text last old new comes text_is last_is p =
     subst (λ n. IsPlayed r first (m ∷ []) n old new) (sym last_is) (played_one r first m outcome old new comes (subst (λ t. IsPrinted r old new t) text_is p))
 
 -- nothing came of a move
-pub none_played : (r : Result (Unit {0}) Trouble) (first last : Network) (moves : List Move) (old new : Sink) → IsErr r → new ≡ old
+pub none_played : (r : Result (Unit {0}) Trouble) (first last : ByteNetwork) (moves : List Move) (old new : Sink) → IsErr r → new ≡ old
     → IsPlayed r first moves last old new
 none_played r first last moves old new failed same =
     playing_failed r first moves last old new failed (subst (λ s. Breaks first moves old s) (sym same) (breaks_first first moves old))
 
 -- the number of a refusal is printed
-fault_played : (r : Result (Unit {0}) Trouble) (first : Network) (m : Move) (fault : NetFault) (old new : Sink) → Comes first m (refused fault first)
+fault_played : (r : Result (Unit {0}) Trouble) (first : ByteNetwork) (m : Move) (fault : NetFault) (old new : Sink) → Comes first m (refused fault first)
     → IsFaultPrinted (refusal_number fault) r old new → IsPlayed r first (m ∷ []) first old new
 fault_played r first m fault old new comes p = by (is_refusal fault) p
   where
@@ -46,7 +47,7 @@ pub given_played : (r : Result (Unit {0}) Trouble) (first last : NetView) (item 
     → IsGiven first item (Ok answer) last → lines ≡ answer.lines.items → IsPrinted r old new (flat_map printed (receipts_of lines))
     → IsPlayed r first.network (gives item ∷ []) last.network old new
 given_played r first last item answer lines old new (given_it alive g) same p =
-    played_as r first.network (gives item) (lines_received (given item first.network)) (flat_map printed (receipts_of lines)) last.network old new
+    played_as r first.network (gives item) (lines_received (item_given item first.network)) (flat_map printed (receipts_of lines)) last.network old new
     (sym (ap (λ (f : Option NetFault). given_or f item first.network) g.none)) (ap (flat_map printed) (ap receipts_of same ∙ g.receipts))
     (ap (λ (v : NetView). v.network) g.after) p
 
@@ -62,14 +63,15 @@ refusal_played r first last item fault old new (given_to_failed failed) p = none
 -- ---- a delivery
 
 taken_so : (r : Result (Unit {0}) Trouble) (first last : NetView) (from to : Name) (was_taken : Bool) (receipts : List Receipt) (old new : Sink)
-    → deliver_fault first.network from to ≡ None → (o : Option Course) → delivery first.network from to ≡ o → Delivers o first.network was_taken receipts last
-    → IsPrinted r old new (taken_text (taken_count was_taken) receipts) → IsPlayed r first.network (delivers_line from to ∷ []) last.network old new
+    → deliver_fault first.network from to ≡ None → (o : Option ByteCourse) → delivery first.network from to ≡ o
+    → Delivers o first.network was_taken receipts last → IsPrinted r old new (taken_text (taken_count was_taken) receipts)
+    → IsPlayed r first.network (delivers_line from to ∷ []) last.network old new
 taken_so r first last from to was_taken receipts old new none o is so p = by o is so
   where
-    comes : (o : Option Course) → delivery first.network from to ≡ o → Comes first.network (delivers_line from to) (delivered_by o first.network)
-    comes o is = sym (ap (λ (f : Option NetFault). delivered_or f from to first.network) none ∙ ap (λ (c : Option Course). delivered_by c first.network) is)
+    comes : (o : Option ByteCourse) → delivery first.network from to ≡ o → Comes first.network (delivers_line from to) (delivered_by o first.network)
+    comes o is = sym (ap (λ (f : Option NetFault). delivered_or f from to first.network) none ∙ ap (λ (c : Option ByteCourse). delivered_by c first.network) is)
 
-    by : (o : Option Course) → delivery first.network from to ≡ o → Delivers o first.network was_taken receipts last
+    by : (o : Option ByteCourse) → delivery first.network from to ≡ o → Delivers o first.network was_taken receipts last
         → IsPlayed r first.network (delivers_line from to ∷ []) last.network old new
     by None is so =
         played_as r first.network (delivers_line from to) (delivered_by None first.network) (taken_text (taken_count was_taken) receipts) last.network old new
@@ -99,9 +101,35 @@ undelivered_played r first last from to fault old new (delivery_wants_memory ali
 undelivered_played r first last from to fault old new (delivery_by_failed failed) p =
     none_played r first.network last.network (delivers_line from to ∷ []) old new p.0 p.1
 
+-- ---- bytes
+
+abbrev taken_as : ℕ → ByteNetwork → Name → Name → Outcome
+taken_as count net from to =
+    record { text = taken_text (piece_count count net from to) (piece count net from to).receipts; network = (piece count net from to).net }
+
+pub bytes_played : (r : Result (Unit {0}) Trouble) (first last : NetView) (from to : Name) (count came : ℕ) (kept lines : List KeptReceipt) (old new : Sink)
+    → AreTaken first from to count (Ok (came, receipts_of kept)) last → lines ≡ kept → IsPrinted r old new (taken_text came (receipts_of lines))
+    → IsPlayed r first.network (takes_bytes from to count ∷ []) last.network old new
+bytes_played r first last from to count came kept lines old new (takes_them alive t) same p =
+    played_as r first.network (takes_bytes from to count) (taken_as count first.network from to) (taken_text came (receipts_of lines)) last.network old new
+    (sym (ap (λ (f : Option NetFault). taken_or f from to count first.network) t.none))
+    (ap (λ ls. taken_text came (receipts_of ls)) same ∙ ap (taken_text came) t.received
+    ∙ ap (λ n. taken_text n (piece count first.network from to).receipts) t.taken_is)
+    (ap (λ (v : NetView). v.network) t.after) p
+
+pub no_bytes_played : (r : Result (Unit {0}) Trouble) (first last : NetView) (from to : Name) (count : ℕ) (fault : NetFault) (old new : Sink)
+    → AreTaken first from to count (Err fault) last
+    → IsFaultPrinted (refusal_number fault) r old new → IsPlayed r first.network (takes_bytes from to count ∷ []) last.network old new
+no_bytes_played r first last from to count fault old new (taking_refused alive is) p =
+    fault_played r first.network (takes_bytes from to count) fault old new (sym (ap (λ (f : Option NetFault). taken_or f from to count first.network) is)) p
+no_bytes_played r first last from to count fault old new (taking_wants_memory alive none failed) p =
+    none_played r first.network last.network (takes_bytes from to count ∷ []) old new p.0 p.1
+no_bytes_played r first last from to count fault old new (taking_by_failed failed) p =
+    none_played r first.network last.network (takes_bytes from to count ∷ []) old new p.0 p.1
+
 -- ---- settling
 
-abbrev settled_as : ℕ → List Receipt → Network → Outcome
+abbrev settled_as : ℕ → List Receipt → ByteNetwork → Outcome
 settled_as count receipts last = record { text = taken_text count receipts; network = last }
 
 pub settled_played : (r : Result (Unit {0}) Trouble) (first last : NetView) (count : ℕ) (kept lines : List KeptReceipt) (old new : Sink)
@@ -112,6 +140,6 @@ settled_played r first last count kept lines old new (settles_it alive s) same p
     (record {
       count = count;
       receipts = receipts_of kept;
-      settles = record { count = s.count; last = s.last; takes = s.takes; rest = s.rest; counts = s.counts; received = s.received; after = refl };
+      settles = record { count = s.count; last = s.last; goes = s.goes; rest = s.rest; counts = s.counts; received = s.received; after = refl };
       text_is = refl;
     }) (ap (λ ls. taken_text count (receipts_of ls)) same) (ap (λ (v : NetView). v.network) s.after) p

@@ -6,7 +6,7 @@ use Rattle.std.specs.List.{AllByRecursion}
 use Rattle.arrayvec.specs.ArrayVec.{ArrayVec}
 use Rattle.irc_line.specs.Carried.{IsCarried}
 use Rattle.irc_line.specs.Framed.{bytes_of}
-use Rattle.irc_network.specs.Network.{Network}
+use Rattle.irc_byte_network.specs.ByteNetwork.{ByteNetwork}
 use Rattle.irc_script.specs.declared.fault.Trouble.{Trouble}
 use Rattle.irc_script.specs.Loops.Steps.{Played, Breaks, IsPlayed, RunWhole, RunInto, HasRun, Begins, to_the_end, partly, further}
 use Rattle.irc_script.specs.Moves.{Move, gives_line, moves_of}
@@ -26,19 +26,19 @@ pub moves_of_lines : (client : ℕ) (lines : List (ArrayVec ℕ)) → map (gives
 moves_of_lines client [] = refl
 moves_of_lines client (line ∷ lines) = ap (λ moves. gives_line client line.items ∷ moves) (moves_of_lines client lines)
 
-pub plays_both : {a b c : Network} {xs ys : List Move} {s t : List ℕ} → Plays a xs b s → Plays b ys c t → Plays a (xs ++ ys) c (s ++ t)
+pub plays_both : {a b c : ByteNetwork} {xs ys : List Move} {s t : List ℕ} → Plays a xs b s → Plays b ys c t → Plays a (xs ++ ys) c (s ++ t)
 plays_both nothing q = q
 plays_both {t = t} (move outcome comes e p) q = move outcome comes (ap (λ bytes. bytes ++ t) e ∙ append_assoc outcome.text _ t) (plays_both p q)
 
-pub played_nothing : (first : Network) (known : Sink) → Played first [] first known known
+pub played_nothing : (first : ByteNetwork) (known : Sink) → Played first [] first known known
 played_nothing first known = record { text = []; plays = nothing; prints = prints_nothing known }
 
-pub played_both : {a b c : Network} {xs ys : List Move} {old middle new : Sink} → Played a xs b old middle → Played b ys c middle new
+pub played_both : {a b c : ByteNetwork} {xs ys : List Move} {old middle new : Sink} → Played a xs b old middle → Played b ys c middle new
     → Played a (xs ++ ys) c old new
 played_both p q = record { text = p.text ++ q.text; plays = plays_both p.plays q.plays; prints = prints_both p.prints q.prints }
 
 -- one move, by what comes of it
-pub played_one : (r : Result (Unit {0}) Trouble) (first : Network) (m : Move) (outcome : Outcome) (old new : Sink) → Comes first m outcome
+pub played_one : (r : Result (Unit {0}) Trouble) (first : ByteNetwork) (m : Move) (outcome : Outcome) (old new : Sink) → Comes first m outcome
     → IsPrinted r old new outcome.text → IsPlayed r first (m ∷ []) outcome.network old new
 played_one (Ok _) first m outcome old new comes p =
     record { text = outcome.text; plays = move outcome comes (sym (append-nil outcome.text)) nothing; prints = p }
@@ -53,12 +53,12 @@ played_one (Err trouble) first m outcome old new comes p = record {
 }
 
 -- no move was made
-pub breaks_first : (first : Network) (moves : List Move) (known : Sink) → Breaks first moves known known
+pub breaks_first : (first : ByteNetwork) (moves : List Move) (known : Sink) → Breaks first moves known known
 breaks_first first moves known =
     record { moves = []; left = moves; parts = refl; last = first; text = []; plays = nothing; loses = all_lost known [] }
 
 -- a move breaks behind others, and some are left
-pub breaks_behind : {a b : Network} {xs ys : List Move} {old middle new : Sink} (left : List Move) → Played a xs b old middle → Breaks b ys middle new
+pub breaks_behind : {a b : ByteNetwork} {xs ys : List Move} {old middle new : Sink} (left : List Move) → Played a xs b old middle → Breaks b ys middle new
     → Breaks a (xs ++ (ys ++ left)) old new
 breaks_behind {xs = xs} left p q = record {
   moves = xs ++ q.moves;
@@ -70,14 +70,14 @@ breaks_behind {xs = xs} left p q = record {
   loses = prints_loses p.prints q.loses;
 }
 
-runs_both : {a b c : Network} {xs ys : List Request} {s t : List ℕ} → Runs a xs b s → Runs b ys c t → Runs a (xs ++ ys) c (s ++ t)
+runs_both : {a b c : ByteNetwork} {xs ys : List Request} {s t : List ℕ} → Runs a xs b s → Runs b ys c t → Runs a (xs ++ ys) c (s ++ t)
 runs_both end q = q
 runs_both {t = t} (request {start = start} e p r) q = request (ap (λ bytes. bytes ++ t) e ∙ append_assoc start _ t) p (runs_both r q)
 
-pub run_nothing : (first : Network) (known : Sink) → RunWhole first [] first known known
+pub run_nothing : (first : ByteNetwork) (known : Sink) → RunWhole first [] first known known
 run_nothing first known = record { text = []; runs = end; prints = prints_nothing known }
 
-pub run_more : (r : Request) {a b c : Network} {xs : List Request} {old middle new : Sink} → RunWhole a xs b old middle → Played b (moves_of r) c middle new
+pub run_more : (r : Request) {a b c : ByteNetwork} {xs : List Request} {old middle new : Sink} → RunWhole a xs b old middle → Played b (moves_of r) c middle new
     → RunWhole a (xs ++ r ∷ []) c old new
 run_more r p q = record {
   text = p.text ++ q.text;
@@ -86,11 +86,11 @@ run_more r p q = record {
 }
 
 -- behind what was run something is begun
-begins_behind : {a b : Network} {xs ys : List Request} {s t : List ℕ} → Runs a xs b s → Begins b ys t → Begins a (xs ++ ys) (s ++ t)
+begins_behind : {a b : ByteNetwork} {xs ys : List Request} {s t : List ℕ} → Runs a xs b s → Begins b ys t → Begins a (xs ++ ys) (s ++ t)
 begins_behind end q = q
 begins_behind {t = t} (request {start = start} e p r) q = further (ap (λ bytes. bytes ++ t) e ∙ append_assoc start _ t) p (begins_behind r q)
 
-pub run_into : (r : Request) (left : List Request) {a b : Network} {xs : List Request} {old middle new : Sink} → RunWhole a xs b old middle
+pub run_into : (r : Request) (left : List Request) {a b : ByteNetwork} {xs : List Request} {old middle new : Sink} → RunWhole a xs b old middle
     → Breaks b (moves_of r) middle new
     → RunInto a (xs ++ r ∷ left) old new
 run_into r left p q = record {
@@ -100,23 +100,23 @@ run_into r left p q = record {
 }
 
 -- what is run is begun
-begins_all : {a b : Network} {xs : List Request} {s : List ℕ} → Runs a xs b s → Begins a xs s
+begins_all : {a b : ByteNetwork} {xs : List Request} {s : List ℕ} → Runs a xs b s → Begins a xs s
 begins_all end = to_the_end
 begins_all (request e p r) = further e p (begins_all r)
 
-pub run_loses : {a b : Network} {xs : List Request} {old new : Sink} → RunWhole a xs b old new → RunInto a xs old new
+pub run_loses : {a b : ByteNetwork} {xs : List Request} {old new : Sink} → RunWhole a xs b old new → RunInto a xs old new
 run_loses p = record { text = p.text; begins = begins_all p.runs; loses = no_loss p.prints }
 
 -- what waits is written behind a run, or lost
-pub run_on : {a b : Network} {xs : List Request} {old middle new : Sink} → RunWhole a xs b old middle → Prints middle new [] → RunWhole a xs b old new
+pub run_on : {a b : ByteNetwork} {xs : List Request} {old middle new : Sink} → RunWhole a xs b old middle → Prints middle new [] → RunWhole a xs b old new
 run_on {old = old} {new = new} p q =
     record { text = p.text; runs = p.runs; prints = subst (λ text. Prints old new text) (append-nil p.text) (prints_both p.prints q) }
 
-pub run_into_on : {a : Network} {xs : List Request} {old middle new : Sink} → RunInto a xs old middle → Loses middle new [] → RunInto a xs old new
+pub run_into_on : {a : ByteNetwork} {xs : List Request} {old middle new : Sink} → RunInto a xs old middle → Loses middle new [] → RunInto a xs old new
 run_into_on p q = record { text = p.text; begins = p.begins; loses = loses_on p.loses q }
 
 -- a writer is flushed behind a run
-pub run_flushed : (r : Result (Unit {0}) Trouble) {a b : Network} {xs : List Request} {old : Sink} {middle : Option (List ℕ)} (new : Option (List ℕ))
+pub run_flushed : (r : Result (Unit {0}) Trouble) {a b : ByteNetwork} {xs : List Request} {old : Sink} {middle : Option (List ℕ)} (new : Option (List ℕ))
     → RunWhole a xs b old (sink middle [])
     → Keeps middle new → HasRun r a xs b old (sink new [])
 run_flushed (Ok _) new p k = record { text = p.text; runs = p.runs; prints = prints_kept new p.prints k }
@@ -138,13 +138,13 @@ requests_around commands i d within is =
     ∙ ap (λ c. requests (take i commands) ++ request_now c ∷ requests (drop (i + 1) commands)) (sym is)
 
 -- what fails fails as its kind of result says
-pub playing_failed : (r : Result (Unit {0}) Trouble) (first : Network) (moves : List Move) (last : Network) (old new : Sink) → IsErr r
+pub playing_failed : (r : Result (Unit {0}) Trouble) (first : ByteNetwork) (moves : List Move) (last : ByteNetwork) (old new : Sink) → IsErr r
     → Breaks first moves old new
     → IsPlayed r first moves last old new
 playing_failed (Ok _) first moves last old new failed p = let never : false ≡ true = failed in cc never
 playing_failed (Err trouble) first moves last old new failed p = p
 
-pub running_failed : (r : Result (Unit {0}) Trouble) (first : Network) (asked : List Request) (last : Network) (old new : Sink) → IsErr r
+pub running_failed : (r : Result (Unit {0}) Trouble) (first : ByteNetwork) (asked : List Request) (last : ByteNetwork) (old new : Sink) → IsErr r
     → RunInto first asked old new
     → HasRun r first asked last old new
 running_failed (Ok _) first asked last old new failed p = let never : false ≡ true = failed in cc never
@@ -154,13 +154,13 @@ abbrev pub IsCarriedLine : ArrayVec ℕ → Type 0
 IsCarriedLine line = IsCarried line.items
 
 -- the lines that were given so far were played, and those that are left can be given
-pub record Going (client : ℕ) (lines left : List (ArrayVec ℕ)) (first last : Network) (old new : Sink) : Type 0 where
+pub record Going (client : ℕ) (lines left : List (ArrayVec ℕ)) (first last : ByteNetwork) (old new : Sink) : Type 0 where
   pub given : List (ArrayVec ℕ)
   pub parts : lines ≡ given ++ left
   pub carried : AllByRecursion IsCarriedLine left
   pub played : Played first (map (gives_now client) given) last old new
 
-pub going_first : (client : ℕ) (lines : List (ArrayVec ℕ)) (first : Network) (known : Sink) → AllByRecursion IsCarriedLine lines
+pub going_first : (client : ℕ) (lines : List (ArrayVec ℕ)) (first : ByteNetwork) (known : Sink) → AllByRecursion IsCarriedLine lines
     → Going client lines lines first first known known
 going_first client lines first known all = record { given = []; parts = refl; carried = all; played = played_nothing first known }
 
@@ -169,13 +169,14 @@ all_left : (lines left later : List (ArrayVec ℕ)) (line : ArrayVec ℕ) → le
 all_left lines left later line is all = subst (λ ls. AllByRecursion IsCarriedLine ls) is all
 
 -- the next line can be given
-pub going_carried : (client : ℕ) (lines left later : List (ArrayVec ℕ)) (line : ArrayVec ℕ) {first middle : Network} {old now : Sink} → left ≡ line ∷ later
+pub going_carried : (client : ℕ) (lines left later : List (ArrayVec ℕ)) (line : ArrayVec ℕ) {first middle : ByteNetwork} {old now : Sink} → left ≡ line ∷ later
     → Going client lines left first middle old now → IsCarried line.items
 going_carried client lines left later line is p = (all_left lines left later line is p.carried).0
 
 -- one line more
-pub going_on : (client : ℕ) (lines left later : List (ArrayVec ℕ)) (line : ArrayVec ℕ) {first middle last : Network} {old now new : Sink} → left ≡ line ∷ later
-    → Going client lines left first middle old now → Played middle (gives_now client line ∷ []) last now new → Going client lines later first last old new
+pub going_on : (client : ℕ) (lines left later : List (ArrayVec ℕ)) (line : ArrayVec ℕ) {first middle last : ByteNetwork} {old now new : Sink}
+    → left ≡ line ∷ later → Going client lines left first middle old now → Played middle (gives_now client line ∷ []) last now new
+    → Going client lines later first last old new
 going_on client lines left later line {first = first} {last = last} {old = old} {new = new} is p q = record {
   given = p.given ++ line ∷ [];
   parts = p.parts ∙ ap (λ ls. p.given ++ ls) is ∙ sym (append_assoc p.given (line ∷ []) later);
@@ -184,7 +185,7 @@ going_on client lines left later line {first = first} {last = last} {old = old} 
 }
 
 -- a line that breaks
-pub going_breaks : (client : ℕ) (lines left later : List (ArrayVec ℕ)) (line : ArrayVec ℕ) (moves : List Move) {first middle : Network} {old now new : Sink}
+pub going_breaks : (client : ℕ) (lines left later : List (ArrayVec ℕ)) (line : ArrayVec ℕ) (moves : List Move) {first middle : ByteNetwork} {old now new : Sink}
     → left ≡ line ∷ later
     → moves ≡ map (gives_now client) lines → Going client lines left first middle old now → Breaks middle (gives_now client line ∷ []) now new
     → Breaks first moves old new
@@ -194,7 +195,7 @@ going_breaks client lines left later line moves {first = first} {old = old} {new
     subst (λ ms. Breaks first ms old new) (sym parts) (breaks_behind (map (gives_now client) later) p.played q)
 
 -- no line is left
-pub going_end : (client : ℕ) (lines left : List (ArrayVec ℕ)) (moves : List Move) {first last : Network} {old new : Sink} → left ≡ []
+pub going_end : (client : ℕ) (lines left : List (ArrayVec ℕ)) (moves : List Move) {first last : ByteNetwork} {old new : Sink} → left ≡ []
     → moves ≡ map (gives_now client) lines
     → Going client lines left first last old new → Played first moves last old new
 going_end client lines left moves {first = first} {last = last} {old = old} {new = new} none all p =
@@ -202,7 +203,7 @@ going_end client lines left moves {first = first} {last = last} {old = old} {new
     subst (λ ms. Played first ms last old new) (sym parts) p.played
 
 -- a run, behind which what waits was written or lost
-pub run_closed : (r w : Result (Unit {0}) Trouble) (first last : Network) (asked : List Request) (held middle new : Option (List ℕ))
+pub run_closed : (r w : Result (Unit {0}) Trouble) (first last : ByteNetwork) (asked : List Request) (held middle new : Option (List ℕ))
     (before waiting after : List ℕ) → before ≡ [] → after ≡ []
     → HasRun r first asked last (sink held before) (sink middle waiting) → IsPrinted w (sink middle waiting) (sink new after) []
     → RunInto first asked (sink held []) (sink new [])
@@ -215,8 +216,8 @@ run_closed (Err trouble) w first last asked held middle new before waiting after
     (subst (λ a. RunInto first asked (sink held before) (sink new a)) f (run_into_on p (loses_when w (sink middle waiting) (sink new after) [] q)))
 
 -- a whole run, behind which all that waited was written, and the writer flushed
-pub run_ended : (r w f : Result (Unit {0}) Trouble) (a b : Unit {0}) (first last : Network) (asked : List Request) (held middle new flushed : Option (List ℕ))
-    (before waiting after : List ℕ)
+pub run_ended : (r w f : Result (Unit {0}) Trouble) (a b : Unit {0}) (first last : ByteNetwork) (asked : List Request)
+    (held middle new flushed : Option (List ℕ)) (before waiting after : List ℕ)
     → r ≡ Ok a → w ≡ Ok b → before ≡ [] → after ≡ [] → HasRun r first asked last (sink held before) (sink middle waiting)
     → IsPrinted w (sink middle waiting) (sink new after) []
     → Keeps new flushed → HasRun f first asked last (sink held []) (sink flushed [])

@@ -6,7 +6,7 @@ use Rattle.irc_line.specs.Lines.{IsLine, lines}
 use Rattle.irc_names.specs.Names.{is_host, is_server}
 use Rattle.irc_script.specs.Moves.{gives_line}
 use Rattle.irc_script.specs.Numbers.{number_of}
-use Rattle.irc_script.specs.Scripts.{Request, connects, says, goes, links, cuts, delivers, settles, Asked, Cut, Pair, connect_in, cut_at_space, is_bad, is_word, judged, pair_of, request_in, request_of, say_in, script_lines, script_read, servers_of}
+use Rattle.irc_script.specs.Scripts.{Request, connects, says, goes, links, cuts, delivers, takes, settles, Asked, Cut, Pair, bytes_from, bytes_in, connect_in, cut_at_space, is_bad, is_word, judged, pair_of, request_in, request_of, say_in, script_lines, script_read, servers_of}
 use Rattle.irc_script.proofs.LinesSaid.{each_is_line, line_is_carried}
 use Rattle.irc_script.proofs.StaysSound.{IsMoveWithin, IsRequestWithin}
 
@@ -52,6 +52,16 @@ say_hosted : (cut : Option Cut) → IsHosted (option_and_then say_in cut)
 say_hosted None = none_hosted
 say_hosted (Some words) = number_hosted (λ client. says client words.behind) (λ n server host is. cc is) (number_of words.before)
 
+counted_hosted : (from : List ℕ) (cut : Option Cut) → IsHosted (option_and_then (bytes_from from) cut)
+counted_hosted from None = none_hosted
+counted_hosted from (Some words) =
+    if_hosted (is_server from && is_server words.before) _ _
+    (number_hosted (λ count. takes from words.before count) (λ n server host is. cc is) (number_of words.behind)) none_hosted
+
+bytes_hosted : (cut : Option Cut) → IsHosted (option_and_then bytes_in cut)
+bytes_hosted None = none_hosted
+bytes_hosted (Some words) = counted_hosted words.before (cut_at_space words.behind)
+
 request_hosted : (line : Cut) → IsHosted (request_in line)
 request_hosted line =
     if_hosted (is_word line.before (codes "connect")) _ _ (found_hosted (cut_at_space line.behind))
@@ -61,7 +71,8 @@ request_hosted line =
     (if_hosted (is_word line.before (codes "cut")) _ _ (pair_hosted (λ pair. cuts pair.near pair.far) (λ pair server host is. cc is) (pair_of line.behind))
     (if_hosted (is_word line.before (codes "deliver")) _ _
     (pair_hosted (λ pair. delivers pair.near pair.far) (λ pair server host is. cc is) (pair_of line.behind))
-    none_hosted)))))
+    (if_hosted (is_word line.before (codes "bytes")) _ _ (bytes_hosted (cut_at_space line.behind))
+    none_hosted))))))
 
 line_hosted : (line : List ℕ) → IsHosted (request_of line)
 unfolding request_of
@@ -80,6 +91,7 @@ request_within found hosted (goes client) is = (tt, tt)
 request_within found hosted (links near far) is = (tt, tt)
 request_within found hosted (cuts near far) is = (tt, tt)
 request_within found hosted (delivers from to) is = (tt, tt)
+request_within found hosted (takes from to count) is = (tt, tt)
 request_within found hosted settles is = (tt, tt)
 
 requests_within : (rest : List (List ℕ)) → AllByRecursion IsRequestWithin (filter_map request_of rest)

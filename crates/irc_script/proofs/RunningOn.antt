@@ -1,57 +1,55 @@
 -- What is begun can be run to its end: what was printed then is a front of what the whole script prints.
 use Rattle.std.proofs.Common.{ℕ, List, [], ◌∷◌, ◌++◌, ap, sym, subst, refl, ◌∙◌, append_assoc}
 use Rattle.std.specs.List.{AllByRecursion}
-use Rattle.irc_items.specs.Kept.{TurnsAreFew}
-use Rattle.irc_items.specs.Laws.{NewNetworkIsSound}
-use Rattle.irc_items.specs.Sound.{IsSound}
+use Rattle.irc_byte_network.specs.ByteNetwork.{ByteNetwork}
 use Rattle.irc_net.specs.Faults.{deliver_fault, item_fault}
+use Rattle.irc_net.specs.Laws.{EachSettles, StaysKept}
 use Rattle.irc_net.specs.OneRoom.{IsKeptSound}
-use Rattle.irc_network.specs.Network.{Network}
 use Rattle.irc_script.specs.Loops.Steps.{Begins, to_the_end, partly, further, RunOn, ScriptsRunOn}
-use Rattle.irc_script.specs.Moves.{Move, gives, delivers_line, settles_all, moves_of}
+use Rattle.irc_script.specs.Moves.{Move, gives, delivers_line, takes_bytes, settles_all, moves_of}
 use Rattle.irc_script.specs.Printing.{taken_text}
 use Rattle.irc_script.specs.RunLaws.{EachRuns}
-use Rattle.irc_script.specs.Runs.{Comes, Outcome, Plays, nothing, move, end, request, given_or, delivered_or}
+use Rattle.irc_script.specs.Runs.{Comes, Outcome, Plays, nothing, move, end, request, given_or, delivered_or, taken_or}
 use Rattle.irc_script.specs.Scripts.{Request}
 use Rattle.irc_script.proofs.OneRoomPrinted.{first_kept}
 use Rattle.irc_script.proofs.Playing.{plays_both}
 use Rattle.irc_script.proofs.ReadWithin.{front_within, left_within, read_within}
-use Rattle.irc_script.proofs.Settling.{each_settles}
-use Rattle.irc_script.proofs.StaysSound.{AreKeeping, IsMoveWithin, IsRequestWithin, comes_kept, plays_kept}
+use Rattle.irc_script.proofs.StaysSound.{IsMoveWithin, IsRequestWithin, comes_kept, plays_kept}
 
-record Answered (net : Network) (m : Move) : Type 0 where
+record Answered (net : ByteNetwork) (m : Move) : Type 0 where
   outcome : Outcome
   comes : Comes net m outcome
 
 -- something comes of each move of a sound network
-answered : TurnsAreFew → (net : Network) (m : Move) → IsSound net → Answered net m
-answered few net (gives item) sound = record { outcome = given_or (item_fault net item) item net; comes = refl }
-answered few net (delivers_line from to) sound = record { outcome = delivered_or (deliver_fault net from to) from to net; comes = refl }
-answered few net settles_all sound =
-    let settled = each_settles few net sound in
+answered : EachSettles → (net : ByteNetwork) (m : Move) → IsKeptSound net → Answered net m
+answered settles net (gives item) kept = record { outcome = given_or (item_fault net item) item net; comes = refl }
+answered settles net (delivers_line from to) kept = record { outcome = delivered_or (deliver_fault net from to) from to net; comes = refl }
+answered settles net (takes_bytes from to count) kept = record { outcome = taken_or (deliver_fault net from to) from to count net; comes = refl }
+answered settles net settles_all kept =
+    let settled = settles net kept in
     record {
-      outcome = record { text = taken_text settled.count settled.receipts; network = settled.last };
-      comes = record { count = settled.count; receipts = settled.receipts; settles = settled.settles; text_is = refl };
+      outcome = record { text = taken_text settled.counted settled.receipts; network = settled.last };
+      comes = record { count = settled.counted; receipts = settled.receipts; settles = settled.settles; text_is = refl };
     }
 
--- networks stay sound, and their lines come to an end
+-- networks stay sound, and settle
 pub record AreRunning : Type 0 where
-  pub keeping : AreKeeping
-  pub few : TurnsAreFew
+  pub keeping : StaysKept
+  pub settles : EachSettles
 
-record PlayedOn (first : Network) (moves : List Move) : Type 0 where
-  last : Network
+record PlayedOn (first : ByteNetwork) (moves : List Move) : Type 0 where
+  last : ByteNetwork
   text : List ℕ
   plays : Plays first moves last text
 
-play_on : AreRunning → (moves : List Move) (first : Network) → AllByRecursion IsMoveWithin moves → IsKeptSound first → PlayedOn first moves
+play_on : AreRunning → (moves : List Move) (first : ByteNetwork) → AllByRecursion IsMoveWithin moves → IsKeptSound first → PlayedOn first moves
 play_on laws [] first within kept = record { last = first; text = []; plays = nothing }
 play_on laws (m ∷ moves) first within kept =
-    let one = answered laws.few first m kept.sound in
+    let one = answered laws.settles first m kept in
     let more = play_on laws moves one.outcome.network within.1 (comes_kept laws.keeping first m one.outcome within.0 one.comes kept) in
     record { last = more.last; text = one.outcome.text ++ more.text; plays = move one.outcome one.comes refl more.plays }
 
-run_on : AreRunning → (requests : List Request) (first : Network) → AllByRecursion IsRequestWithin requests → IsKeptSound first → RunOn first requests []
+run_on : AreRunning → (requests : List Request) (first : ByteNetwork) → AllByRecursion IsRequestWithin requests → IsKeptSound first → RunOn first requests []
 run_on laws [] first within kept = record { last = first; whole = []; runs = end; front = record { more = []; whole_is = refl } }
 run_on laws (r ∷ requests) first within kept =
     let one = play_on laws (moves_of r) first within.0 kept in
@@ -63,7 +61,7 @@ run_on laws (r ∷ requests) first within kept =
       front = record { more = one.text ++ more.whole; whole_is = refl };
     }
 
-run_whole : AreRunning → {first : Network} {requests : List Request} {text : List ℕ} → AllByRecursion IsRequestWithin requests → IsKeptSound first
+run_whole : AreRunning → {first : ByteNetwork} {requests : List Request} {text : List ℕ} → AllByRecursion IsRequestWithin requests → IsKeptSound first
     → Begins first requests text → RunOn first requests text
 run_whole laws {first = first} within kept to_the_end = record { last = first; whole = []; runs = end; front = record { more = []; whole_is = refl } }
 run_whole laws {first = first} {text = text} within kept (partly {last = last} {requests = requests} moves left parts plays) =
@@ -92,10 +90,10 @@ run_whole laws within kept (further {start = start} {more = text} text_is plays 
 
 -- ---- a script that is read
 
-pub script_runs : NewNetworkIsSound → AreRunning → EachRuns
-script_runs new_sound laws text asked read =
-    let run = run_on laws asked.requests _ (read_within text asked read) (first_kept new_sound text asked read) in
+pub script_runs : AreRunning → EachRuns
+script_runs laws text asked read =
+    let run = run_on laws asked.requests _ (read_within text asked read) (first_kept laws.keeping text asked read) in
     record { last = run.last; text = run.whole; runs = run.runs }
 
-pub script_runs_on : NewNetworkIsSound → AreRunning → ScriptsRunOn
-script_runs_on new_sound laws text asked printed read begins = run_whole laws (read_within text asked read) (first_kept new_sound text asked read) begins
+pub script_runs_on : AreRunning → ScriptsRunOn
+script_runs_on laws text asked printed read begins = run_whole laws (read_within text asked read) (first_kept laws.keeping text asked read) begins

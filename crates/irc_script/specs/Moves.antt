@@ -4,12 +4,14 @@ use Rattle.irc_line.specs.Bytes.{line_feed}
 use Rattle.irc_line.specs.Lines.{lines}
 use Rattle.irc_relay.specs.Links.{Name}
 use Rattle.irc_world.specs.Stepping.{Item, connect, line, gone, link, cut}
-use Rattle.irc_script.specs.Scripts.{Request, connects, says, goes, links, cuts, delivers, settles}
+use Rattle.irc_script.specs.Scripts.{Request, connects, says, goes, links, cuts, delivers, takes, settles}
 
--- An item is given; the oldest line on the way from one server to another is delivered; all lines are, until none is on its way.
+-- An item is given; the bytes through the next LF come from one server to another; so many bytes do, or all where there are fewer; bytes come in turn until
+-- nothing is on its way.
 pub data Move : Type 0 where
   gives : (item : Item) → Move
   delivers_line : (from to : Name) → Move
+  takes_bytes : (from to : Name) (count : ℕ) → Move
   settles_all : Move
 
 abbrev pub gives_line : ℕ → List ℕ → Move
@@ -26,4 +28,5 @@ moves_of (goes client) = gives (gone client) ∷ []
 moves_of (links near far) = gives (link near far) ∷ []
 moves_of (cuts near far) = gives (cut near far) ∷ []
 moves_of (delivers from to) = delivers_line from to ∷ []
+moves_of (takes from to count) = takes_bytes from to count ∷ []
 moves_of settles = settles_all ∷ []

@@ -6,6 +6,8 @@ use Rattle.std.specs.List.{filter_map}
 use Rattle.std.specs.Ordering.{nat_cmp}
 use Rattle.std.specs.declared.cmp.Ordering.{Ordering}
 use Rattle.std.specs.declared.cmp.Ordering.TheVariants.{Greater}
+use Rattle.irc_byte_network.specs.ByteNetwork.{ByteNetwork}
+use Rattle.irc_byte_network.specs.Whole.{no_wires}
 use Rattle.irc_network.specs.Network.{Network, Site}
 use Rattle.irc_relay.specs.Links.{Name, same}
 use Rattle.irc_room.specs.Laws.{no_room}
@@ -55,7 +57,7 @@ abbrev pub in_order : List Name → List Name
 in_order [] = []
 in_order (name ∷ names) = put_in name (in_order names)
 
--- the network with which a script begins: its servers, in the order of their names
+-- the servers with which a script begins, in the order of their names
 abbrev pub first_network : List Name → Network
 first_network names = record {
   names = in_order names;
@@ -66,3 +68,7 @@ first_network names = record {
   items = [];
   taken = 0;
 }
+
+-- the network with which a script begins: nothing is on its way
+abbrev pub first_net : List Name → ByteNetwork
+first_net names = no_wires (first_network names)

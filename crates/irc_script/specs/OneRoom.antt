@@ -2,12 +2,13 @@
 use Rattle.std.specs.Prelude.{◌≡◌, ℕ, true, nat_eq, Option, Some, None, List, if◌then◌else◌}
 use Rattle.std.specs.List.{filter_map, flat_map}
 use Rattle.irc_relay.specs.Relay.{IsFront}
-use Rattle.irc_network.specs.Network.{Network, Receipt, is_at_rest, received_by}
+use Rattle.irc_byte_network.specs.ByteNetwork.{ByteNetwork, in_lines, is_byte_rest}
+use Rattle.irc_network.specs.Network.{Receipt, received_by}
 use Rattle.irc_items.specs.Sound.{owed_now, IsSound}
 use Rattle.irc_net.specs.declared.fault.NetFault.{NetFault}
 use Rattle.irc_script.specs.Printing.{count_line, fault_number, printed, refusal_line}
 
--- What is printed, entry by entry: a line that a client receives; how many lines were taken, `= K`; a refusal, `! NUMBER`.
+-- What is printed, entry by entry: a line that a client receives; how many lines or bytes came, `= K`; a refusal, `! NUMBER`.
 pub data Entry : Type 0 where
   receives : (receipt : Receipt) → Entry
   counts : (count : ℕ) → Entry
@@ -28,11 +29,12 @@ line_to client (refuses fault) = None
 abbrev pub lines_to : ℕ → List Entry → List (List ℕ)
 lines_to client entries = filter_map (line_to client) entries
 
--- What is printed by the time the network is this: each client has received a front of what it is owed there, line by line, and at rest all of it.
-pub record IsPrintedOf (net : Network) (text : List ℕ) : Type 0 where
+-- What is printed by the time the network is this: each client has received a front of what it is owed there, line by line, and at rest all of it. What is on
+-- its way as bytes is the lines that these will complete (in_lines).
+pub record IsPrintedOf (net : ByteNetwork) (text : List ℕ) : Type 0 where
   pub entries : List Entry
   pub text_is : text ≡ flat_map entry_text entries
-  pub received : (client : ℕ) → lines_to client entries ≡ received_by net client
-  pub front : (client : ℕ) → IsFront (lines_to client entries) (owed_now net client)
-  pub at_rest : is_at_rest net ≡ true → (client : ℕ) → lines_to client entries ≡ owed_now net client
-  pub sound : IsSound net
+  pub received : (client : ℕ) → lines_to client entries ≡ received_by net.network client
+  pub front : (client : ℕ) → IsFront (lines_to client entries) (owed_now (in_lines net) client)
+  pub at_rest : is_byte_rest net ≡ true → (client : ℕ) → lines_to client entries ≡ owed_now (in_lines net) client
+  pub sound : IsSound (in_lines net)

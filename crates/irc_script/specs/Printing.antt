@@ -1,4 +1,4 @@
--- What is printed: each line that a client receives, how many lines servers took, and each refusal.
+-- What is printed: each line that a client receives, how many lines or bytes came, and each refusal.
 use Rattle.std.specs.Prelude.{ℕ, ◌-◌, Option, Some, None, List, [], ◌∷◌, ◌++◌, length, take, drop, codes, decimal, if◌then◌else◌}
 use Rattle.std.specs.List.{flat_map}
 use Rattle.std.specs.Str.{bytes_eq}
@@ -19,7 +19,7 @@ printed_line client text = decimal client ++ space ∷ body_of text ++ line_feed
 abbrev pub printed : Receipt → List ℕ
 printed receipt = printed_line receipt.client receipt.text
 
--- so many lines were taken
+-- so many lines or bytes came
 abbrev pub count_line : ℕ → List ℕ
 count_line count = codes "= " ++ decimal count ++ line_feed ∷ []
 

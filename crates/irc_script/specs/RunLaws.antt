@@ -2,31 +2,31 @@
 use Rattle.std.specs.Prelude.{◌≡◌, ℕ, Bool, true, not, ◌&&◌, Ok, List, [], ◌∷◌, ◌++◌}
 use Rattle.std.specs.List.{list_any}
 use Rattle.std.specs.List.Sorted.{IsPermutation}
-use Rattle.irc_network.specs.Network.{Network, is_at_rest}
+use Rattle.irc_byte_network.specs.ByteNetwork.{ByteNetwork, is_byte_rest}
 use Rattle.irc_relay.specs.Links.{Name}
-use Rattle.irc_script.specs.Networks.{exceeds, first_network, in_order}
+use Rattle.irc_script.specs.Networks.{exceeds, first_net, in_order}
 use Rattle.irc_script.specs.OneRoom.{IsPrintedOf}
 use Rattle.irc_script.specs.Runs.{Runs}
 use Rattle.irc_script.specs.Scripts.{Asked, Request, settles, script_read}
 
 -- what is asked for is run to its end
-pub record RunsToItsEnd (first : Network) (requests : List Request) : Type 0 where
-  pub last : Network
+pub record RunsToItsEnd (first : ByteNetwork) (requests : List Request) : Type 0 where
+  pub last : ByteNetwork
   pub text : List ℕ
   pub runs : Runs first requests last text
 
 -- Each script that is read can be run to its end.
 abbrev pub EachRuns : Type 0
-EachRuns = (text : List ℕ) (asked : Asked) → script_read text ≡ Ok asked → RunsToItsEnd (first_network asked.servers) asked.requests
+EachRuns = (text : List ℕ) (asked : Asked) → script_read text ≡ Ok asked → RunsToItsEnd (first_net asked.servers) asked.requests
 
 -- two runs come to the same network, and print the same
-pub record SameRun (last other : Network) (text more : List ℕ) : Type 0 where
+pub record SameRun (last other : ByteNetwork) (text more : List ℕ) : Type 0 where
   pub last_is : last ≡ other
   pub text_is : text ≡ more
 
 -- From one network, what is asked for comes to one end and prints one text.
 abbrev pub RunsOneWay : Type 0
-RunsOneWay = (first last other : Network) (requests : List Request) (text more : List ℕ)
+RunsOneWay = (first last other : ByteNetwork) (requests : List Request) (text more : List ℕ)
     → Runs first requests last text → Runs first requests other more → SameRun last other text more
 
 -- no name is greater than one behind it
@@ -44,9 +44,10 @@ OrderIsSo = (names : List Name) → IsInOrder names (in_order names)
 
 -- What a script prints is what its clients receive of one room, at its end and behind each of its requests.
 abbrev pub PrintsOneRoom : Type 0
-PrintsOneRoom = (text : List ℕ) (asked : Asked) (requests left : List Request) (net : Network) (printed : List ℕ)
-    → script_read text ≡ Ok asked → asked.requests ≡ requests ++ left → Runs (first_network asked.servers) requests net printed → IsPrintedOf net printed
+PrintsOneRoom = (text : List ℕ) (asked : Asked) (requests left : List Request) (net : ByteNetwork) (printed : List ℕ)
+    → script_read text ≡ Ok asked → asked.requests ≡ requests ++ left → Runs (first_net asked.servers) requests net printed → IsPrintedOf net printed
 
--- Behind a `settle` no line is on its way.
+-- Behind a `settle` nothing is on its way.
 abbrev pub SettlesToRest : Type 0
-SettlesToRest = (first last : Network) (requests : List Request) (text : List ℕ) → Runs first (requests ++ settles ∷ []) last text → is_at_rest last ≡ true
+SettlesToRest = (first last : ByteNetwork) (requests : List Request) (text : List ℕ) → Runs first (requests ++ settles ∷ []) last text
+    → is_byte_rest last ≡ true

@@ -3,15 +3,16 @@ use Rattle.std.specs.Prelude.{◌≡◌, ℕ, Option, Some, None, Result, Ok, Er
 use Rattle.std.specs.Io.KnownBytes.{Appends}
 use Rattle.std.specs.List.{flat_map}
 use Rattle.irc_net.specs.declared.fault.NetFault.{NetFault}
-use Rattle.irc_net.specs.Calls.{Settles, delivery, standing}
+use Rattle.irc_byte_network.specs.ByteNetwork.{ByteCourse, ByteNetwork, item_given}
+use Rattle.irc_net.specs.Calls.{Settles, delivery, piece, piece_count, standing}
 use Rattle.irc_net.specs.Faults.{deliver_fault, item_fault}
-use Rattle.irc_network.specs.Network.{Course, Network, Receipt, given}
+use Rattle.irc_network.specs.Network.{Receipt}
 use Rattle.irc_relay.specs.Links.{Name}
 use Rattle.irc_world.specs.Stepping.{Item}
 use Rattle.irc_script.specs.declared.fault.SimFault.{SimFault}
 use Rattle.irc_script.specs.declared.fault.SimFault.TheVariants.{BadScript, Failed, Device}
-use Rattle.irc_script.specs.Moves.{Move, gives, delivers_line, settles_all, moves_of}
-use Rattle.irc_script.specs.Networks.{first_network}
+use Rattle.irc_script.specs.Moves.{Move, gives, delivers_line, takes_bytes, settles_all, moves_of}
+use Rattle.irc_script.specs.Networks.{first_net}
 use Rattle.irc_script.specs.OneRoom.{IsPrintedOf}
 use Rattle.irc_script.specs.Printing.{fault_number, printed, refusal_line, taken_text}
 use Rattle.irc_script.specs.Scripts.{Request, Asked, script_read}
@@ -19,51 +20,57 @@ use Rattle.irc_script.specs.Scripts.{Request, Asked, script_read}
 -- what comes of a move: what is printed, and the network then
 pub record Outcome : Type 0 where
   pub text : List ℕ
-  pub network : Network
+  pub network : ByteNetwork
 
 -- what is refused changes nothing
-abbrev pub refused : NetFault → Network → Outcome
+abbrev pub refused : NetFault → ByteNetwork → Outcome
 refused fault net = record { text = refusal_line (fault_number fault); network = net }
 
-abbrev pub lines_received : Course → Outcome
+abbrev pub lines_received : ByteCourse → Outcome
 lines_received course = record { text = flat_map printed course.receipts; network = course.net }
 
-abbrev pub given_or : Option NetFault → Item → Network → Outcome
-given_or None item net = lines_received (given item net)
+abbrev pub given_or : Option NetFault → Item → ByteNetwork → Outcome
+given_or None item net = lines_received (item_given item net)
 given_or (Some fault) item net = refused fault net
 
--- one line was taken, or none waits
-abbrev pub delivered_by : Option Course → Network → Outcome
+-- bytes came, or none is on its way
+abbrev pub delivered_by : Option ByteCourse → ByteNetwork → Outcome
 delivered_by None net = record { text = taken_text 0 []; network = net }
 delivered_by (Some course) net = record { text = taken_text 1 course.receipts; network = course.net }
 
-abbrev pub delivered_or : Option NetFault → Name → Name → Network → Outcome
+abbrev pub delivered_or : Option NetFault → Name → Name → ByteNetwork → Outcome
 delivered_or None from to net = delivered_by (delivery net from to) net
 delivered_or (Some fault) from to net = refused fault net
 
--- Lines are taken until none is on its way.
-pub record IsSettling (net : Network) (outcome : Outcome) : Type 0 where
+abbrev pub taken_or : Option NetFault → Name → Name → ℕ → ByteNetwork → Outcome
+taken_or None from to count net =
+    record { text = taken_text (piece_count count net from to) (piece count net from to).receipts; network = (piece count net from to).net }
+taken_or (Some fault) from to count net = refused fault net
+
+-- Bytes come in turn until nothing is on its way.
+pub record IsSettling (net : ByteNetwork) (outcome : Outcome) : Type 0 where
   pub count : ℕ
   pub receipts : List Receipt
   pub settles : Settles net count receipts (standing outcome.network)
   pub text_is : outcome.text ≡ taken_text count receipts
 
 -- what comes of a move, as the network's definitions say
-abbrev pub Comes : Network → Move → Outcome → Type 0
+abbrev pub Comes : ByteNetwork → Move → Outcome → Type 0
 Comes net (gives item) outcome = outcome ≡ given_or (item_fault net item) item net
 Comes net (delivers_line from to) outcome = outcome ≡ delivered_or (deliver_fault net from to) from to net
+Comes net (takes_bytes from to count) outcome = outcome ≡ taken_or (deliver_fault net from to) from to count net
 Comes net settles_all outcome = IsSettling net outcome
 
 -- Moves are made one after another, and what comes of each is printed.
-pub data Plays : Network → List Move → Network → List ℕ → Type 0 where
-  nothing : {first : Network} → Plays first [] first []
-  move : {first last : Network} {m : Move} {moves : List Move} {more text : List ℕ} (outcome : Outcome)
+pub data Plays : ByteNetwork → List Move → ByteNetwork → List ℕ → Type 0 where
+  nothing : {first : ByteNetwork} → Plays first [] first []
+  move : {first last : ByteNetwork} {m : Move} {moves : List Move} {more text : List ℕ} (outcome : Outcome)
       → Comes first m outcome → text ≡ outcome.text ++ more → Plays outcome.network moves last more → Plays first (m ∷ moves) last text
 
 -- The same of what a script asks for.
-pub data Runs : Network → List Request → Network → List ℕ → Type 0 where
-  end : {first : Network} → Runs first [] first []
-  request : {first middle last : Network} {r : Request} {requests : List Request} {start more text : List ℕ}
+pub data Runs : ByteNetwork → List Request → ByteNetwork → List ℕ → Type 0 where
+  end : {first : ByteNetwork} → Runs first [] first []
+  request : {first middle last : ByteNetwork} {r : Request} {requests : List Request} {start more text : List ℕ}
       → text ≡ start ++ more → Plays first (moves_of r) middle start → Runs middle requests last more → Runs first (r ∷ requests) last text
 
 -- the text is what a reader had, where that is known
@@ -76,9 +83,9 @@ pub record Finished (remaining old new : Option (List ℕ)) : Type 0 where
   pub is_text : IsTextOf text remaining
   pub asked : Asked
   pub read : script_read text ≡ Ok asked
-  pub last : Network
+  pub last : ByteNetwork
   pub printed : List ℕ
-  pub runs : Runs (first_network asked.servers) asked.requests last printed
+  pub runs : Runs (first_net asked.servers) asked.requests last printed
   pub one_room : IsPrintedOf last printed
   pub appended : Appends old new printed
 
@@ -100,9 +107,9 @@ pub record CutShort (remaining old new : Option (List ℕ)) : Type 0 where
   pub is_text : IsTextOf text remaining
   pub asked : Asked
   pub read : script_read text ≡ Ok asked
-  pub last : Network
+  pub last : ByteNetwork
   pub whole : List ℕ
-  pub runs : Runs (first_network asked.servers) asked.requests last whole
+  pub runs : Runs (first_net asked.servers) asked.requests last whole
   pub one_room : IsPrintedOf last whole
   pub printed : List ℕ
   pub appended : Appends old new printed

@@ -6,7 +6,7 @@ use Rattle.irc_script.specs.declared.fault.SimFault.TheVariants.{BadScript, Fail
 use Rattle.irc_script.specs.declared.commands.Command.{Command}
 use Rattle.irc_script.specs.declared.commands.Command.TheVariants as command
 use Rattle.irc_script.specs.declared.script.Script.{Script}
-use Rattle.irc_script.specs.Scripts.{Request, connects, says, goes, links, cuts, delivers, settles, Cut, Pair, Asked, script_read}
+use Rattle.irc_script.specs.Scripts.{Request, connects, says, goes, links, cuts, delivers, takes, settles, Cut, Pair, Asked, script_read}
 use denote.Ref.{Bor}
 
 abbrev pub lines_now : List (Bor (List ℕ)) → List (List ℕ)
@@ -28,6 +28,7 @@ request (command.Gone client) = goes client
 request (command.Link near far) = links near far
 request (command.Cut near far) = cuts near far
 request (command.Deliver from to) = delivers from to
+request (command.Bytes from to count) = takes from to count
 request command.Settle = settles
 
 abbrev pub requests : List Command → List Request

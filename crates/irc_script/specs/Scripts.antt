@@ -17,6 +17,7 @@ pub data Request : Type 0 where
   links : (near far : List ℕ) → Request
   cuts : (near far : List ℕ) → Request
   delivers : (from to : List ℕ) → Request
+  takes : (from to : List ℕ) (count : ℕ) → Request
   settles : Request
 
 abbrev pub is_line_feed : ℕ → Bool
@@ -92,6 +93,18 @@ cut_of words = option_map (λ pair. cuts pair.near pair.far) (pair_of words)
 abbrev pub deliver_of : List ℕ → Option Request
 deliver_of words = option_map (λ pair. delivers pair.near pair.far) (pair_of words)
 
+-- `NAME N`, behind a name
+abbrev pub bytes_from : List ℕ → Cut → Option Request
+bytes_from from words =
+    if is_server from && is_server words.before then option_map (λ count. takes from words.before count) (number_of words.behind) else None
+
+abbrev pub bytes_in : Cut → Option Request
+bytes_in words = option_and_then (bytes_from words.before) (cut_at_space words.behind)
+
+-- `NAME NAME N`
+abbrev pub bytes_asked : List ℕ → Option Request
+bytes_asked words = option_and_then bytes_in (cut_at_space words)
+
 -- what is asked for by a word with words behind it
 abbrev pub request_in : Cut → Option Request
 request_in line =
@@ -101,6 +114,7 @@ request_in line =
     else if is_word line.before (codes "link") then link_of line.behind
     else if is_word line.before (codes "cut") then cut_of line.behind
     else if is_word line.before (codes "deliver") then deliver_of line.behind
+    else if is_word line.before (codes "bytes") then bytes_asked line.behind
     else None
 
 -- what a line asks for, if anything

@@ -2,7 +2,7 @@
 ghost use Rattle.std.specs.Prelude.{◌≡◌, position};
 ghost use Rattle.std.specs.Option.{option_map};
 ghost use Rattle.irc_line.specs.Bytes.{is_space};
-ghost use Rattle.irc_script.specs.Scripts.{is_word, cut_at_space, request_of, request_in, connect_of, say_of, gone_of, pair_of, link_of, cut_of, deliver_of};
+ghost use Rattle.irc_script.specs.Scripts.{is_word, cut_at_space, request_of, request_in, connect_of, say_of, gone_of, pair_of, link_of, cut_of, deliver_of, bytes_asked};
 ghost use Rattle.irc_script.specs.ScriptViews.{cut_now, pair_now, request};
 
 use crate::number::read_number;
@@ -23,14 +23,16 @@ pub enum Command<'a> {
     Link(ServerName, ServerName),
     /// The link of these two servers is lost.
     Cut(ServerName, ServerName),
-    /// The second server takes the oldest line that is on its way from the first.
+    /// The bytes up to and with the next LF come from the first server to the second.
     Deliver(ServerName, ServerName),
-    /// Lines are taken until none is on its way.
+    /// So many bytes come from the first server to the second, or all that are on their way where there are fewer.
+    Bytes(ServerName, ServerName, u64),
+    /// Bytes come in turn until nothing is on its way.
     Settle,
 }
 
-/// The command that a line is: `connect NAME HOST`, `say N REST`, `gone N`, `link NAME NAME`, `cut NAME NAME`, `deliver NAME NAME` or
-/// `settle`.
+/// The command that a line is: `connect NAME HOST`, `say N REST`, `gone N`, `link NAME NAME`, `cut NAME NAME`, `deliver NAME NAME`,
+/// `bytes NAME NAME N` or `settle`.
 #[tactic(auto, unfolding(crate::specs::Scripts::request_of))]
 pub fn read_command(line: &[u8]) -> Option<Command<'_>>
     ensures { option_map request result ≡ request_of line.now }
@@ -58,6 +60,8 @@ fn read_words<'a>(word: &[u8], rest: &'a [u8]) -> Option<Command<'a>>
         read_cut(rest)
     } else if is_word(word, b"deliver") {
         read_deliver(rest)
+    } else if is_word(word, b"bytes") {
+        read_bytes(rest)
     } else {
         None
     }
@@ -93,6 +97,19 @@ fn read_deliver(words: &[u8]) -> Option<Command<'_>>
 {
     let (from, to) = read_pair(words)?;
     Some(Command::Deliver(from, to))
+}
+
+/// What follows `bytes`: the names of two servers, a space, and a number.
+fn read_bytes(words: &[u8]) -> Option<Command<'_>>
+    ensures { option_map request result ≡ bytes_asked words.now }
+{
+    let (from, rest) = cut_at_space(words)?;
+    let (to, count) = cut_at_space(rest)?;
+    Some(Command::Bytes(
+        ServerName::read(from)?,
+        ServerName::read(to)?,
+        read_number(count)?,
+    ))
 }
 
 /// The names of two servers.

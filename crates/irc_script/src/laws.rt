@@ -23,22 +23,16 @@ pub fn scripts_run_one_way()
     ensures each { EachRuns }
     ensures one_way { RunsOneWay }
 {
-    irc_items::laws::new_network_is_sound();
-    irc_items::laws::given_stays_sound();
-    irc_items::laws::delivery_keeps_sound();
-    irc_items::laws::settling_keeps_sound();
-    irc_items::laws::turns_are_few();
+    irc_net::laws::networks_stay_sound();
+    irc_net::laws::each_settles();
 }
 
 /// Whatever of a script was begun can be run to its end, and what was printed is a front of what the whole script prints.
 pub(crate) fn scripts_run_on()
     ensures { ScriptsRunOn }
 {
-    irc_items::laws::new_network_is_sound();
-    irc_items::laws::given_stays_sound();
-    irc_items::laws::delivery_keeps_sound();
-    irc_items::laws::settling_keeps_sound();
-    irc_items::laws::turns_are_few();
+    irc_net::laws::networks_stay_sound();
+    irc_net::laws::each_settles();
 }
 
 /// The servers of a script's network are those that it names, and stand in order.
@@ -50,16 +44,15 @@ pub fn servers_are_in_order()
 pub fn scripts_print_one_room()
     ensures { PrintsOneRoom }
 {
-    irc_items::laws::new_network_is_sound();
-    irc_items::laws::given_stays_sound();
-    irc_items::laws::delivery_keeps_sound();
-    irc_items::laws::settling_keeps_sound();
-    irc_items::laws::received_is_front();
+    irc_net::laws::networks_stay_sound();
+    irc_net::laws::answers_are_received();
     irc_network::laws::receipts_are_received();
+    irc_items::laws::received_is_front();
     irc_items::laws::rest_is_one_room();
+    irc_byte_network::laws::rest_as_lines();
 }
 
-/// Behind a `settle` no line is on its way.
+/// Behind a `settle` nothing is on its way.
 pub fn settling_leaves_rest()
     ensures { SettlesToRest }
 {}

@@ -56,7 +56,7 @@ fn print_refusal<W: Write>(
     print_pieces(&[b"! ", number, b"\n"], waiting, output)
 }
 
-/// Prints each line that a client has received, in order, and behind them how many lines the servers took.
+/// Prints each line that a client has received, in order, and behind them how many lines or bytes came.
 pub fn print_taken<W: Write>(
     count: u64,
     lines: &[Receipt],

@@ -24,10 +24,11 @@ pub const MAX_READS: u32 = 16_777_216;
 pub const READ_SIZE: usize = 4096;
 
 /// Runs a script on the network of its servers, and prints what comes of it: each line that a client receives, as the client's number
-/// and the line; `= 1` or `= 0` for a delivery, `= K` for a settling, K the lines that were taken, at most 2^64 - 1; `! NUMBER` for a refusal.
+/// and the line; `= 1` or `= 0` for a delivery; `= M` for bytes that come, M how many came; `= K` for a settling, K the lines that were completed, at most
+/// 2^64 - 1; `! NUMBER` for a refusal.
 ///
 /// The network is one room: the lines that are printed for a client are a front of those, in order, that one room machine for its joined part of the network
-/// sends it, and all of them where the script is run to its end and no line is on its way between servers.
+/// sends it, and all of them where the script is run to its end and nothing is on its way between servers.
 ///
 /// # Errors
 /// - [`SimFault::BadScript`] where a line is none that a script can have. Then nothing was run and nothing printed.

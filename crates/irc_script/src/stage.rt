@@ -3,8 +3,8 @@ ghost use Rattle.std.specs.Prelude.{◌≡◌, [], ◌∷◌, IfOk};
 ghost use Rattle.irc_net.specs.Calls.{IsGivable};
 ghost use Rattle.irc_network.specs.Views.{item_of};
 ghost use Rattle.irc_script.specs.Loops.Steps.{IsPlayed, taken_count};
-ghost use Rattle.irc_script.specs.Moves.{delivers_line, gives, lines_said, moves_of, settles_all};
-ghost use Rattle.irc_script.specs.Networks.{first_network};
+ghost use Rattle.irc_script.specs.Moves.{delivers_line, gives, lines_said, moves_of, settles_all, takes_bytes};
+ghost use Rattle.irc_script.specs.Networks.{first_net};
 ghost use Rattle.irc_script.specs.ScriptViews.{request};
 ghost use Rattle.irc_script.specs.Sinks.{sink};
 
@@ -32,7 +32,7 @@ impl Stage {
     /// # Errors
     /// Where memory runs out.
     pub fn new(alloc: Global, servers: &[ServerName]) -> Result<Self, Trouble>
-        ensures { IfOk result (λ stage. stage.net.network ≡ first_network servers.now) }
+        ensures { IfOk result (λ stage. stage.net.network ≡ first_net servers.now) }
     {
         let configs = configs_of(alloc, servers)?;
         match Net::new(alloc, configs) {
@@ -66,6 +66,9 @@ impl Stage {
                 self.give(Item::Cut(near.copy(), far.copy()), waiting, output)
             }
             Command::Deliver(from, to) => self.deliver(from, to, waiting, output),
+            Command::Bytes(from, to, count) => {
+                self.deliver_bytes(from, to, *count, waiting, output)
+            }
             Command::Settle => self.settle(waiting, output),
         }
     }
@@ -104,8 +107,8 @@ impl Stage {
         }
     }
 
-    /// Delivers one line, if one waits, and prints the lines that clients receive by it and whether one did, or the number of the
-    /// refusal.
+    /// Lets the bytes up to and with the next LF come, if one is on its way, and prints the lines that clients receive by them and whether one was, or the
+    /// number of the refusal.
     fn deliver<W: Write>(
         &mut self,
         from: &ServerName,
@@ -121,7 +124,26 @@ impl Stage {
         }
     }
 
-    /// Delivers lines until none is on its way, and prints the lines that clients receive by them and how many were delivered, at most 2^64 - 1.
+    /// Lets so many bytes come, or all that are on their way where there are fewer, and prints the lines that clients receive by them and how many came, or
+    /// the number of the refusal.
+    fn deliver_bytes<W: Write>(
+        &mut self,
+        from: &ServerName,
+        to: &ServerName,
+        count: u64,
+        waiting: &mut Waiting,
+        output: &mut W,
+    ) -> Result<(), Trouble>
+        ensures { IsPlayed result self.old.net.network (takes_bytes from.now to.now count ∷ []) self.new.net.network (sink (W.contents output.old) waiting.old.items) (sink (W.contents output.new) waiting.new.items) }
+    {
+        match self.net.deliver_bytes(from, to, count as usize) {
+            Ok((came, lines)) => print_taken(came as u64, &lines, waiting, output),
+            Err(fault) => print_fault(fault, waiting, output),
+        }
+    }
+
+    /// Lets bytes come in turn until nothing is on its way, and prints the lines that clients receive by them and how many lines they completed, at most
+    /// 2^64 - 1.
     fn settle<W: Write>(&mut self, waiting: &mut Waiting, output: &mut W) -> Result<(), Trouble>
         ensures { IsPlayed result self.old.net.network (settles_all ∷ []) self.new.net.network (sink (W.contents output.old) waiting.old.items) (sink (W.contents output.new) waiting.new.items) }
     {
@@ -132,7 +154,7 @@ impl Stage {
     }
 }
 
-/// How many lines a delivery took.
+/// Whether bytes came by a delivery, as a number.
 fn count_taken(was_taken: bool) -> u64
     ensures { result ≡ taken_count was_taken }
 {

@@ -12,7 +12,7 @@ use std::io;
 use std::io::{ErrorKind, Read, Write};
 
 /// Scripts, each with its first line that no script can have.
-static BAD_SCRIPTS: [(&[u8], u64); 37] = [
+static BAD_SCRIPTS: [(&[u8], u64); 44] = [
     (b"\n", 1),
     (b"server a.net\n\n", 2),
     (b"server a\n", 1),
@@ -47,6 +47,13 @@ static BAD_SCRIPTS: [(&[u8], u64); 37] = [
     (b"deliver a.net\n", 1),
     (b"deliver a.net b.net c.net\n", 1),
     (b"deliver b.net A.net", 1),
+    (b"bytes a.net b.net\n", 1),
+    (b"bytes a.net b.net \n", 1),
+    (b"bytes a.net b.net 01\n", 1),
+    (b"bytes a.net b.net 1 \n", 1),
+    (b"bytes a.net 1\n", 1),
+    (b"bytes a.net b 1\n", 1),
+    (b"bytes A.net b.net 1\n", 1),
     (b"settle x\n", 1),
     (b"gone 1\nsettle ", 2),
     (b"settle\nsettled\n", 2),

@@ -18,6 +18,8 @@ mod network_tests;
 #[cfg(test)]
 mod nickname_tests;
 #[cfg(test)]
+mod piece_tests;
+#[cfg(test)]
 mod query_tests;
 #[cfg(test)]
 mod registration_tests;

@@ -600,8 +600,8 @@ fn what_a_network_refuses(rt: HostRuntime) {
     assert!(rt; prints_network(rt.alloc(), REFUSALS));
 }
 
-/// al and an on one server, bo and cy on another; al and bo have each made #c. Both servers have named themselves, and three lines of each are on their way.
-const CROSSING: &str = "\
+/// al and an on one server, bo and cy on another; al and bo have each made #c. The servers are linked, and nothing has come.
+pub const LINKED: &str = "\
 > server a.net
 > server b.net
 > connect a.net h
@@ -645,6 +645,10 @@ const CROSSING: &str = "\
 3 :b.net 353 bo = #c :@bo
 3 :b.net 366 bo #c :End of NAMES list
 > link a.net b.net
+";
+
+/// Both have named themselves, and three lines of each are on their way.
+const NAMED: &str = "\
 > deliver a.net b.net
 = 1
 > deliver a.net b.net
@@ -723,7 +727,8 @@ fn arrives(alloc: Global, order: &str) -> bool {
     let mut script = Vec::new(alloc);
     let mut printed = Vec::new(alloc);
     let mut output = Vec::new(alloc);
-    add_text(CROSSING, &mut script, &mut printed).is_ok()
+    add_text(LINKED, &mut script, &mut printed).is_ok()
+        && add_text(NAMED, &mut script, &mut printed).is_ok()
         && add_deliveries(order, &mut script, &mut printed).is_ok()
         && add_text(ARRIVED, &mut script, &mut printed).is_ok()
         && is_run(alloc, &script, usize::MAX, &mut output)

@@ -3,11 +3,6 @@ use Rattle.irc_script.proofs.laws.scripts_print_one_room.Goals as goal
 
 pub returns : goal.returns
 returns c =
-    prints_one_room c.new_network_is_sound.ensures
-    (record {
-      given = c.given_stays_sound.ensures;
-      delivered = c.delivery_keeps_sound.ensures;
-      settled =
-          c.settling_keeps_sound.ensures;
-    }) c.received_is_front.ensures
-    c.rest_is_one_room.ensures c.receipts_are_received.ensures
+    prints_one_room c.networks_stay_sound.ensures
+    (record { front = c.received_is_front.ensures; room = c.rest_is_one_room.ensures; rest = c.rest_as_lines.ensures.lines })
+    c.receipts_are_received.ensures c.answers_are_received.ensures

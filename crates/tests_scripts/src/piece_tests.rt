@@ -1,0 +1,126 @@
+//! Links carry bytes, which come in pieces cut anywhere (RFC 2813 section 3.3, RFC 2812 section 2.3).
+use crate::network_tests::LINKED;
+use crate::running::{add_text, is_run, prints_network};
+use std::alloc::{AllocError, Global};
+
+/// The CR of the first line comes, and with it the line; its LF is on its way still. Then all that is left comes, and is answered with two lines.
+const HANDSHAKE: &str = "\
+> server a.net
+> server b.net
+> link a.net b.net
+> bytes a.net b.net 25
+= 25
+> link a.net b.net
+! 1
+> bytes a.net b.net 1000
+= 32
+> settle
+= 2
+";
+
+#[test]
+fn a_line_comes_without_its_line_feed(rt: HostRuntime) {
+    assert!(rt; prints_network(rt.alloc(), HANDSHAKE));
+}
+
+/// A line feed that completes nothing is delivered, and nothing is where no byte is on its way; a part of a line is on its way all the same.
+const ALONE: &str = "\
+> server a.net
+> server b.net
+> server c.net
+> bytes a.net b.net 1
+! 4
+> bytes a.net d.net 1
+! 2
+> link a.net b.net
+> bytes a.net b.net 0
+= 0
+> bytes a.net b.net 25
+= 25
+> deliver a.net b.net
+= 1
+> bytes a.net b.net 3
+= 3
+> link b.net c.net
+! 1
+> deliver a.net b.net
+= 1
+> deliver a.net b.net
+= 0
+> bytes a.net b.net 5
+= 0
+> settle
+= 2
+";
+
+#[test]
+fn a_line_feed_alone(rt: HostRuntime) {
+    assert!(rt; prints_network(rt.alloc(), ALONE));
+}
+
+/// What each client of two servers receives as two bursts cross.
+const RECEIVED: [&str; 4] = [
+    "1 :bo!u@h JOIN #c\n1 :a.net MODE #c +o bo\n",
+    "",
+    "3 :al!u@h JOIN #c\n3 :b.net MODE #c +o al\n",
+    "",
+];
+
+/// Appends so many pieces of so many bytes to a script in each direction, one and the other in turn.
+fn add_pieces(count: usize, size: &str, script: &mut Vec<u8>) -> Result<(), AllocError> {
+    for _ in 0..count {
+        for direction in &["a.net b.net", "b.net a.net"] {
+            script.extend_from_slice(b"bytes ")?;
+            script.extend_from_slice(direction.as_bytes())?;
+            script.extend_from_slice(b" ")?;
+            script.extend_from_slice(size.as_bytes())?;
+            script.extend_from_slice(b"\n")?;
+        }
+    }
+    script.extend_from_slice(b"settle\n")
+}
+
+/// Appends the lines of a client to a text.
+fn add_lines(client: u8, output: &[u8], lines: &mut Vec<u8>) -> Result<(), AllocError> {
+    for line in output.split(|byte: &u8| *byte == b'\n') {
+        if line.starts_with(&[client]) {
+            lines.extend_from_slice(line)?;
+            lines.extend_from_slice(b"\n")?;
+        }
+    }
+    Ok(())
+}
+
+/// Whether a client has received just its lines of these.
+fn has_received(alloc: Global, client: u8, received: &str, output: &[u8]) -> bool {
+    let mut lines = Vec::new(alloc);
+    add_lines(client, output, &mut lines).is_ok() && lines == received.as_bytes()
+}
+
+/// Whether the bursts cross in so many pieces of so many bytes, and each client receives its lines by them, none left for the settle.
+fn crosses(alloc: Global, count: usize, size: &str) -> bool {
+    let mut script = Vec::new(alloc);
+    let mut printed = Vec::new(alloc);
+    let mut output = Vec::new(alloc);
+    if add_text(LINKED, &mut script, &mut printed).is_err()
+        || add_pieces(count, size, &mut script).is_err()
+        || !is_run(alloc, &script, usize::MAX, &mut output)
+    {
+        return false;
+    }
+    let Some(behind) = output.strip_prefix(printed.as_slice()) else {
+        return false;
+    };
+    behind.ends_with(b"= 0\n= 0\n")
+        && has_received(alloc, b'1', RECEIVED[0], behind)
+        && has_received(alloc, b'2', RECEIVED[1], behind)
+        && has_received(alloc, b'3', RECEIVED[2], behind)
+        && has_received(alloc, b'4', RECEIVED[3], behind)
+}
+
+#[test]
+fn bursts_cross_in_pieces(rt: HostRuntime) {
+    assert!(rt; crosses(rt.alloc(), 200, "1"));
+    assert!(rt; crosses(rt.alloc(), 100, "2"));
+    assert!(rt; crosses(rt.alloc(), 5, "509"));
+}
