@@ -5,9 +5,8 @@ ghost use Rattle.std.specs.Option.{option_map};
 ghost use Rattle.irc_network.specs.Loops.Courses.{course, ends_now};
 ghost use Rattle.irc_network.specs.Views.{item_of};
 ghost use Rattle.irc_wires.specs.Wires.{first_direction, through_line_feed, wire_at};
-ghost use Rattle.irc_byte_network.specs.Loops.Coming.{HasHeard, byte_course, bytes_between, come_between, direction_between, lines_between};
+ghost use Rattle.irc_byte_network.specs.Loops.Coming.{GoesOn, HasHeard, HaveCome, IsTurn, byte_course, bytes_between, direction_between, lines_between};
 ghost use Rattle.irc_byte_network.specs.ByteNetwork.{cut_ends, is_byte_rest, item_given, lost_along, written_out, HasRows};
-ghost use Rattle.irc_byte_network.specs.Turns.{ComesToLine, TurnsBy};
 ghost use Rattle.irc_byte_network.specs.Whole.{IsTidy};
 
 use crate::came::Came;
@@ -123,7 +122,7 @@ impl ByteNetwork {
         requires rows { HasRows self.old }
         ensures bytes { IfOk result (λ came. came.bytes ≡ min count (bytes_between self.old ends)) }
         ensures lines { IfOk result (λ came. came.lines ≡ lines_between self.old ends count) }
-        ensures come { OnOk result (byte_course self.new desk.new.lines.items ≡ come_between ends count (byte_course self.old desk.old.lines.items)) }
+        ensures come { OnOk result (HaveCome ends count self.old desk.old.lines.items self.new desk.new.lines.items) }
     {
         let mut lines = Vec::new(self.alloc);
         let bytes = self
@@ -145,7 +144,7 @@ impl ByteNetwork {
     /// Where memory runs out: nothing is promised of the network then, and nothing more is to be asked of it.
     pub fn come_in_turn(&mut self, desk: &mut Desk) -> Result<Option<usize>, AllocError>
         requires rows { HasRows self.old }
-        ensures { IfOk result (λ lines. TurnsBy lines (byte_course self.old desk.old.lines.items) (byte_course self.new desk.new.lines.items)) }
+        ensures { IfOk result (λ lines. IsTurn lines self.old desk.old.lines.items self.new desk.new.lines.items) }
     {
         let Some(ends) = self.first_direction() else {
             return Ok(None);
@@ -161,7 +160,7 @@ impl ByteNetwork {
     /// Where memory runs out: nothing is promised of the network then, and nothing more is to be asked of it.
     pub fn come_to_line(&mut self, desk: &mut Desk) -> Result<Option<usize>, AllocError>
         requires tidy { IsTidy self.old }
-        ensures { IfOk result (λ lines. ComesToLine lines (byte_course self.old desk.old.lines.items) (byte_course self.new desk.new.lines.items)) }
+        ensures { IfOk result (λ lines. GoesOn lines self.old desk.old.lines.items self.new desk.new.lines.items) }
     {
         while let Some(lines) = self.come_in_turn(desk)? {
             if lines > 0 {

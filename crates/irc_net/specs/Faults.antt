@@ -7,6 +7,7 @@ use Rattle.irc_world.specs.Stepping.{Item}
 use Rattle.irc_net.specs.declared.fault.NetFault.{NetFault}
 use Rattle.irc_net.specs.declared.fault.NetFault.TheVariants as fault
 use Rattle.irc_byte_network.specs.ByteNetwork.{ByteNetwork, is_byte_rest}
+use Rattle.irc_network.specs.Network.{Network, view_of}
 pub use Rattle.irc_network.specs.Refusing.{are_agreed, fault_at_rest, way_fault}
 
 abbrev pub fault_by : Refusal → NetFault
@@ -22,6 +23,10 @@ item_fault net item = if is_byte_rest net then option_map fault_by (fault_at_res
 
 unfoldable pub deliver_fault : ByteNetwork → Name → Name → Option NetFault
 deliver_fault net from to = option_map fault_by (way_fault net.network from to)
+
+-- whether two servers are there, and agree on all channels that both have
+abbrev pub do_agree : Network → Name → Name → Bool
+do_agree net one other = are_agreed (view_of net one) (view_of net other)
 
 -- a refusal is the answer to a step; want of memory is none
 abbrev pub is_refusal : NetFault → Bool

@@ -2,16 +2,15 @@
 ghost use Rattle.std.specs.Prelude.{◌≡◌, true, false, [], ◌∷◌, ◌++◌, map, IfOk, OnOk};
 ghost use Rattle.std.specs.Option.{option_map};
 ghost use Rattle.irc_byte_network.specs.ByteNetwork.{is_byte_rest};
-ghost use Rattle.irc_byte_network.specs.Loops.Coming.{byte_course};
 ghost use Rattle.irc_net.specs.declared.step.Step.TheVariants.{Bytes, Deliver, Give, Settle};
 ghost use Rattle.irc_net.specs.Calls.{step_refused, ArePlayable, ArePlayed, AreTaken, IsDelivered, IsGivable, IsGiven, IsPlayable, IsSettled, IsStepDone};
-ghost use Rattle.irc_net.specs.Faults.{are_agreed, deliver_fault, fault_by, item_fault};
+ghost use Rattle.irc_net.specs.Faults.{deliver_fault, do_agree, fault_by, item_fault};
 ghost use Rattle.irc_net.specs.Making.{IsMade};
 ghost use Rattle.irc_net.specs.Loops.Coming.{AreLinkedEnds, HaveComeTo};
-ghost use Rattle.irc_net.specs.Loops.Settling.{SettlesAt};
+ghost use Rattle.irc_net.specs.Loops.Settling.{HasSettled};
 ghost use Rattle.irc_net.specs.OneRoom.{IsKeptSound, IsOneRoomNet, IsOwed, RefusesAsTheWorld, TakesFew};
 ghost use Rattle.irc_net.specs.Views.{answers_now, counted_now, delivered_now};
-ghost use Rattle.irc_network.specs.Network.{received_by, view_of};
+ghost use Rattle.irc_network.specs.Network.{received_by};
 ghost use Rattle.irc_network.specs.Views.{item_of, items_of, refusal_of};
 ghost use Rattle.irc_sites.specs.Loops.Queues.{bytes_of};
 ghost use Rattle.irc_world.specs.WithinLimits.{IsItemWithin};
@@ -115,7 +114,7 @@ impl Net {
 
     /// Whether two servers agree on all channels that both would have if they were linked; false where no server has one of these names.
     pub fn agrees(&self, one: &ServerName, other: &ServerName) -> bool
-        ensures { result ≡ are_agreed (view_of self.now.network.network one.now) (view_of self.now.network.network other.now) }
+        ensures { result ≡ do_agree self.now.network.network one.now other.now }
     {
         self.network.network().agrees(one, other)
     }
@@ -340,7 +339,7 @@ impl Net {
 /// leaves fewer.
 fn take_all(network: &mut ByteNetwork, desk: &mut Desk) -> Result<u64, AllocError>
     requires sound { IsKeptSound network.old }
-    ensures { IfOk result (λ count. SettlesAt count (byte_course network.old desk.old.lines.items) (byte_course network.new desk.new.lines.items)) }
+    ensures { IfOk result (λ count. HasSettled count network.old desk.old.lines.items network.new desk.new.lines.items) }
 {
     laws::delivery_keeps_sound();
     laws::turn_leaves_fewer();
