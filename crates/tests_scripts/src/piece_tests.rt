@@ -94,7 +94,7 @@ fn add_lines(client: u8, output: &[u8], lines: &mut Vec<u8>) -> Result<(), Alloc
 /// Whether a client has received just its lines of these.
 fn has_received(alloc: Global, client: u8, received: &str, output: &[u8]) -> bool {
     let mut lines = Vec::new(alloc);
-    add_lines(client, output, &mut lines).is_ok() && lines == received.as_bytes()
+    add_lines(client, output, &mut lines).is_ok() && lines.as_slice() == received.as_bytes()
 }
 
 /// Whether the bursts cross in so many pieces of so many bytes, and each client receives its lines by them, none left for the settle.
