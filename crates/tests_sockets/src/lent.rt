@@ -2,12 +2,17 @@
 ghost use Rattle.std.specs.Prelude.{⊤, ◌≤◌, length, IfOk};
 ghost use Rattle.irc_outbox.specs.Calls.{Call, asks, reads, writes, closes, bytes_got, Adds, FitsIn};
 
+use arrayvec::ArrayVec;
 use irc_outbox::{Got, IoFault, MemoryWire, Ready, Wire};
+
+/// Whom an engine has closed, one after another, as far as there is room.
+pub(crate) type Closings = ArrayVec<u64, 8>;
 
 /// A wire in memory, lent.
 #[derive(Drop)]
 pub(crate) struct Lent<'a> {
     pub wire: &'a mut MemoryWire,
+    pub closings: &'a mut Closings,
 }
 
 /// It keeps no account of what was asked.
@@ -27,6 +32,7 @@ impl<'a> Wire for Lent<'a> {
     }
 
     fn close(&mut self, conn: u64) {
+        let _noted = self.closings.try_push(conn);
         self.wire.close(conn)
     }
 }

@@ -6,11 +6,19 @@ mod calling;
 #[cfg(test)]
 mod calls;
 #[cfg(test)]
+mod conversation;
+#[cfg(test)]
+mod cut_short;
+#[cfg(test)]
+mod failing;
+#[cfg(test)]
 mod lent;
 #[cfg(test)]
 mod links;
 #[cfg(test)]
 mod memory;
+#[cfg(test)]
+mod overflows;
 #[cfg(test)]
 mod server;
 #[cfg(test)]

@@ -1,5 +1,5 @@
 //! An engine over a wire in memory.
-use crate::lent::Lent;
+use crate::lent::{Closings, Lent};
 use crate::server::server;
 use crate::steps::{Step, wire};
 use irc_engine::Engine;
@@ -22,10 +22,45 @@ pub(crate) fn runs_in(
     link_room: usize,
     turns: u64,
 ) -> bool {
+    let closings = &mut Closings::new();
+    runs_over(
+        alloc,
+        Lent { wire, closings },
+        client_room,
+        link_room,
+        turns,
+    )
+}
+
+/// Whether so many turns are taken over a wire; it is noted whom the engine closes.
+pub(crate) fn runs_noting(
+    alloc: Global,
+    wire: &mut MemoryWire,
+    closings: &mut Closings,
+    client_room: usize,
+    turns: u64,
+) -> bool {
+    runs_over(
+        alloc,
+        Lent { wire, closings },
+        client_room,
+        LINK_ROOM,
+        turns,
+    )
+}
+
+/// Whether so many turns are taken over a lent wire, with outboxes of these rooms.
+fn runs_over(
+    alloc: Global,
+    wire: Lent<'_>,
+    client_room: usize,
+    link_room: usize,
+    turns: u64,
+) -> bool {
     let Some(server) = server(alloc) else {
         return false;
     };
-    match Engine::new(alloc, server, Lent { wire }, client_room, link_room) {
+    match Engine::new(alloc, server, wire, client_room, link_room) {
         Ok(mut engine) => engine.run(turns).is_ok(),
         Err(_fault) => false,
     }

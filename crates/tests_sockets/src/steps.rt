@@ -4,6 +4,7 @@ use irc_outbox::{MemoryWire, WireStep};
 use std::alloc::{AllocError, Global};
 
 /// One thing that happens, as [`WireStep`]. Each client comes from host `h`, and the server that was called is `b.net`.
+#[derive(Drop)]
 pub(crate) enum Step {
     Client(u64),
     Linked(u64),
@@ -33,6 +34,14 @@ fn wire_step(alloc: Global, step: &Step) -> Option<WireStep> {
 fn add(steps: &mut Vec<WireStep, Global>, step: WireStep) -> Result<(), AllocError> {
     steps.push(step)?;
     Ok(())
+}
+
+/// One thing more happens on a wire. Tells whether it is added.
+pub(crate) fn add_step(alloc: Global, steps: &mut Vec<WireStep, Global>, step: &Step) -> bool {
+    match wire_step(alloc, step) {
+        Some(step) => add(steps, step).is_ok(),
+        None => false,
+    }
 }
 
 /// A wire on which one thing happens after another.
