@@ -101,7 +101,9 @@ pub fn new_link_is_open()
 /// Nor does any by what its clients do, or as another link is lost.
 pub fn only_lines_close()
     ensures { OnlyLinesClose }
-{}
+{
+    irc_server_laws::laws::served_closes_its_own();
+}
 
 /// At rest it is one room.
 pub fn rest_is_one_room()

@@ -1,5 +1,6 @@
 pub mod AllOf
 pub mod LinesEnd
 pub mod MetEnds
+pub mod OwnClosings
 pub mod OwnKept
 pub mod OwnServed

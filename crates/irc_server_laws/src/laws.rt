@@ -1,4 +1,5 @@
 //! What holds of one server with links, whatever happens.
+ghost use Rattle.irc_server_laws.specs.Closings.{ServedClosesItsOwn};
 ghost use Rattle.irc_server_laws.specs.LineEnds.{ServedLinesEnd};
 ghost use Rattle.irc_server_laws.specs.Own.{ServedGoesToItsOwn, ServedKeepsEnds};
 
@@ -15,4 +16,10 @@ pub fn served_goes_to_its_own()
 /// Each line that a server puts out on a link ends in CR LF.
 pub fn served_lines_end()
     ensures { ServedLinesEnd }
+{}
+
+/// A server closes just the link by which a line came that has a reason to be closed, for that reason, or one that it is told to open to a name that no
+/// peer has (RFC 2813 section 4.1). Whatever else happens closes no link.
+pub fn served_closes_its_own()
+    ensures { ServedClosesItsOwn }
 {}
