@@ -2,8 +2,8 @@
 """Each allocation of `ircd sim` refused in turn, while it runs a script of a network: a JOIN that crosses a link, a split and its rejoin, a nickname on both
 sides of a new link, two bursts that cross, and all of that in pieces of bytes.
 
-What is printed is a front of what is printed with ample memory, whole lines of it, and the program says that it failed and ends with that status; or it did
-without, and prints all. The numbers go on until a run meets no refusal.
+What is printed is what the first so many lines of the script print with ample memory, and nothing of the line that failed, and the program says that it failed
+and ends with that status; or it did without, and prints all. The numbers go on until a run meets no refusal.
 
 tests/refused_scripts.py [PROGRAM]. The program is crates/ircd/out/ircd (`./ircd build` makes it) where none is named.
 Exit status: 0 where all of this held each time, 1 where it did not.
@@ -58,24 +58,36 @@ def run(program, library, number, script):
     return is_refused, done.stdout, done.stderr.replace(b"refused\n", b""), done.returncode
 
 
-def is_right(whole, printed, said, status):
-    """Whether what came of a refusal is a front, in whole lines, and the failure is told; or all of it."""
-    is_front = whole.startswith(printed) and (not printed or printed.endswith(b"\n"))
-    has_failed = is_front and status == FAILED and said == b"ircd: failed\n"
-    return has_failed or (printed == whole and status == 0 and not said)
+def fronts(program, library, script):
+    """What is printed by the first so many lines of a script, for each number of lines; none where something else than that came."""
+    printed = [b""]
+    lines = script.splitlines(keepends=True)
+    for count in range(1, len(lines) + 1):
+        is_refused, text, said, status = run(program, library, 0, "".join(lines[:count]))
+        if is_refused or said or status:
+            return None
+        printed.append(text)
+    return printed
+
+
+def is_right(by_lines, printed, said, status):
+    """Whether what came of a refusal is what some first lines of the script print, and the failure is told; or all of it."""
+    has_failed = printed in by_lines and status == FAILED and said == b"ircd: failed\n"
+    return has_failed or (printed == by_lines[-1] and status == 0 and not said)
 
 
 def tried(program, library, script):
     """How many allocations were refused in turn, or the first of which something else came."""
-    is_refused, whole, said, status = run(program, library, 0, script)
-    if is_refused or said or status:
+    by_lines = fronts(program, library, script)
+    if by_lines is None:
         return None, 0
+    whole = by_lines[-1]
     number = 1
     while True:
         is_refused, printed, said, status = run(program, library, number, script)
         if not is_refused:
             return number - 1, None if printed == whole else number
-        if not is_right(whole, printed, said, status):
+        if not is_right(by_lines, printed, said, status):
             print(f"  {printed[-200:]!r}\n  {said!r}, status {status}")
             return number, number
         number += 1
