@@ -12,6 +12,10 @@ use std::alloc::{AllocError, Global};
 /// Servers are named by numbers from this on, and numbered so too: their names stand in the order of these.
 const FIRST: u32 = 101;
 
+/// A number and what stands around it come behind these bytes.
+///
+/// # Errors
+/// Where memory runs out.
 fn add_word(
     bytes: &mut Vec<u8, Global>,
     front: &[u8],
@@ -24,12 +28,23 @@ fn add_word(
     bytes.extend_from_slice(end)
 }
 
+/// The line that tells of the server of a number comes behind these bytes.
+///
+/// # Errors
+/// Where memory runs out.
+fn add_server(bytes: &mut Vec<u8, Global>, front: &[u8], number: u32) -> Result<(), AllocError> {
+    add_word(bytes, front, number, b".net 2 ")?;
+    add_word(bytes, b"", number, b" :N\r\n")
+}
+
 /// The lines that tell of so many servers, each of which begins so.
+///
+/// # Errors
+/// Where memory runs out.
 fn lines_of(alloc: Global, front: &[u8], count: u32) -> Result<Vec<u8, Global>, AllocError> {
     let mut bytes = Vec::new(alloc);
     for number in FIRST..FIRST.saturating_add(count) {
-        add_word(&mut bytes, front, number, b".net 2 ")?;
-        add_word(&mut bytes, b"", number, b" :N\r\n")?;
+        add_server(&mut bytes, front, number)?;
     }
     Ok(bytes)
 }
@@ -109,12 +124,18 @@ fn behind_word<'a>(text: &'a [u8], front: &[u8], number: u32, end: &[u8]) -> Opt
         .strip_prefix(end)
 }
 
-/// What is left of a text behind the lines that tell of b.net and all behind it; a.net numbers these from 4 on.
+/// What is left of a text behind the line that tells of the server at a place; a.net numbers them from 4 on.
+fn behind_server(text: &[u8], place: u32) -> Option<&[u8]> {
+    let number = FIRST.saturating_add(place);
+    let rest = behind_word(text, b":b.net SERVER n", number, b".net 3 ")?;
+    behind_word(rest, b"", place.saturating_add(4), b" :N\r\n")
+}
+
+/// What is left of a text behind the lines that tell of b.net and all behind it.
 fn behind_coming(text: &[u8]) -> Option<&[u8]> {
     let mut rest = text.strip_prefix(b":a.net SERVER b.net 2 3 :B\r\n".as_slice())?;
     for place in 0..BESIDE_THREE {
-        rest = behind_word(rest, b":b.net SERVER n", FIRST + place, b".net 3 ")?;
-        rest = behind_word(rest, b"", 4 + place, b" :N\r\n")?;
+        rest = behind_server(rest, place)?;
     }
     Some(rest)
 }

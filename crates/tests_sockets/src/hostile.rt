@@ -184,6 +184,10 @@ static BEHIND_HANDSHAKE: [&[u8]; 8] = [
     b"SERVER b.net 1 1 :B\r\n",
 ];
 
+/// One text and then another.
+///
+/// # Errors
+/// Where memory runs out.
 fn both(alloc: Global, first: &[u8], second: &[u8]) -> Result<Vec<u8, Global>, AllocError> {
     let mut bytes = Vec::from_slice(alloc, first)?;
     bytes.extend_from_slice(second)?;
