@@ -24,6 +24,39 @@ static GREETING: [Step; 2] = [
     Step::Hears(7, b"SERVER b.net 1 1 :B"),
 ];
 
+/// f.net is behind it, and al is in a channel with zo of b.net and ed of f.net.
+static CROWD: [Step; 7] = [
+    Step::Says(1, b"JOIN #c"),
+    Step::Hears(7, b"PASS pw 0210010000 TREE|"),
+    Step::Hears(7, b"SERVER b.net 1 1 :B"),
+    Step::Hears(7, b":b.net SERVER f.net 2 7 :F"),
+    Step::Hears(7, b"NICK ed 2 u h 7 + :Ed"),
+    Step::Hears(7, b"NICK zo 1 u h 1 + :Zo"),
+    Step::Hears(7, b":b.net NJOIN #c :ed,zo"),
+];
+
+/// How far b.net has come.
+#[derive(Clone, Copy)]
+enum Standing {
+    /// It has not named itself.
+    Strange,
+    /// It is linked.
+    Linked,
+    /// Others are behind it.
+    Crowded,
+}
+
+impl Standing {
+    /// What it does for that.
+    fn steps(self) -> &'static [Step] {
+        match self {
+            Standing::Strange => &[],
+            Standing::Linked => &GREETING,
+            Standing::Crowded => &CROWD,
+        }
+    }
+}
+
 /// A word passes by the other link, and the number of the closed one is free.
 static AFTERWARDS: [Step; 2] = [Step::Says(1, b"PRIVMSG cy :yo"), Step::IsCalled(7)];
 
@@ -217,15 +250,20 @@ fn fills(server: &mut Server, end: u32, out: &mut Batch) -> bool {
     all
 }
 
-/// Whether what is put out is the end of the link 7 for this reason, after a handshake what its loss does, and then the word by the other link.
-fn is_put_for(out: &Batch, met: bool, reason: CloseReason) -> bool {
+/// Whether what is put out is the end of the link 7 for this reason, then what its loss does, server by server, and then the word by the other link.
+fn is_put_for(out: &Batch, standing: Standing, reason: CloseReason) -> bool {
     let end = Out::LinkClose(7, reason);
     let loss = Out::LinkLine(8, b":a.net SQUIT b.net :a.net b.net");
     let word = Out::LinkLine(8, b":al PRIVMSG cy :yo");
-    if met {
-        are_put(out, &[end, loss, word])
-    } else {
-        are_put(out, &[end, word])
+    match standing {
+        Standing::Strange => are_put(out, &[end, word]),
+        Standing::Linked => are_put(out, &[end, loss, word]),
+        Standing::Crowded => {
+            let near = Out::Line(1, b":zo!u@h QUIT :a.net b.net");
+            let far = Out::Line(1, b":ed!u@h QUIT :a.net b.net");
+            let behind = Out::LinkLine(8, b":a.net SQUIT f.net :a.net b.net");
+            are_put(out, &[end, near, loss, far, behind, word])
+        }
     }
 }
 
@@ -238,25 +276,27 @@ fn takes_lines(alloc: Global, server: &mut Server, lines: &[&[u8]], out: &mut Ba
     all && happens(alloc, server, &AFTERWARDS, out)
 }
 
-/// Whether a link is closed as a row says, behind a handshake or in it, where c.net has told of servers with numbers below this.
-fn closes(alloc: Global, met: bool, end: u32, closing: &Closing) -> bool {
+/// Whether a link is closed as a row says, where b.net has come so far, and c.net has told of servers with numbers below this.
+fn closes(alloc: Global, standing: Standing, end: u32, closing: &Closing) -> bool {
     let Some(mut server) = server(alloc) else {
         return false;
     };
     let mut out = Batch::new(alloc);
     let stands = happens(alloc, &mut server, &BEFORE, &mut out)
-        && (!met || happens(alloc, &mut server, &GREETING, &mut out))
+        && happens(alloc, &mut server, standing.steps(), &mut out)
         && fills(&mut server, end, &mut out);
     out.clear();
     let (lines, reason) = closing;
-    stands && takes_lines(alloc, &mut server, lines, &mut out) && is_put_for(&out, met, *reason)
+    stands
+        && takes_lines(alloc, &mut server, lines, &mut out)
+        && is_put_for(&out, standing, *reason)
 }
 
 /// Whether a link is closed as each row says.
-fn all_close(alloc: Global, met: bool, end: u32, closings: &[Closing]) -> bool {
+fn all_close(alloc: Global, standing: Standing, end: u32, closings: &[Closing]) -> bool {
     let mut all = true;
     for closing in closings {
-        all &= closes(alloc, met, end, closing);
+        all &= closes(alloc, standing, end, closing);
     }
     all
 }
@@ -284,23 +324,31 @@ fn all_are_refused(alloc: Global) -> bool {
         all &= is_refused(&mut server, step, *fault, &mut out);
     }
     all && takes_lines(alloc, &mut server, &[b"FOO"], &mut out)
-        && is_put_for(&out, false, CloseReason::UnknownCommand)
+        && is_put_for(&out, Standing::Strange, CloseReason::UnknownCommand)
 }
 
 #[test]
 fn a_handshake_closes_a_link(rt: HostRuntime) {
-    assert!(rt; all_close(rt.alloc(), false, 2, &IN_HANDSHAKE));
+    assert!(rt; all_close(rt.alloc(), Standing::Strange, 2, &IN_HANDSHAKE));
 }
 
 #[test]
 fn a_line_behind_the_handshake_closes_a_link(rt: HostRuntime) {
-    assert!(rt; all_close(rt.alloc(), true, 2, &BEHIND_HANDSHAKE));
+    assert!(rt; all_close(rt.alloc(), Standing::Linked, 2, &BEHIND_HANDSHAKE));
+}
+
+#[test]
+fn all_behind_a_closed_link_are_lost(rt: HostRuntime) {
+    assert!(rt; all_close(rt.alloc(), Standing::Crowded, 2, &BEHIND_HANDSHAKE));
 }
 
 #[test]
 fn no_server_comes_beyond_the_last(rt: HostRuntime) {
-    assert!(rt; all_close(rt.alloc(), false, 256, &FULL_IN_HANDSHAKE));
-    assert!(rt; all_close(rt.alloc(), true, 255, &FULL_BEHIND));
+    assert!(rt; all_close(rt.alloc(), Standing::Strange, 256, &FULL_IN_HANDSHAKE));
+    assert!(rt;
+        all_close(rt.alloc(), Standing::Linked, 255, &FULL_BEHIND)
+            && all_close(rt.alloc(), Standing::Crowded, 254, &FULL_BEHIND)
+    );
 }
 
 #[test]

@@ -5,20 +5,10 @@ use crate::conversation::{
 };
 use crate::lent::Closings;
 use crate::memory::runs_noting;
-use crate::steps::{Step, add_step};
+use crate::steps::{Step, add_each, add_step};
 use irc_names::first_bytes;
 use irc_outbox::{MemoryWire, WireStep};
 use std::alloc::Global;
-
-/// Some things happen on a wire. Tells whether they are added.
-fn add_each(alloc: Global, steps: &mut Vec<WireStep, Global>, happens: &[Step]) -> bool {
-    for step in happens {
-        if !add_step(alloc, steps, step) {
-            return false;
-        }
-    }
-    true
-}
 
 /// The conversation is held on a wire up to a line of which so many bytes come; then the connection that says it ends. Tells whether it is added.
 fn add_cut(

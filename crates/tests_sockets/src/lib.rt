@@ -12,6 +12,10 @@ mod cut_short;
 #[cfg(test)]
 mod failing;
 #[cfg(test)]
+mod full;
+#[cfg(test)]
+mod hostile;
+#[cfg(test)]
 mod lent;
 #[cfg(test)]
 mod links;

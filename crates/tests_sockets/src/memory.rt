@@ -50,7 +50,7 @@ pub(crate) fn runs_noting(
 }
 
 /// Whether so many turns are taken over a lent wire, with outboxes of these rooms.
-fn runs_over(
+pub(crate) fn runs_over(
     alloc: Global,
     wire: Lent<'_>,
     client_room: usize,

@@ -5,7 +5,7 @@ use irc_routes::Own;
 use irc_server::{Config, Event, Peer, Server};
 use std::alloc::{AllocError, Global};
 
-/// A server a.net that nobody is connected to. It may be linked to b.net, by the password pw.
+/// A server a.net that nobody is connected to. It may be linked to b.net and c.net; these give the passwords pw and pq.
 pub(crate) fn server(alloc: Global) -> Option<Server> {
     match config(alloc) {
         Ok(config) => Server::new(alloc, config).ok(),
@@ -15,10 +15,8 @@ pub(crate) fn server(alloc: Global) -> Option<Server> {
 
 fn config(alloc: Global) -> Result<Config, AllocError> {
     let mut peers = Vec::new(alloc);
-    peers.push(Peer {
-        name: Vec::from_slice(alloc, b"b.net")?,
-        password: Vec::from_slice(alloc, b"pw")?,
-    })?;
+    peers.push(peer(alloc, b"b.net", b"pw")?)?;
+    peers.push(peer(alloc, b"c.net", b"pq")?)?;
     Ok(Config {
         own: Own {
             name: Vec::from_slice(alloc, b"a.net")?,
@@ -26,6 +24,13 @@ fn config(alloc: Global) -> Result<Config, AllocError> {
             created: Vec::from_slice(alloc, b"2024-01-01")?,
         },
         peers,
+    })
+}
+
+fn peer(alloc: Global, name: &[u8], password: &[u8]) -> Result<Peer, AllocError> {
+    Ok(Peer {
+        name: Vec::from_slice(alloc, name)?,
+        password: Vec::from_slice(alloc, password)?,
     })
 }
 

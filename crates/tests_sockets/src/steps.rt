@@ -31,7 +31,11 @@ fn wire_step(alloc: Global, step: &Step) -> Option<WireStep> {
     }
 }
 
-fn add(steps: &mut Vec<WireStep, Global>, step: WireStep) -> Result<(), AllocError> {
+/// One thing more happens on a wire.
+///
+/// # Errors
+/// Where memory runs out.
+pub(crate) fn add(steps: &mut Vec<WireStep, Global>, step: WireStep) -> Result<(), AllocError> {
     steps.push(step)?;
     Ok(())
 }
@@ -42,6 +46,16 @@ pub(crate) fn add_step(alloc: Global, steps: &mut Vec<WireStep, Global>, step: &
         Some(step) => add(steps, step).is_ok(),
         None => false,
     }
+}
+
+/// Some things happen on a wire. Tells whether they are added.
+pub(crate) fn add_each(alloc: Global, steps: &mut Vec<WireStep, Global>, happens: &[Step]) -> bool {
+    for step in happens {
+        if !add_step(alloc, steps, step) {
+            return false;
+        }
+    }
+    true
 }
 
 /// A wire on which one thing happens after another.
