@@ -71,6 +71,7 @@ end_of_names asked = Answer (EndOfNames (client_words asked))
 abbrev pub one_names : Room → User → List ℕ → List Act
 one_names room me name = known_names room.users me (row room.channels (key name)) ++ end_of_names name ∷ []
 
+-- of each channel of a comma list, one after another
 abbrev pub list_names : Room → User → List ℕ → List Act
 list_names room me list = flat_map (one_names room me) (entries list)
 

@@ -69,6 +69,7 @@ abbrev pub topic_for_joiner : List ℕ → List ℕ → List Act
 topic_for_joiner name [] = []
 topic_for_joiner name (b ∷ bytes) = Answer (Topic name (kept (b ∷ bytes))) ∷ []
 
+-- that of a channel
 abbrev pub joiner_topic : Channel → List Act
 joiner_topic channel = topic_for_joiner channel.name channel.topic
 

@@ -43,6 +43,7 @@ ban_changed_to mask plus (Some word) before = if same word mask then (if plus th
 abbrev pub ban_by : List ℕ → Option (List ℕ) → ModeChange → Option (List ℕ)
 ban_by mask before change = ban_changed_to mask change.plus (ban_mask change.letter change.word) before
 
+-- the ban that they leave, of those that are the same as a mask
 abbrev pub ban_by_all : Channel → List ModeChange → List ℕ → Option (List ℕ)
 ban_by_all start changes mask = fold (ban_by mask) (find (same mask) start.modes.bans) changes
 

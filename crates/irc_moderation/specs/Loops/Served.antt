@@ -12,10 +12,11 @@ use Rattle.irc_moderation.specs.declared.kept_changes.KeptChanges.{KeptChanges}
 use Rattle.irc_moderation.specs.ChannelMode.{Outcome, one_served, served}
 use Rattle.irc_moderation.specs.Loops.Judged.{channel_behind}
 
--- what comes of all letters, and of one in the channel as the changes that are kept leave it
+-- what comes of all letters
 abbrev pub outcome_of_each : Kept → Channel → List ModeItem → Outcome
 outcome_of_each room channel items = served room.room.users channel channel (all_asked items)
 
+-- what comes of one, in the channel as the changes that are kept leave it
 abbrev pub outcome_of_one : Kept → Channel → KeptChanges → ModeItem → Outcome
 outcome_of_one room channel kept item = one_served room.room.users channel (channel_behind kept channel) (asked item)
 
