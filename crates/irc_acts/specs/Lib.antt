@@ -1,6 +1,7 @@
 pub mod ByTest
 pub mod Marks
 pub mod Acts
+pub mod Steps
 pub mod Words
 pub mod CommaLists
 pub mod Standing

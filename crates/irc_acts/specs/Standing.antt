@@ -1,9 +1,11 @@
 -- How a user stands to a channel: what it is there, whether it is banned, and what it may know of it.
-use Rattle.std.specs.Prelude.{ℕ, Bool, true, false, not, ◌||◌, Option, Some, None, List, if◌then◌else◌}
+use Rattle.std.specs.Prelude.{ℕ, Bool, true, false, not, ◌||◌, Option, Some, None, List, map, if◌then◌else◌}
+use Rattle.std.specs.Borrow.{Bor}
 use Rattle.std.specs.List.{list_any}
 use Rattle.irc_names.specs.Fold.{key, same}
 use Rattle.irc_names.specs.MaskLaws.{matches}
 use Rattle.irc_line.specs.Messages.{full_name}
+use Rattle.irc_tables.specs.declared.table.Row.{Row}
 use Rattle.irc_users.specs.declared.user.User.{User}
 use Rattle.irc_channels.specs.declared.flags.Flags.{Flags}
 use Rattle.irc_modes.specs.declared.modes.Privacy.{Privacy}
@@ -54,6 +56,10 @@ is_listed user channel = has_member (key user.nick) channel || is_public channel
 -- It is known to its members, and to others where it is not secret.
 abbrev pub is_known : User → Channel → Bool
 is_known user channel = has_member (key user.nick) channel || not (is_secret channel.modes.privacy)
+
+-- the channels of rows that were found
+abbrev pub channels_now : List (Bor (Row Channel)) → List Channel
+channels_now rows = map (λ row. row.now.value) rows
 
 -- whether one who is in these channels sees a user: itself, a user without mode i, and who is in one of them
 abbrev pub is_seen_from : List Channel → User → User → Bool

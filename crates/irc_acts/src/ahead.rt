@@ -1,12 +1,9 @@
 //! The room as some steps leave it. It is looked at through them, and neither changed nor copied.
 ghost use Rattle.std.specs.Prelude.{◌≡◌, ◌<◌, ◌-◌, ◌^◌, length};
-ghost use Rattle.std.specs.Option.{option_copied, option_map};
 ghost use Rattle.irc_names.specs.Fold.{key};
-ghost use Rattle.irc_names.specs.Tables.{row};
-ghost use Rattle.irc_channels.specs.declared.channel.Channel.{Channel};
 ghost use Rattle.irc_room.specs.Readers.{flags_at};
 ghost use Rattle.irc_room.specs.Room.{IsWellFormed};
-ghost use Rattle.irc_acts.specs.Ahead.{ahead};
+ghost use Rattle.irc_acts.specs.Ahead.{ahead, channel_ahead, IsNamedAs};
 ghost use Rattle.irc_acts.specs.Moves.{own_channels, members_at, AreMoves, AreLeaves};
 ghost use Rattle.irc_acts.specs.Loops.Moving.{flags_by, members_by, channels_by};
 
@@ -116,7 +113,7 @@ fn channels_by(act: &Act, nick: &[u8], before: usize) -> usize
 /// The channel of a name as the room has it, where some member is left once these steps are done, by which members only leave.
 pub fn channel<'a>(room: &'a Room, steps: &[Act], name: &[u8]) -> Option<&'a Channel>
     requires { AreLeaves room.now.room steps.now }
-    ensures { option_map (λ (c : Channel). c.name) (option_copied result) ≡ option_map (λ (c : Channel). c.name) (row (ahead room.now.room steps.now).channels (key name.now)) }
+    ensures { IsNamedAs result (channel_ahead room.now.room steps.now name.now) }
 {
     know_well_formed(room);
     if members(room, steps, name) == 0 {

@@ -1,15 +1,15 @@
 //! Lists whose entries are parted by commas (RFC 2812 section 2.3.1).
-ghost use Rattle.std.specs.Prelude.{◌≡◌, ◌≤◌, ◌<◌, false, not, [], ◌∷◌, length, take, drop, MatchOption};
+ghost use Rattle.std.specs.Prelude.{◌≡◌, ◌≤◌, false, not, ◌∷◌, length, take, drop};
 ghost use Rattle.std.specs.List.{list_any};
 ghost use Rattle.irc_line.specs.Bytes.{begins};
 ghost use Rattle.irc_line.specs.MessageViews.{optional_now};
-ghost use Rattle.irc_acts.specs.CommaLists.{is_comma, entries, pieces, pieces_left, length_left};
+ghost use Rattle.irc_acts.specs.CommaLists.{is_comma, entries, pieces, pieces_left, length_left, IsNextEntry};
 
 const COMMA: u8 = b',';
 
 /// The first entry of a comma list that is not empty, and the list behind it.
 pub fn next_entry(list: &[u8]) -> Option<(&[u8], &[u8])>
-    ensures { MatchOption result (entries list.now ≡ []) (λ e. (entries list.now ≡ e.0.now ∷ entries e.1.now) × (length e.1.now < length list.now)) }
+    ensures { IsNextEntry list.now result }
 {
     let behind = skip_commas(list);
     if behind.is_empty() {

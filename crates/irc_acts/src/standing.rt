@@ -1,9 +1,9 @@
 //! How a user stands to a channel.
-ghost use Rattle.std.specs.Prelude.{◌≡◌, map};
+ghost use Rattle.std.specs.Prelude.{◌≡◌};
 ghost use Rattle.std.specs.List.{list_any};
 ghost use Rattle.irc_names.specs.Fold.{key};
 ghost use Rattle.irc_channels.specs.Channels.{has_member};
-ghost use Rattle.irc_acts.specs.Standing.{is_banned, is_known, is_listed, is_operator, is_seen_from, mark_of, mask_of, visibility_of};
+ghost use Rattle.irc_acts.specs.Standing.{channels_now, is_banned, is_known, is_listed, is_operator, is_seen_from, mark_of, mask_of, visibility_of};
 
 use arrayvec::ArrayVec;
 use irc_channels::{Channel, Flags};
@@ -70,14 +70,14 @@ pub fn is_known(user: &User, channel: &Channel) -> bool
 /// Whether a user is seen by another, whose own channels are given: itself, a user without mode i, and one that is in one of these channels
 /// (RFC 2812 section 3.6.1).
 pub fn is_seen(me: &User, own: &[&Row<Channel>], user: &User) -> bool
-    ensures { result ≡ is_seen_from (map (λ row. row.now.value) own.now) me.now user.now }
+    ensures { result ≡ is_seen_from (channels_now own.now) me.now user.now }
 {
     me.nick == user.nick || !user.invisible || is_in_one(own, user)
 }
 
 /// Whether a user is in one of some channels.
 fn is_in_one(channels: &[&Row<Channel>], user: &User) -> bool
-    ensures { result ≡ list_any (has_member (key user.now.nick)) (map (λ row. row.now.value) channels.now) }
+    ensures { result ≡ list_any (has_member (key user.now.nick)) (channels_now channels.now) }
 {
     is_in_row(channels, &user.nick)
 }

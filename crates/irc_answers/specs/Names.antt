@@ -71,8 +71,12 @@ end_of_names asked = Answer (EndOfNames (client_words asked))
 abbrev pub one_names : Room → User → List ℕ → List Act
 one_names room me name = known_names room.users me (row room.channels (key name)) ++ end_of_names name ∷ []
 
+-- of each channel of a comma list, one after another
+abbrev pub list_names : Room → User → List ℕ → List Act
+list_names room me list = flat_map (one_names room me) (entries list)
+
 -- What a NAMES does (RFC 2812 section 3.2.5). Without a parameter, all channels that are listed; users on no such channel are not named (our
 -- own choice).
 unfoldable pub names_steps : Room → User → List (List ℕ) → List Act
 names_steps room me [] = listed_names room me (values room.channels) ++ end_of_names (asterisk ∷ []) ∷ []
-names_steps room me (list ∷ more) = flat_map (one_names room me) (entries list)
+names_steps room me (list ∷ more) = list_names room me list

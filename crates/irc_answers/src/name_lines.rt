@@ -1,17 +1,12 @@
 //! The lines that name a channel's members (RFC 2812 section 5.1, reply 353).
-ghost use Rattle.std.specs.Prelude.{◌≡◌, false, Some, [], ◌∷◌, ◌++◌, map, IfOk, OnOk};
-ghost use Rattle.std.specs.List.{filter_map};
-ghost use Rattle.std.specs.FinMap.{entries};
+ghost use Rattle.std.specs.Prelude.{◌≡◌, false, [], ◌∷◌, IfOk};
 ghost use Rattle.irc_names.specs.Fold.{key};
-ghost use Rattle.irc_names.specs.Tables.{alter};
 ghost use Rattle.irc_tables.specs.FoldedRows.{IsInFoldedOrder, IsPlaceOf};
 ghost use Rattle.irc_tables.specs.RowViews.{row_entry};
-ghost use Rattle.irc_channels.specs.declared.flags.Flags.{Flags};
 ghost use Rattle.irc_channels.specs.Channels.{has_member};
-ghost use Rattle.irc_numerics.specs.Limits.{max_names};
+ghost use Rattle.irc_acts.specs.Steps.{AddsTo};
 ghost use Rattle.irc_answers.specs.Names.{listed, name_line, name_lines};
-ghost use Rattle.irc_answers.specs.Loops.FilledLines.{Came};
-ghost use Rattle.irc_answers.specs.Loops.NameLines.{is_shown};
+ghost use Rattle.irc_answers.specs.Loops.NameLines.{is_shown, ArePartedAt, Fills, FillsEach, FillsOne};
 
 use arrayvec::ArrayVec;
 use irc_acts::standing::{mark_of, visibility_of};
@@ -26,6 +21,14 @@ use std::alloc::{AllocError, Global};
 
 /// The names of the line that is being filled.
 pub(crate) type Held = ArrayVec<Listed, MAX_NAMES>;
+
+/// Whose names are put into lines: those of a channel's members, of all or of those without mode i.
+#[derive(Clone, Copy)]
+pub(crate) struct Naming<'a> {
+    pub(crate) room: &'a Room,
+    pub(crate) channel: &'a Channel,
+    pub(crate) all: bool,
+}
 
 /// A line of names.
 fn name_line(alloc: Global, channel: &Channel, names: Held) -> Result<Act, AllocError>
@@ -46,7 +49,7 @@ fn add_name(
     channel: &Channel,
     name: Listed,
 ) -> Result<(), AllocError>
-    ensures { OnOk result (Came max_names (name_line channel.now) steps.old.items held.old.items (name ∷ []) steps.new.items held.new.items) }
+    ensures { Fills result channel.now (name ∷ []) steps.old held.old steps.new held.new }
 {
     if held.is_full() {
         let act = name_line(*steps.allocator(), channel, held.take())?;
@@ -62,7 +65,7 @@ pub(crate) fn finish(
     held: Held,
     channel: &Channel,
 ) -> Result<(), AllocError>
-    ensures { OnOk result (steps.new.items ≡ steps.old.items ++ name_lines channel.now held.items) }
+    ensures { AddsTo result steps.old steps.new (name_lines channel.now held.items) }
 {
     if held.as_slice().is_empty() {
         return Ok(());
@@ -88,16 +91,14 @@ fn listed(room: &Room, all: bool, name: &[u8], flags: Flags) -> Option<Listed>
 pub(crate) fn add_member(
     steps: &mut Vec<Act, Global>,
     held: &mut Held,
-    room: &Room,
-    all: bool,
-    channel: &Channel,
+    naming: &Naming<'_>,
     name: &[u8],
     flags: Flags,
 ) -> Result<(), AllocError>
-    ensures { OnOk result (Came max_names (name_line channel.now) steps.old.items held.old.items (filter_map (listed room.now.room.users (is_shown all)) ((key name.now, flags) ∷ [])) steps.new.items held.new.items) }
+    ensures { FillsOne result naming.now name.now flags steps.old held.old steps.new held.new }
 {
-    match listed(room, all, name, flags) {
-        Some(name) => add_name(steps, held, channel, name),
+    match listed(naming.room, naming.all, name, flags) {
+        Some(name) => add_name(steps, held, naming.channel, name),
         None => Ok(()),
     }
 }
@@ -106,16 +107,14 @@ pub(crate) fn add_member(
 pub(crate) fn add_members(
     steps: &mut Vec<Act, Global>,
     held: &mut Held,
-    room: &Room,
-    all: bool,
-    channel: &Channel,
+    naming: &Naming<'_>,
     rows: &[Row<Flags>],
 ) -> Result<(), AllocError>
-    ensures { OnOk result (Came max_names (name_line channel.now) steps.old.items held.old.items (filter_map (listed room.now.room.users (is_shown all)) (map row_entry rows.now)) steps.new.items held.new.items) }
+    ensures { FillsEach result naming.now rows.now steps.old held.old steps.new held.new }
 {
     for row in rows {
         let name = row.name.as_slice();
-        add_member(steps, held, room, all, channel, name, row.value)?;
+        add_member(steps, held, naming, name, row.value)?;
     }
     Ok(())
 }
@@ -126,7 +125,7 @@ pub(crate) fn parted_at<'a>(
     nick: &Nick,
 ) -> (&'a [Row<Flags>], &'a [Row<Flags>])
     requires { has_member (key nick.now) channel.now ≡ false }
-    ensures { (flags : Flags) → entries (alter (key nick.now) (λ _. Some flags) channel.now.members) ≡ map row_entry result.0.now ++ (key nick.now, flags) ∷ map row_entry result.1.now }
+    ensures { ArePartedAt (key nick.now) channel.now result.0.now result.1.now }
 {
     let rows = channel.members.as_slice();
     match place_of(rows, nick.as_bytes()) {

@@ -1,14 +1,14 @@
 //! NAMES, and the names that a joiner is sent.
-ghost use Rattle.std.specs.Prelude.{◌≡◌, false, [], ◌∷◌, ◌++◌, IfOk, OnOk};
-ghost use Rattle.std.specs.List.{flat_map};
+ghost use Rattle.std.specs.Prelude.{◌≡◌, false, []};
 ghost use Rattle.irc_names.specs.Fold.{key};
 ghost use Rattle.irc_line.specs.PartViews.{words_now};
 ghost use Rattle.irc_channels.specs.Channels.{has_member};
-ghost use Rattle.irc_acts.specs.CommaLists.{entries};
-ghost use Rattle.irc_answers.specs.Names.{end_of_names, joiner_names, listed_names, names_of, names_steps, one_names};
+ghost use Rattle.irc_acts.specs.Steps.{among_users, by_room, AddsTo, Yields};
+ghost use Rattle.irc_answers.specs.Names.{end_of_names, joiner_names, list_names, names_of, names_steps, one_names};
+ghost use Rattle.irc_answers.specs.Loops.NameLines.{names_if_listed};
 ghost use Rattle.irc_answers.specs.Laws.NamesLaw.{NamesOnlyAnswers};
 
-use crate::name_lines::{add_member, add_members, finish, parted_at};
+use crate::name_lines::{Naming, add_member, add_members, finish, parted_at};
 use arrayvec::ArrayVec;
 use irc_acts::comma_lists::next_entry;
 use irc_acts::standing::{is_known, is_listed};
@@ -24,7 +24,7 @@ use std::alloc::{AllocError, Global};
 /// Where memory runs out.
 #[tactic(auto, unfolding(crate::specs::Names::names_steps))]
 pub fn steps(context: &Context<'_>, params: &[&[u8]]) -> Result<Vec<Act, Global>, AllocError>
-    ensures { IfOk result (λ steps. steps.items ≡ names_steps context.now.room.now.room context.now.me.now (words_now params.now)) }
+    ensures { Yields result (by_room context.now names_steps (words_now params.now)) }
 {
     let mut steps = Vec::new(context.alloc);
     match params.first() {
@@ -49,12 +49,17 @@ fn put_names(
     context: &Context<'_>,
     channel: &Channel,
 ) -> Result<(), AllocError>
-    ensures { OnOk result (steps.new.items ≡ steps.old.items ++ names_of context.now.room.now.room.users context.now.me.now channel.now) }
+    ensures { AddsTo result steps.old steps.new (among_users context.now names_of channel.now) }
 {
     let mut held = ArrayVec::new();
     let all = channel.has_member(&context.me.nick);
     let rows = channel.members.as_slice();
-    add_members(steps, &mut held, context.room, all, channel, rows)?;
+    let naming = Naming {
+        room: context.room,
+        channel,
+        all,
+    };
+    add_members(steps, &mut held, &naming, rows)?;
     finish(steps, held, channel)
 }
 
@@ -69,24 +74,28 @@ pub fn put_joiner_names(
     channel: &Channel,
 ) -> Result<(), AllocError>
     requires { has_member (key context.now.me.now.nick) channel.now ≡ false }
-    ensures { OnOk result (steps.new.items ≡ steps.old.items ++ joiner_names context.now.room.now.room context.now.me.now op channel.now) }
+    ensures { AddsTo result steps.old steps.new (by_room context.now joiner_names op channel.now) }
 {
     let mut held = ArrayVec::new();
-    let room = context.room;
+    let naming = Naming {
+        room: context.room,
+        channel,
+        all: true,
+    };
     let nick = &context.me.nick;
     let (before, behind) = parted_at(channel, nick);
     let flags = Flags { op, voice: false };
     let name = nick.as_bytes();
-    add_members(steps, &mut held, room, true, channel, before)?;
-    add_member(steps, &mut held, room, true, channel, name, flags)?;
-    add_members(steps, &mut held, room, true, channel, behind)?;
+    add_members(steps, &mut held, &naming, before)?;
+    add_member(steps, &mut held, &naming, name, flags)?;
+    add_members(steps, &mut held, &naming, behind)?;
     finish(steps, held, channel)
 }
 
 /// Appends the names of every channel that is listed for a user, and their end.
 #[tactic(auto, unfolding(crate::specs::Names::names_steps))]
 fn put_listed(steps: &mut Vec<Act, Global>, context: &Context<'_>) -> Result<(), AllocError>
-    ensures { OnOk result (steps.new.items ≡ steps.old.items ++ names_steps context.now.room.now.room context.now.me.now []) }
+    ensures { AddsTo result steps.old steps.new (by_room context.now names_steps []) }
 {
     for row in context.room.channels() {
         put_if_listed(steps, context, &row.value)?;
@@ -100,7 +109,7 @@ fn put_if_listed(
     context: &Context<'_>,
     channel: &Channel,
 ) -> Result<(), AllocError>
-    ensures { OnOk result (steps.new.items ≡ steps.old.items ++ listed_names context.now.room.now.room context.now.me.now (channel.now ∷ [])) }
+    ensures { AddsTo result steps.old steps.new (by_room context.now names_if_listed channel.now) }
 {
     if is_listed(context.me, channel) {
         put_names(steps, context, channel)
@@ -115,7 +124,7 @@ fn put_asked(
     context: &Context<'_>,
     asked: &[u8],
 ) -> Result<(), AllocError>
-    ensures { OnOk result (steps.new.items ≡ steps.old.items ++ one_names context.now.room.now.room context.now.me.now asked.now) }
+    ensures { AddsTo result steps.old steps.new (by_room context.now one_names asked.now) }
 {
     match context.room.channel(asked) {
         Some(channel) if is_known(context.me, channel) => put_names(steps, context, channel)?,
@@ -130,7 +139,7 @@ fn put_list(
     context: &Context<'_>,
     list: &[u8],
 ) -> Result<(), AllocError>
-    ensures { OnOk result (steps.new.items ≡ steps.old.items ++ flat_map (one_names context.now.room.now.room context.now.me.now) (entries list.now)) }
+    ensures { AddsTo result steps.old steps.new (by_room context.now list_names list.now) }
 {
     let mut rest = list;
     while let Some((asked, behind)) = next_entry(rest) {

@@ -28,18 +28,26 @@ invite_refusals me other channel =
 abbrev pub invites : User → User → List ℕ → List Act
 invites me other name = Answer (Inviting name other.nick) ∷ Do (Invite me.nick other.nick name) ∷ []
 
+-- to a channel that is there
+abbrev pub invites_there : User → User → Channel → List Act
+invites_there me other channel = unless_refused (first_refusal (invite_refusals me other channel)) (invites me other channel.name)
+
 -- By the channel that was found under the name, if one was. To one that is not there anybody invites, with the name as it was given.
 abbrev pub invites_found : User → User → List ℕ → Option Channel → List Act
 invites_found me other name None = if is_channel name then invites me other name else Answer (NoSuchChannel (client_words name)) ∷ []
-invites_found me other name (Some channel) = unless_refused (first_refusal (invite_refusals me other channel)) (invites me other channel.name)
+invites_found me other name (Some channel) = invites_there me other channel
 
 -- by the user that was found under the nickname, if one was
 abbrev pub invites_user : Room → User → List ℕ → List ℕ → Option User → List Act
 invites_user room me nick name None = Answer (NoSuchNick (client_words nick)) ∷ []
 invites_user room me nick name (Some other) = invites_found me other name (row room.channels (key name))
 
+-- the user of a nickname, to the channel of a name
+abbrev pub invites_named : Room → User → List ℕ → List ℕ → List Act
+invites_named room me nick name = invites_user room me nick name (row room.users (key nick))
+
 -- what an INVITE does (RFC 2812 section 3.2.7)
 unfoldable pub invite_steps : Room → User → List (List ℕ) → List Act
 invite_steps room me [] = Answer (NeedMoreParams (client_words (codes "INVITE"))) ∷ []
 invite_steps room me (nick ∷ []) = Answer (NeedMoreParams (client_words (codes "INVITE"))) ∷ []
-invite_steps room me (nick ∷ name ∷ more) = invites_user room me nick name (row room.users (key nick))
+invite_steps room me (nick ∷ name ∷ more) = invites_named room me nick name

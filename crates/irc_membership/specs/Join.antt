@@ -69,12 +69,16 @@ abbrev pub topic_for_joiner : List ℕ → List ℕ → List Act
 topic_for_joiner name [] = []
 topic_for_joiner name (b ∷ bytes) = Answer (Topic name (kept (b ∷ bytes))) ∷ []
 
+-- that of a channel
+abbrev pub joiner_topic : Channel → List Act
+joiner_topic channel = topic_for_joiner channel.name channel.topic
+
 -- The user is a member, an operator where it has made the channel, and is told what is there then; the end names the channel as it
 -- was asked for.
 abbrev pub joins : Room → User → List ℕ → Bool → Channel → List Act
 joins room me name op channel =
     let now = joined (key me.nick) op channel in
-    Do (Join me.nick channel.name op) ∷ topic_for_joiner now.name now.topic ++ names_of room.users me now ++ end_of_names name ∷ []
+    Do (Join me.nick channel.name op) ∷ joiner_topic now ++ names_of room.users me now ++ end_of_names name ∷ []
 
 abbrev pub admitted : Room → User → List ℕ → Channel → Option Act → List Act
 admitted room me name channel None = joins room me name false channel
@@ -99,6 +103,14 @@ join_one me room asked =
 abbrev pub leaves : User → Channel → Act
 leaves me channel = Do (Part me.nick channel.name (cut_words me.nick))
 
+-- it leaves each of its channels
+abbrev pub leave_each : Room → User → List Act
+leave_each room me = map (leaves me) (own_channels room me)
+
+-- the channels of a list in turn, each with the key at its position
+abbrev pub join_list : Room → User → List ℕ → List ℕ → List Act
+join_list room me list keys = in_turn (join_one me) room (asked_for list keys)
+
 abbrev pub is_zero : List ℕ → Bool
 is_zero word = pointwise nat_eq word (codes "0")
 
@@ -106,5 +118,4 @@ is_zero word = pointwise nat_eq word (codes "0")
 unfoldable pub join_steps : Room → User → List (List ℕ) → List Act
 join_steps room me [] = Answer (NeedMoreParams (client_words (codes "JOIN"))) ∷ []
 join_steps room me (list ∷ more) =
-    if is_zero list then map (leaves me) (own_channels room me)
-    else in_turn (join_one me) room (asked_for list (keys_given more))
+    if is_zero list then leave_each room me else join_list room me list (keys_given more)

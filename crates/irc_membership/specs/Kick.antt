@@ -71,9 +71,13 @@ abbrev pub kick_all : User → List ℕ → Room → Option (List Kicking) → L
 kick_all me text room None = too_few
 kick_all me text room (Some asked) = in_turn (kick_one me text) room asked
 
+-- the nicknames of a comma list from the channels of another
+abbrev pub kick_lists : Room → User → List ℕ → List ℕ → List ℕ → List Act
+kick_lists room me text channels nicks = kick_all me text room (kicks_asked (entries channels) (entries nicks))
+
 -- What a KICK does (RFC 2812 section 3.2.8): of both lists the empty entries are skipped before anything is counted. The third
 -- parameter is the text, and the nickname of who kicks stands for it where it is absent or empty.
 unfoldable pub kick_steps : Room → User → List (List ℕ) → List Act
 kick_steps room me [] = too_few
 kick_steps room me (channels ∷ []) = too_few
-kick_steps room me (channels ∷ nicks ∷ more) = kick_all me (reason_given more me.nick) room (kicks_asked (entries channels) (entries nicks))
+kick_steps room me (channels ∷ nicks ∷ more) = kick_lists room me (reason_given more me.nick) channels nicks

@@ -24,7 +24,11 @@ left_by me text name (Some channel) =
 abbrev pub part_one : User → List ℕ → Room → List ℕ → List Act
 part_one me text room name = left_by me text name (row room.channels (key name))
 
+-- the channels of a comma list, one after another
+abbrev pub part_list : Room → User → List ℕ → List ℕ → List Act
+part_list room me text list = in_turn (part_one me text) room (entries list)
+
 -- what a PART does (RFC 2812 section 3.2.2): the second parameter is the text, and the nickname stands for it where it is absent or empty
 unfoldable pub part_steps : Room → User → List (List ℕ) → List Act
 part_steps room me [] = Answer (NeedMoreParams (client_words (codes "PART"))) ∷ []
-part_steps room me (list ∷ more) = in_turn (part_one me (reason_given more me.nick)) room (entries list)
+part_steps room me (list ∷ more) = part_list room me (reason_given more me.nick) list

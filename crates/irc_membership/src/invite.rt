@@ -1,11 +1,10 @@
 //! INVITE.
-ghost use Rattle.std.specs.Prelude.{◌≡◌, None, IfOk};
-ghost use Rattle.irc_names.specs.Fold.{key};
-ghost use Rattle.irc_names.specs.Tables.{row};
+ghost use Rattle.std.specs.Prelude.{◌≡◌, None};
 ghost use Rattle.irc_line.specs.PartViews.{words_now};
 ghost use Rattle.irc_room.specs.declared.effect.Effect.TheVariants.{Invite};
-ghost use Rattle.irc_acts.specs.Refusing.{first_refusal, unless_refused};
-ghost use Rattle.irc_membership.specs.Invite.{invite_refusals, invite_steps, invites, invites_found, invites_user};
+ghost use Rattle.irc_acts.specs.Refusing.{first_refusal};
+ghost use Rattle.irc_acts.specs.Steps.{by_room, Yields};
+ghost use Rattle.irc_membership.specs.Invite.{invite_refusals, invite_steps, invites, invites_found, invites_named, invites_there};
 ghost use Rattle.irc_membership.specs.Laws.InviteDoes.{InviteDoes, InviteIsPossible, InviteLooksAtNoInvitation};
 ghost use Rattle.irc_membership.specs.Laws.InviteSendable.{InviteIsSendable};
 ghost use Rattle.irc_membership.specs.Laws.InviteLaw.{InviteIsOwn};
@@ -27,7 +26,7 @@ use std::alloc::{AllocError, Global};
 /// Where memory runs out.
 #[tactic(auto, unfolding(crate::specs::Invite::invite_steps))]
 pub fn steps(context: &Context<'_>, params: &[&[u8]]) -> Result<Vec<Act, Global>, AllocError>
-    ensures { IfOk result (λ steps. steps.items ≡ invite_steps context.now.room.now.room context.now.me.now (words_now params.now)) }
+    ensures { Yields result (by_room context.now invite_steps (words_now params.now)) }
 {
     let Some((nick, behind)) = params.split_first() else {
         return only(context.alloc, need_more_params(b"INVITE"));
@@ -44,7 +43,7 @@ fn invite_named(
     nick: &[u8],
     name: &[u8],
 ) -> Result<Vec<Act, Global>, AllocError>
-    ensures { IfOk result (λ steps. steps.items ≡ invites_user context.now.room.now.room context.now.me.now nick.now name.now (row context.now.room.now.room.users (key nick.now))) }
+    ensures { Yields result (by_room context.now invites_named nick.now name.now) }
 {
     let Some(other) = context.room.user(nick) else {
         let reply = Reply::NoSuchNick {
@@ -64,7 +63,7 @@ fn invite_to(
     other: &User,
     channel: &Channel,
 ) -> Result<Vec<Act, Global>, AllocError>
-    ensures { IfOk result (λ steps. steps.items ≡ unless_refused (first_refusal (invite_refusals context.now.me.now other.now channel.now)) (invites context.now.me.now other.now channel.now.name)) }
+    ensures { Yields result (invites_there context.now.me.now other.now channel.now) }
 {
     match refusal(context.me, other, channel) {
         Some(reply) => only(context.alloc, Act::Answer(reply)),
@@ -99,7 +98,7 @@ fn invite_elsewhere(
     other: &User,
     name: &[u8],
 ) -> Result<Vec<Act, Global>, AllocError>
-    ensures { IfOk result (λ steps. steps.items ≡ invites_found context.now.me.now other.now name.now None) }
+    ensures { Yields result (invites_found context.now.me.now other.now name.now None) }
 {
     match ChannelName::read(name) {
         Some(channel) => invite(context, other, &channel),
@@ -113,7 +112,7 @@ fn invite(
     other: &User,
     channel: &ChannelName,
 ) -> Result<Vec<Act, Global>, AllocError>
-    ensures { IfOk result (λ steps. steps.items ≡ invites context.now.me.now other.now channel.now) }
+    ensures { Yields result (invites context.now.me.now other.now channel.now) }
 {
     let told = Reply::Inviting {
         channel: channel.copy(),

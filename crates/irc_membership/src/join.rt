@@ -1,28 +1,16 @@
 //! JOIN.
-ghost use Rattle.std.specs.Prelude.{◌≡◌, ◌++◌, false, Some, filter, length, map, IfOk, OnOk};
+ghost use Rattle.std.specs.Prelude.{◌≡◌, false, length, map};
 ghost use Rattle.irc_names.specs.Fold.{key};
 ghost use Rattle.irc_line.specs.MessageViews.{optional_now};
 ghost use Rattle.irc_line.specs.PartViews.{words_now};
 ghost use Rattle.irc_channels.specs.Channels.{has_member};
 ghost use Rattle.irc_room.specs.Effects.{is_member};
-ghost use Rattle.irc_acts.specs.Ahead.{ahead, in_turn};
+ghost use Rattle.irc_acts.specs.Steps.{by_room, AddsTo, Yields};
 ghost use Rattle.irc_acts.specs.Moves.{AreOwnJoins, own_channels};
-ghost use Rattle.irc_membership.specs.Join.{
-  asked_for,
-  asks,
-  is_zero,
-  join_one,
-  join_steps,
-  joins,
-  joins_asked,
-  joins_found,
-  keys_given,
-  leaves,
-  topic_for_joiner,
-};
+ghost use Rattle.irc_membership.specs.Join.{is_zero, join_list, join_steps, joiner_topic, keys_given, leave_each, leaves};
 ghost use Rattle.irc_membership.specs.Laws.JoinLaw.{JoinIsOwnOrLeaves, LeavingAllIsOwn};
 ghost use Rattle.irc_membership.specs.Laws.JoinDoes.{JoinDoes, JoinLooksAtOwnInvitations};
-ghost use Rattle.irc_membership.specs.Loops.JoinList.{IsNextKey};
+ghost use Rattle.irc_membership.specs.Loops.JoinList.{is_in_ahead, Enters, IsNextKey, JoinsFound, JoinsOne, JoinsThere};
 
 use crate::MAX_JOINED;
 use crate::admission::kept_out;
@@ -45,7 +33,7 @@ use std::alloc::{AllocError, Global};
 /// Where memory runs out.
 #[tactic(auto, unfolding(crate::specs::Join::join_steps))]
 pub fn steps(context: &Context<'_>, params: &[&[u8]]) -> Result<Vec<Act, Global>, AllocError>
-    ensures { IfOk result (λ steps. steps.items ≡ join_steps context.now.room.now.room context.now.me.now (words_now params.now)) }
+    ensures { Yields result (by_room context.now join_steps (words_now params.now)) }
 {
     let Some((list, more)) = params.split_first() else {
         return only(context.alloc, need_more_params(b"JOIN"));
@@ -76,7 +64,7 @@ fn keys_given<'a>(more: &[&'a [u8]]) -> &'a [u8]
 
 /// A Part of each channel that the user is in, with its nickname as the text. No other channel is looked at.
 fn leave_each(context: &Context<'_>) -> Result<Vec<Act, Global>, AllocError>
-    ensures { IfOk result (λ steps. steps.items ≡ map (leaves context.now.me.now) (own_channels context.now.room.now.room context.now.me.now)) }
+    ensures { Yields result (by_room context.now leave_each) }
 {
     let rows = context.room.channels_of(context.me.nick.as_bytes())?;
     leave_all(context.alloc, context.me, rows.as_slice())
@@ -88,7 +76,7 @@ fn leave_all(
     me: &User,
     rows: &[&Row<Channel>],
 ) -> Result<Vec<Act, Global>, AllocError>
-    ensures { IfOk result (λ steps. steps.items ≡ map (λ row. leaves me.now row.now.value) rows.now) }
+    ensures { Yields result (map (λ row. leaves me.now row.now.value) rows.now) }
 {
     rows.iter().map(|row| leave(me, &row.value)).collect(alloc)
 }
@@ -110,7 +98,7 @@ fn join_list(
     list: &[u8],
     keys: &[u8],
 ) -> Result<Vec<Act, Global>, AllocError>
-    ensures { IfOk result (λ steps. steps.items ≡ in_turn (join_one context.now.me.now) context.now.room.now.room (asked_for list.now keys.now)) }
+    ensures { Yields result (by_room context.now join_list list.now keys.now) }
 {
     know_well_formed(context.room);
     let already = context.room.channel_count(context.me.nick.as_bytes());
@@ -148,8 +136,8 @@ fn join_one(
     given: &[u8],
 ) -> Result<(), AllocError>
     requires joins { AreOwnJoins context.now.me.now.nick context.now.room.now.room steps.old.items }
-    requires counted { already ≡ length (own_channels context.now.room.now.room context.now.me.now) }
-    ensures { OnOk result (steps.new.items ≡ steps.old.items ++ join_one context.now.me.now (ahead context.now.room.now.room steps.old.items) (asks name.now given.now)) }
+    requires counted { already ≡ length (by_room context.now own_channels) }
+    ensures { JoinsOne context.now name.now given.now steps.old steps.new result }
 {
     let Some(asked) = ChannelName::read(name) else {
         return put(steps, no_such_channel(name));
@@ -170,7 +158,7 @@ fn join_one(
 /// Whether the user is a member of the channel of a name, once these steps are done.
 fn is_in(context: &Context<'_>, steps: &[Act], name: &[u8]) -> bool
     requires { AreOwnJoins context.now.me.now.nick context.now.room.now.room steps.now }
-    ensures { result ≡ is_member (ahead context.now.room.now.room steps.now) context.now.me.now.nick name.now }
+    ensures { result ≡ is_in_ahead context.now steps.now name.now }
 {
     ahead::flags(context.room, steps, context.me.nick.as_bytes(), name).is_some()
 }
@@ -183,7 +171,7 @@ fn join_found(
     given: &[u8],
 ) -> Result<(), AllocError>
     requires { is_member context.now.room.now.room context.now.me.now.nick asked.now ≡ false }
-    ensures { OnOk result (steps.new.items ≡ steps.old.items ++ joins_asked context.now.room.now.room context.now.me.now (asks asked.now given.now)) }
+    ensures { JoinsFound context.now asked.now given.now steps.old steps.new result }
 {
     match context.room.channel(asked.as_bytes()) {
         Some(channel) => join_there(steps, context, channel, asked, given),
@@ -203,7 +191,7 @@ fn join_there(
     given: &[u8],
 ) -> Result<(), AllocError>
     requires { has_member (key context.now.me.now.nick) channel.now ≡ false }
-    ensures { OnOk result (steps.new.items ≡ steps.old.items ++ joins_found context.now.room.now.room context.now.me.now (asks asked.now given.now) (Some channel.now)) }
+    ensures { JoinsThere context.now asked.now given.now channel.now steps.old steps.new result }
 {
     match kept_out(context.me, given, channel) {
         Some(refusal) => put(steps, refusal),
@@ -220,7 +208,7 @@ fn enter(
     asked: &ChannelName,
 ) -> Result<(), AllocError>
     requires { has_member (key context.now.me.now.nick) channel.now ≡ false }
-    ensures { OnOk result (steps.new.items ≡ steps.old.items ++ joins context.now.room.now.room context.now.me.now asked.now op channel.now) }
+    ensures { Enters context.now asked.now op channel.now steps.old steps.new result }
 {
     let nick = context.me.nick.copy();
     let name = channel.name.copy();
@@ -239,7 +227,7 @@ fn enter(
 
 /// Appends the topic that a joiner is told, where there is one.
 fn put_topic(steps: &mut Vec<Act, Global>, channel: &Channel) -> Result<(), AllocError>
-    ensures { OnOk result (steps.new.items ≡ steps.old.items ++ topic_for_joiner channel.now.name channel.now.topic) }
+    ensures { AddsTo result steps.old steps.new (joiner_topic channel.now) }
 {
     let topic = channel.topic.as_bytes();
     if topic.is_empty() {

@@ -1,19 +1,15 @@
 //! KICK.
-ghost use Rattle.std.specs.Prelude.{◌≡◌, ◌<◌, [], ◌∷◌, cond, is_some, length, None, IfOk, MatchOption};
+ghost use Rattle.std.specs.Prelude.{◌≡◌};
 ghost use Rattle.std.specs.Option.{option_copied};
-ghost use Rattle.irc_names.specs.Fold.{key};
-ghost use Rattle.irc_names.specs.Tables.{row};
 ghost use Rattle.irc_line.specs.PartViews.{words_now};
-ghost use Rattle.irc_room.specs.Readers.{flags_at};
-ghost use Rattle.irc_acts.specs.Ahead.{ahead, in_turn};
-ghost use Rattle.irc_acts.specs.CommaLists.{entries};
 ghost use Rattle.irc_acts.specs.Moves.{AreLeaves};
 ghost use Rattle.irc_acts.specs.Refusing.{first_refusal};
-ghost use Rattle.irc_membership.specs.Kick.{kick_all, kick_one, kick_refusals, kick_steps, kicking, kicks, kicks_asked};
+ghost use Rattle.irc_acts.specs.Steps.{by_room, Yields};
+ghost use Rattle.irc_membership.specs.Kick.{kick_lists, kick_refusals, kick_steps, kicking};
 ghost use Rattle.irc_membership.specs.Laws.KickDoes.{KickDoes, KickIsPossible, KickLooksAtNoInvitation};
 ghost use Rattle.irc_membership.specs.Laws.KickSendable.{KickIsSendable};
 ghost use Rattle.irc_membership.specs.Laws.KickLaw.{KickIsOwn};
-ghost use Rattle.irc_membership.specs.Loops.KickList.{kicks_left, member_at};
+ghost use Rattle.irc_membership.specs.Loops.KickList.{kick_list, member_ahead, IsKick, IsKickAhead, IsNextKick};
 
 use irc_acts::ahead::{self, know_well_formed};
 use irc_acts::comma_lists::{entry_count, next_entry};
@@ -34,7 +30,7 @@ use std::alloc::{AllocError, Global};
 /// Where memory runs out.
 #[tactic(auto, unfolding(crate::specs::Kick::kick_steps))]
 pub fn steps(context: &Context<'_>, params: &[&[u8]]) -> Result<Vec<Act, Global>, AllocError>
-    ensures { IfOk result (λ steps. steps.items ≡ kick_steps context.now.room.now.room context.now.me.now (words_now params.now)) }
+    ensures { Yields result (by_room context.now kick_steps (words_now params.now)) }
 {
     let Some((channels, behind)) = params.split_first() else {
         return only(context.alloc, need_more_params(b"KICK"));
@@ -53,7 +49,7 @@ fn kick_asked(
     channels: &[u8],
     nicks: &[u8],
 ) -> Result<Vec<Act, Global>, AllocError>
-    ensures { IfOk result (λ steps. steps.items ≡ kick_all context.now.me.now text.now context.now.room.now.room (kicks_asked (entries channels.now) (entries nicks.now))) }
+    ensures { Yields result (by_room context.now kick_lists text.now channels.now nicks.now) }
 {
     let count = entry_count(channels);
     if count == 1 {
@@ -85,7 +81,7 @@ struct Lists<'a> {
 
 /// The next nickname of the lists with its channel, and what is left then.
 fn next_kick(left: Lists<'_>) -> Option<(&[u8], &[u8], Lists<'_>)>
-    ensures { MatchOption result (kicks_left left.entry.is_one (entries left.entry.channels.now) (entries left.entry.nicks.now) ≡ []) (λ next. (kicks_left left.entry.is_one (entries left.entry.channels.now) (entries left.entry.nicks.now) ≡ kicking next.0.now next.1.now ∷ kicks_left next.2.is_one (entries next.2.channels.now) (entries next.2.nicks.now)) × (length next.2.nicks.now < length left.entry.nicks.now)) }
+    ensures { IsNextKick left.entry result }
 {
     let (nick, nicks) = next_entry(left.nicks)?;
     let (channel, channels) = next_entry(left.channels)?;
@@ -104,7 +100,7 @@ fn kick_list(
     text: &Words,
     asked: Lists<'_>,
 ) -> Result<Vec<Act, Global>, AllocError>
-    ensures { IfOk result (λ steps. steps.items ≡ in_turn (kick_one context.now.me.now text.now) context.now.room.now.room (kicks_left asked.entry.is_one (entries asked.entry.channels.now) (entries asked.entry.nicks.now))) }
+    ensures { Yields result (by_room context.now kick_list text.now asked.entry) }
 {
     know_well_formed(context.room);
     let mut steps = Vec::new(context.alloc);
@@ -120,7 +116,7 @@ fn kick_list(
 /// What kicking one nickname from one channel does in the room as the steps so far leave it.
 fn kick_one(context: &Context<'_>, text: &Words, steps: &[Act], name: &[u8], nick: &[u8]) -> Act
     requires { AreLeaves context.now.room.now.room steps.now }
-    ensures { kick_one context.now.me.now text.now (ahead context.now.room.now.room steps.now) (kicking name.now nick.now) ≡ result ∷ [] }
+    ensures { IsKickAhead context.now text.now steps.now (kicking name.now nick.now) result }
 {
     let me = context.me;
     let Some(channel) = ahead::channel(context.room, steps, name) else {
@@ -151,7 +147,7 @@ fn refusal(channel: &Channel, flags: Option<Flags>) -> Option<Reply>
 /// The user of a nickname, where it is a member of the channel of a name once these steps are done.
 fn member<'a>(room: &'a Room, steps: &[Act], nick: &[u8], channel: &[u8]) -> Option<&'a User>
     requires { AreLeaves room.now.room steps.now }
-    ensures { option_copied result ≡ member_at (ahead room.now.room steps.now) (key nick.now) (key channel.now) }
+    ensures { option_copied result ≡ member_ahead room.now.room steps.now nick.now channel.now }
 {
     if ahead::flags(room, steps, nick, channel).is_some() {
         room.user(nick)
@@ -162,7 +158,7 @@ fn member<'a>(room: &'a Room, steps: &[Act], nick: &[u8], channel: &[u8]) -> Opt
 
 /// What comes of kicking the member of a nickname from the channel of a name, if there is one.
 fn kick(me: &User, text: &Words, channel: &ChannelName, nick: &[u8], member: Option<&User>) -> Act
-    ensures { kicks me.now text.now channel.now nick.now (option_copied member.entry) ≡ result ∷ [] }
+    ensures { IsKick me.now text.now channel.now nick.now (option_copied member.entry) result }
 {
     let channel = channel.copy();
     match member {

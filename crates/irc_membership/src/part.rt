@@ -1,12 +1,11 @@
 //! PART.
-ghost use Rattle.std.specs.Prelude.{◌≡◌, [], ◌∷◌, IfOk};
 ghost use Rattle.irc_line.specs.PartViews.{words_now};
-ghost use Rattle.irc_acts.specs.Ahead.{ahead, in_turn};
-ghost use Rattle.irc_acts.specs.CommaLists.{entries};
 ghost use Rattle.irc_acts.specs.Moves.{AreLeaves};
-ghost use Rattle.irc_membership.specs.Part.{part_one, part_steps};
+ghost use Rattle.irc_acts.specs.Steps.{by_room, Yields};
+ghost use Rattle.irc_membership.specs.Part.{part_list, part_steps};
 ghost use Rattle.irc_membership.specs.Laws.PartLaw.{PartIsOwn};
 ghost use Rattle.irc_membership.specs.Laws.PartDoes.{PartDoes, PartLooksAtNoInvitation};
+ghost use Rattle.irc_membership.specs.Loops.PartList.{IsPartAhead};
 
 use irc_acts::ahead::{self, know_well_formed};
 use irc_acts::comma_lists::next_entry;
@@ -23,7 +22,7 @@ use std::alloc::{AllocError, Global};
 /// Where memory runs out.
 #[tactic(auto, unfolding(crate::specs::Part::part_steps))]
 pub fn steps(context: &Context<'_>, params: &[&[u8]]) -> Result<Vec<Act, Global>, AllocError>
-    ensures { IfOk result (λ steps. steps.items ≡ part_steps context.now.room.now.room context.now.me.now (words_now params.now)) }
+    ensures { Yields result (by_room context.now part_steps (words_now params.now)) }
 {
     let Some((list, more)) = params.split_first() else {
         return only(context.alloc, need_more_params(b"PART"));
@@ -38,7 +37,7 @@ fn part_list(
     text: &Words,
     list: &[u8],
 ) -> Result<Vec<Act, Global>, AllocError>
-    ensures { IfOk result (λ steps. steps.items ≡ in_turn (part_one context.now.me.now text.now) context.now.room.now.room (entries list.now)) }
+    ensures { Yields result (by_room context.now part_list text.now list.now) }
 {
     know_well_formed(context.room);
     let mut steps = Vec::new(context.alloc);
@@ -54,7 +53,7 @@ fn part_list(
 /// What leaving one channel does in the room as the steps so far leave it.
 fn part_one(context: &Context<'_>, text: &Words, steps: &[Act], name: &[u8]) -> Act
     requires { AreLeaves context.now.room.now.room steps.now }
-    ensures { part_one context.now.me.now text.now (ahead context.now.room.now.room steps.now) name.now ≡ result ∷ [] }
+    ensures { IsPartAhead context.now text.now steps.now name.now result }
 {
     let nick = &context.me.nick;
     let Some(channel) = ahead::channel(context.room, steps, name) else {

@@ -11,6 +11,7 @@ use Rattle.irc_modes.specs.ModeWords.{Asked, change, list, no_word, unknown, mod
 use Rattle.irc_numerics.specs.declared.replies.Reply.TheVariants.{NoSuchChannel, NeedMoreParams, UnknownMode, ChanOPrivsNeeded}
 use Rattle.irc_room.specs.declared.effect.By.TheVariants as by
 use Rattle.irc_room.specs.declared.effect.Effect.TheVariants.{ChangeModes}
+use Rattle.irc_room.specs.Room.{Room}
 use Rattle.irc_acts.specs.declared.act.Act.{Act}
 use Rattle.irc_acts.specs.declared.act.Act.TheVariants.{Answer, Do}
 use Rattle.irc_acts.specs.Acts.{client_words}
@@ -70,9 +71,13 @@ changing me channel (first ∷ changes) = Do (ChangeModes (by.User me.nick) chan
 abbrev pub in_one : User → Channel → Outcome → List Act
 in_one me channel outcome = outcome.replies ++ changing me channel outcome.changes
 
+-- what the letters of an operator do
+abbrev pub obeyed : Table User → User → Channel → List Asked → List Act
+obeyed users me channel items = in_one me channel (served users channel channel items)
+
 abbrev pub asked_of : Table User → User → Channel → List Asked → List Act
 asked_of users me channel items =
-    if is_operator (row channel.members (key me.nick)) then in_one me channel (served users channel channel items) else denied channel items
+    if is_operator (row channel.members (key me.nick)) then obeyed users me channel items else denied channel items
 
 -- what the parameters behind the channel do
 abbrev pub in_channel : Table User → User → Channel → List (List ℕ) → List Act
@@ -82,3 +87,7 @@ in_channel users me channel (letters ∷ words) = asked_of users me channel (mod
 unfoldable pub channel_mode : Table User → User → List ℕ → List (List ℕ) → Option Channel → List Act
 channel_mode users me name more None = Answer (NoSuchChannel (client_words name)) ∷ []
 channel_mode users me name more (Some channel) = in_channel users me channel more
+
+-- by the channel that is found under the name
+abbrev pub channel_mode_named : Room → User → List ℕ → List (List ℕ) → List Act
+channel_mode_named room me name more = channel_mode room.users me name more (row room.channels (key name))

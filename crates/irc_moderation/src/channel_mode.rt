@@ -1,28 +1,26 @@
 //! MODE of a channel.
-ghost use Rattle.std.specs.Prelude.{◌≡◌, [], ◌++◌, fold, IfOk, OnOk};
+ghost use Rattle.std.specs.Prelude.{◌≡◌, [], OnOk};
 ghost use Rattle.irc_names.specs.Fold.{key};
 ghost use Rattle.irc_names.specs.Tables.{row};
 ghost use Rattle.irc_line.specs.PartViews.{words_now};
-ghost use Rattle.irc_channels.specs.Channels.{all_changed};
-ghost use Rattle.irc_modes.specs.Loops.ManyChanges.{setting_step};
 ghost use Rattle.irc_modes.specs.ModeViews.{all_asked, asked};
 ghost use Rattle.irc_moderation.specs.ChannelMode.{
   asked_of,
   changing,
-  channel_mode,
+  channel_mode_named,
   denied,
   in_channel,
-  in_one,
-  one_served,
+  obeyed,
   outcome_of,
-  served,
   told,
 };
 ghost use Rattle.irc_acts.specs.Standing.{is_operator};
+ghost use Rattle.irc_acts.specs.Steps.{among_users, by_room, AddsTo, Yields};
 ghost use Rattle.irc_acts.specs.declared.act.Act.TheVariants.{Answer};
 ghost use Rattle.irc_numerics.specs.declared.replies.Reply.TheVariants.{UnknownMode};
 ghost use Rattle.irc_moderation.specs.Loops.Denied.{denied_one, is_change};
-ghost use Rattle.irc_moderation.specs.Loops.KeptChanges.{Follows};
+ghost use Rattle.irc_moderation.specs.Loops.KeptChanges.{AreSetBy, Follows};
+ghost use Rattle.irc_moderation.specs.Loops.Served.{AnswersEach, AnswersOne, ChangesEach, ChangesOne};
 
 use crate::judging::judge;
 use crate::kept_changes::{KeptChanges, know_bans_rise};
@@ -45,7 +43,7 @@ pub(crate) fn steps(
     name: &[u8],
     more: &[&[u8]],
 ) -> Result<Vec<Act, Global>, AllocError>
-    ensures { IfOk result (λ steps. steps.items ≡ channel_mode context.now.room.now.room.users context.now.me.now name.now (words_now more.now) (row context.now.room.now.room.channels (key name.now))) }
+    ensures { Yields result (by_room context.now channel_mode_named name.now (words_now more.now)) }
 {
     match context.room.channel(name) {
         Some(channel) => in_channel(context, channel, more),
@@ -59,7 +57,7 @@ fn in_channel(
     channel: &Channel,
     more: &[&[u8]],
 ) -> Result<Vec<Act, Global>, AllocError>
-    ensures { IfOk result (λ steps. steps.items ≡ in_channel context.now.room.now.room.users context.now.me.now channel.now (words_now more.now)) }
+    ensures { Yields result (among_users context.now in_channel channel.now (words_now more.now)) }
 {
     if more.is_empty() {
         return only(context.alloc, modes_shown(context.me, channel));
@@ -74,7 +72,7 @@ fn asked_of(
     channel: &Channel,
     items: &[ModeItem<'_>],
 ) -> Result<Vec<Act, Global>, AllocError>
-    ensures { IfOk result (λ steps. steps.items ≡ asked_of context.now.room.now.room.users context.now.me.now channel.now (all_asked items.now)) }
+    ensures { Yields result (among_users context.now asked_of channel.now (all_asked items.now)) }
 {
     if is_ruled_by(channel, context.me) {
         serve(context, channel, items)
@@ -96,7 +94,7 @@ fn serve(
     channel: &Channel,
     items: &[ModeItem<'_>],
 ) -> Result<Vec<Act, Global>, AllocError>
-    ensures { IfOk result (λ steps. steps.items ≡ in_one context.now.me.now channel.now (served context.now.room.now.room.users channel.now channel.now (all_asked items.now))) }
+    ensures { Yields result (among_users context.now obeyed channel.now (all_asked items.now)) }
 {
     know_bans_rise(channel);
     let mut steps = Vec::new(context.alloc);
@@ -116,8 +114,8 @@ fn serve_each(
 ) -> Result<(), AllocError>
     requires none { kept.old.changes.items ≡ [] }
     requires follows { Follows channel.now kept.old.changes.items kept.old.settings }
-    ensures replies { OnOk result (steps.new.items ≡ steps.old.items ++ (served room.now.room.users channel.now channel.now (all_asked items.now)).replies) }
-    ensures changes { OnOk result (kept.new.changes.items ≡ (served room.now.room.users channel.now channel.now (all_asked items.now)).changes) }
+    ensures replies { AnswersEach room.now channel.now items.now steps.old steps.new result }
+    ensures changes { ChangesEach room.now channel.now items.now kept.new result }
 {
     for item in items {
         serve_one(room, channel, item, kept, steps)?;
@@ -134,8 +132,8 @@ fn serve_one(
     steps: &mut Vec<Act, Global>,
 ) -> Result<(), AllocError>
     requires { Follows channel.now kept.old.changes.items kept.old.settings }
-    ensures replies { OnOk result (steps.new.items ≡ steps.old.items ++ (one_served room.now.room.users channel.now (all_changed kept.old.changes.items channel.now) (asked item.now)).replies) }
-    ensures changes { OnOk result (kept.new.changes.items ≡ kept.old.changes.items ++ (one_served room.now.room.users channel.now (all_changed kept.old.changes.items channel.now) (asked item.now)).changes) }
+    ensures replies { AnswersOne room.now channel.now kept.old item.now steps.old steps.new result }
+    ensures changes { ChangesOne room.now channel.now kept.old item.now kept.new result }
     ensures follows { OnOk result (Follows channel.now kept.new.changes.items kept.new.settings) }
 {
     match item {
@@ -150,9 +148,9 @@ fn take(
     kept: &mut KeptChanges,
     steps: &mut Vec<Act, Global>,
 ) -> Result<(), AllocError>
-    ensures replies { OnOk result (steps.new.items ≡ steps.old.items ++ (outcome_of verdict).replies) }
-    ensures changes { OnOk result (kept.new.changes.items ≡ kept.old.changes.items ++ (outcome_of verdict).changes) }
-    ensures settings { OnOk result (kept.new.settings ≡ fold setting_step kept.old.settings (outcome_of verdict).changes) }
+    ensures replies { AddsTo result steps.old steps.new (outcome_of verdict).replies }
+    ensures changes { AddsTo result kept.old.changes kept.new.changes (outcome_of verdict).changes }
+    ensures settings { AreSetBy (outcome_of verdict).changes kept.old kept.new result }
 {
     match verdict {
         Verdict::Says(reply) => put(steps, Act::Answer(reply)),
@@ -167,7 +165,7 @@ fn tell(
     item: &ModeItem<'_>,
     steps: &mut Vec<Act, Global>,
 ) -> Result<(), AllocError>
-    ensures { OnOk result (steps.new.items ≡ steps.old.items ++ told channel.now (asked item.now)) }
+    ensures { AddsTo result steps.old steps.new (told channel.now (asked item.now)) }
 {
     match item {
         ModeItem::Change(_) => Ok(()),
@@ -191,7 +189,7 @@ fn put_changes(
     kept: KeptChanges,
     steps: &mut Vec<Act, Global>,
 ) -> Result<(), AllocError>
-    ensures { OnOk result (steps.new.items ≡ steps.old.items ++ changing me.now channel.now kept.changes.items) }
+    ensures { AddsTo result steps.old steps.new (changing me.now channel.now kept.changes.items) }
 {
     if kept.changes.is_empty() {
         return Ok(());
@@ -210,7 +208,7 @@ fn deny(
     channel: &Channel,
     items: &[ModeItem<'_>],
 ) -> Result<Vec<Act, Global>, AllocError>
-    ensures { IfOk result (λ steps. steps.items ≡ denied channel.now (all_asked items.now)) }
+    ensures { Yields result (denied channel.now (all_asked items.now)) }
 {
     let mut steps = Vec::new(alloc);
     let mut refused = false;
@@ -228,7 +226,7 @@ fn deny_one(
     item: &ModeItem<'_>,
     steps: &mut Vec<Act, Global>,
 ) -> Result<(), AllocError>
-    ensures { OnOk result (steps.new.items ≡ steps.old.items ++ denied_one refused channel.now (asked item.now)) }
+    ensures { AddsTo result steps.old steps.new (denied_one refused channel.now (asked item.now)) }
 {
     if is_change(item) && !refused {
         let channel = channel.name.copy();

@@ -1,8 +1,6 @@
 //! What comes of a change of a channel's modes that an operator asks for.
 ghost use Rattle.std.specs.Prelude.{◌≡◌, true, false, Some, nat_eq};
 ghost use Rattle.std.specs.Option.{option_copied, option_map_or};
-ghost use Rattle.irc_channels.specs.Channels.{all_changed};
-ghost use Rattle.irc_modes.specs.Modes.{mask_in};
 ghost use Rattle.irc_modes.specs.Texts.{IsModeWord};
 ghost use Rattle.irc_modes.specs.declared.modes.ModeLetter.TheVariants.{Ban as BanLetter};
 ghost use Rattle.irc_moderation.specs.declared.verdict.Verdict.TheVariants.{Keeps};
@@ -10,18 +8,22 @@ ghost use Rattle.irc_moderation.specs.Judging.{
   ban_judged,
   flag_judged,
   flag_of,
-  judge,
   kept_if,
   key_judged,
   limit_judged,
   made,
-  mask_judged,
-  setting_judged,
   turned,
   turns_private,
   turns_secret,
   without_zeros,
-  word_judged,
+};
+ghost use Rattle.irc_moderation.specs.Loops.Judged.{
+  channel_behind,
+  judge_asked,
+  key_asked,
+  mask_asked,
+  setting_asked,
+  word_asked,
 };
 ghost use Rattle.irc_moderation.specs.Loops.KeptChanges.{Follows};
 
@@ -44,7 +46,7 @@ pub(crate) fn judge(
     asked: &AskedChange<'_>,
 ) -> Verdict
     requires { Follows channel.now kept.now.changes.items kept.now.settings }
-    ensures { result ≡ judge room.now.room.users (all_changed kept.now.changes.items channel.now) asked.now.plus asked.now.letter (option_copied asked.now.word) }
+    ensures { result ≡ judge_asked room.now (channel_behind kept.now channel.now) asked.now }
 {
     match asked.letter {
         ModeLetter::Ban => mask_judged(channel, kept, asked),
@@ -55,7 +57,7 @@ pub(crate) fn judge(
 
 /// What comes of a change of a mode of the channel itself that is no ban.
 fn setting_judged(name: &ChannelName, modes: &Modes, asked: &AskedChange<'_>) -> Verdict
-    ensures { result ≡ setting_judged name.now modes.now asked.now.plus asked.now.letter (option_copied asked.now.word) }
+    ensures { result ≡ setting_asked name.now modes.now asked.now }
 {
     let plus = asked.plus;
     match asked.letter {
@@ -133,7 +135,7 @@ fn mode_word(bytes: &[u8]) -> ModeWord
 
 /// What comes of mode k, by the key that is set. It is taken away with that key, whatever word came.
 fn key_judged(name: &ChannelName, plus: bool, word: Option<&[u8]>, before: Option<&Key>) -> Verdict
-    ensures { result ≡ key_judged name.now plus (option_copied word.entry) (option_copied before.entry) }
+    ensures { result ≡ key_asked name.now plus word.entry before.entry }
 {
     if plus {
         return match word {
@@ -221,7 +223,7 @@ fn without_zeros(digits: &[u8]) -> &[u8]
 /// What comes of a ban in the channel as the changes so far have left it.
 fn mask_judged(channel: &Channel, kept: &KeptChanges, asked: &AskedChange<'_>) -> Verdict
     requires { Follows channel.now kept.now.changes.items kept.now.settings }
-    ensures { result ≡ mask_judged channel.now.name asked.now.plus (mask_in (option_copied asked.now.word)) (all_changed kept.now.changes.items channel.now).modes.bans }
+    ensures { result ≡ mask_asked channel.now.name (channel_behind kept.now channel.now) asked.now }
 {
     let Some(mask) = mask_in(asked.word) else {
         return Verdict::Nothing;
@@ -278,7 +280,7 @@ fn word_judged(
     asked: &AskedChange<'_>,
 ) -> Verdict
     requires { Follows channel.now kept.now.changes.items kept.now.settings }
-    ensures { result ≡ word_judged room.now.room.users (all_changed kept.now.changes.items channel.now) asked.now.plus asked.now.letter (option_copied asked.now.word) }
+    ensures { result ≡ word_asked room.now (channel_behind kept.now channel.now) asked.now }
 {
     let Some(word) = asked.word else {
         return Verdict::Nothing;

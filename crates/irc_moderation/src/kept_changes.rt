@@ -1,12 +1,22 @@
 //! The changes of a channel's modes that a command makes, and what they leave of the channel, which is neither changed nor copied.
-ghost use Rattle.std.specs.Prelude.{◌≡◌, ◌<◌, ◌-◌, ◌^◌, [], ◌∷◌, ◌++◌, find, fold, length, OnOk};
-ghost use Rattle.irc_names.specs.Fold.{key, same};
-ghost use Rattle.irc_names.specs.Tables.{row};
+ghost use Rattle.std.specs.Prelude.{◌≡◌, ◌<◌, ◌-◌, ◌^◌, [], ◌∷◌, find, fold, length, OnOk};
+ghost use Rattle.irc_names.specs.Fold.{same};
+ghost use Rattle.irc_acts.specs.Steps.{AddsTo};
 ghost use Rattle.irc_modes.specs.Bans.{IsBanList};
 ghost use Rattle.irc_modes.specs.Modes.{ban_mask, mask_in};
 ghost use Rattle.std.specs.Option.{option_copied};
 ghost use Rattle.irc_modes.specs.Loops.ManyChanges.{setting_step};
-ghost use Rattle.irc_moderation.specs.Loops.KeptChanges.{ban_by, count_by, flags_by, op_set, voice_set, without_bans};
+ghost use Rattle.irc_moderation.specs.Loops.KeptChanges.{
+  ban_by,
+  ban_by_all,
+  count_by,
+  flags_by,
+  flags_by_all,
+  op_set,
+  voice_set,
+  without_bans,
+  AreSetBy,
+};
 
 use irc_channels::{Channel, Flags};
 use irc_modes::{BanList, ModeChange, ModeLetter, Modes};
@@ -51,8 +61,8 @@ impl KeptChanges {
 
     /// Adds a change.
     pub(crate) fn keep(&mut self, change: ModeChange) -> Result<(), AllocError>
-        ensures changes { OnOk result (self.new.changes.items ≡ self.old.changes.items ++ change ∷ []) }
-        ensures settings { OnOk result (self.new.settings ≡ setting_step self.old.settings change) }
+        ensures changes { AddsTo result self.old.changes self.new.changes (change ∷ []) }
+        ensures settings { AreSetBy (change ∷ []) self.old self.new result }
     {
         set(&mut self.settings, &change)?;
         push(&mut self.changes, change)
@@ -60,7 +70,7 @@ impl KeptChanges {
 }
 
 fn push(changes: &mut Vec<ModeChange, Global>, change: ModeChange) -> Result<(), AllocError>
-    ensures { OnOk result (changes.new.items ≡ changes.old.items ++ change ∷ []) }
+    ensures { AddsTo result changes.old changes.new (change ∷ []) }
 {
     changes.push(change)?;
     Ok(())
@@ -85,7 +95,7 @@ pub(crate) fn know_bans_rise(channel: &Channel)
 
 /// The flags of the user of a nickname in a channel behind some changes, if it is a member.
 pub(crate) fn flags(channel: &Channel, changes: &[ModeChange], nick: &[u8]) -> Option<Flags>
-    ensures { result ≡ fold (flags_by nick.now) (row channel.now.members (key nick.now)) changes.now }
+    ensures { result ≡ flags_by_all channel.now changes.now nick.now }
 {
     let mut flags = channel.members.get(nick).copied();
     for change in changes {
@@ -129,7 +139,7 @@ fn voice_set(plus: bool, flags: Flags) -> Flags
 
 /// The ban of a channel behind some changes that is the same as a mask, if one is there.
 pub(crate) fn ban(channel: &Channel, changes: &[ModeChange], mask: &BanMask) -> Option<BanMask>
-    ensures { result ≡ fold (ban_by mask.now) (find (same mask.now) channel.now.modes.bans) changes.now }
+    ensures { result ≡ ban_by_all channel.now changes.now mask.now }
 {
     let mut ban = found(&channel.modes.bans, mask);
     for change in changes {

@@ -1,6 +1,7 @@
 //! MODE.
-ghost use Rattle.std.specs.Prelude.{◌≡◌, IfOk};
+ghost use Rattle.std.specs.Prelude.{◌≡◌};
 ghost use Rattle.irc_line.specs.PartViews.{words_now};
+ghost use Rattle.irc_acts.specs.Steps.{by_room, Yields};
 ghost use Rattle.irc_moderation.specs.Laws.ChangesLaw.{ModeDoesSomething};
 ghost use Rattle.irc_moderation.specs.Laws.InvitationsLaw.{ModeLooksAtNoInvitations};
 ghost use Rattle.irc_moderation.specs.Laws.ModeLaw.{ModeIsOwn};
@@ -21,7 +22,7 @@ const HASH: u8 = b'#';
 /// Where memory runs out.
 #[tactic(auto, unfolding(crate::specs::Mode::mode_steps))]
 pub fn steps(context: &Context<'_>, params: &[&[u8]]) -> Result<Vec<Act, Global>, AllocError>
-    ensures { IfOk result (λ steps. steps.items ≡ mode_steps context.now.room.now.room context.now.me.now (words_now params.now)) }
+    ensures { Yields result (by_room context.now mode_steps (words_now params.now)) }
 {
     let Some((target, more)) = params.split_first() else {
         return only(context.alloc, need_more_params(b"MODE"));

@@ -1,7 +1,8 @@
 //! How the modes of a channel are told.
-ghost use Rattle.std.specs.Prelude.{◌≡◌, ◌≤◌, ◌<◌, ◌+◌, [], ◌∷◌, ◌++◌, length, OnOk, if◌then◌else◌};
+ghost use Rattle.std.specs.Prelude.{◌≡◌, ◌≤◌, ◌<◌, ◌+◌, [], ◌∷◌, ◌++◌, length, if◌then◌else◌};
 ghost use Rattle.std.specs.Option.{option_copied, option_map};
 ghost use Rattle.irc_acts.specs.Acts.{kept};
+ghost use Rattle.irc_acts.specs.Steps.{AddsTo};
 ghost use Rattle.irc_moderation.specs.ModesShown.{ban_shown, bans_shown, key_shown, letters_set, modes_shown, privacy_letter};
 
 use arrayvec::ArrayVec;
@@ -88,7 +89,7 @@ fn add_privacy(privacy: Privacy, letters: &mut ModeLetters)
 
 /// Appends the bans of a channel, in folded order, as they are stored, and the end of their list.
 pub(crate) fn put_bans(channel: &Channel, steps: &mut Vec<Act, Global>) -> Result<(), AllocError>
-    ensures { OnOk result (steps.new.items ≡ steps.old.items ++ bans_shown channel.now) }
+    ensures { AddsTo result steps.old steps.new (bans_shown channel.now) }
 {
     for mask in channel.modes.bans.as_slice() {
         put(steps, ban_shown(channel, mask))?;

@@ -1,13 +1,15 @@
 //! MODE of a user.
-ghost use Rattle.std.specs.Prelude.{◌≡◌, ◌++◌, true, IfOk, OnOk};
+ghost use Rattle.std.specs.Prelude.{◌≡◌, true, [], ◌∷◌};
 ghost use Rattle.std.specs.List.{list_any};
 ghost use Rattle.irc_line.specs.PartViews.{words_now};
 ghost use Rattle.irc_modes.specs.ModeWords.{is_sign};
+ghost use Rattle.irc_acts.specs.Steps.{AddsTo, Yields};
 ghost use Rattle.irc_moderation.specs.UserMode.{
   invisible_after,
   invisible_by,
   is_unknown_flag,
   made_invisible,
+  own_mode,
   sign_after,
   unknown_told,
   user_mode,
@@ -27,7 +29,7 @@ pub(crate) fn steps(
     target: &[u8],
     more: &[&[u8]],
 ) -> Result<Vec<Act, Global>, AllocError>
-    ensures { IfOk result (λ steps. steps.items ≡ user_mode context.now.me.now target.now (words_now more.now)) }
+    ensures { Yields result (user_mode context.now.me.now target.now (words_now more.now)) }
 {
     let me = context.me;
     if !same(target, me.nick.as_bytes()) {
@@ -44,7 +46,7 @@ pub(crate) fn steps(
 
 /// What letters do to a user's own mode.
 fn change(context: &Context<'_>, letters: &[u8]) -> Result<Vec<Act, Global>, AllocError>
-    ensures { IfOk result (λ steps. steps.items ≡ unknown_told letters.now ++ made_invisible context.now.me.now (invisible_after true context.now.me.now.invisible letters.now)) }
+    ensures { Yields result (own_mode context.now.me.now (letters.now ∷ [])) }
 {
     let mut steps = Vec::new(context.alloc);
     tell_unknown(letters, &mut steps)?;
@@ -55,7 +57,7 @@ fn change(context: &Context<'_>, letters: &[u8]) -> Result<Vec<Act, Global>, All
 
 /// Appends one reply for all bytes that are no mode, if there are any.
 fn tell_unknown(letters: &[u8], steps: &mut Vec<Act, Global>) -> Result<(), AllocError>
-    ensures { OnOk result (steps.new.items ≡ steps.old.items ++ unknown_told letters.now) }
+    ensures { AddsTo result steps.old steps.new (unknown_told letters.now) }
 {
     if has_unknown_flag(letters) {
         put(steps, Act::Answer(Reply::UModeUnknownFlag))?;
@@ -115,7 +117,7 @@ fn make_invisible(
     invisible: bool,
     steps: &mut Vec<Act, Global>,
 ) -> Result<(), AllocError>
-    ensures { OnOk result (steps.new.items ≡ steps.old.items ++ made_invisible me.now invisible) }
+    ensures { AddsTo result steps.old steps.new (made_invisible me.now invisible) }
 {
     if me.invisible != invisible {
         let nick = me.nick.copy();

@@ -12,8 +12,8 @@ use Rattle.irc_answers.proofs.name_lines.add_members.Goals as goal
 
 pub loop-row-preserved : goal.loop-row-preserved
 loop-row-preserved c =
-    let line = name_line c.args.channel.now in
-    let named = listed c.args.room.now.room.users (is_shown c.args.all) in
+    let line = name_line c.args.naming.now.channel.now in
+    let named = listed c.args.naming.now.room.now.room.users (is_shown c.args.naming.now.all) in
     let rows = c.args.rows.now in
     let i = c.loop-row.row-index in
     let came = subst (λ n. Came max_names line c.loop-row.steps.items c.loop-row.held.items (filter_map named ((key n, c.row-item.result.value) ∷ []))
