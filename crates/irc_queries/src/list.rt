@@ -31,7 +31,7 @@ use std::alloc::AllocError;
 /// # Errors
 /// Where memory runs out; nothing that was put out before has changed then.
 #[tactic(auto, unfolding(crate::specs::List::list_steps))]
-pub fn answer(
+pub(crate) fn answer(
     context: &Context<'_>,
     params: &[&[u8]],
     conn: u64,

@@ -40,7 +40,7 @@ const OPERATORS: &[u8] = b"o";
 /// # Errors
 /// Where memory runs out; nothing that was put out before has changed then.
 #[tactic(auto, unfolding(crate::specs::Who::who_steps))]
-pub fn answer(
+pub(crate) fn answer(
     context: &Context<'_>,
     params: &[&[u8]],
     conn: u64,
