@@ -1,5 +1,6 @@
 -- What the code's decisions are, without where their steps lie in memory.
 use Rattle.std.specs.Prelude.{◌≡◌, ℕ, Option, Some, None, Result, List, [], ◌++◌, IfOk}
+use Rattle.std.specs.Global.{Vec}
 use Rattle.irc_names.specs.Fold.{key}
 use Rattle.irc_names.specs.Tables.{row}
 use Rattle.irc_line.specs.Messages.{Parsed}
@@ -13,12 +14,37 @@ use Rattle.irc_queries.specs.declared.query.Query.{Query}
 use Rattle.irc_queries.specs.Query.{query_steps}
 use Rattle.irc_commands.specs.declared.decision.Decision.{Decision}
 use Rattle.irc_commands.specs.declared.pending.Registration.{Registration}
+use Rattle.irc_commands.specs.declared.say.Verb.{Verb}
 use Rattle.irc_commands.specs.Decide.{decide}
 use Rattle.irc_commands.specs.Decisions.{Decided, Registered, does}
+use Rattle.irc_commands.specs.Nick.{nick_steps}
+use Rattle.irc_commands.specs.Say.{say_steps, say_to}
 use Rattle.irc_commands.specs.Table.{row_for}
+use Rattle.irc_commands.specs.Topic.{topic_steps}
 
 abbrev pub registered_of : Registration → Registered
 registered_of r = record { pending = r.pending; steps = r.steps.items; registered = r.registered; close = r.close }
+
+abbrev pub IsRegistration : Registered → Registration → Type 0
+IsRegistration want r = registered_of r ≡ want
+
+-- These are the steps.
+abbrev pub AreDecided : List Act → Vec Act → Type 0
+AreDecided want steps = steps.items ≡ want
+
+-- the rows of the command table, as the code's context has them
+abbrev pub nick_here : Context → List (List ℕ) → List Act
+nick_here context params = nick_steps context.room.now.room context.me.now params
+
+abbrev pub topic_here : Context → List (List ℕ) → List Act
+topic_here context params = topic_steps context.room.now.room context.me.now params
+
+abbrev pub say_here : Context → Verb → List (List ℕ) → List Act
+say_here context verb params = say_steps context.room.now.room context.me.now verb params
+
+-- what is said to these targets
+abbrev pub said_here : Context → Verb → List ℕ → List ℕ → List Act
+said_here context verb targets words = say_to context.room.now.room context.me.now verb targets words
 
 -- the steps that answer what a user asks, if it asks something and is there
 unfoldable pub asked_steps : Room → Place → Option User → List (List ℕ) → Option Query → List Act

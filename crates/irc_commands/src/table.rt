@@ -3,7 +3,7 @@ ghost use Rattle.std.specs.Prelude.{◌≡◌, List, [], ◌∷◌, IfOk};
 ghost use Rattle.irc_line.specs.MessageViews.{parsed};
 ghost use Rattle.irc_acts.specs.declared.act.Act.{Act};
 ghost use Rattle.irc_acts.specs.declared.act.Act.TheVariants.{Answer};
-ghost use Rattle.irc_commands.specs.CodeViews.{GivesWithoutQuery, IsAsking, IsRowFor, IsWithoutQuery};
+ghost use Rattle.irc_commands.specs.CodeViews.{AreDecided, GivesWithoutQuery, IsAsking, IsRowFor, IsWithoutQuery};
 ghost use Rattle.irc_commands.specs.Decisions.{does, nothing};
 ghost use Rattle.irc_commands.specs.Table.{command_of, same_letters, unknown};
 
@@ -150,7 +150,7 @@ pub(crate) fn decide_for(
 /// Whatever the steps are, the client stays.
 #[tactic(auto, unfolding(crate::specs::CodeViews::asked_steps))]
 fn stays(steps: Result<Vec<Act, Global>, AllocError>) -> Result<Decision, AllocError>
-    ensures { (want : List Act) → IfOk steps (λ s. s.items ≡ want) → GivesWithoutQuery (does want) result }
+    ensures { (want : List Act) → IfOk steps (AreDecided want) → GivesWithoutQuery (does want) result }
 {
     let steps = steps?;
     Ok(Decision {

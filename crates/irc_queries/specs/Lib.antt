@@ -5,4 +5,5 @@ pub mod Whois
 pub mod Who
 pub mod Query
 pub mod Said
+pub mod Loops
 pub mod Laws

@@ -31,7 +31,8 @@ pub fn answer(
     conn: u64,
     out: &mut Batch,
 ) -> Result<(), AllocError>
-    ensures ok { OnOk result (AnswersQuery context.now query (words_now params.now) conn out.old out.new) }
+    ensures ok { OnOk result
+        (AnswersQuery context.now query (words_now params.now) conn out.old out.new) }
     ensures grew { Grew out.old.outs out.new.outs }
 {
     match query {
