@@ -17,4 +17,3 @@ pub mod CommandsAlike
 pub mod ComingLaws
 pub mod OwnDoing
 pub mod HomeDecides
-pub mod ToldInPart

@@ -1,10 +1,79 @@
 -- What the code's decisions are, without where their steps lie in memory.
+use Rattle.std.specs.Prelude.{◌≡◌, ℕ, Option, Some, None, Result, List, [], ◌++◌, IfOk}
+use Rattle.std.specs.Global.{Vec}
+use Rattle.irc_names.specs.Fold.{key}
+use Rattle.irc_names.specs.Tables.{row}
+use Rattle.irc_line.specs.Messages.{Parsed}
+use Rattle.irc_users.specs.declared.user.User.{User}
+use Rattle.irc_room.specs.Room.{Room}
+use Rattle.irc_routes.specs.Known.{place_of}
+use Rattle.irc_routes.specs.Place.{Place}
+use Rattle.irc_acts.specs.declared.act.Act.{Act}
+use Rattle.irc_acts.specs.declared.context.Context.{Context}
+use Rattle.irc_queries.specs.declared.query.Query.{Query}
+use Rattle.irc_queries.specs.Query.{query_steps}
 use Rattle.irc_commands.specs.declared.decision.Decision.{Decision}
 use Rattle.irc_commands.specs.declared.pending.Registration.{Registration}
-use Rattle.irc_commands.specs.Decisions.{Decided, Registered}
-
-abbrev pub decided_of : Decision → Decided
-decided_of d = record { steps = d.steps.items; close = d.close }
+use Rattle.irc_commands.specs.declared.say.Verb.{Verb}
+use Rattle.irc_commands.specs.Decide.{decide}
+use Rattle.irc_commands.specs.Decisions.{Decided, Registered, does}
+use Rattle.irc_commands.specs.Nick.{nick_steps}
+use Rattle.irc_commands.specs.Say.{say_steps, say_to}
+use Rattle.irc_commands.specs.Table.{row_for}
+use Rattle.irc_commands.specs.Topic.{topic_steps}
 
 abbrev pub registered_of : Registration → Registered
 registered_of r = record { pending = r.pending; steps = r.steps.items; registered = r.registered; close = r.close }
+
+abbrev pub IsRegistration : Registered → Registration → Type 0
+IsRegistration want r = registered_of r ≡ want
+
+-- These are the steps.
+abbrev pub AreDecided : List Act → Vec Act → Type 0
+AreDecided want steps = steps.items ≡ want
+
+-- the rows of the command table, as the code's context has them
+abbrev pub nick_here : Context → List (List ℕ) → List Act
+nick_here context params = nick_steps context.room.now.room context.me.now params
+
+abbrev pub topic_here : Context → List (List ℕ) → List Act
+topic_here context params = topic_steps context.room.now.room context.me.now params
+
+abbrev pub say_here : Context → Verb → List (List ℕ) → List Act
+say_here context verb params = say_steps context.room.now.room context.me.now verb params
+
+-- what is said to these targets
+abbrev pub said_here : Context → Verb → List ℕ → List ℕ → List Act
+said_here context verb targets words = say_to context.room.now.room context.me.now verb targets words
+
+-- the steps that answer what a user asks, if it asks something and is there
+unfoldable pub asked_steps : Room → Place → Option User → List (List ℕ) → Option Query → List Act
+asked_steps room place me params None = []
+asked_steps room place None params (Some query) = []
+asked_steps room place (Some me) params (Some query) = query_steps room place me params query
+
+-- A decision is this: what the user asks with these parameters is answered first, from the room as it is, and its steps follow.
+abbrev pub IsDecidedAs : Room → Place → Option User → List (List ℕ) → Decided → Decision → Type 0
+IsDecidedAs room place me params want d = want ≡ record { steps = asked_steps room place me params d.query ++ d.steps.items; close = d.close }
+
+-- It is this whatever is asked, since nothing is.
+abbrev pub IsWithoutQuery : Decided → Decision → Type 0
+IsWithoutQuery want d = (room : Room) (place : Place) (me : Option User) (params : List (List ℕ)) → IsDecidedAs room place me params want d
+
+abbrev pub GivesWithoutQuery : {E : Type 0} → Decided → Result Decision E → Type 0
+GivesWithoutQuery want result = (room : Room) (place : Place) (me : Option User) (params : List (List ℕ)) → IfOk result (IsDecidedAs room place me params want)
+
+-- It has no step, and what answers this query is all.
+abbrev pub IsAsking : Query → Decision → Type 0
+IsAsking query d =
+    (room : Room) (place : Place) (me : User) (params : List (List ℕ)) → IsDecidedAs room place (Some me) params (does (query_steps room place me params query)) d
+
+-- The row of the command table that a user's line fits, and what a line of who has this nickname does.
+abbrev pub IsRowFor : Context → Parsed → Decision → Type 0
+IsRowFor context message =
+    let room = context.room.now.room in
+    let place = place_of context.routes.now in
+    IsDecidedAs room place (Some context.me.now) message.params (row_for room place context.me.now message)
+
+abbrev pub IsDecision : Room → Place → List ℕ → Parsed → Decision → Type 0
+IsDecision room place who message = IsDecidedAs room place (row room.users (key who)) message.params (decide room place who message)

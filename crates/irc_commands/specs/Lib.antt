@@ -9,7 +9,6 @@ pub mod Table
 pub mod Decide
 pub mod Register
 pub mod CodeViews
-pub mod AtOnce
 pub mod Possible
 pub mod Doing
 pub mod OwnInvitations

@@ -1,31 +1,24 @@
 //! What a line of a registered user does.
 ghost use Rattle.std.specs.Prelude.{◌≡◌, IfOk};
-ghost use Rattle.std.specs.Option.{option_map};
-ghost use Rattle.irc_batch.specs.Growing.{Grew};
-ghost use Rattle.irc_names.specs.Fold.{key};
-ghost use Rattle.irc_names.specs.Tables.{row};
-ghost use Rattle.irc_users.specs.declared.user.User.{User};
 ghost use Rattle.irc_line.specs.MessageViews.{optional_now, parsed};
 ghost use Rattle.irc_routes.specs.Known.{place_of};
-ghost use Rattle.irc_commands.specs.AtOnce.{IsToldInPart};
-ghost use Rattle.irc_commands.specs.CodeViews.{decided_of};
-ghost use Rattle.irc_commands.specs.Decide.{decide, is_from};
+ghost use Rattle.irc_commands.specs.CodeViews.{IsDecision};
+ghost use Rattle.irc_commands.specs.Decide.{is_from};
 
 use crate::decision::Decision;
 use crate::table::{decide_for, nothing};
 use irc_acts::Context;
-use irc_batch::Batch;
 use irc_line::Message;
 use irc_names::{Nick, same};
 use irc_room::Room;
 use irc_routes::Routes;
 use std::alloc::{AllocError, Global};
 
-/// What a line of a registered user does (RFC 2812 section 3). Nothing of the room is changed. A LIST or a WHO, which may have many
-/// answers, is answered at once, on the user's connection; what is left to do is handed back.
+/// What a line of a registered user does (RFC 2812 section 3). Nothing is changed, and nothing put out: what it asks of the room is handed
+/// back.
 ///
 /// # Errors
-/// Where memory runs out; nothing that was put out before has changed then.
+/// Where memory runs out.
 #[tactic(auto, unfolding(crate::specs::Decide::decide))]
 pub fn decide(
     alloc: Global,
@@ -33,11 +26,9 @@ pub fn decide(
     routes: &Routes,
     who: &Nick,
     message: &Message<'_>,
-    conn: u64,
-    out: &mut Batch,
 ) -> Result<Decision, AllocError>
-    ensures told { IfOk result (λ d. IsToldInPart (place_of routes.now) (option_map (λ (user : User). user.nick) (row room.now.room.users (key who.now))) conn (decide room.now.room (place_of routes.now) who.now (parsed message.now)) out.old.outs out.new.outs (decided_of d)) }
-    ensures grew { Grew out.old.outs out.new.outs }
+    ensures { IfOk result
+        (IsDecision room.now.room (place_of routes.now) who.now (parsed message.now)) }
 {
     match room.user(who.as_bytes()) {
         Some(me) if is_own(message.prefix, Some(&me.nick)) => {
@@ -47,7 +38,7 @@ pub fn decide(
                 routes,
                 me,
             };
-            decide_for(&context, message, conn, out)
+            decide_for(&context, message)
         }
         _ => Ok(nothing(alloc)),
     }

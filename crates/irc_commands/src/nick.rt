@@ -2,6 +2,7 @@
 ghost use Rattle.std.specs.Prelude.{◌≡◌, IfOk, option_to_list};
 ghost use Rattle.irc_line.specs.PartViews.{words_now};
 ghost use Rattle.irc_commands.specs.Nick.{is_anothers, nick_steps, nick_taken};
+ghost use Rattle.irc_commands.specs.CodeViews.{AreDecided, nick_here};
 
 use irc_acts::words::client_words;
 use irc_acts::{Act, Context, put};
@@ -12,7 +13,7 @@ use std::alloc::{AllocError, Global};
 
 /// What a NICK does (RFC 2812 section 3.1.2).
 pub(crate) fn steps(context: &Context<'_>, params: &[&[u8]]) -> Result<Vec<Act, Global>, AllocError>
-    ensures { IfOk result (λ steps. steps.items ≡ nick_steps context.now.room.now.room context.now.me.now (words_now params.now)) }
+    ensures { IfOk result (AreDecided (nick_here context.now (words_now params.now))) }
 {
     let mut steps = Vec::new(context.alloc);
     if let Some(act) = step(context, params) {
@@ -24,7 +25,8 @@ pub(crate) fn steps(context: &Context<'_>, params: &[&[u8]]) -> Result<Vec<Act, 
 /// The one step of a NICK, if it has one.
 #[tactic(auto, unfolding(crate::specs::Nick::nick_steps))]
 fn step(context: &Context<'_>, params: &[&[u8]]) -> Option<Act>
-    ensures { nick_steps context.now.room.now.room context.now.me.now (words_now params.now) ≡ option_to_list result }
+    ensures { nick_steps context.now.room.now.room context.now.me.now (words_now params.now)
+        ≡ option_to_list result }
 {
     match params.first() {
         Some(given) if !given.is_empty() => take(context, given),
@@ -34,7 +36,8 @@ fn step(context: &Context<'_>, params: &[&[u8]]) -> Option<Act>
 
 /// Takes a nickname that is not empty, if it is one and nobody else has it.
 fn take(context: &Context<'_>, given: &[u8]) -> Option<Act>
-    ensures { nick_taken context.now.room.now.room context.now.me.now given.now ≡ option_to_list result }
+    ensures { nick_taken context.now.room.now.room context.now.me.now given.now
+        ≡ option_to_list result }
 {
     let Some(new) = Nick::read(given) else {
         let nick = client_words(given);

@@ -3,6 +3,7 @@ ghost use Rattle.std.specs.Prelude.{◌≡◌, IfOk};
 ghost use Rattle.irc_line.specs.PartViews.{words_now};
 ghost use Rattle.irc_routes.specs.Known.{place_of};
 ghost use Rattle.irc_commands.specs.Ping.{ping_steps, pong_line};
+ghost use Rattle.irc_commands.specs.CodeViews.{AreDecided};
 
 use irc_acts::{Act, only};
 use irc_line::{Parts, Prefix, Text, write_message};
@@ -17,7 +18,7 @@ pub(crate) fn steps(
     routes: &Routes,
     params: &[&[u8]],
 ) -> Result<Vec<Act, Global>, AllocError>
-    ensures { IfOk result (λ steps. steps.items ≡ ping_steps (place_of routes.now) (words_now params.now)) }
+    ensures { IfOk result (AreDecided (ping_steps (place_of routes.now) (words_now params.now))) }
 {
     let answer = match params.first() {
         None => Act::Answer(Reply::NoOrigin),

@@ -1,7 +1,6 @@
 //! QUIT of a registered user.
-ghost use Rattle.std.specs.Prelude.{◌≡◌, IfOk};
 ghost use Rattle.irc_line.specs.PartViews.{words_now};
-ghost use Rattle.irc_commands.specs.CodeViews.{decided_of};
+ghost use Rattle.irc_commands.specs.CodeViews.{GivesWithoutQuery};
 ghost use Rattle.irc_commands.specs.Quit.{quit_decided};
 
 use crate::closing::error;
@@ -12,13 +11,18 @@ use irc_room::Effect;
 use std::alloc::AllocError;
 
 /// What a QUIT does: others see it first, then the client is told and closed (RFC 2812 section 3.1.7).
+#[tactic(auto, unfolding(crate::specs::CodeViews::asked_steps))]
 pub(crate) fn decided(context: &Context<'_>, params: &[&[u8]]) -> Result<Decision, AllocError>
-    ensures { IfOk result (λ d. decided_of d ≡ quit_decided context.now.me.now (words_now params.now)) }
+    ensures { GivesWithoutQuery (quit_decided context.now.me.now (words_now params.now)) result }
 {
     let nick = context.me.nick.copy();
     let text = reason_given(params, nick.as_bytes());
     let told = Act::Raw(error(&text));
     let mut steps = only(context.alloc, Act::Do(Effect::Quit { nick, text }))?;
     put(&mut steps, told)?;
-    Ok(Decision { steps, close: true })
+    Ok(Decision {
+        steps,
+        query: None,
+        close: true,
+    })
 }

@@ -5,6 +5,7 @@ ghost use Rattle.irc_line.specs.PartViews.{words_now};
 ghost use Rattle.irc_numerics.specs.declared.replies.Reply.TheVariants.{NoSuchNick};
 ghost use Rattle.irc_acts.specs.Acts.{client_words};
 ghost use Rattle.irc_acts.specs.declared.act.Act.TheVariants.{Answer};
+ghost use Rattle.irc_commands.specs.CodeViews.{AreDecided, said_here, say_here};
 ghost use Rattle.irc_commands.specs.Say.{
   is_channel_target,
   is_notice,
@@ -12,8 +13,6 @@ ghost use Rattle.irc_commands.specs.Say.{
   may_speak,
   said_text,
   say_command,
-  say_steps,
-  say_to,
   to_channel,
   to_one,
   to_user,
@@ -82,7 +81,8 @@ const SEPARATORS: usize = 7;
 
 /// What a message to one target does.
 fn to_target(context: &Context<'_>, verb: Verb, words: &[u8], name: &[u8]) -> Act
-    ensures { to_one context.now.room.now.room context.now.me.now verb words.now name.now ≡ result ∷ [] }
+    ensures { to_one context.now.room.now.room context.now.me.now verb words.now name.now
+        ≡ result ∷ [] }
 {
     if is_channel_target(name) {
         to_channel(context.room.channel(name), context.me, verb, words, name)
@@ -186,7 +186,8 @@ fn say_to(
     targets: &[u8],
     words: &[u8],
 ) -> Result<Vec<Act, Global>, AllocError>
-    ensures { IfOk result (λ steps. steps.items ≡ unless_notice verb (say_to context.now.room.now.room context.now.me.now verb targets.now words.now)) }
+    ensures { IfOk result
+        (AreDecided (unless_notice verb (said_here context.now verb targets.now words.now))) }
 {
     let mut steps = Vec::new(context.alloc);
     let mut rest = targets;
@@ -213,7 +214,7 @@ pub(crate) fn steps(
     verb: Verb,
     params: &[&[u8]],
 ) -> Result<Vec<Act, Global>, AllocError>
-    ensures { IfOk result (λ steps. steps.items ≡ say_steps context.now.room.now.room context.now.me.now verb (words_now params.now)) }
+    ensures { IfOk result (AreDecided (say_here context.now verb (words_now params.now))) }
 {
     let Some((targets, more)) = params.split_first() else {
         let command = client_words(verb.name());

@@ -1,15 +1,11 @@
 //! The command table.
-ghost use Rattle.std.specs.Prelude.{◌≡◌, Some, List, [], ◌∷◌, ◌++◌, IfOk, OnOk};
-ghost use Rattle.irc_batch.specs.Growing.{Grew};
+ghost use Rattle.std.specs.Prelude.{◌≡◌, List, [], ◌∷◌, IfOk};
 ghost use Rattle.irc_line.specs.MessageViews.{parsed};
-ghost use Rattle.irc_routes.specs.Known.{place_of};
 ghost use Rattle.irc_acts.specs.declared.act.Act.{Act};
 ghost use Rattle.irc_acts.specs.declared.act.Act.TheVariants.{Answer};
-ghost use Rattle.irc_queries.specs.Said.{all_said};
-ghost use Rattle.irc_commands.specs.AtOnce.{at_once, left, IsToldInPart};
-ghost use Rattle.irc_commands.specs.CodeViews.{decided_of};
+ghost use Rattle.irc_commands.specs.CodeViews.{AreDecided, GivesWithoutQuery, IsAsking, IsRowFor, IsWithoutQuery};
 ghost use Rattle.irc_commands.specs.Decisions.{does, nothing};
-ghost use Rattle.irc_commands.specs.Table.{command_of, row_for, row_of, same_letters, unknown};
+ghost use Rattle.irc_commands.specs.Table.{command_of, same_letters, unknown};
 
 use crate::decision::Decision;
 use crate::say::Verb;
@@ -17,12 +13,11 @@ use crate::{nick, ping, quit, say, topic};
 use irc_acts::words::client_words;
 use irc_acts::{Act, Context, only};
 use irc_answers::names;
-use irc_batch::Batch;
 use irc_line::Message;
 use irc_membership::{invite, join, kick, part};
 use irc_moderation::mode;
 use irc_numerics::Reply;
-use irc_queries::{ison, list, lusers, who, whois};
+use irc_queries::{Query, ison, lusers, whois};
 use std::alloc::{AllocError, Global};
 
 /// A command that is built (RFC 2812 section 3).
@@ -118,54 +113,18 @@ fn is_word(word: &[u8], name: &[u8]) -> bool
     word.eq_ignore_ascii_case(name)
 }
 
-/// The row of the command table that the line of a user fits. A LIST or a WHO is answered at once.
+/// The row of the command table that the line of a user fits.
+#[tactic(auto, unfolding(crate::specs::Table::row_of))]
 pub(crate) fn decide_for(
     context: &Context<'_>,
     message: &Message<'_>,
-    conn: u64,
-    out: &mut Batch,
 ) -> Result<Decision, AllocError>
-    ensures told { IfOk result (λ d. IsToldInPart (place_of context.now.routes.now) (Some context.now.me.now.nick) conn (row_for context.now.room.now.room (place_of context.now.routes.now) context.now.me.now (parsed message.now)) out.old.outs out.new.outs (decided_of d)) }
-    ensures grew { Grew out.old.outs out.new.outs }
-{
-    let command = Command::read(message.command);
-    answer_at_once(context, command, message, conn, out)?;
-    row_of(context, command, message)
-}
-
-/// Puts out what a query of many answers is answered with; nothing for another command.
-#[tactic(auto, unfolding(crate::specs::Table::row_of))]
-fn answer_at_once(
-    context: &Context<'_>,
-    command: Option<Command>,
-    message: &Message<'_>,
-    conn: u64,
-    out: &mut Batch,
-) -> Result<(), AllocError>
-    ensures ok { OnOk result (out.new.outs ≡ out.old.outs ++ all_said (place_of context.now.routes.now) (Some context.now.me.now.nick) conn (at_once command (row_of context.now.room.now.room (place_of context.now.routes.now) context.now.me.now (parsed message.now) command))) }
-    ensures grew { Grew out.old.outs out.new.outs }
+    ensures { IfOk result (IsRowFor context.now (parsed message.now)) }
 {
     let params = message.params.as_slice();
-    match command {
-        Some(Command::List) => list::answer(context, params, conn, out),
-        Some(Command::Who) => who::answer(context, params, conn, out),
-        _ => Ok(()),
-    }
-}
-
-/// What is left to do of the row of a command.
-#[tactic(auto, unfolding(crate::specs::Table::row_of))]
-fn row_of(
-    context: &Context<'_>,
-    command: Option<Command>,
-    message: &Message<'_>,
-) -> Result<Decision, AllocError>
-    ensures { IfOk result (λ d. decided_of d ≡ left command (row_of context.now.room.now.room (place_of context.now.routes.now) context.now.me.now (parsed message.now) command)) }
-{
-    let params = message.params.as_slice();
-    match command {
+    match Command::read(message.command) {
         Some(Command::Pass | Command::User) => answer(context.alloc, Reply::AlreadyRegistered),
-        Some(Command::Pong | Command::List | Command::Who) => Ok(nothing(context.alloc)),
+        Some(Command::Pong) => Ok(nothing(context.alloc)),
         Some(Command::Motd) => answer(context.alloc, Reply::NoMotd),
         Some(Command::Ping) => stays(ping::steps(context.alloc, context.routes, params)),
         Some(Command::Quit) => quit::decided(context, params),
@@ -181,42 +140,60 @@ fn row_of(
         Some(Command::Mode) => stays(mode::steps(context, params)),
         Some(Command::Ison) => stays(ison::steps(context, params)),
         Some(Command::Lusers) => stays(lusers::steps(context)),
+        Some(Command::List) => Ok(asks(context.alloc, Query::List)),
         Some(Command::Whois) => stays(whois::steps(context, params)),
+        Some(Command::Who) => Ok(asks(context.alloc, Query::Who)),
         None => unknown(context.alloc, message.command),
     }
 }
 
 /// Whatever the steps are, the client stays.
+#[tactic(auto, unfolding(crate::specs::CodeViews::asked_steps))]
 fn stays(steps: Result<Vec<Act, Global>, AllocError>) -> Result<Decision, AllocError>
-    ensures { (want : List Act) → IfOk steps (λ s. s.items ≡ want) → IfOk result (λ d. decided_of d ≡ does want) }
+    ensures { (want : List Act) → IfOk steps (AreDecided want) → GivesWithoutQuery (does want) result }
 {
     let steps = steps?;
     Ok(Decision {
         steps,
+        query: None,
         close: false,
     })
 }
 
 /// No step, and the client stays.
+#[tactic(auto, unfolding(crate::specs::CodeViews::asked_steps))]
 pub(crate) fn nothing(alloc: Global) -> Decision
-    ensures { decided_of result ≡ nothing }
+    ensures { IsWithoutQuery nothing result }
 {
     Decision {
         steps: Vec::new(alloc),
+        query: None,
+        close: false,
+    }
+}
+
+/// No step but the answers of a query, and the client stays.
+#[tactic(auto, unfolding(crate::specs::CodeViews::asked_steps))]
+fn asks(alloc: Global, query: Query) -> Decision
+    ensures { IsAsking query result }
+{
+    Decision {
+        steps: Vec::new(alloc),
+        query: Some(query),
         close: false,
     }
 }
 
 /// One reply, and the client stays.
 fn answer(alloc: Global, reply: Reply) -> Result<Decision, AllocError>
-    ensures { IfOk result (λ d. decided_of d ≡ does (Answer reply ∷ [])) }
+    ensures { GivesWithoutQuery (does (Answer reply ∷ [])) result }
 {
     stays(only(alloc, Act::Answer(reply)))
 }
 
 /// A command that is not in the table is named as it was given.
 fn unknown(alloc: Global, word: &[u8]) -> Result<Decision, AllocError>
-    ensures { IfOk result (λ d. decided_of d ≡ unknown word.now) }
+    ensures { GivesWithoutQuery (unknown word.now) result }
 {
     let command = client_words(word);
     answer(alloc, Reply::UnknownCommand { command })

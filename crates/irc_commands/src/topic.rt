@@ -3,6 +3,7 @@ ghost use Rattle.std.specs.Prelude.{◌≡◌, [], ◌∷◌, IfOk};
 ghost use Rattle.std.specs.Option.{option_copied};
 ghost use Rattle.irc_line.specs.PartViews.{words_now};
 ghost use Rattle.irc_commands.specs.Topic.{topic_of, topic_set, topic_steps, topic_told};
+ghost use Rattle.irc_commands.specs.CodeViews.{AreDecided, topic_here};
 
 use irc_acts::refusals::{need_more_params, no_such_channel, not_on_channel};
 use irc_acts::standing::is_known;
@@ -16,7 +17,7 @@ use std::alloc::{AllocError, Global};
 
 /// What a TOPIC does (RFC 2812 section 3.2.4).
 pub(crate) fn steps(context: &Context<'_>, params: &[&[u8]]) -> Result<Vec<Act, Global>, AllocError>
-    ensures { IfOk result (λ steps. steps.items ≡ topic_steps context.now.room.now.room context.now.me.now (words_now params.now)) }
+    ensures { IfOk result (AreDecided (topic_here context.now (words_now params.now))) }
 {
     only(context.alloc, step(context, params))
 }
@@ -24,7 +25,8 @@ pub(crate) fn steps(context: &Context<'_>, params: &[&[u8]]) -> Result<Vec<Act, 
 /// The one step of a TOPIC.
 #[tactic(auto, unfolding(crate::specs::Topic::topic_steps))]
 fn step(context: &Context<'_>, params: &[&[u8]]) -> Act
-    ensures { topic_steps context.now.room.now.room context.now.me.now (words_now params.now) ≡ result ∷ [] }
+    ensures { topic_steps context.now.room.now.room context.now.me.now (words_now params.now)
+        ≡ result ∷ [] }
 {
     match params.split_first() {
         Some((name, more)) => in_channel(context.room.channel(name), context.me, name, more),

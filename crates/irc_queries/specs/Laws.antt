@@ -4,3 +4,4 @@ pub mod LusersLaw
 pub mod ListLaw
 pub mod WhoisLaw
 pub mod WhoLaw
+pub mod QueryLaw

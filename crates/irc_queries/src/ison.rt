@@ -1,12 +1,13 @@
 //! ISON.
-ghost use Rattle.std.specs.Prelude.{◌≡◌, ◌<◌, [], ◌∷◌, ◌++◌, map, option_to_list, IfOk, OnOk};
-ghost use Rattle.std.specs.List.{flat_map, slice_split};
+ghost use Rattle.std.specs.Prelude.{◌≡◌, ◌<◌, ◌∷◌, ◌++◌, map, option_to_list, IfOk, OnOk};
+ghost use Rattle.std.specs.List.{slice_split};
 ghost use Rattle.irc_names.specs.Fold.{key};
 ghost use Rattle.irc_names.specs.Tables.{row};
 ghost use Rattle.irc_line.specs.Bytes.{cut, is_space, space};
 ghost use Rattle.irc_line.specs.PartViews.{words_now};
 ghost use Rattle.irc_numerics.specs.Replies.{spaced};
-ghost use Rattle.irc_queries.specs.Ison.{ison_steps, users_named, users_on, users_under};
+ghost use Rattle.irc_queries.specs.Ison.{users_named, users_on, users_under};
+ghost use Rattle.irc_queries.specs.Loops.Telling.{AddsUsers, all_named, ison_here, users_now};
 ghost use Rattle.irc_queries.specs.Laws.IsonLaw.{IsonOnlyAnswers};
 
 use arrayvec::ArrayVec;
@@ -28,7 +29,7 @@ const SPACE: u8 = b' ';
 /// Where memory runs out.
 #[tactic(auto, unfolding(crate::specs::Ison::ison_steps))]
 pub fn steps(context: &Context<'_>, params: &[&[u8]]) -> Result<Vec<Act, Global>, AllocError>
-    ensures { IfOk result (λ steps. steps.items ≡ ison_steps context.now.room.now.room (words_now params.now)) }
+    ensures { IfOk result (λ steps. steps.items ≡ ison_here context.now (words_now params.now)) }
 {
     if params.is_empty() {
         return only(context.alloc, need_more_params(b"ISON"));
@@ -39,7 +40,7 @@ pub fn steps(context: &Context<'_>, params: &[&[u8]]) -> Result<Vec<Act, Global>
 
 /// The reply of these users.
 fn users_on(users: &[&User]) -> Act
-    ensures { result ≡ users_on (map (λ user. user.now) users.now) }
+    ensures { result ≡ users_on (users_now users.now) }
 {
     Act::Answer(Reply::IsOn {
         nicks: nicks_text(users),
@@ -48,7 +49,7 @@ fn users_on(users: &[&User]) -> Act
 
 /// Their nicknames in a row, as far as a line has room.
 fn nicks_text(users: &[&User]) -> Line
-    ensures { result.items ≡ cut (spaced (map (λ user. user.nick) (map (λ user. user.now) users.now))) }
+    ensures { result.items ≡ cut (spaced (map (λ user. user.nick) (users_now users.now))) }
 {
     let mut text = ArrayVec::new();
     for (i, user) in users.iter().enumerate() {
@@ -83,7 +84,8 @@ fn users_named<'a>(
     context: &Context<'a>,
     params: &[&[u8]],
 ) -> Result<Vec<&'a User, Global>, AllocError>
-    ensures { IfOk result (λ users. map (λ user. user.now) users.items ≡ flat_map (users_named context.now.room.now.room) (words_now params.now)) }
+    ensures { IfOk result
+        (λ users. users_now users.items ≡ all_named context.now (words_now params.now)) }
 {
     let mut users = Vec::new(context.alloc);
     for words in params {
@@ -99,7 +101,7 @@ fn add_named<'a>(
     words: &[u8],
     users: &mut Vec<&'a User, Global>,
 ) -> Result<(), AllocError>
-    ensures { OnOk result (map (λ user. user.now) users.new.items ≡ map (λ user. user.now) users.old.items ++ users_named room.now.room words.now) }
+    ensures { OnOk result (AddsUsers (users_named room.now.room words.now) users.old users.new) }
 {
     let nicks = words_of(alloc, words)?;
     add_all(room, nicks.as_slice(), users)
@@ -118,7 +120,8 @@ fn add_all<'a>(
     nicks: &[&[u8]],
     users: &mut Vec<&'a User, Global>,
 ) -> Result<(), AllocError>
-    ensures { OnOk result (map (λ user. user.now) users.new.items ≡ map (λ user. user.now) users.old.items ++ users_under room.now.room (words_now nicks.now)) }
+    ensures { OnOk result
+        (AddsUsers (users_under room.now.room (words_now nicks.now)) users.old users.new) }
 {
     for nick in nicks {
         add_one(room, nick, users)?;
@@ -132,7 +135,8 @@ fn add_one<'a>(
     nick: &[u8],
     users: &mut Vec<&'a User, Global>,
 ) -> Result<(), AllocError>
-    ensures { OnOk result (map (λ user. user.now) users.new.items ≡ map (λ user. user.now) users.old.items ++ option_to_list (row room.now.room.users (key nick.now))) }
+    ensures { OnOk result
+        (AddsUsers (option_to_list (row room.now.room.users (key nick.now))) users.old users.new) }
 {
     if let Some(user) = room.user(nick) {
         users.push(user)?;

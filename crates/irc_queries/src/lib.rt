@@ -5,6 +5,9 @@ pub mod ison;
 pub mod list;
 pub mod lusers;
 mod own_rows;
+pub mod query;
 mod saying;
 pub mod who;
 pub mod whois;
+
+pub use query::{Query, answer};

@@ -1,17 +1,11 @@
 //! LIST.
-ghost use Rattle.std.specs.Prelude.{◌≡◌, is_some, Some, [], ◌∷◌, ◌++◌, filter, length, OnOk};
-ghost use Rattle.std.specs.List.{flat_map};
-ghost use Rattle.std.specs.FinMap.{values};
+ghost use Rattle.std.specs.Prelude.{◌≡◌, [], ◌∷◌, filter, length, OnOk};
 ghost use Rattle.irc_batch.specs.Growing.{Grew};
 ghost use Rattle.irc_line.specs.PartViews.{words_now};
-ghost use Rattle.irc_tables.specs.RowViews.{row_entry};
-ghost use Rattle.irc_routes.specs.Known.{place_of};
 ghost use Rattle.irc_acts.specs.CommaLists.{entries};
 ghost use Rattle.irc_acts.specs.declared.act.Act.TheVariants.{Answer};
-ghost use Rattle.irc_answers.specs.Names.{listed, named_members};
-ghost use Rattle.irc_answers.specs.Loops.NameLines.{is_shown};
-ghost use Rattle.irc_queries.specs.List.{asked_entry, channel_entry, list_steps, listed_entries};
-ghost use Rattle.irc_queries.specs.Said.{all_said};
+ghost use Rattle.irc_queries.specs.List.{channel_entry};
+ghost use Rattle.irc_queries.specs.Loops.Saying.{AnswersList, SaysAllListed, SaysEntry, SaysListed, SaysNamed, is_named_row, named_here};
 ghost use Rattle.irc_queries.specs.Laws.ListLaw.{ListOnlyAnswers};
 
 use crate::saying::say;
@@ -31,13 +25,13 @@ use std::alloc::AllocError;
 /// # Errors
 /// Where memory runs out; nothing that was put out before has changed then.
 #[tactic(auto, unfolding(crate::specs::List::list_steps))]
-pub fn answer(
+pub(crate) fn answer(
     context: &Context<'_>,
     params: &[&[u8]],
     conn: u64,
     out: &mut Batch,
 ) -> Result<(), AllocError>
-    ensures ok { OnOk result (out.new.outs ≡ out.old.outs ++ all_said (place_of context.now.routes.now) (Some context.now.me.now.nick) conn (list_steps context.now.room.now.room context.now.me.now (words_now params.now))) }
+    ensures ok { OnOk result (AnswersList context.now (words_now params.now) conn out.old out.new) }
     ensures grew { Grew out.old.outs out.new.outs }
 {
     match params.first() {
@@ -49,7 +43,7 @@ pub fn answer(
 
 /// Puts out the entry of every channel that is listed for a user.
 fn say_listed(context: &Context<'_>, conn: u64, out: &mut Batch) -> Result<(), AllocError>
-    ensures ok { OnOk result (out.new.outs ≡ out.old.outs ++ all_said (place_of context.now.routes.now) (Some context.now.me.now.nick) conn (listed_entries context.now.room.now.room.users context.now.me.now (values context.now.room.now.room.channels))) }
+    ensures ok { OnOk result (SaysAllListed context.now conn out.old out.new) }
     ensures grew { Grew out.old.outs out.new.outs }
 {
     for row in context.room.channels() {
@@ -65,7 +59,7 @@ fn say_if_listed(
     conn: u64,
     out: &mut Batch,
 ) -> Result<(), AllocError>
-    ensures ok { OnOk result (out.new.outs ≡ out.old.outs ++ all_said (place_of context.now.routes.now) (Some context.now.me.now.nick) conn (listed_entries context.now.room.now.room.users context.now.me.now (channel.now ∷ []))) }
+    ensures ok { OnOk result (SaysListed context.now (channel.now ∷ []) conn out.old out.new) }
     ensures grew { Grew out.old.outs out.new.outs }
 {
     if is_listed(context.me, channel) {
@@ -82,7 +76,7 @@ fn say_list(
     conn: u64,
     out: &mut Batch,
 ) -> Result<(), AllocError>
-    ensures ok { OnOk result (out.new.outs ≡ out.old.outs ++ all_said (place_of context.now.routes.now) (Some context.now.me.now.nick) conn (flat_map (asked_entry context.now.room.now.room context.now.me.now) (entries list.now))) }
+    ensures ok { OnOk result (SaysNamed context.now (entries list.now) conn out.old out.new) }
     ensures grew { Grew out.old.outs out.new.outs }
 {
     let mut rest = list;
@@ -100,7 +94,7 @@ fn say_asked(
     conn: u64,
     out: &mut Batch,
 ) -> Result<(), AllocError>
-    ensures ok { OnOk result (out.new.outs ≡ out.old.outs ++ all_said (place_of context.now.routes.now) (Some context.now.me.now.nick) conn (asked_entry context.now.room.now.room context.now.me.now asked.now)) }
+    ensures ok { OnOk result (SaysEntry context.now asked.now conn out.old out.new) }
     ensures grew { Grew out.old.outs out.new.outs }
 {
     match context.room.channel(asked) {
@@ -113,7 +107,8 @@ fn say_asked(
 
 /// A channel, with how many of its members a user may know of, and its topic.
 fn channel_entry(context: &Context<'_>, channel: &Channel) -> Reply
-    ensures { Answer result ≡ channel_entry context.now.room.now.room.users context.now.me.now channel.now }
+    ensures { Answer result
+        ≡ channel_entry context.now.room.now.room.users context.now.me.now channel.now }
 {
     Reply::List {
         channel: channel.name.copy(),
@@ -124,7 +119,7 @@ fn channel_entry(context: &Context<'_>, channel: &Channel) -> Reply
 
 /// How many members of a channel NAMES would name to a user.
 fn named_count(context: &Context<'_>, channel: &Channel) -> usize
-    ensures { result ≡ length (named_members context.now.room.now.room.users context.now.me.now channel.now) }
+    ensures { result ≡ named_here context.now channel.now }
 {
     let all = channel.has_member(&context.me.nick);
     named_among(context.room, all, channel.members.as_slice())
@@ -132,7 +127,7 @@ fn named_count(context: &Context<'_>, channel: &Channel) -> usize
 
 /// How many of some members are named, where all are or only those without mode i.
 fn named_among(room: &Room, all: bool, members: &[Row<Flags>]) -> usize
-    ensures { result ≡ length (filter (λ row. is_some (listed room.now.room.users (is_shown all) (row_entry row))) members.now) }
+    ensures { result ≡ length (filter (λ row. is_named_row room.now.room all row) members.now) }
 {
     let mut near = 0;
     let mut count = 0;
@@ -146,7 +141,7 @@ fn named_among(room: &Room, all: bool, members: &[Row<Flags>]) -> usize
 
 /// Whether a member is named, which is looked for near a place first.
 fn is_named(room: &Room, near: &mut usize, all: bool, member: &Row<Flags>) -> bool
-    ensures { result ≡ is_some (listed room.now.room.users (is_shown all) (row_entry member.now)) }
+    ensures { result ≡ is_named_row room.now.room all member.now }
 {
     match room.is_visible_near(near, member.name.as_slice()) {
         Some(visible) => all || visible,

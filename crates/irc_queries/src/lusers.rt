@@ -1,7 +1,8 @@
 //! LUSERS.
 ghost use Rattle.std.specs.Prelude.{◌≡◌, ◌++◌, IfOk, OnOk};
 ghost use Rattle.irc_routes.specs.Known.{place_of};
-ghost use Rattle.irc_queries.specs.Lusers.{channels_formed, lusers_steps};
+ghost use Rattle.irc_queries.specs.Lusers.{channels_formed};
+ghost use Rattle.irc_queries.specs.Loops.Telling.{lusers_here};
 ghost use Rattle.irc_queries.specs.Laws.LusersLaw.{LusersOnlyAnswers};
 
 use irc_acts::{Act, Context, put};
@@ -15,7 +16,7 @@ use std::alloc::{AllocError, Global};
 /// Where memory runs out.
 #[tactic(auto, unfolding(crate::specs::Lusers::lusers_steps))]
 pub fn steps(context: &Context<'_>) -> Result<Vec<Act, Global>, AllocError>
-    ensures { IfOk result (λ steps. steps.items ≡ lusers_steps context.now.room.now.room (place_of context.now.routes.now)) }
+    ensures { IfOk result (λ steps. steps.items ≡ lusers_here context.now) }
 {
     let links = link_count(context.routes)?;
     let clients = context.room.home_count(context.routes.name());

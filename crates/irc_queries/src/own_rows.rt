@@ -1,6 +1,7 @@
 //! The channels of one user.
-ghost use Rattle.std.specs.Prelude.{◌≡◌, map, IfOk};
+ghost use Rattle.std.specs.Prelude.{◌≡◌, IfOk};
 ghost use Rattle.irc_acts.specs.Moves.{own_channels};
+ghost use Rattle.irc_queries.specs.Loops.Telling.{channels_now};
 
 use irc_channels::Channel;
 use irc_room::Room;
@@ -13,7 +14,7 @@ pub(crate) fn own_rows<'a>(
     room: &'a Room,
     user: &User,
 ) -> Result<Vec<&'a Row<Channel>, Global>, AllocError>
-    ensures { IfOk result (λ rows. map (λ row. row.now.value) rows.items ≡ own_channels room.now.room user.now) }
+    ensures { IfOk result (λ rows. channels_now rows.items ≡ own_channels room.now.room user.now) }
 {
     let rows = room.channels_of(user.nick.as_bytes())?;
     Ok(rows)

@@ -1,9 +1,8 @@
 //! Replies that are put out at once, so that a query of many answers keeps no list of them.
-ghost use Rattle.std.specs.Prelude.{◌≡◌, Some, ◌++◌, OnOk};
+ghost use Rattle.std.specs.Prelude.{[], ◌∷◌, OnOk};
 ghost use Rattle.irc_batch.specs.Growing.{Grew};
-ghost use Rattle.irc_routes.specs.Known.{place_of};
 ghost use Rattle.irc_acts.specs.declared.act.Act.TheVariants.{Answer};
-ghost use Rattle.irc_queries.specs.Said.{said};
+ghost use Rattle.irc_queries.specs.Said.{SaysSteps};
 
 use irc_acts::Context;
 use irc_batch::Batch;
@@ -17,7 +16,7 @@ pub(crate) fn say(
     conn: u64,
     out: &mut Batch,
 ) -> Result<(), AllocError>
-    ensures ok { OnOk result (out.new.outs ≡ out.old.outs ++ said (place_of context.now.routes.now) (Some context.now.me.now.nick) conn (Answer reply.now)) }
+    ensures ok { OnOk result (SaysSteps context.now (Answer reply.now ∷ []) conn out.old out.new) }
     ensures grew { Grew out.old.outs out.new.outs }
 {
     let line = reply_line(context.routes.name(), Some(&context.me.nick), reply);

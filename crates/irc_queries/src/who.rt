@@ -1,18 +1,13 @@
 //! WHO.
-ghost use Rattle.std.specs.Prelude.{◌≡◌, ◌&&◌, None, Some, [], ◌∷◌, ◌++◌, map, OnOk};
-ghost use Rattle.std.specs.List.{filter_map};
-ghost use Rattle.std.specs.FinMap.{entries, values};
+ghost use Rattle.std.specs.Prelude.{◌≡◌, ◌&&◌, None, Some, [], ◌∷◌, OnOk};
 ghost use Rattle.irc_batch.specs.Growing.{Grew};
-ghost use Rattle.irc_names.specs.Fold.{key};
-ghost use Rattle.irc_names.specs.Tables.{row};
 ghost use Rattle.irc_line.specs.PartViews.{words_now};
 ghost use Rattle.irc_tables.specs.RowViews.{row_entry};
 ghost use Rattle.irc_numerics.specs.declared.replies.Mark.TheVariants.{Plain};
 ghost use Rattle.irc_routes.specs.Known.{place_of};
-ghost use Rattle.irc_acts.specs.Standing.{is_seen_from};
 ghost use Rattle.irc_acts.specs.declared.act.Act.TheVariants.{Answer};
-ghost use Rattle.irc_queries.specs.Who.{asks_for_operators, end_of_who, hops_to, is_asked_for, is_channel_asked, member_line, members_told, told, told_of_seen, user_line, users_told, who_steps};
-ghost use Rattle.irc_queries.specs.Said.{all_said};
+ghost use Rattle.irc_queries.specs.Who.{asks_for_operators, end_of_who, hops_to, is_asked_for, is_channel_asked, user_line};
+ghost use Rattle.irc_queries.specs.Loops.Saying.{AnswersWho, SaysAll, SaysAllMembers, SaysAllUsers, SaysFound, SaysMembers, SaysSeen, SaysTold, SaysUsers};
 ghost use Rattle.irc_queries.specs.Laws.WhoLaw.{WhoOnlyAnswers};
 
 use crate::own_rows::own_rows;
@@ -40,13 +35,13 @@ const OPERATORS: &[u8] = b"o";
 /// # Errors
 /// Where memory runs out; nothing that was put out before has changed then.
 #[tactic(auto, unfolding(crate::specs::Who::who_steps))]
-pub fn answer(
+pub(crate) fn answer(
     context: &Context<'_>,
     params: &[&[u8]],
     conn: u64,
     out: &mut Batch,
 ) -> Result<(), AllocError>
-    ensures ok { OnOk result (out.new.outs ≡ out.old.outs ++ all_said (place_of context.now.routes.now) (Some context.now.me.now.nick) conn (who_steps context.now.room.now.room (place_of context.now.routes.now) context.now.me.now (words_now params.now))) }
+    ensures ok { OnOk result (AnswersWho context.now (words_now params.now) conn out.old out.new) }
     ensures grew { Grew out.old.outs out.new.outs }
 {
     let Some((asked, more)) = params.split_first() else {
@@ -77,7 +72,7 @@ fn say_to_the_end(
     conn: u64,
     out: &mut Batch,
 ) -> Result<(), AllocError>
-    ensures ok { OnOk result (out.new.outs ≡ out.old.outs ++ all_said (place_of context.now.routes.now) (Some context.now.me.now.nick) conn (told context.now.room.now.room (place_of context.now.routes.now) context.now.me.now asked.now ++ end_of_who given.now ∷ [])) }
+    ensures ok { OnOk result (SaysAll context.now asked.now given.now conn out.old out.new) }
     ensures grew { Grew out.old.outs out.new.outs }
 {
     say_whom(context, asked, conn, out)?;
@@ -91,7 +86,7 @@ fn say_whom(
     conn: u64,
     out: &mut Batch,
 ) -> Result<(), AllocError>
-    ensures ok { OnOk result (out.new.outs ≡ out.old.outs ++ all_said (place_of context.now.routes.now) (Some context.now.me.now.nick) conn (told context.now.room.now.room (place_of context.now.routes.now) context.now.me.now asked.now)) }
+    ensures ok { OnOk result (SaysTold context.now asked.now conn out.old out.new) }
     ensures grew { Grew out.old.outs out.new.outs }
 {
     let own = own_rows(context.room, context.me)?;
@@ -115,7 +110,7 @@ fn say_told(
     conn: u64,
     out: &mut Batch,
 ) -> Result<(), AllocError>
-    ensures ok { OnOk result (out.new.outs ≡ out.old.outs ++ all_said (place_of context.now.routes.now) (Some context.now.me.now.nick) conn (told_of_seen context.now.room.now.room (place_of context.now.routes.now) (λ user. is_seen_from (map (λ row. row.now.value) own.now) context.now.me.now user) context.now.me.now asked.now)) }
+    ensures ok { OnOk result (SaysSeen context.now own.now asked.now conn out.old out.new) }
     ensures grew { Grew out.old.outs out.new.outs }
 {
     if is_channel_asked(asked) {
@@ -143,7 +138,7 @@ fn say_channel(
     conn: u64,
     out: &mut Batch,
 ) -> Result<(), AllocError>
-    ensures ok { OnOk result (out.new.outs ≡ out.old.outs ++ all_said (place_of context.now.routes.now) (Some context.now.me.now.nick) conn (members_told context.now.room.now.room (place_of context.now.routes.now) (λ user. is_seen_from (map (λ row. row.now.value) own.now) context.now.me.now user) context.now.me.now (row context.now.room.now.room.channels (key asked.now)))) }
+    ensures ok { OnOk result (SaysFound context.now own.now asked.now conn out.old out.new) }
     ensures grew { Grew out.old.outs out.new.outs }
 {
     match context.room.channel(asked) {
@@ -162,7 +157,8 @@ fn say_members(
     conn: u64,
     out: &mut Batch,
 ) -> Result<(), AllocError>
-    ensures ok { OnOk result (out.new.outs ≡ out.old.outs ++ all_said (place_of context.now.routes.now) (Some context.now.me.now.nick) conn (filter_map (member_line context.now.room.now.room (place_of context.now.routes.now) (λ user. is_seen_from (map (λ row. row.now.value) own.now) context.now.me.now user) channel.now) (entries channel.now.members))) }
+    ensures ok { OnOk result
+        (SaysAllMembers context.now own.now channel.now conn out.old out.new) }
     ensures grew { Grew out.old.outs out.new.outs }
 {
     for row in channel.members.as_slice() {
@@ -180,7 +176,8 @@ fn say_member(
     conn: u64,
     out: &mut Batch,
 ) -> Result<(), AllocError>
-    ensures ok { OnOk result (out.new.outs ≡ out.old.outs ++ all_said (place_of context.now.routes.now) (Some context.now.me.now.nick) conn (filter_map (member_line context.now.room.now.room (place_of context.now.routes.now) (λ user. is_seen_from (map (λ row. row.now.value) own.now) context.now.me.now user) channel.now) (row_entry member.now ∷ []))) }
+    ensures ok { OnOk result
+        (SaysMembers context.now own.now channel.now (row_entry member.now ∷ []) conn out.old out.new) }
     ensures grew { Grew out.old.outs out.new.outs }
 {
     match context.room.user(member.name.as_slice()) {
@@ -201,7 +198,7 @@ fn say_users(
     conn: u64,
     out: &mut Batch,
 ) -> Result<(), AllocError>
-    ensures ok { OnOk result (out.new.outs ≡ out.old.outs ++ all_said (place_of context.now.routes.now) (Some context.now.me.now.nick) conn (users_told (place_of context.now.routes.now) (λ user. is_seen_from (map (λ row. row.now.value) own.now) context.now.me.now user) mask.now (values context.now.room.now.room.users))) }
+    ensures ok { OnOk result (SaysAllUsers context.now own.now mask.now conn out.old out.new) }
     ensures grew { Grew out.old.outs out.new.outs }
 {
     let users = context.room.users()?;
@@ -220,7 +217,8 @@ fn say_user(
     conn: u64,
     out: &mut Batch,
 ) -> Result<(), AllocError>
-    ensures ok { OnOk result (out.new.outs ≡ out.old.outs ++ all_said (place_of context.now.routes.now) (Some context.now.me.now.nick) conn (users_told (place_of context.now.routes.now) (λ user. is_seen_from (map (λ row. row.now.value) own.now) context.now.me.now user) mask.now (user.now ∷ []))) }
+    ensures ok { OnOk result
+        (SaysUsers context.now own.now mask.now (user.now ∷ []) conn out.old out.new) }
     ensures grew { Grew out.old.outs out.new.outs }
 {
     if is_asked_for(mask, user) && is_seen(context.me, own, user) {

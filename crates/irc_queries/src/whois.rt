@@ -1,16 +1,13 @@
 //! WHOIS.
-ghost use Rattle.std.specs.Prelude.{◌≡◌, [], ◌∷◌, ◌++◌, map, IfOk, OnOk};
-ghost use Rattle.std.specs.List.{filter_map, flat_map};
+ghost use Rattle.std.specs.Prelude.{◌≡◌, [], ◌∷◌, IfOk, OnOk};
 ghost use Rattle.irc_line.specs.PartViews.{words_now};
-ghost use Rattle.irc_numerics.specs.Limits.{max_whois_channels};
-ghost use Rattle.irc_numerics.specs.declared.replies.Reply.TheVariants.{NoSuchNick, WhoisServer, WhoisUser};
+ghost use Rattle.irc_numerics.specs.declared.replies.Reply.TheVariants.{NoSuchNick, WhoisUser};
 ghost use Rattle.irc_routes.specs.Known.{place_of};
 ghost use Rattle.irc_acts.specs.declared.act.Act.TheVariants.{Answer};
 ghost use Rattle.irc_acts.specs.Acts.{client_words, kept};
 ghost use Rattle.irc_acts.specs.CommaLists.{entries};
-ghost use Rattle.irc_answers.specs.Loops.FilledLines.{Came};
-ghost use Rattle.irc_answers.specs.Names.{in_lines};
-ghost use Rattle.irc_queries.specs.Whois.{channels_line, info_of, place_in, places, told_of, told_of_list, told_of_one, whois_steps};
+ghost use Rattle.irc_queries.specs.Whois.{channels_line, info_of, place_in};
+ghost use Rattle.irc_queries.specs.Loops.Telling.{AddsSteps, CameChannels, CameListed, channels_now, each_here, lines_of, list_here, one_here, places_here, home_told, user_here, whois_here};
 ghost use Rattle.irc_queries.specs.Laws.WhoisLaw.{WhoisOnlyAnswers};
 
 use crate::own_rows::own_rows;
@@ -37,7 +34,8 @@ type Held = ArrayVec<OnChannel, MAX_WHOIS_CHANNELS>;
 /// Where memory runs out.
 #[tactic(auto, unfolding(crate::specs::Whois::whois_steps))]
 pub fn steps(context: &Context<'_>, params: &[&[u8]]) -> Result<Vec<Act, Global>, AllocError>
-    ensures { IfOk result (λ steps. steps.items ≡ whois_steps context.now.room.now.room (place_of context.now.routes.now) context.now.me.now (words_now params.now)) }
+    ensures { IfOk result
+        (λ steps. steps.items ≡ whois_here context.now (words_now params.now)) }
 {
     match params {
         [] => only(context.alloc, Act::Answer(Reply::NoNicknameGiven)),
@@ -48,7 +46,7 @@ pub fn steps(context: &Context<'_>, params: &[&[u8]]) -> Result<Vec<Act, Global>
 
 /// What is told of the users of a comma list, and one end behind all.
 fn told_of_list(context: &Context<'_>, list: &[u8]) -> Result<Vec<Act, Global>, AllocError>
-    ensures { IfOk result (λ steps. steps.items ≡ told_of_list context.now.room.now.room (place_of context.now.routes.now) context.now.me.now list.now) }
+    ensures { IfOk result (λ steps. steps.items ≡ list_here context.now list.now) }
 {
     let mut steps = Vec::new(context.alloc);
     put_list(&mut steps, context, list)?;
@@ -63,7 +61,7 @@ fn put_list(
     context: &Context<'_>,
     list: &[u8],
 ) -> Result<(), AllocError>
-    ensures { OnOk result (steps.new.items ≡ steps.old.items ++ flat_map (told_of_one context.now.room.now.room (place_of context.now.routes.now) context.now.me.now) (entries list.now)) }
+    ensures { OnOk result (AddsSteps (each_here context.now (entries list.now)) steps.old steps.new) }
 {
     let mut rest = list;
     while let Some((nick, behind)) = next_entry(rest) {
@@ -79,7 +77,7 @@ fn put_one(
     context: &Context<'_>,
     nick: &[u8],
 ) -> Result<(), AllocError>
-    ensures { OnOk result (steps.new.items ≡ steps.old.items ++ told_of_one context.now.room.now.room (place_of context.now.routes.now) context.now.me.now nick.now) }
+    ensures { OnOk result (AddsSteps (one_here context.now nick.now) steps.old steps.new) }
 {
     match context.room.user(nick) {
         Some(user) => put_told(steps, context, user),
@@ -102,7 +100,7 @@ fn put_told(
     context: &Context<'_>,
     user: &User,
 ) -> Result<(), AllocError>
-    ensures { OnOk result (steps.new.items ≡ steps.old.items ++ told_of context.now.room.now.room (place_of context.now.routes.now) context.now.me.now user.now) }
+    ensures { OnOk result (AddsSteps (user_here context.now user.now) steps.old steps.new) }
 {
     put(steps, user_line(user))?;
     put(steps, server_line(context.routes, user))?;
@@ -111,7 +109,8 @@ fn put_told(
 
 /// What a user says of itself.
 fn user_line(user: &User) -> Act
-    ensures { result ≡ Answer (WhoisUser user.now.nick (kept user.now.user) user.now.host (kept user.now.real)) }
+    ensures { result
+        ≡ Answer (WhoisUser user.now.nick (kept user.now.user) user.now.host (kept user.now.real)) }
 {
     Act::Answer(Reply::WhoisUser {
         nick: user.nick.copy(),
@@ -123,7 +122,7 @@ fn user_line(user: &User) -> Act
 
 /// The server of a user, and how it describes itself.
 fn server_line(routes: &Routes, user: &User) -> Act
-    ensures { result ≡ Answer (WhoisServer user.now.nick user.now.home (kept (info_of (place_of routes.now) user.now.home))) }
+    ensures { result ≡ home_told (place_of routes.now) user.now }
 {
     Act::Answer(Reply::WhoisServer {
         nick: user.nick.copy(),
@@ -150,7 +149,8 @@ fn put_channels(
     context: &Context<'_>,
     user: &User,
 ) -> Result<(), AllocError>
-    ensures { OnOk result (steps.new.items ≡ steps.old.items ++ map (channels_line user.now) (in_lines max_whois_channels (places context.now.room.now.room context.now.me.now user.now))) }
+    ensures { OnOk result
+        (AddsSteps (lines_of user.now (places_here context.now user.now)) steps.old steps.new) }
 {
     let rows = own_rows(context.room, user)?;
     let mut held = ArrayVec::new();
@@ -166,7 +166,8 @@ fn add_channels(
     user: &User,
     rows: &[&Row<Channel>],
 ) -> Result<(), AllocError>
-    ensures { OnOk result (Came max_whois_channels (channels_line user.now) steps.old.items held.old.items (filter_map (place_in me.now user.now) (map (λ row. row.now.value) rows.now)) steps.new.items held.new.items) }
+    ensures { OnOk result
+        (CameListed me.now user.now (channels_now rows.now) steps.old held.old steps.new held.new) }
 {
     for row in rows {
         add_channel(steps, held, me, user, &row.value)?;
@@ -182,7 +183,8 @@ fn add_channel(
     user: &User,
     channel: &Channel,
 ) -> Result<(), AllocError>
-    ensures { OnOk result (Came max_whois_channels (channels_line user.now) steps.old.items held.old.items (filter_map (place_in me.now user.now) (channel.now ∷ [])) steps.new.items held.new.items) }
+    ensures { OnOk result
+        (CameListed me.now user.now (channel.now ∷ []) steps.old held.old steps.new held.new) }
 {
     match place_in(me, user, channel) {
         Some(place) => add_place(steps, held, user, place),
@@ -210,7 +212,8 @@ fn add_place(
     user: &User,
     place: OnChannel,
 ) -> Result<(), AllocError>
-    ensures { OnOk result (Came max_whois_channels (channels_line user.now) steps.old.items held.old.items (place ∷ []) steps.new.items held.new.items) }
+    ensures { OnOk result
+        (CameChannels user.now (place ∷ []) steps.old held.old steps.new held.new) }
 {
     if held.is_full() {
         put(steps, channels_line(user, held.take()))?;
@@ -221,7 +224,7 @@ fn add_place(
 
 /// Sends the last line, if there is a channel for it.
 fn finish(steps: &mut Vec<Act, Global>, held: Held, user: &User) -> Result<(), AllocError>
-    ensures { OnOk result (steps.new.items ≡ steps.old.items ++ map (channels_line user.now) (in_lines max_whois_channels held.items)) }
+    ensures { OnOk result (AddsSteps (lines_of user.now held.items) steps.old steps.new) }
 {
     if held.as_slice().is_empty() {
         return Ok(());

@@ -80,7 +80,7 @@ fn on_registration(
     stage.carry_out(Speaker { conn, nick }, &given.steps, given.close, out)
 }
 
-/// What a line of a user does, by the nickname that its client is known by.
+/// What a line of a user does, by the nickname that its client is known by. What it asks of the room is answered from the room as it is.
 fn on_user_message(
     stage: &mut Stage,
     conn: u64,
@@ -103,19 +103,12 @@ fn on_user_message(
     laws::decided_by_itself();
     laws::who_stays_is_user();
     laws::who_is_closed_quits();
-    let decision = decide(
-        stage.alloc(),
-        stage.room(),
-        stage.routes(),
-        nick,
-        message,
-        conn,
-        out,
-    )?;
+    let decision = decide(stage.alloc(), stage.room(), stage.routes(), nick, message)?;
     let speaker = Speaker {
         conn,
         nick: Some(nick),
     };
+    stage.answer(speaker, decision.query, message.params.as_slice(), out)?;
     stage.carry_out(speaker, &decision.steps, decision.close, out)
 }
 

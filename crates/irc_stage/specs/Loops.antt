@@ -3,3 +3,4 @@ pub mod Listening
 pub mod Stage
 pub mod Speaking
 pub mod Linking
+pub mod Asking

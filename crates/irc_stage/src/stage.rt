@@ -7,11 +7,14 @@ ghost use Rattle.irc_room.specs.Effects.{IsPossible};
 ghost use Rattle.irc_room.specs.Laws.{no_room};
 ghost use Rattle.irc_routes.specs.Known.{others};
 ghost use Rattle.irc_batch.specs.Growing.{Grew};
+ghost use Rattle.irc_line.specs.MessageViews.{optional_now};
+ghost use Rattle.irc_line.specs.PartViews.{words_now};
 ghost use Rattle.irc_links.specs.Loops.Branching.{KnowsNothing};
 ghost use Rattle.irc_stage.specs.EffectTold.{is_elsewhere};
 ghost use Rattle.irc_stage.specs.Handle.{clients_after};
 ghost use Rattle.irc_stage.specs.RoomMachine.{client_of, with_client, without_client};
 ghost use Rattle.irc_stage.specs.View.{is_peer_named, new_view, password_for};
+ghost use Rattle.irc_stage.specs.Loops.Asking.{user_under, AnswersSpeaker};
 ghost use Rattle.irc_stage.specs.Loops.Listening.{IsSaidIn, IsSaidTo};
 ghost use Rattle.irc_stage.specs.Loops.Speaking.{arrival_of, AreSpokenAt, IsSpoken};
 ghost use Rattle.irc_stage.specs.Loops.Stage.{clients_of, lines_on, machine_at, view_of, Applies, AreFitAt, CarriesOut, Changes, IsFit, IsFreeOf, IsIndexed, IsNoUser, IsReady, IsSound, Keeps, LeavesApart, Shows, Takes, TakesAll};
@@ -20,15 +23,17 @@ use crate::clients::{self, Client, ClientTable, number_of, show_all};
 use crate::listeners::Listeners;
 use crate::origin::{Origin, Speaker};
 use crate::peer::Peer;
-use irc_acts::Act;
+use irc_acts::{Act, Context};
 use irc_batch::Batch;
 use irc_line::Text;
 use irc_link_writer::write_effect;
 use irc_links::{Around, LinkEnd, Ways};
 use irc_names::{ChannelName, Nick};
 use irc_numerics::reply_line;
+use irc_queries::{Query, answer};
 use irc_room::{Effect, Room, RoomFault, ShownLine, Target, laws};
 use irc_routes::Routes;
+use irc_users::User;
 use std::alloc::{AllocError, Global};
 use std::collections::BTreeMap;
 
@@ -393,6 +398,47 @@ impl Stage {
             self.step(speaker, act, out)?;
         }
         Ok(())
+    }
+
+    /// The user of a client's nickname, if it is one.
+    fn user_of(&self, speaker: Speaker<'_>) -> Option<&User>
+        ensures { option_copied result ≡ user_under (view_of self.now).room (optional_now speaker.nick) }
+    {
+        match speaker.nick {
+            Some(nick) => self.room.user(nick.as_bytes()),
+            None => None,
+        }
+    }
+
+    /// What a client asks, if it asks something, is answered from the room as it is. Nothing is changed.
+    ///
+    /// # Errors
+    /// Where memory runs out.
+    #[tactic(auto, unfolding(irc_commands::specs::CodeViews::asked_steps))]
+    pub fn answer(
+        &self,
+        speaker: Speaker<'_>,
+        query: Option<Query>,
+        params: &[&[u8]],
+        out: &mut Batch,
+    ) -> Result<(), AllocError>
+        ensures ok { OnOk result
+            (AnswersSpeaker speaker.entry query (words_now params.now) self.now out.old out.new) }
+        ensures grew { Grew out.old.outs out.new.outs }
+    {
+        let Some(query) = query else {
+            return Ok(());
+        };
+        let Some(me) = self.user_of(speaker) else {
+            return Ok(());
+        };
+        let context = Context {
+            alloc: self.alloc,
+            room: &self.room,
+            routes: &self.routes,
+            me,
+        };
+        answer(&context, query, params, speaker.conn, out)
     }
 
     /// A decision of a client is carried out: its steps, and then the client is closed where it says so.

@@ -3,7 +3,6 @@ use Rattle.irc_line.specs.MessageViews.{parsed}
 use Rattle.irc_names.specs.Fold.{key}
 use Rattle.irc_names.specs.Tables.{row}
 use Rattle.irc_acts.specs.declared.act.Act.{Act}
-use Rattle.irc_commands.specs.CodeViews.{decided_of}
 use Rattle.irc_commands.specs.Decide.{decide}
 use Rattle.irc_commands.specs.Decisions.{Decided}
 use Rattle.irc_stage.specs.Loops.Stage.{behind, machine_at, view_of, IsFit}
@@ -13,14 +12,14 @@ use Rattle.irc_stage.specs.Lemmas.Matching.{spelled_row}
 use Rattle.irc_stage.specs.Lemmas.Outcomes.{on_ok}
 use Rattle.irc_stage.specs.Lemmas.SpokenSteps.{decided_spoken}
 use Rattle.irc_stage.specs.Lemmas.Twins.{fit_along, spoken_along}
-use Rattle.irc_server.proofs.ToldInPart.{carried_in_part, so_left, told_there}
+use Rattle.irc_server.proofs.ToldInPart.{answered_first, carried_in_part, decided_of, so_left}
 use Rattle.irc_server.proofs.WhatEventsDo.{decided_by_name}
 use Rattle.irc_server.proofs.acting.on_user_message.Goals as goal
 
 pub carry_out-requires-clause-fit : goal.carry_out-requires-clause-fit
 carry_out-requires-clause-fit c =
     let machine = machine_at c.args.stage.now in
-    let part = told_there _ machine.room _ _ c.args.nick.now c.args.conn (parsed c.args.message.now) _ _ _ c.room.ensures c.routes.ensures c.in_ok-decision.ensures.told in
+    let part = answered_first _ machine.room _ _ c.args.nick.now c.args.conn (parsed c.args.message.now) _ c.in_ok-decision.decision _ _ c.room.ensures c.routes.ensures (ap words_now c.as_slice.ensures.value) c.in_ok-decision.ensures c.in_ok-answer.ensures.ok in
     fit_along c.alike_stay_alike.ensures c.alike_take_alike.ensures (view_of c.args.stage.now) c.deref.result.now
     (so_left IsFit machine part.told _ part.is_only_said
     (decided_fit c.decided_is_possible.ensures c.who_stays_is_user.ensures c.who_is_closed_quits.ensures machine c.requires.matched
@@ -31,7 +30,7 @@ pub carry_out-requires-clause-spoken : goal.carry_out-requires-clause-spoken
 carry_out-requires-clause-spoken c =
     let machine = machine_at c.args.stage.now in
     let message = parsed c.args.message.now in
-    let part = told_there _ machine.room _ _ c.args.nick.now c.args.conn message _ _ _ c.room.ensures c.routes.ensures c.in_ok-decision.ensures.told in
+    let part = answered_first _ machine.room _ _ c.args.nick.now c.args.conn message _ c.in_ok-decision.decision _ _ c.room.ensures c.routes.ensures (ap words_now c.as_slice.ensures.value) c.in_ok-decision.ensures c.in_ok-answer.ensures.ok in
     let whole = ap (λ (acts : List Act). part.told ++ acts) c.deref.ensures.value ∙ sym (ap (λ (d : Decided). d.steps) part.want_is) in
     spoken_along c.alike_stay_alike.ensures c.args.conn (view_of c.args.stage.now) c.deref.result.now
     (so_left (IsSaidByClient c.args.conn) machine part.told _ part.is_only_said
@@ -48,6 +47,6 @@ returns-clause-ok c =
     let want = decide machine.room machine.place c.args.nick.now message in
     on_ok c.carry_out.result _ _
     (λ is. carried_in_part _ c.args.conn (Some c.args.nick.now) _ _ view want (decided_of c.in_ok-decision.decision) c.args.out.now.outs _ c.deref.ensures.value
-    known (told_there _ machine.room _ _ c.args.nick.now c.args.conn message _ _ _ c.room.ensures c.routes.ensures c.in_ok-decision.ensures.told) is
+    known (answered_first _ machine.room _ _ c.args.nick.now c.args.conn message _ c.in_ok-decision.decision _ _ c.room.ensures c.routes.ensures (ap words_now c.as_slice.ensures.value) c.in_ok-decision.ensures c.in_ok-answer.ensures.ok) is
     ∙ ap (behind c.args.out.now.outs) (decided_by_name view c.args.conn (row view.room.users (key c.args.nick.now)) c.args.nick.now message known))
     c.carry_out.ensures.ok
