@@ -4,18 +4,17 @@ use Rattle.irc_outbox.specs.declared.wire.Ready.{Ready}
 use Rattle.irc_outbox.specs.declared.wire.Ready.TheVariants.{Idle, Writable}
 use Rattle.irc_outbox.specs.Calls.{Call, asks, Adds}
 use Rattle.irc_engine.specs.declared.engine.Desk.{Desk}
-use Rattle.irc_engine.specs.declared.engine.Engine.{Engine}
 use Rattle.irc_engine.specs.declared.engine.Rooms.{Rooms}
 use Rattle.irc_engine.specs.declared.engine.EngineFault.{EngineFault}
 use Rattle.irc_engine.specs.Running.{Moment, AllTold, Answers, Does, Flushes, IsInOrder}
 use Rattle.irc_engine.specs.Loops.Boards.{IsMarkedAt, KeepsNotes}
 use Rattle.irc_engine.specs.Loops.Desks.{moment_of}
 use Rattle.irc_engine.proofs.RunLaws.{ran_none}
-use Rattle.irc_engine.specs.Turning.{Taken, takes_it, runs_out, Turned, takes_turn, wants_memory, Turns, Runs, stopped}
+use Rattle.irc_engine.specs.Turning.{EngineView, Taken, takes_it, runs_out, Turned, takes_turn, wants_memory, Turns, Runs, stopped}
 
-module _ {W : Type 0} (is_after : W → List Call → Type 0) (old new : Engine W) (ready : Ready) (asked : W) where
-  pub turned_from : (result : Result (Unit {0}) EngineFault) → old.failed ≡ false → Adds is_after old.desk.board.wire (asks (Ok ready)) asked
-      → Taken is_after old.rooms ready (record (moment_of old.desk) { wire = asked }) new result → Turned is_after old new result
+module _ {W : Type 0} (is_after : W → List Call → Type 0) (old new : EngineView W) (ready : Ready) (asked : W) where
+  pub turned_from : (result : Result (Unit {0}) EngineFault) → old.failed ≡ false → Adds is_after old.now.wire (asks (Ok ready)) asked
+      → Taken is_after old.rooms ready (record old.now { wire = asked }) new result → Turned is_after old new result
   turned_from (Ok done) serves account (takes_it still same does) =
       takes_turn serves still same (record { report = ready; wire = asked; account = account; does = does })
   turned_from (Err fault) serves account (runs_out failed busy) =
@@ -54,7 +53,7 @@ module _ {W : Type 0} (is_after : W → List Call → Type 0) (old between new :
 
 -- one turn is not taken, behind those that were
 pub stops_by : {W : Type 0} (is_after : W → List Call
-    → Type 0) (old between new : Engine W) (taken turns : ℕ) (result : Result (Unit {0}) EngineFault) (fault : EngineFault)
+    → Type 0) (old between new : EngineView W) (taken turns : ℕ) (result : Result (Unit {0}) EngineFault) (fault : EngineFault)
     → taken < turns → Turns is_after old taken between → Turned is_after between new (Err fault) → IsErrAnd result (λ e. e ≡ fault)
     → Runs is_after old turns new result
 stops_by is_after old between new taken turns (Ok done) fault less so_far last fails = absurd fails

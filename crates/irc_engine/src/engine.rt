@@ -1,7 +1,7 @@
 //! An engine: one server over a wire.
 ghost use Rattle.std.specs.Prelude.{◌≡◌, ◌≤◌, true, Ok, [], ◌∷◌, length, take, IfOk, OnOk};
 ghost use Rattle.irc_engine.specs.Loops.Counts.{count_of};
-ghost use Rattle.irc_engine.specs.Loops.Desks.{came, moment_of, passed_on, IsNobodyNoted, KeepsOrder, KeepsTold};
+ghost use Rattle.irc_engine.specs.Loops.Desks.{came, engine_view, moment_of, passed_on, IsNobodyNoted, KeepsOrder, KeepsTold};
 ghost use Rattle.irc_engine.specs.Loops.Boards.{KeepsMarks, KeepsNotes};
 ghost use Rattle.irc_engine.specs.Running.{AllTold, Answers, AsksOnce, Does, Flushes, PassesOn, Ran, RanOn, Reads, Starts, TellsLosses};
 ghost use Rattle.irc_engine.specs.Hearing.{nothing_of, only_of};
@@ -78,7 +78,7 @@ impl<W: Wire + Drop> Engine<W> {
         client_room: usize,
         link_room: usize,
     ) -> Result<Self, AllocError>
-        ensures { IfOk result (λ engine. IsNew server wire client_room link_room engine) }
+        ensures { IfOk result (λ engine. IsNew server wire client_room link_room (engine_view engine)) }
     {
         let buffer = vec![in alloc; 0u8; READ_SIZE]?;
         Ok(Engine {
@@ -110,7 +110,7 @@ impl<W: Wire> Engine<W> {
     /// [`EngineFault::Failed`] where memory ran out before; then [`EngineFault::Device`] where the wire could not tell what is ready:
     /// nothing has changed then; [`EngineFault::Memory`] where memory runs out.
     pub fn turn(&mut self) -> Result<(), EngineFault>
-        ensures { Turned W.is_after self.old self.new result }
+        ensures { Turned W.is_after (engine_view self.old) (engine_view self.new) result }
     {
         if self.failed {
             return Err(EngineFault::Failed);
@@ -123,7 +123,7 @@ impl<W: Wire> Engine<W> {
 
     /// Does what is ready, and writes.
     fn take(&mut self, ready: Ready) -> Result<(), EngineFault>
-        ensures { Taken W.is_after self.old.rooms ready (moment_of self.old.desk) self.new result }
+        ensures { Taken W.is_after self.old.rooms ready (moment_of self.old.desk) (engine_view self.new) result }
     {
         self.failed = true;
         match self.desk.turn(ready, self.rooms) {
@@ -140,7 +140,7 @@ impl<W: Wire> Engine<W> {
     /// # Errors
     /// As [`Engine::turn`], for that turn.
     pub fn run(&mut self, turns: u64) -> Result<(), EngineFault>
-        ensures { Runs W.is_after self.old turns self.new result }
+        ensures { Runs W.is_after (engine_view self.old) turns (engine_view self.new) result }
     {
         for _turn in 0..turns {
             self.turn()?;

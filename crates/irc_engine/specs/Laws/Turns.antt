@@ -7,36 +7,34 @@ use Rattle.irc_outbox.specs.declared.wire.Ready.TheVariants.{Client, Linked, Idl
 use Rattle.irc_outbox.specs.Calls.{Call, asks, reads, writes, closes, is_some_bytes, times_written, written, written_by}
 use Rattle.irc_server.specs.declared.event.Event.{Event}
 use Rattle.irc_batch.specs.Batches.{Sent}
-use Rattle.irc_engine.specs.declared.engine.Engine.{Engine}
 use Rattle.irc_engine.specs.declared.engine.EngineFault.{EngineFault}
 use Rattle.irc_engine.specs.declared.engine.Rooms.{Rooms}
 use Rattle.irc_engine.specs.declared.kind.Kind.{Kind}
 use Rattle.irc_engine.specs.declared.seat.Seat.{Seat}
 use Rattle.irc_engine.specs.Carrying.{fresh_seat, has_some_at, is_exchange, owed, Fate}
 use Rattle.irc_engine.specs.Running.{Moment, IsInOrder, Ran, Starts, in_use, takes_seat, Reads, not_open, read_once, Answers, Turn}
-use Rattle.irc_engine.specs.Turning.{Turned, takes_turn, device_failed, wants_memory, has_failed, Turns, no_turn, one_more}
+use Rattle.irc_engine.specs.Turning.{EngineView, Turned, takes_turn, device_failed, wants_memory, has_failed, Turns, no_turn, one_more}
 use Rattle.irc_engine.specs.Writing.{one_if}
-use Rattle.irc_engine.specs.Loops.Desks.{moment_of}
 
 order_as : {W : Type 0} (now : Moment W) (wire : W) → IsInOrder now → IsInOrder (record now { wire = wire })
 order_as now wire order = record { all_told = order.all_told; noted = order.noted; none_done = order.none_done }
 
 module _ {W : Type 0} (is_after : W → List Call → Type 0) where
   -- a turn that does not want memory leaves an engine in order
-  pub in_order_after : (old new : Engine W) (result : Result (Unit {0}) EngineFault) → Turned is_after old new result → new.failed ≡ false
-      → IsInOrder (moment_of old.desk)
-      → IsInOrder (moment_of new.desk)
-  in_order_after old new result (takes_turn serves still room turn) well order = (turn.does.in_order (order_as (moment_of old.desk) turn.wire order)).1
+  pub in_order_after : (old new : EngineView W) (result : Result (Unit {0}) EngineFault) → Turned is_after old new result → new.failed ≡ false
+      → IsInOrder old.now
+      → IsInOrder new.now
+  in_order_after old new result (takes_turn serves still room turn) well order = (turn.does.in_order (order_as old.now turn.wire order)).1
   in_order_after old new result (device_failed fault serves still room account same) well order =
-      subst (λ (now : Moment W). IsInOrder now) (sym same) (order_as (moment_of old.desk) new.desk.board.wire order)
+      subst (λ (now : Moment W). IsInOrder now) (sym same) (order_as old.now new.now.wire order)
   in_order_after old new result (wants_memory report wire serves failed account busy) well order = cc (sym failed ∙ well)
-  in_order_after old new result (has_failed failed same) well order = cc (sym failed ∙ sym (ap (λ (e : Engine W). e.failed) same) ∙ well)
+  in_order_after old new result (has_failed failed same) well order = cc (sym failed ∙ sym (ap (λ (e : EngineView W). e.failed) same) ∙ well)
 
-  pub in_order_after_all : (old : Engine W) (turns : ℕ) (new : Engine W) → Turns is_after old turns new → IsInOrder (moment_of old.desk)
-      → IsInOrder (moment_of new.desk)
+  pub in_order_after_all : (old : EngineView W) (turns : ℕ) (new : EngineView W) → Turns is_after old turns new → IsInOrder old.now
+      → IsInOrder new.now
   in_order_after_all old turns new no_turn order = order
   in_order_after_all old turns new (one_more n between last so_far (takes_turn serves still room turn)) order =
-      (turn.does.in_order (order_as (moment_of between.desk) turn.wire (in_order_after_all old n between so_far order))).1
+      (turn.does.in_order (order_as between.now turn.wire (in_order_after_all old n between so_far order))).1
 
 -- what was written is among the calls that ask, read or write
 written_in : (conn : ℕ) (calls : List Call) → written conn calls ≡ written conn (filter is_exchange calls)

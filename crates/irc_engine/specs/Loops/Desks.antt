@@ -7,9 +7,11 @@ use Rattle.std.specs.Vec.{vec_len}
 use Rattle.arrayvec.specs.ArrayVec.{ArrayVec}
 use Rattle.irc_server.specs.declared.event.Event.{Event}
 use Rattle.irc_engine.specs.declared.engine.Desk.{Desk}
+use Rattle.irc_engine.specs.declared.engine.Engine.{Engine}
 use Rattle.irc_engine.specs.declared.kind.Kind.{Kind}
 use Rattle.irc_engine.specs.Hearing.{line_event_of}
 use Rattle.irc_engine.specs.Running.{Moment, AllTold, IsInOrder}
+use Rattle.irc_engine.specs.Turning.{EngineView}
 use Rattle.irc_engine.specs.Loops.Boards.{has, lost_at}
 use Rattle.irc_engine.specs.Loops.Seats.{seat_of}
 
@@ -22,6 +24,10 @@ moment_of desk = record {
   waiting = has desk.board.waiting;
   read_room = vec_len desk.buffer;
 }
+
+-- an engine, as those who have one see it
+abbrev pub engine_view : {W : Type 0} → Engine W → EngineView W
+engine_view engine = record { failed = engine.failed; rooms = engine.rooms; now = moment_of engine.desk }
 
 -- how many bytes a read gave; none, where it ended or failed
 abbrev pub came : Result Got IoFault → Option ℕ
