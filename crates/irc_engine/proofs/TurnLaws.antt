@@ -14,7 +14,7 @@ use Rattle.irc_engine.specs.Turning.{EngineView, Taken, takes_it, runs_out, Turn
 
 module _ {W : Type 0} (is_after : W → List Call → Type 0) (old new : EngineView W) (ready : Ready) (asked : W) where
   pub turned_from : (result : Result (Unit {0}) EngineFault) → old.failed ≡ false → Adds is_after old.now.wire (asks (Ok ready)) asked
-      → Taken is_after old.rooms ready (record old.now { wire = asked }) new result → Turned is_after old new result
+      → Taken is_after ready (record old { now = record old.now { wire = asked } }) new result → Turned is_after old new result
   turned_from (Ok done) serves account (takes_it still same does) =
       takes_turn serves still same (record { report = ready; wire = asked; account = account; does = does })
   turned_from (Err fault) serves account (runs_out failed busy) =

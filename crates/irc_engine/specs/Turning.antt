@@ -39,10 +39,9 @@ pub record IsNothingToDo {W : Type 0} (report : Ready) (now : Moment W) : Type 0
   pub nothing_left : (conn : ℕ) → has_some_at (now.seats conn) ≡ false
 
 -- What is ready is done, and then outboxes are written; or memory ran out, which it does not where there is nothing to do.
-pub data Taken {W : Type 0} (is_after : W → List Call → Type 0) (rooms : Rooms) (report : Ready) (old : Moment W) (new : EngineView W)
-    : Result (Unit {0}) EngineFault → Type 0 where
-  takes_it : new.failed ≡ false → new.rooms ≡ rooms → Does is_after rooms report old new.now → Taken is_after rooms report old new (Ok tt)
-  runs_out : new.failed ≡ true → (IsInOrder old → ¬ (IsNothingToDo report old)) → Taken is_after rooms report old new (Err Memory)
+pub data Taken {W : Type 0} (is_after : W → List Call → Type 0) (report : Ready) (old new : EngineView W) : Result (Unit {0}) EngineFault → Type 0 where
+  takes_it : new.failed ≡ false → new.rooms ≡ old.rooms → Does is_after old.rooms report old.now new.now → Taken is_after report old new (Ok tt)
+  runs_out : new.failed ≡ true → (IsInOrder old.now → ¬ (IsNothingToDo report old.now)) → Taken is_after report old new (Err Memory)
 
 -- A turn is taken; or the wire could not tell what is ready, and nothing else has happened; or memory ran out, where there was something to do; or it ran out
 -- before. The rooms of outboxes stay what they were.

@@ -1,8 +1,9 @@
 //! The connections and the wire: what the server puts out goes to outboxes, and outboxes are written.
-ghost use Rattle.std.specs.Prelude.{◌≡◌, ◌+◌, ◌<◌, ◌≤◌, ◌↔◌, true, false, is_some, Some, None, [], ◌∷◌, IfNone, IfSome, IsSome, OnOk, if◌then◌else◌};
+ghost use Rattle.std.specs.Prelude.{◌≡◌, ◌+◌, ◌<◌, ◌≤◌, ◌↔◌, true, false, is_some, Some, None, [], IfNone, IfSome, IsSome, OnOk};
 ghost use Rattle.std.specs.Ordering.{nat_cmp};
 ghost use Rattle.std.specs.BTreeMap.{btree_map_len, IsLowerBound, IsUnchanged, Updates};
-ghost use Rattle.irc_engine.specs.Loops.Boards.{lost_at, Carries, Ends, IsLostAs, IsNoted, KeepsMarks, Loses, Settles, Writes};
+ghost use Rattle.irc_engine.specs.Loops.Boards.{lost_at, Carries, CarriesOne, Ends, IsLostAs, IsNoted, KeepsMarks, Loses, Settles, Writes};
+ghost use Rattle.irc_engine.specs.Writing.{one_if};
 ghost use Rattle.irc_batch.specs.Batches.{end_of, line_to, sent_of};
 
 use crate::kind::Kind;
@@ -72,7 +73,7 @@ pub(crate) fn take_lowest(lost: &mut BTreeMap<u64, Kind, Global>) -> Option<(u64
     ensures least { IfSome result (λ first. IsLowerBound nat_cmp lost.old first.0) }
     ensures updates { IfSome result (λ first. Updates nat_cmp lost.old lost.new first.0 None) }
     ensures unchanged { IfNone result (IsUnchanged lost.old lost.new) }
-    ensures len { btree_map_len lost.new + (if is_some result then 1 else 0) ≡ btree_map_len lost.old }
+    ensures len { btree_map_len lost.new + one_if (is_some result) ≡ btree_map_len lost.old }
 {
     lost.pop_first()
 }
@@ -102,7 +103,7 @@ impl<W: Wire> Board<W> {
     /// A line goes to a connection's outbox. Where others wait there, the connection is noted by now, or the turn is about to write to it. Where
     /// it does not fit, the connection is lost.
     fn send(&mut self, conn: u64, line: &[u8]) -> Result<(), AllocError>
-        ensures carries { OnOk result (Carries W.is_after [] self.old (line_to conn line.now ∷ []) self.new) }
+        ensures carries { OnOk result (CarriesOne W.is_after self.old (line_to conn line.now) self.new) }
         ensures marks { OnOk result (KeepsMarks self.old self.new) }
     {
         match self.seats.offer(conn, line) {
@@ -115,7 +116,7 @@ impl<W: Wire> Board<W> {
 
     /// The server has closed a connection: it ends once nothing is left to write.
     fn shut(&mut self, conn: u64)
-        ensures carries { Carries W.is_after [] self.old (end_of conn ∷ []) self.new }
+        ensures carries { CarriesOne W.is_after self.old (end_of conn) self.new }
         ensures marks { KeepsMarks self.old self.new }
     {
         forget_loss(&mut self.lost, conn);
@@ -127,7 +128,7 @@ impl<W: Wire> Board<W> {
 
     /// Does one thing that the server has put out.
     fn deal_one(&mut self, out: Out<'_>) -> Result<(), AllocError>
-        ensures carries { OnOk result (Carries W.is_after [] self.old (sent_of out.entry ∷ []) self.new) }
+        ensures carries { OnOk result (CarriesOne W.is_after self.old (sent_of out.entry) self.new) }
         ensures marks { OnOk result (KeepsMarks self.old self.new) }
     {
         match out {

@@ -1,10 +1,9 @@
 //! An engine: one server over a wire.
-ghost use Rattle.std.specs.Prelude.{◌≡◌, ◌≤◌, true, Ok, [], ◌∷◌, length, take, IfOk, OnOk};
+ghost use Rattle.std.specs.Prelude.{◌≡◌, ◌≤◌, true, Ok, [], ◌∷◌, length, IfOk, OnOk};
 ghost use Rattle.irc_engine.specs.Loops.Counts.{count_of};
-ghost use Rattle.irc_engine.specs.Loops.Desks.{came, engine_view, moment_of, passed_on, IsNobodyNoted, KeepsOrder, KeepsTold};
+ghost use Rattle.irc_engine.specs.Loops.Desks.{came, engine_view, moment_of, passed_on, AsksFor, HearsFrom, IsNobodyNoted, KeepsOrder, KeepsTold, Spans};
 ghost use Rattle.irc_engine.specs.Loops.Boards.{KeepsMarks, KeepsNotes};
-ghost use Rattle.irc_engine.specs.Running.{AllTold, Answers, AsksOnce, Does, Flushes, PassesOn, Ran, RanOn, Reads, Starts, TellsLosses};
-ghost use Rattle.irc_engine.specs.Hearing.{nothing_of, only_of};
+ghost use Rattle.irc_engine.specs.Running.{AllTold, Answers, AsksOnce, Does, Flushes, PassesOn, RanOn, Reads, Starts, TellsLosses};
 ghost use Rattle.irc_engine.specs.Turning.{brings_nothing, IsNew, Runs, Taken, Turned};
 
 use crate::board::{Board, take_lowest};
@@ -123,7 +122,7 @@ impl<W: Wire> Engine<W> {
 
     /// Does what is ready, and writes.
     fn take(&mut self, ready: Ready) -> Result<(), EngineFault>
-        ensures { Taken W.is_after self.old.rooms ready (moment_of self.old.desk) (engine_view self.new) result }
+        ensures { Taken W.is_after ready (engine_view self.old) (engine_view self.new) result }
     {
         self.failed = true;
         match self.desk.turn(ready, self.rooms) {
@@ -152,7 +151,7 @@ impl<W: Wire> Engine<W> {
 impl<W: Wire> Desk<W> {
     /// Does what is ready, and writes.
     fn turn(&mut self, ready: Ready, rooms: Rooms) -> Result<(), AllocError>
-        ensures done { OnOk result (Does W.is_after rooms ready (moment_of self.old) (moment_of self.new)) }
+        ensures done { OnOk result (Spans (Does W.is_after rooms ready) self.old self.new) }
         ensures quiet { brings_nothing ready ≡ true → IsNobodyNoted self.old → result ≡ Ok tt }
     {
         self.answer(ready, rooms)?;
@@ -161,7 +160,7 @@ impl<W: Wire> Desk<W> {
 
     /// Does what is ready.
     fn answer(&mut self, ready: Ready, rooms: Rooms) -> Result<(), AllocError>
-        ensures done { OnOk result (Answers W.is_after rooms ready (moment_of self.old) (moment_of self.new)) }
+        ensures done { OnOk result (Spans (Answers W.is_after rooms ready) self.old self.new) }
         ensures told { OnOk result (KeepsTold self.old self.new) }
         ensures notes { OnOk result (KeepsNotes self.old.board self.new.board) }
         ensures quiet { brings_nothing ready ≡ true → (result ≡ Ok tt) × (self.new ≡ self.old) }
@@ -185,7 +184,7 @@ impl<W: Wire> Desk<W> {
 
     /// A client has connected, or a link is open, and the server is told. A number that is in use is passed over.
     fn start(&mut self, conn: u64, kind: Kind, room: usize, event: &Event) -> Result<(), AllocError>
-        ensures done { OnOk result (Starts W.is_after kind room conn event.now (moment_of self.old) (moment_of self.new)) }
+        ensures done { OnOk result (Spans (Starts W.is_after kind room conn event.now) self.old self.new) }
         ensures told { OnOk result (KeepsTold self.old self.new) }
         ensures notes { OnOk result (KeepsNotes self.old.board self.new.board) }
     {
@@ -198,7 +197,7 @@ impl<W: Wire> Desk<W> {
 
     /// A connection has bytes, or has ended. One that the server has closed is read no more.
     fn read(&mut self, conn: u64) -> Result<(), AllocError>
-        ensures done { OnOk result (Reads W.is_after conn (moment_of self.old) (moment_of self.new)) }
+        ensures done { OnOk result (Spans (Reads W.is_after conn) self.old self.new) }
         ensures told { OnOk result (KeepsTold self.old self.new) }
         ensures marks { OnOk result (KeepsMarks self.old.board self.new.board) }
     {
@@ -217,7 +216,7 @@ impl<W: Wire> Desk<W> {
     /// Passes on each line that so many bytes at the front of the buffer complete, as long as the connection is open.
     fn take_lines(&mut self, conn: u64, count: usize) -> Result<(), AllocError>
         requires { count ≤ length self.old.buffer.items }
-        ensures ran { OnOk result (Ran W.is_after [] [] (only_of conn (take count self.old.buffer.items)) (moment_of self.old) (moment_of self.new)) }
+        ensures ran { OnOk result (HearsFrom W.is_after conn count self.old self.new) }
         ensures told { OnOk result (KeepsTold self.old self.new) }
         ensures marks { OnOk result (KeepsMarks self.old.board self.new.board) }
     {
@@ -235,7 +234,7 @@ impl<W: Wire> Desk<W> {
 
     /// Passes on a line, if there is one.
     fn pass_line(&mut self, conn: u64, kind: Kind, line: Option<Line>) -> Result<(), AllocError>
-        ensures ran { OnOk result (Ran W.is_after [] (passed_on kind conn line) nothing_of (moment_of self.old) (moment_of self.new)) }
+        ensures ran { OnOk result (AsksFor W.is_after (passed_on kind conn line) self.old self.new) }
         ensures told { OnOk result (KeepsTold self.old self.new) }
         ensures marks { OnOk result (KeepsMarks self.old.board self.new.board) }
         ensures same { self.new.buffer ≡ self.old.buffer }
@@ -248,8 +247,8 @@ impl<W: Wire> Desk<W> {
 
     /// Passes an event on to the server, and does what it puts out. Then it is told of each connection that was lost by this.
     fn pass(&mut self, event: &Event) -> Result<(), AllocError>
-        ensures ran { OnOk result (Ran W.is_after [] (event.now ∷ []) nothing_of (moment_of self.old) (moment_of self.new)) }
-        ensures in_order { OnOk result (PassesOn W.is_after event.now (moment_of self.old) (moment_of self.new)) }
+        ensures ran { OnOk result (AsksFor W.is_after (event.now ∷ []) self.old self.new) }
+        ensures in_order { OnOk result (Spans (PassesOn W.is_after event.now) self.old self.new) }
         ensures told { OnOk result (AllTold (moment_of self.new)) }
         ensures marks { OnOk result (KeepsMarks self.old.board self.new.board) }
         ensures same { self.new.buffer ≡ self.old.buffer }
@@ -260,8 +259,8 @@ impl<W: Wire> Desk<W> {
 
     /// Tells the server of each connection that was lost, the lowest number first, until there is none.
     fn tell_losses(&mut self) -> Result<(), AllocError>
-        ensures ran { OnOk result (RanOn W.is_after (moment_of self.old) (moment_of self.new)) }
-        ensures in_order { OnOk result (TellsLosses W.is_after (moment_of self.old) (moment_of self.new)) }
+        ensures ran { OnOk result (Spans (RanOn W.is_after) self.old self.new) }
+        ensures in_order { OnOk result (Spans (TellsLosses W.is_after) self.old self.new) }
         ensures told { OnOk result (AllTold (moment_of self.new)) }
         ensures marks { OnOk result (KeepsMarks self.old.board self.new.board) }
         ensures same { self.new.buffer ≡ self.old.buffer }
@@ -275,7 +274,7 @@ impl<W: Wire> Desk<W> {
     /// Passes an event on to the server, and does what it puts out.
     fn handle(&mut self, event: &Event) -> Result<(), AllocError>
         ensures count { OnOk result (count_of self.new.board ≤ count_of self.old.board) }
-        ensures asks { OnOk result (AsksOnce W.is_after event.now (moment_of self.old) (moment_of self.new)) }
+        ensures asks { OnOk result (Spans (AsksOnce W.is_after event.now) self.old self.new) }
         ensures marks { OnOk result (KeepsMarks self.old.board self.new.board) }
         ensures same { self.new.buffer ≡ self.old.buffer }
     {
@@ -288,7 +287,7 @@ impl<W: Wire> Desk<W> {
 
     /// Writes once from each outbox that is not empty, in order of number.
     fn flush(&mut self) -> Result<(), AllocError>
-        ensures done { OnOk result (Flushes W.is_after (moment_of self.old) (moment_of self.new)) }
+        ensures done { OnOk result (Spans (Flushes W.is_after) self.old self.new) }
         ensures told { OnOk result (KeepsTold self.old self.new) }
         ensures in_order { OnOk result (KeepsOrder self.old self.new) }
         ensures quiet { IsNobodyNoted self.old → result ≡ Ok tt }

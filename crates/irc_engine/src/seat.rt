@@ -1,8 +1,7 @@
 //! The place of each connection that is open: its outbox, and what has come of its next line.
-ghost use Rattle.std.specs.Prelude.{◌≡◌, ℕ, ◌+◌, Ok, Some, None, is_some, length, option_copied, IfOk, OnOk, if◌then◌else◌};
+ghost use Rattle.std.specs.Prelude.{◌≡◌, ℕ, Some, None, is_some, length, option_copied, IfOk, OnOk};
 ghost use Rattle.std.specs.List.{slice_get};
-ghost use Rattle.irc_engine.specs.Loops.Seats.{fresh_seat, has_some_at, is_done_at, is_open_at, open_kind_at, seat_count, seat_of, IsSet, IsOffered, IsOfferedAt, IsShutAt, IsWritten, IsWrittenAt, Frames, FramesAt, Within};
-ghost use Rattle.irc_engine.specs.declared.seat.Offered.TheVariants.{Nothing};
+ghost use Rattle.irc_engine.specs.Loops.Seats.{fresh_seat, has_some_at, is_done_at, is_open_at, open_kind_at, seat_count, seat_of, CountsWithout, Sets, IsOffered, IsOfferedAt, IsOfferedIn, IsShutAt, IsWrittenAt, IsWrittenIn, Frames, FramesAt, Within};
 
 use crate::boxed_framer::BoxedFramer;
 use crate::kind::Kind;
@@ -190,7 +189,7 @@ impl Seats {
         kind: Kind,
         room: usize,
     ) -> Result<(), AllocError>
-        ensures { OnOk result (IsSet (seat_of self.old) conn (Some (fresh_seat kind room)) (seat_of self.new)) }
+        ensures { OnOk result (Sets self.old conn (Some (fresh_seat kind room)) self.new) }
     {
         ask_ahead(alloc, conn as usize, room);
         let fresh = Seat::fresh(alloc, kind, room)?;
@@ -207,7 +206,7 @@ impl Seats {
 
     /// The first number behind those of the near seats has this seat from now on.
     fn put_next(&mut self, seat: Seat) -> Result<(), AllocError>
-        ensures { OnOk result (IsSet (seat_of self.old) (length self.old.near.items) (Some seat) (seat_of self.new)) }
+        ensures { OnOk result (Sets self.old (length self.old.near.items) (Some seat) self.new) }
     {
         match self.near.push(Some(seat)) {
             Ok(()) => Ok(()),
@@ -218,7 +217,7 @@ impl Seats {
     /// A number behind those of the near seats has this seat from now on.
     fn put_far(&mut self, conn: u64, seat: Seat) -> Result<(), AllocError>
         requires { slice_get self.old.near.items conn ≡ None }
-        ensures { OnOk result (IsSet (seat_of self.old) conn (Some seat) (seat_of self.new)) }
+        ensures { OnOk result (Sets self.old conn (Some seat) self.new) }
     {
         match self.far.insert(conn, seat) {
             Ok(_) => Ok(()),
@@ -228,8 +227,8 @@ impl Seats {
 
     /// A connection has no seat any more.
     pub(crate) fn vacate(&mut self, conn: u64)
-        ensures at { IsSet (seat_of self.old) conn None (seat_of self.new) }
-        ensures len { seat_count self.new + (if is_some (seat_of self.old conn) then 1 else 0) ≡ seat_count self.old }
+        ensures at { Sets self.old conn None self.new }
+        ensures len { CountsWithout conn self.old self.new }
     {
         match self.near.get_mut(conn as usize) {
             Some(slot) => *slot = None,
@@ -306,7 +305,7 @@ impl Seats {
 
 /// Offers bytes to the connection whose seat this is, if it is one.
 fn offer(slot: &mut Option<Seat>, bytes: &[u8]) -> Result<Offered, Overflow>
-    ensures { Within (λ s t. IsOffered s bytes.now result t) (result ≡ Ok Nothing) slot.old slot.new }
+    ensures { IsOfferedIn bytes.now slot.old result slot.new }
 {
     match slot {
         Some(seat) => seat.offer(bytes),
@@ -335,7 +334,7 @@ fn take(slot: &mut Option<Seat>, piece: &[u8]) -> Option<(usize, Kind, Option<Li
 
 /// Writes once to the connection whose seat this is, if it is one.
 fn write<W: Wire>(slot: &mut Option<Seat>, wire: &mut W, conn: u64) -> Result<usize, IoFault>
-    ensures { Within (λ s t. IsWritten W.is_after conn s wire.old result t wire.new) ((result ≡ Ok 0) × (wire.new ≡ wire.old)) slot.old slot.new }
+    ensures { IsWrittenIn W.is_after conn slot.old wire.old result slot.new wire.new }
 {
     match slot {
         Some(seat) => seat.outbox.write_some(wire, conn),

@@ -11,7 +11,7 @@ use Rattle.irc_engine.specs.declared.kind.Kind.{Kind}
 use Rattle.irc_engine.specs.declared.seat.Seat.{Seat}
 use Rattle.irc_engine.specs.declared.board.Board.{Board}
 use Rattle.irc_engine.specs.Carrying.{AddsAll, Passage, has_some_at, is_done_at, is_exchange, is_open_at, kind_at}
-use Rattle.irc_engine.specs.Loops.Seats.{seat_count, seat_of, IsSet}
+use Rattle.irc_engine.specs.Loops.Seats.{seat_of, CountsWithout, IsSet}
 use Rattle.irc_engine.specs.Loops.Counts.{count_of}
 
 abbrev pub has : BTreeSet ℕ → ℕ → Bool
@@ -35,7 +35,7 @@ pub record Ends {W : Type 0} (is_after : W → List Call → Type 0) (conn : ℕ
   pub seats : IsSet (seat_of old.seats) conn None (seat_of new.seats)
   pub lost : new.lost ≡ old.lost
   pub waiting : IsNoted old.waiting conn false new.waiting
-  pub len : seat_count new.seats + (if is_some (seat_of old.seats conn) then 1 else 0) ≡ seat_count old.seats
+  pub len : CountsWithout conn old.seats new.seats
 
 -- as what a connection is lost, after the one is lost whose seat this was: as of its kind, if it is that one and was open; else as before
 abbrev pub lost_by : Bool → Option Seat → Option Kind → Option Kind
@@ -62,6 +62,10 @@ pub record Carries {W : Type 0} (is_after : W → List Call → Type 0) (exchang
   pub passage : (conn : ℕ) → Passage conn (seat_of old.seats conn) (lost_at old.lost conn) calls outs (seat_of new.seats conn) (lost_at new.lost conn)
   pub exchanged : filter is_exchange calls ≡ exchanges
   pub count : count_of new ≤ count_of old
+
+-- of one thing that the server has put out, and no call but those that close
+abbrev pub CarriesOne : {W : Type 0} → (W → List Call → Type 0) → Board W → Sent → Board W → Type 0
+CarriesOne is_after old sent new = Carries is_after [] old (sent ∷ []) new
 
 -- A connection is noted just where it has bytes to write and the turn is not about to write to it; and it is not one that is to be closed by now.
 pub record IsMarked (pending : Bool) (seat : Option Seat) (noted : Bool) : Type 0 where

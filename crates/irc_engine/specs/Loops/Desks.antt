@@ -1,16 +1,17 @@
 -- The engine's parts as one moment.
-use Rattle.std.specs.Prelude.{◌≡◌, ℕ, false, Option, Some, None, Result, Ok, Err, List, [], ◌∷◌}
+use Rattle.std.specs.Prelude.{◌≡◌, ℕ, false, Option, Some, None, Result, Ok, Err, List, [], ◌∷◌, take}
 use Rattle.irc_outbox.specs.declared.wire.Got.{Got}
 use Rattle.irc_outbox.specs.declared.wire.Got.TheVariants.{Bytes, Later, End}
 use Rattle.irc_outbox.specs.declared.wire.IoFault.{IoFault}
+use Rattle.irc_outbox.specs.Calls.{Call}
 use Rattle.std.specs.Vec.{vec_len}
 use Rattle.arrayvec.specs.ArrayVec.{ArrayVec}
 use Rattle.irc_server.specs.declared.event.Event.{Event}
 use Rattle.irc_engine.specs.declared.engine.Desk.{Desk}
 use Rattle.irc_engine.specs.declared.engine.Engine.{Engine}
 use Rattle.irc_engine.specs.declared.kind.Kind.{Kind}
-use Rattle.irc_engine.specs.Hearing.{line_event_of}
-use Rattle.irc_engine.specs.Running.{Moment, AllTold, IsInOrder}
+use Rattle.irc_engine.specs.Hearing.{line_event_of, nothing_of, only_of}
+use Rattle.irc_engine.specs.Running.{Moment, AllTold, IsInOrder, Ran}
 use Rattle.irc_engine.specs.Turning.{EngineView}
 use Rattle.irc_engine.specs.Loops.Boards.{has, lost_at}
 use Rattle.irc_engine.specs.Loops.Seats.{seat_of}
@@ -24,6 +25,18 @@ moment_of desk = record {
   waiting = has desk.board.waiting;
   read_room = vec_len desk.buffer;
 }
+
+-- from the engine's parts to what they are then, as from one moment to another
+abbrev pub Spans : {W : Type 0} → (Moment W → Moment W → Type 0) → Desk W → Desk W → Type 0
+Spans P old new = P (moment_of old) (moment_of new)
+
+-- The server is asked for these events, and then for others that follow from them.
+abbrev pub AsksFor : {W : Type 0} → (W → List Call → Type 0) → List Event → Desk W → Desk W → Type 0
+AsksFor is_after events old new = Ran is_after [] events nothing_of (moment_of old) (moment_of new)
+
+-- So many bytes at the front of the buffer are heard, as those of one connection.
+abbrev pub HearsFrom : {W : Type 0} → (W → List Call → Type 0) → ℕ → ℕ → Desk W → Desk W → Type 0
+HearsFrom is_after conn count old new = Ran is_after [] [] (only_of conn (take count old.buffer.items)) (moment_of old) (moment_of new)
 
 -- an engine, as those who have one see it
 abbrev pub engine_view : {W : Type 0} → Engine W → EngineView W

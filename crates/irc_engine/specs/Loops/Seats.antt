@@ -33,6 +33,13 @@ seat_count seats = count_by is_some seats.near.items + hash_map_len seats.far
 abbrev pub IsSet : (ℕ → Option Seat) → ℕ → Option Seat → (ℕ → Option Seat) → Type 0
 IsSet old conn seat new = (q : ℕ) → new q ≡ (if nat_eq conn q then seat else old q)
 
+abbrev pub Sets : Seats → ℕ → Option Seat → Seats → Type 0
+Sets old conn seat new = IsSet (seat_of old) conn seat (seat_of new)
+
+-- there is one fewer now, if that connection had a seat
+abbrev pub CountsWithout : ℕ → Seats → Seats → Type 0
+CountsWithout conn old new = seat_count new + (if is_some (seat_of old conn) then 1 else 0) ≡ seat_count old
+
 abbrev pub AreSame : (ℕ → Option Seat) → (ℕ → Option Seat) → Type 0
 AreSame old new = (q : ℕ) → new q ≡ old q
 
@@ -62,6 +69,9 @@ IsOffered old bytes (Err overflow) new = (is_some old.framer ≡ true) × (old.o
 
 abbrev pub IsOfferedAt : ℕ → List ℕ → Seats → Result Offered Overflow → Seats → Type 0
 IsOfferedAt conn bytes old result new = Through conn (λ s t. IsOffered s bytes result t) (result ≡ Ok Nothing) old new
+
+abbrev pub IsOfferedIn : List ℕ → Option Seat → Result Offered Overflow → Option Seat → Type 0
+IsOfferedIn bytes old result new = Within (λ s t. IsOffered s bytes result t) (result ≡ Ok Nothing) old new
 
 -- the server has closed a connection
 abbrev pub IsShutAt : ℕ → Seats → Seats → Type 0
@@ -95,3 +105,7 @@ pub record IsWritten {W : Type 0} (is_after : W → List Call → Type 0) (conn 
 abbrev pub IsWrittenAt : {W : Type 0} → (W → List Call → Type 0) → ℕ → Seats → W → Result ℕ IoFault → Seats → W → Type 0
 IsWrittenAt is_after conn old wire result new wire_after =
     Through conn (λ s t. IsWritten is_after conn s wire result t wire_after) ((result ≡ Ok 0) × (wire_after ≡ wire)) old new
+
+abbrev pub IsWrittenIn : {W : Type 0} → (W → List Call → Type 0) → ℕ → Option Seat → W → Result ℕ IoFault → Option Seat → W → Type 0
+IsWrittenIn is_after conn old wire result new wire_after =
+    Within (λ s t. IsWritten is_after conn s wire result t wire_after) ((result ≡ Ok 0) × (wire_after ≡ wire)) old new
