@@ -6,12 +6,12 @@ use Rattle.irc_outbox.specs.Calls.{Call, writes, closes, bytes_taken}
 use Rattle.irc_batch.specs.Batches.{Sent, end_of, line_to}
 use Rattle.irc_engine.specs.declared.board.Board.{Board}
 use Rattle.irc_engine.specs.declared.kind.Kind.{Kind}
-use Rattle.irc_engine.specs.declared.seat.Seat.{Seat}
+use Rattle.irc_engine.specs.declared.connection_table.Connection.{Connection}
 use Rattle.irc_engine.specs.Carrying.{owed, open_kind_at, AddsAll, cut_off, overflowed, Passage}
 use Rattle.irc_engine.specs.Loops.Counts.{count_of}
-use Rattle.irc_engine.specs.Loops.Seats.{seat_count, seat_of, IsSet}
+use Rattle.irc_engine.specs.Loops.Tables.{connection_count, connection_of, IsSet}
 use Rattle.irc_engine.specs.Loops.Boards.{lost_at, lost_by, IsLostAs, Ends, Loses, Carries}
-use Rattle.irc_engine.proofs.SeatLaws.{one_number, nat_eq-refl}
+use Rattle.irc_engine.proofs.TableLaws.{one_number, nat_eq-refl}
 use Rattle.irc_engine.proofs.HearingLaws.{hears_gone}
 use Rattle.irc_engine.proofs.KindLaws.{kind_of_lost, some_lost, lost_by_open, lost_by_shut, open_some}
 use Rattle.irc_engine.proofs.CarryingLaws.{IsElsewhere, untouched, elsewhere_both}
@@ -30,7 +30,7 @@ adds_both is_after old mid new a b one other = λ calls after.
 -- numbers
 
 -- what holds of one connection, and of each other that nothing has happened to
-pub by_number : (conn : ℕ) (old new : ℕ → Option Seat) (was now : ℕ → Option Kind) (calls : List Call) (outs : List Sent)
+pub by_number : (conn : ℕ) (old new : ℕ → Option Connection) (was now : ℕ → Option Kind) (calls : List Call) (outs : List Sent)
     → ((q : ℕ) → nat_eq conn q ≡ false → new q ≡ old q) → ((q : ℕ) → nat_eq conn q ≡ false → now q ≡ was q)
     → ((q : ℕ) → nat_eq conn q ≡ false → IsElsewhere q calls outs) → Passage conn (old conn) (was conn) calls outs (new conn) (now conn)
     → (q : ℕ) → Passage q (old q) (was q) calls outs (new q) (now q)
@@ -43,11 +43,11 @@ by_number conn old new was now calls outs same as_lost apart here q = by (nat_eq
 pub at_once : {A : Type 0} (conn : ℕ) (x y : A) → cond (nat_eq conn conn) x y ≡ x
 at_once conn x y = ap (λ t. cond t x y) (nat_eq-refl conn)
 
-pub set_other : (old new : ℕ → Option Seat) (conn : ℕ) (seat : Option Seat) → IsSet old conn seat new → (q : ℕ) → nat_eq conn q ≡ false → new q ≡ old q
-set_other old new conn seat set q two = set q ∙ ap (λ t. cond t seat (old q)) two
+pub set_other : (old new : ℕ → Option Connection) (conn : ℕ) (connection : Option Connection) → IsSet old conn connection new → (q : ℕ) → nat_eq conn q ≡ false → new q ≡ old q
+set_other old new conn connection set q two = set q ∙ ap (λ t. cond t connection (old q)) two
 
-pub set_here : (old new : ℕ → Option Seat) (conn : ℕ) (seat : Option Seat) → IsSet old conn seat new → new conn ≡ seat
-set_here old new conn seat set = set conn ∙ at_once conn seat (old conn)
+pub set_here : (old new : ℕ → Option Connection) (conn : ℕ) (connection : Option Connection) → IsSet old conn connection new → new conn ≡ connection
+set_here old new conn connection set = set conn ∙ at_once conn connection (old conn)
 
 -- single calls and lines, to other connections
 
@@ -95,16 +95,16 @@ shut_elsewhere conn q two = record {
 -- losing a connection
 
 module _ {W : Type 0} (is_after : W → List Call → Type 0) (conn : ℕ) (old done : Board W) where
-  pub lost_open : (lost : BTreeMap ℕ Kind) (kind : Kind) → Ends is_after conn old done → open_kind_at (seat_of old.seats conn) ≡ Some kind
+  pub lost_open : (lost : BTreeMap ℕ Kind) (kind : Kind) → Ends is_after conn old done → open_kind_at (connection_of old.table conn) ≡ Some kind
       → IsLostAs done.lost conn (Some kind) lost → btree_map_len lost ≤ btree_map_len done.lost + 1 → Loses is_after conn old (record done { lost = lost })
   lost_open lost kind ends unshut noted len =
-      let fewer : seat_count done.seats + 1 ≡ seat_count old.seats =
-      ap (λ t. seat_count done.seats + cond t 1 0) (sym (open_some (seat_of old.seats conn) kind unshut)) ∙ ends.len in
+      let fewer : connection_count done.table + 1 ≡ connection_count old.table =
+      ap (λ t. connection_count done.table + cond t 1 0) (sym (open_some (connection_of old.table conn) kind unshut)) ∙ ends.len in
       record {
         account = ends.account;
-        seats = ends.seats;
-        lost = λ q. noted q ∙ lost_by_open (nat_eq conn q) (seat_of old.seats conn) kind (lost_at done.lost q) unshut
-            ∙ ap (λ l. lost_by (nat_eq conn q) (seat_of old.seats conn) (lost_at l q)) ends.lost;
+        table = ends.table;
+        lost = λ q. noted q ∙ lost_by_open (nat_eq conn q) (connection_of old.table conn) kind (lost_at done.lost q) unshut
+            ∙ ap (λ l. lost_by (nat_eq conn q) (connection_of old.table conn) (lost_at l q)) ends.lost;
         waiting = ends.waiting;
         count = omega (arith, ap btree_map_len ends.lost);
       }
@@ -115,24 +115,24 @@ module _ {W : Type 0} (is_after : W → List Call → Type 0) (conn : ℕ) (old 
 
   pub ends_fewer : Ends is_after conn old done → count_of done ≤ count_of old
   ends_fewer ends =
-      let fewer = fewer_or (is_some (seat_of old.seats conn)) (seat_count done.seats) (seat_count old.seats) ends.len in
+      let fewer = fewer_or (is_some (connection_of old.table conn)) (connection_count done.table) (connection_count old.table) ends.len in
       omega (arith, ap btree_map_len ends.lost)
 
-  pub lost_shut : Ends is_after conn old done → open_kind_at (seat_of old.seats conn) ≡ None → Loses is_after conn old done
+  pub lost_shut : Ends is_after conn old done → open_kind_at (connection_of old.table conn) ≡ None → Loses is_after conn old done
   lost_shut ends shut = record {
     account = ends.account;
-    seats = ends.seats;
-    lost = λ q. ap (λ l. lost_at l q) ends.lost ∙ lost_by_shut (nat_eq conn q) (seat_of old.seats conn) (lost_at old.lost q) shut;
+    table = ends.table;
+    lost = λ q. ap (λ l. lost_at l q) ends.lost ∙ lost_by_shut (nat_eq conn q) (connection_of old.table conn) (lost_at old.lost q) shut;
     waiting = ends.waiting;
     count = ends_fewer ends;
   }
 
--- A connection that has a seat is lost, after these calls.
-pub record Drops {W : Type 0} (is_after : W → List Call → Type 0) (conn : ℕ) (seat : Seat) (before : List Call) (old new : Board W) : Type 0 where
-  pub was : seat_of old.seats conn ≡ Some seat
+-- A connection that is there is lost, after these calls.
+pub record Drops {W : Type 0} (is_after : W → List Call → Type 0) (conn : ℕ) (connection : Connection) (before : List Call) (old new : Board W) : Type 0 where
+  pub was : connection_of old.table conn ≡ Some connection
   pub account : AddsAll is_after old.wire (before ++ closes conn ∷ []) new.wire
-  pub seats : IsSet (seat_of old.seats) conn None (seat_of new.seats)
-  pub lost : (q : ℕ) → lost_at new.lost q ≡ lost_by (nat_eq conn q) (Some seat) (lost_at old.lost q)
+  pub table : IsSet (connection_of old.table) conn None (connection_of new.table)
+  pub lost : (q : ℕ) → lost_at new.lost q ≡ lost_by (nat_eq conn q) (Some connection) (lost_at old.lost q)
   pub count : count_of new ≤ count_of old
 
 pub last_close : (conn : ℕ) → 0 + cond (nat_eq conn conn) 1 0 ≡ 1
@@ -144,72 +144,72 @@ at_last false true true is = refl
 at_last false true false is = refl
 at_last false false o is = cc is
 
-module _ {W : Type 0} (is_after : W → List Call → Type 0) (conn : ℕ) (old new : Board W) (seat : Seat) where
-  dropped_lost : ((q : ℕ) → lost_at new.lost q ≡ lost_by (nat_eq conn q) (Some seat) (lost_at old.lost q))
-      → is_some (lost_at new.lost conn) ≡ ((is_some (lost_at old.lost conn) || (is_some seat.framer && true)) && true)
-  dropped_lost lost = ap is_some (lost conn) ∙ some_lost (nat_eq conn conn) (Some seat) (lost_at old.lost conn)
-      ∙ at_last (is_some (lost_at old.lost conn)) (nat_eq conn conn) (is_some seat.framer) (nat_eq-refl conn)
+module _ {W : Type 0} (is_after : W → List Call → Type 0) (conn : ℕ) (old new : Board W) (connection : Connection) where
+  dropped_lost : ((q : ℕ) → lost_at new.lost q ≡ lost_by (nat_eq conn q) (Some connection) (lost_at old.lost q))
+      → is_some (lost_at new.lost conn) ≡ ((is_some (lost_at old.lost conn) || (is_some connection.framer && true)) && true)
+  dropped_lost lost = ap is_some (lost conn) ∙ some_lost (nat_eq conn conn) (Some connection) (lost_at old.lost conn)
+      ∙ at_last (is_some (lost_at old.lost conn)) (nat_eq conn conn) (is_some connection.framer) (nat_eq-refl conn)
 
   -- a line that does not fit its outbox
-  pub line_drops : (text : List ℕ) → is_some seat.framer ≡ true → seat.outbox.room < length seat.outbox.bytes + length text
-      → Drops is_after conn seat [] old new → Carries is_after [] old (line_to conn text ∷ []) new
+  pub line_drops : (text : List ℕ) → is_some connection.framer ≡ true → connection.outbox.room < length connection.outbox.bytes + length text
+      → Drops is_after conn connection [] old new → Carries is_after [] old (line_to conn text ∷ []) new
   line_drops text unshut more drops =
       let outs : List Sent = line_to conn text ∷ [] in
-      let owes : owed (is_some seat.framer) conn outs ≡ text =
+      let owes : owed (is_some connection.framer) conn outs ≡ text =
       ap (λ t. owed t conn outs) unshut ∙ ap (λ xs. xs ++ []) (at_once conn text []) ∙ append-nil text in
       record {
         calls = closes conn ∷ [];
         account = drops.account;
-        passage = by_number conn (seat_of old.seats) (seat_of new.seats) (lost_at old.lost) (lost_at new.lost) (closes conn ∷ []) outs
-            (set_other (seat_of old.seats) (seat_of new.seats) conn None drops.seats)
-            (λ q two. drops.lost q ∙ ap (λ t. lost_by t (Some seat) (lost_at old.lost q)) two)
+        passage = by_number conn (connection_of old.table) (connection_of new.table) (lost_at old.lost) (lost_at new.lost) (closes conn ∷ []) outs
+            (set_other (connection_of old.table) (connection_of new.table) conn None drops.table)
+            (λ q two. drops.lost q ∙ ap (λ t. lost_by t (Some connection) (lost_at old.lost q)) two)
             (λ q two. elsewhere_both q [] (closes conn ∷ []) outs [] (line_elsewhere conn q text two) (close_elsewhere conn q two))
-            (subst (λ (s : Option Seat). Passage conn s (lost_at old.lost conn) (closes conn ∷ []) outs (seat_of new.seats conn) (lost_at new.lost conn)) (sym drops.was)
-            (subst (λ (s : Option Seat). Passage conn (Some seat) (lost_at old.lost conn) (closes conn ∷ []) outs s (lost_at new.lost conn))
-            (sym (set_here (seat_of old.seats) (seat_of new.seats) conn None drops.seats)) (record {
+            (subst (λ (s : Option Connection). Passage conn s (lost_at old.lost conn) (closes conn ∷ []) outs (connection_of new.table conn) (lost_at new.lost conn)) (sym drops.was)
+            (subst (λ (s : Option Connection). Passage conn (Some connection) (lost_at old.lost conn) (closes conn ∷ []) outs s (lost_at new.lost conn))
+            (sym (set_here (connection_of old.table) (connection_of new.table) conn None drops.table)) (record {
               fate = record {
-                left = seat.outbox.bytes ++ owed (is_some seat.framer) conn outs;
+                left = connection.outbox.bytes ++ owed (is_some connection.framer) conn outs;
                 carried = refl;
                 once = last_close conn;
                 why = overflowed (omega (
                   arith,
                   more,
                   ap length owes,
-                  length-append {A = ℕ} seat.outbox.bytes (owed (is_some seat.framer) conn outs),
+                  length-append {A = ℕ} connection.outbox.bytes (owed (is_some connection.framer) conn outs),
                 ));
               };
               lost_is = dropped_lost drops.lost;
-              keeps_kind = kind_of_lost (Some seat) (lost_at old.lost conn) (lost_at new.lost conn) (nat_eq conn conn) (drops.lost conn);
-              hears_none = hears_gone seat.framer;
+              keeps_kind = kind_of_lost (Some connection) (lost_at old.lost conn) (lost_at new.lost conn) (nat_eq conn conn) (drops.lost conn);
+              hears_none = hears_gone connection.framer;
             })));
         exchanged = refl;
         count = drops.count;
       }
 
   -- a write that fails
-  pub write_drops : (front : List ℕ) (fault : IoFault) → Drops is_after conn seat (writes conn front (Err fault) ∷ []) old new
+  pub write_drops : (front : List ℕ) (fault : IoFault) → Drops is_after conn connection (writes conn front (Err fault) ∷ []) old new
       → Carries is_after (writes conn front (Err fault) ∷ []) old [] new
   write_drops front fault drops =
       let calls : List Call = writes conn front (Err fault) ∷ closes conn ∷ [] in
       record {
         calls = calls;
         account = drops.account;
-        passage = by_number conn (seat_of old.seats) (seat_of new.seats) (lost_at old.lost) (lost_at new.lost) calls []
-            (set_other (seat_of old.seats) (seat_of new.seats) conn None drops.seats)
-            (λ q two. drops.lost q ∙ ap (λ t. lost_by t (Some seat) (lost_at old.lost q)) two)
+        passage = by_number conn (connection_of old.table) (connection_of new.table) (lost_at old.lost) (lost_at new.lost) calls []
+            (set_other (connection_of old.table) (connection_of new.table) conn None drops.table)
+            (λ q two. drops.lost q ∙ ap (λ t. lost_by t (Some connection) (lost_at old.lost q)) two)
             (λ q two. elsewhere_both q (writes conn front (Err fault) ∷ []) (closes conn ∷ []) [] [] (write_elsewhere conn q front (Err fault) two) (close_elsewhere conn q two))
-            (subst (λ (s : Option Seat). Passage conn s (lost_at old.lost conn) calls [] (seat_of new.seats conn) (lost_at new.lost conn)) (sym drops.was)
-            (subst (λ (s : Option Seat). Passage conn (Some seat) (lost_at old.lost conn) calls [] s (lost_at new.lost conn))
-            (sym (set_here (seat_of old.seats) (seat_of new.seats) conn None drops.seats)) (record {
+            (subst (λ (s : Option Connection). Passage conn s (lost_at old.lost conn) calls [] (connection_of new.table conn) (lost_at new.lost conn)) (sym drops.was)
+            (subst (λ (s : Option Connection). Passage conn (Some connection) (lost_at old.lost conn) calls [] s (lost_at new.lost conn))
+            (sym (set_here (connection_of old.table) (connection_of new.table) conn None drops.table)) (record {
               fate = record {
-                left = seat.outbox.bytes ++ owed (is_some seat.framer) conn [];
-                carried = ap (λ xs. (xs ++ []) ++ (seat.outbox.bytes ++ owed (is_some seat.framer) conn [])) (sym (at_once conn [] []));
+                left = connection.outbox.bytes ++ owed (is_some connection.framer) conn [];
+                carried = ap (λ xs. (xs ++ []) ++ (connection.outbox.bytes ++ owed (is_some connection.framer) conn [])) (sym (at_once conn [] []));
                 once = last_close conn;
                 why = cut_off (ap (λ t. t || false) (nat_eq-refl conn));
               };
               lost_is = dropped_lost drops.lost;
-              keeps_kind = kind_of_lost (Some seat) (lost_at old.lost conn) (lost_at new.lost conn) (nat_eq conn conn) (drops.lost conn);
-              hears_none = hears_gone seat.framer;
+              keeps_kind = kind_of_lost (Some connection) (lost_at old.lost conn) (lost_at new.lost conn) (nat_eq conn conn) (drops.lost conn);
+              hears_none = hears_gone connection.framer;
             })));
         exchanged = refl;
         count = drops.count;

@@ -1,5 +1,5 @@
 pub mod HearingLaws
-pub mod SeatLaws
+pub mod TableLaws
 pub mod KindLaws
 pub mod CarryingLaws
 pub mod BoardLaws

@@ -1,4 +1,4 @@
-pub mod Seats
+pub mod Tables
 pub mod Counts
 pub mod Boards
 pub mod Desks

@@ -23,7 +23,7 @@ pub record IsNew {W : Type 0} (server : Option View) (wire : W) (client_room lin
   pub server_is : engine.now.server ≡ server
   pub wire_is : engine.now.wire ≡ wire
   pub rooms_are : engine.rooms ≡ record { client = client_room; link = link_room }
-  pub no_seats : (conn : ℕ) → engine.now.seats conn ≡ None
+  pub no_connections : (conn : ℕ) → engine.now.connections conn ≡ None
   pub in_order : IsInOrder engine.now
   pub reads_at_most : engine.now.read_room ≡ 4096
 
@@ -36,7 +36,7 @@ brings_nothing report = false
 -- nothing is ready, and nothing is left to write
 pub record IsNothingToDo {W : Type 0} (report : Ready) (now : Moment W) : Type 0 where
   pub nothing_ready : brings_nothing report ≡ true
-  pub nothing_left : (conn : ℕ) → has_some_at (now.seats conn) ≡ false
+  pub nothing_left : (conn : ℕ) → has_some_at (now.connections conn) ≡ false
 
 -- What is ready is done, and then outboxes are written; or memory ran out, which it does not where there is nothing to do.
 pub data Taken {W : Type 0} (is_after : W → List Call → Type 0) (report : Ready) (old new : EngineView W) : Result (Unit {0}) EngineFault → Type 0 where

@@ -6,8 +6,8 @@ ghost use Rattle.irc_engine.specs.Loops.Boards.{lost_at, Carries, CarriesOne, En
 ghost use Rattle.irc_engine.specs.Writing.{one_if};
 ghost use Rattle.irc_batch.specs.Batches.{end_of, line_to, sent_of};
 
+use crate::connection_table::{ConnectionTable, Offered};
 use crate::kind::Kind;
-use crate::seat::{Offered, Seats};
 use irc_batch::{Batch, Out};
 use irc_outbox::Wire;
 use std::alloc::{AllocError, Global};
@@ -18,8 +18,8 @@ use std::collections::{BTreeMap, BTreeSet};
 pub(crate) struct Board<W: Wire> {
     /// What carries the bytes.
     pub wire: W,
-    /// The place of each connection, by its number.
-    pub seats: Seats,
+    /// Each connection, by its number.
+    pub table: ConnectionTable,
     /// Connections with bytes to write, but for those that the turn is about to write to.
     pub waiting: BTreeSet<u64, Global>,
     /// Connections that were lost, of which the server has yet to be told, with their kinds.
@@ -79,11 +79,11 @@ pub(crate) fn take_lowest(lost: &mut BTreeMap<u64, Kind, Global>) -> Option<(u64
 }
 
 impl<W: Wire> Board<W> {
-    /// A connection ends here: its seat goes, with what was to be written, and it is closed.
+    /// A connection ends here: it goes, with what was to be written, and is closed.
     fn end(&mut self, conn: u64)
         ensures { Ends W.is_after conn self.old self.new }
     {
-        self.seats.vacate(conn);
+        self.table.vacate(conn);
         forget(&mut self.waiting, conn);
         self.wire.close(conn);
     }
@@ -92,7 +92,7 @@ impl<W: Wire> Board<W> {
     pub(crate) fn lose(&mut self, conn: u64) -> Result<(), AllocError>
         ensures { OnOk result (Loses W.is_after conn self.old self.new) }
     {
-        let open = self.seats.open_kind(conn);
+        let open = self.table.open_kind(conn);
         self.end(conn);
         match open {
             Some(kind) => note_loss(&mut self.lost, conn, kind),
@@ -106,7 +106,7 @@ impl<W: Wire> Board<W> {
         ensures carries { OnOk result (CarriesOne W.is_after self.old (line_to conn line.now) self.new) }
         ensures marks { OnOk result (KeepsMarks self.old self.new) }
     {
-        match self.seats.offer(conn, line) {
+        match self.table.offer(conn, line) {
             Ok(Offered::First) => note(&mut self.waiting, conn),
             Ok(Offered::More) => Ok(()),
             Ok(Offered::Nothing) => Ok(()),
@@ -120,8 +120,8 @@ impl<W: Wire> Board<W> {
         ensures marks { KeepsMarks self.old self.new }
     {
         forget_loss(&mut self.lost, conn);
-        self.seats.shut(conn);
-        if self.seats.is_done(conn) {
+        self.table.shut(conn);
+        if self.table.is_done(conn) {
             self.end(conn);
         }
     }
@@ -163,7 +163,7 @@ impl<W: Wire> Board<W> {
     pub(crate) fn write(&mut self, conn: u64) -> Result<(), AllocError>
         ensures { OnOk result (Writes W.is_after conn self.old self.new) }
     {
-        match self.seats.write(&mut self.wire, conn) {
+        match self.table.write(&mut self.wire, conn) {
             Ok(_) => self.settle(conn),
             Err(_) => self.lose(conn),
         }
@@ -173,11 +173,11 @@ impl<W: Wire> Board<W> {
     fn settle(&mut self, conn: u64) -> Result<(), AllocError>
         ensures { OnOk result (Settles W.is_after conn self.old self.new) }
     {
-        if self.seats.is_done(conn) {
+        if self.table.is_done(conn) {
             self.end(conn);
             return Ok(());
         }
-        if self.seats.has_some(conn) {
+        if self.table.has_some(conn) {
             return note(&mut self.waiting, conn);
         }
         forget(&mut self.waiting, conn);

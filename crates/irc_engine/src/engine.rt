@@ -7,8 +7,8 @@ ghost use Rattle.irc_engine.specs.Running.{AllTold, Answers, AsksOnce, Does, Flu
 ghost use Rattle.irc_engine.specs.Turning.{brings_nothing, IsNew, Runs, Taken, Turned};
 
 use crate::board::{Board, take_lowest};
+use crate::connection_table::ConnectionTable;
 use crate::kind::Kind;
-use crate::seat::Seats;
 use irc_batch::Batch;
 use irc_line::Line;
 use irc_outbox::{Got, IoFault, Ready, Wire};
@@ -90,7 +90,7 @@ impl<W: Wire + Drop> Engine<W> {
                 server,
                 board: Board {
                     wire,
-                    seats: Seats::new(alloc),
+                    table: ConnectionTable::new(alloc),
                     waiting: BTreeSet::new(alloc),
                     lost: BTreeMap::new(alloc),
                 },
@@ -188,10 +188,10 @@ impl<W: Wire> Desk<W> {
         ensures told { OnOk result (KeepsTold self.old self.new) }
         ensures notes { OnOk result (KeepsNotes self.old.board self.new.board) }
     {
-        if self.board.seats.contains(conn) {
+        if self.board.table.contains(conn) {
             return Ok(());
         }
-        self.board.seats.give_seat(self.alloc, conn, kind, room)?;
+        self.board.table.give_seat(self.alloc, conn, kind, room)?;
         self.pass(event)
     }
 
@@ -201,7 +201,7 @@ impl<W: Wire> Desk<W> {
         ensures told { OnOk result (KeepsTold self.old self.new) }
         ensures marks { OnOk result (KeepsMarks self.old.board self.new.board) }
     {
-        if !self.board.seats.is_open(conn) {
+        if !self.board.table.is_open(conn) {
             return Ok(());
         }
         match came(self.board.wire.read(conn, &mut self.buffer)) {
@@ -222,7 +222,7 @@ impl<W: Wire> Desk<W> {
     {
         let mut used = 0;
         while used < count {
-            let Some((more, kind, line)) = self.board.seats.take(conn, &self.buffer[used..count])
+            let Some((more, kind, line)) = self.board.table.take(conn, &self.buffer[used..count])
             else {
                 return Ok(());
             };

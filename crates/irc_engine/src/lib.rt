@@ -3,8 +3,8 @@
 
 mod board;
 mod boxed_framer;
+mod connection_table;
 mod engine;
 mod kind;
-mod seat;
 
 pub use engine::{Engine, EngineFault};

@@ -14,13 +14,13 @@ use Rattle.irc_engine.specs.Hearing.{line_event_of, nothing_of, only_of}
 use Rattle.irc_engine.specs.Running.{Moment, AllTold, IsInOrder, Ran}
 use Rattle.irc_engine.specs.Turning.{EngineView}
 use Rattle.irc_engine.specs.Loops.Boards.{has, lost_at}
-use Rattle.irc_engine.specs.Loops.Seats.{seat_of}
+use Rattle.irc_engine.specs.Loops.Tables.{connection_of}
 
 abbrev pub moment_of : {W : Type 0} → Desk W → Moment W
 moment_of desk = record {
   server = desk.server;
   wire = desk.board.wire;
-  seats = seat_of desk.board.seats;
+  connections = connection_of desk.board.table;
   lost = lost_at desk.board.lost;
   waiting = has desk.board.waiting;
   read_room = vec_len desk.buffer;

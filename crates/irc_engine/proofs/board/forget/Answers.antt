@@ -1,6 +1,6 @@
 use Rattle.std.proofs.Common.{false, ◌∙◌}
 use Rattle.irc_engine.specs.Loops.Boards.{has}
-use Rattle.irc_engine.proofs.SeatLaws.{set_at}
+use Rattle.irc_engine.proofs.TableLaws.{set_at}
 use Rattle.irc_engine.proofs.board.forget.Goals as goal
 
 pub returns : goal.returns

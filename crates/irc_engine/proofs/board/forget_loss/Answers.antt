@@ -1,6 +1,6 @@
 use Rattle.std.proofs.Common.{None, ◌∙◌}
 use Rattle.irc_engine.specs.Loops.Boards.{lost_at}
-use Rattle.irc_engine.proofs.SeatLaws.{set_at}
+use Rattle.irc_engine.proofs.TableLaws.{set_at}
 use Rattle.irc_engine.proofs.board.forget_loss.Goals as goal
 
 pub returns-clause-forgotten : goal.returns-clause-forgotten

@@ -1,6 +1,6 @@
 use Rattle.std.proofs.Common.{Some, ◌∙◌}
 use Rattle.irc_engine.specs.Loops.Boards.{lost_at}
-use Rattle.irc_engine.proofs.SeatLaws.{set_at}
+use Rattle.irc_engine.proofs.TableLaws.{set_at}
 use Rattle.irc_engine.proofs.board.note_loss.Goals as goal
 
 pub returns-in-Ok-clause-noted : goal.returns-in-Ok-clause-noted

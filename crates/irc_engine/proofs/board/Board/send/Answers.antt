@@ -1,8 +1,8 @@
 use Rattle.std.proofs.Common.{Ok, refl, ◌∙◌, ap, arith}
 use Rattle.irc_engine.proofs.RunLaws.{on_ok}
-use Rattle.irc_engine.proofs.SeatLaws.{queued_first, queued_more}
+use Rattle.irc_engine.proofs.TableLaws.{queued_first, queued_more}
 use Rattle.irc_engine.proofs.BoardSteps.{line_taken, line_passed, line_lost}
-use Rattle.irc_engine.proofs.MarkLaws.{marks_first, marks_more, marks_passed, marks_ended, seats_refused}
+use Rattle.irc_engine.proofs.MarkLaws.{marks_first, marks_more, marks_passed, marks_ended, others_refused}
 use Rattle.irc_engine.proofs.board.Board.send.Goals as goal
 
 pub returns-in-Ok-First-clause-carries : goal.returns-in-Ok-First-clause-carries
@@ -13,7 +13,7 @@ returns-in-Ok-First-clause-carries g c =
 pub returns-in-Ok-First-clause-marks : goal.returns-in-Ok-First-clause-marks
 returns-in-Ok-First-clause-marks g c =
     on_ok c.note.result _ _ (λ noted. marks_first _ c.args.self.now
-    (record c.args.self.now { seats = c.offer.new.self; waiting = c.note.new.numbers }) _ c.offer.result
+    (record c.args.self.now { table = c.offer.new.self; waiting = c.note.new.numbers }) _ c.offer.result
     (c.in-Ok-First.is ∙ ap Ok c.in-Ok-First.field-0-is) c.offer.ensures.at noted) c.note.ensures
 
 pub returns-in-Ok-More-clause-carries : goal.returns-in-Ok-More-clause-carries
@@ -23,7 +23,7 @@ returns-in-Ok-More-clause-carries g c =
 
 pub returns-in-Ok-More-clause-marks : goal.returns-in-Ok-More-clause-marks
 returns-in-Ok-More-clause-marks g c =
-    marks_more _ c.args.self.now (record c.args.self.now { seats = c.offer.new.self }) _ c.offer.result (c.in-Ok-More.is ∙ ap Ok c.in-Ok-More.field-0-is)
+    marks_more _ c.args.self.now (record c.args.self.now { table = c.offer.new.self }) _ c.offer.result (c.in-Ok-More.is ∙ ap Ok c.in-Ok-More.field-0-is)
     c.offer.ensures.at (λ q. refl)
 
 pub returns-in-Ok-Nothing-clause-carries : goal.returns-in-Ok-Nothing-clause-carries
@@ -33,7 +33,7 @@ returns-in-Ok-Nothing-clause-carries g c =
 
 pub returns-in-Ok-Nothing-clause-marks : goal.returns-in-Ok-Nothing-clause-marks
 returns-in-Ok-Nothing-clause-marks g c =
-    marks_passed _ c.args.self.now (record c.args.self.now { seats = c.offer.new.self }) _ c.offer.result (c.in-Ok-Nothing.is ∙ ap Ok c.in-Ok-Nothing.field-0-is)
+    marks_passed _ c.args.self.now (record c.args.self.now { table = c.offer.new.self }) _ c.offer.result (c.in-Ok-Nothing.is ∙ ap Ok c.in-Ok-Nothing.field-0-is)
     c.offer.ensures.at (λ q. refl)
 
 pub returns-in-Err-clause-carries : goal.returns-in-Err-clause-carries
@@ -43,7 +43,7 @@ returns-in-Err-clause-carries g c =
 
 pub returns-in-Err-clause-marks : goal.returns-in-Err-clause-marks
 returns-in-Err-clause-marks g c =
-    on_ok c.lose.result _ _ (λ loses. marks_ended _ c.args.self.now c.lose.new.self (record c.args.self.now { seats = c.offer.new.self })
-    (λ q two. seats_refused _ c.args.self.now (record c.args.self.now { seats = c.offer.new.self }) _ _ c.offer.result c.in-Err.is c.offer.ensures.at q)
+    on_ok c.lose.result _ _ (λ loses. marks_ended _ c.args.self.now c.lose.new.self (record c.args.self.now { table = c.offer.new.self })
+    (λ q two. others_refused _ c.args.self.now (record c.args.self.now { table = c.offer.new.self }) _ _ c.offer.result c.in-Err.is c.offer.ensures.at q)
     (λ q. refl)
-    loses.seats loses.waiting) c.lose.ensures
+    loses.table loses.waiting) c.lose.ensures

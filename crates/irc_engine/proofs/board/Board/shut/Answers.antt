@@ -12,9 +12,9 @@ returns-then-is_done-clause-carries g c =
 
 pub returns-then-is_done-clause-marks : goal.returns-then-is_done-clause-marks
 returns-then-is_done-clause-marks g c =
-    marks_ended _ c.args.self.now c.end.new.self (record c.args.self.now { seats = c.shut.new.self; lost = c.forget_loss.new.lost })
-    (shut_others _ c.args.self.now (record c.args.self.now { seats = c.shut.new.self; lost = c.forget_loss.new.lost }) c.shut.ensures.at) (λ q. refl)
-    c.end.ensures.seats c.end.ensures.waiting
+    marks_ended _ c.args.self.now c.end.new.self (record c.args.self.now { table = c.shut.new.self; lost = c.forget_loss.new.lost })
+    (shut_others _ c.args.self.now (record c.args.self.now { table = c.shut.new.self; lost = c.forget_loss.new.lost }) c.shut.ensures.at) (λ q. refl)
+    c.end.ensures.table c.end.ensures.waiting
 
 pub returns-else-is_done-clause-carries : goal.returns-else-is_done-clause-carries
 returns-else-is_done-clause-carries g c = shut_now _ _ _ _ c.shut.ensures.at c.forget_loss.ensures.forgotten refl (omega
@@ -22,5 +22,5 @@ returns-else-is_done-clause-carries g c = shut_now _ _ _ _ c.shut.ensures.at c.f
 
 pub returns-else-is_done-clause-marks : goal.returns-else-is_done-clause-marks
 returns-else-is_done-clause-marks g c =
-    marks_shut _ c.args.self.now (record c.args.self.now { seats = c.shut.new.self; lost = c.forget_loss.new.lost }) c.shut.ensures.at (λ q. refl)
+    marks_shut _ c.args.self.now (record c.args.self.now { table = c.shut.new.self; lost = c.forget_loss.new.lost }) c.shut.ensures.at (λ q. refl)
     (sym c.is_done.ensures ∙ c.if-is_done.false)

@@ -32,4 +32,4 @@ pub returns-in_ok-lose-in-None-clause-marks : goal.returns-in_ok-lose-in-None-cl
 returns-in_ok-lose-in-None-clause-marks g c =
     on_ok c.tell_losses.result _ _ (λ marks q pending is. marks q pending
     (marks_ended _ c.args.self.now.board c.lose.new.self (record c.args.self.now.board { wire = c.read.new.self }) (λ p two. refl) (λ p. refl)
-    c.in_ok-lose-in-None.ensures.seats c.in_ok-lose-in-None.ensures.waiting q pending is)) c.tell_losses.ensures.marks
+    c.in_ok-lose-in-None.ensures.table c.in_ok-lose-in-None.ensures.waiting q pending is)) c.tell_losses.ensures.marks

@@ -1,6 +1,6 @@
 use Rattle.std.proofs.Common.{refl, sym, ◌∙◌}
-use Rattle.irc_engine.specs.Running.{in_use, takes_seat}
-use Rattle.irc_engine.proofs.MarkLaws.{notes_seated}
+use Rattle.irc_engine.specs.Running.{in_use, makes_connection}
+use Rattle.irc_engine.proofs.MarkLaws.{notes_made}
 use Rattle.irc_engine.proofs.RunLaws.{on_ok, ran_none, none_there}
 use Rattle.irc_engine.proofs.engine.Desk.start.Goals as goal
 
@@ -10,7 +10,7 @@ returns-then-contains-clause-done g c = in_use (sym c.contains.ensures ∙ c.if-
 pub returns-clause-done : goal.returns-clause-done
 returns-clause-done g c =
     on_ok c.pass.result _ _
-    (λ ran. takes_seat _ (none_there _ (sym c.contains.ensures ∙ c.if-contains.false)) refl refl refl refl refl c.in_ok-give_seat.ensures ran)
+    (λ ran. makes_connection _ (none_there _ (sym c.contains.ensures ∙ c.if-contains.false)) refl refl refl refl refl c.in_ok-give_seat.ensures ran)
     c.pass.ensures.ran
 
 pub returns-clause-told : goal.returns-clause-told
@@ -19,6 +19,6 @@ returns-clause-told g c = on_ok c.pass.result _ _ (λ told before. told) c.pass.
 pub returns-clause-notes : goal.returns-clause-notes
 returns-clause-notes g c =
     on_ok c.pass.result _ _
-    (λ marks. notes_seated _ c.args.self.now.board c.pass.new.self.board (record c.args.self.now.board { seats = c.give_seat.new.self }) _ _
+    (λ marks. notes_made _ c.args.self.now.board c.pass.new.self.board (record c.args.self.now.board { table = c.give_seat.new.self }) _ _
     (none_there _ (sym c.contains.ensures ∙ c.if-contains.false)) c.in_ok-give_seat.ensures (λ q. refl) marks)
     c.pass.ensures.marks

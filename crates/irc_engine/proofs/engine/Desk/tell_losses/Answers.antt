@@ -7,7 +7,7 @@ use Rattle.irc_engine.specs.Loops.Boards.{lost_at}
 use Rattle.irc_engine.specs.declared.kind.Kind.{Kind}
 use Rattle.irc_engine.specs.Loops.Desks.{moment_of}
 use Rattle.irc_engine.specs.Running.{RanOn, TellsLosses, none_so_far, tells_lowest}
-use Rattle.irc_engine.proofs.SeatLaws.{set_at}
+use Rattle.irc_engine.proofs.TableLaws.{set_at}
 use Rattle.irc_engine.proofs.RunLaws.{asks_as, ran_none, ran_on, ran_gone}
 use Rattle.irc_engine.proofs.engine.Desk.tell_losses.Goals as goal
 

@@ -1,4 +1,4 @@
--- The code's map of seats, as what it answers at each number.
+-- The code's table of connections, as what it answers at each number.
 use Rattle.std.proofs.Common.{◌≡◌, ℕ, zero, suc, ◌+◌, ◌<◌, Bool, true, false, cond, nat_eq, Option, Some, None, IsSome, is_some, Result, Ok, List, [], ◌∷◌, length, slice_set, count_by, ◌≤◌, get_or, refl, sym, ◌∙◌, ap, subst, arith}
 use Rattle.std.specs.Ordering.{nat_cmp, is_eq}
 use Rattle.std.specs.Cmp.{nat_cmp_total, eq_by_cmp_equiv, Equal-is}
@@ -8,11 +8,11 @@ use Rattle.std.specs.HashMap.{get, get_by, hash_map_len, UpdatesBy}
 use Rattle.std.proofs.lemmas.Bool.{eq-eqb, eqb-true}
 use Rattle.std.proofs.lemmas.List.Sums.{sum_by-cons}
 use Rattle.irc_outbox.specs.declared.outbox.Overflow.{Overflow}
-use Rattle.irc_engine.specs.declared.seat.Offered.{Offered}
-use Rattle.irc_engine.specs.declared.seat.Offered.TheVariants.{First, More}
-use Rattle.irc_engine.specs.declared.seat.Seat.{Seat}
-use Rattle.irc_engine.specs.declared.seat.Seats.{Seats}
-use Rattle.irc_engine.specs.Loops.Seats.{seat_at, seat_count, seat_of, IsOfferedAt, IsQueued, IsSet, Through, at_seat, no_seat, Within, in_none, in_seat}
+use Rattle.irc_engine.specs.declared.connection_table.Offered.{Offered}
+use Rattle.irc_engine.specs.declared.connection_table.Offered.TheVariants.{First, More}
+use Rattle.irc_engine.specs.declared.connection_table.Connection.{Connection}
+use Rattle.irc_engine.specs.declared.connection_table.ConnectionTable.{ConnectionTable}
+use Rattle.irc_engine.specs.Loops.Tables.{connection_at, connection_count, connection_of, IsOfferedAt, IsQueued, IsSet, Through, at_connection, no_connection, Within, in_none, in_connection}
 
 pub one_number : (a b : ℕ) → nat_eq a b ≡ true → a ≡ b
 one_number a b same = eqb-true a b same
@@ -58,38 +58,38 @@ slot_set : {X : Type 0} (xs : List X) (i q : ℕ) (x : X) → i < length xs → 
 slot_set xs i q x within = at_place (slice_get (slice_set xs i x)) (slice_get xs) i (Some x) (set_here xs i x within) (λ q apart. set_there xs i q x apart) q
 
 -- what is there at a number is changed, where it is one of the near ones
-slot_changed : (old new : Seats) (conn : ℕ) (slot : Option Seat) → ((q : ℕ) → slice_get new.near.items q ≡ cond (nat_eq conn q) (Some slot) (slice_get old.near.items q))
-    → new.far ≡ old.far → IsSet (seat_of old) conn slot (seat_of new)
+slot_changed : (old new : ConnectionTable) (conn : ℕ) (slot : Option Connection) → ((q : ℕ) → slice_get new.near.items q ≡ cond (nat_eq conn q) (Some slot) (slice_get old.near.items q))
+    → new.far ≡ old.far → IsSet (connection_of old) conn slot (connection_of new)
 slot_changed old new conn slot near far q =
-    ap (λ f. seat_at (slice_get new.near.items q) (get nat_eq f q)) far ∙ ap (λ s. seat_at s (get nat_eq old.far q)) (near q) ∙ by (nat_eq conn q)
+    ap (λ f. connection_at (slice_get new.near.items q) (get nat_eq f q)) far ∙ ap (λ s. connection_at s (get nat_eq old.far q)) (near q) ∙ by (nat_eq conn q)
   where
-    by : (t : Bool) → seat_at (cond t (Some slot) (slice_get old.near.items q)) (get nat_eq old.far q) ≡ cond t slot (seat_of old q)
+    by : (t : Bool) → connection_at (cond t (Some slot) (slice_get old.near.items q)) (get nat_eq old.far q) ≡ cond t slot (connection_of old q)
     by true = refl
     by false = refl
 
-pub near_set : (old new : Seats) (conn : ℕ) (slot : Option Seat) → conn < length old.near.items → new.near.items ≡ slice_set old.near.items conn slot
-    → new.far ≡ old.far → IsSet (seat_of old) conn slot (seat_of new)
+pub near_set : (old new : ConnectionTable) (conn : ℕ) (slot : Option Connection) → conn < length old.near.items → new.near.items ≡ slice_set old.near.items conn slot
+    → new.far ≡ old.far → IsSet (connection_of old) conn slot (connection_of new)
 near_set old new conn slot within near far = slot_changed old new conn slot (λ q. ap (λ xs. slice_get xs q) near ∙ slot_set old.near.items conn q slot within) far
 
 -- and where it is another
-pub far_set : (old new : Seats) (conn : ℕ) (slot : Option Seat) → None ≡ slice_get old.near.items conn → new.near.items ≡ old.near.items
-    → ((q : ℕ) → get nat_eq new.far q ≡ cond (nat_eq conn q) slot (get nat_eq old.far q)) → IsSet (seat_of old) conn slot (seat_of new)
+pub far_set : (old new : ConnectionTable) (conn : ℕ) (slot : Option Connection) → None ≡ slice_get old.near.items conn → new.near.items ≡ old.near.items
+    → ((q : ℕ) → get nat_eq new.far q ≡ cond (nat_eq conn q) slot (get nat_eq old.far q)) → IsSet (connection_of old) conn slot (connection_of new)
 far_set old new conn slot behind near far q =
-    ap (λ xs. seat_at (slice_get xs q) (get nat_eq new.far q)) near ∙ ap (seat_at (slice_get old.near.items q)) (far q) ∙ by (nat_eq conn q) refl
+    ap (λ xs. connection_at (slice_get xs q) (get nat_eq new.far q)) near ∙ ap (connection_at (slice_get old.near.items q)) (far q) ∙ by (nat_eq conn q) refl
   where
-    by : (t : Bool) → nat_eq conn q ≡ t → seat_at (slice_get old.near.items q) (cond t slot (get nat_eq old.far q)) ≡ cond t slot (seat_of old q)
-    by true is = sym (ap (λ s. seat_at s slot) (subst (λ n. None ≡ slice_get old.near.items n) (one_number conn q is) behind))
+    by : (t : Bool) → nat_eq conn q ≡ t → connection_at (slice_get old.near.items q) (cond t slot (get nat_eq old.far q)) ≡ cond t slot (connection_of old q)
+    by true is = sym (ap (λ s. connection_at s slot) (subst (λ n. None ≡ slice_get old.near.items n) (one_number conn q is) behind))
     by false is = refl
 
 -- how many are near, once one of them has changed
-count_cons : (slot : Option Seat) (xs : List (Option Seat)) → count_by is_some (slot ∷ xs) ≡ cond (is_some slot) 1 0 + count_by is_some xs
+count_cons : (slot : Option Connection) (xs : List (Option Connection)) → count_by is_some (slot ∷ xs) ≡ cond (is_some slot) 1 0 + count_by is_some xs
 count_cons slot xs = sum_by-cons (λ s. cond (is_some s) 1 0) slot xs
 
-slots_counted : (xs : List (Option Seat)) (i : ℕ) (slot was : Option Seat) → slice_get xs i ≡ Some was
+slots_counted : (xs : List (Option Connection)) (i : ℕ) (slot was : Option Connection) → slice_get xs i ≡ Some was
     → count_by is_some (slice_set xs i slot) + cond (is_some was) 1 0 ≡ count_by is_some xs + cond (is_some slot) 1 0
 slots_counted [] i slot was is = cc is
 slots_counted (x ∷ xs) zero slot was is =
-    let same : cond (is_some x) 1 0 ≡ cond (is_some was) 1 0 = ap {B = ℕ} (λ s. cond (is_some (seat_at s None)) 1 0) is in
+    let same : cond (is_some x) 1 0 ≡ cond (is_some was) 1 0 = ap {B = ℕ} (λ s. cond (is_some (connection_at s None)) 1 0) is in
     omega (arith, count_cons slot xs, count_cons x xs, same)
 slots_counted (x ∷ xs) (suc i) slot was is =
     omega (arith, count_cons x (slice_set xs i slot), count_cons x xs, slots_counted xs i slot was is)
@@ -110,46 +110,46 @@ no_slot [] i behind = refl
 no_slot (y ∷ xs) zero behind = absurd (omega (arith, behind))
 no_slot (y ∷ xs) (suc i) behind = no_slot xs i (omega (arith, behind))
 
--- a change of the seat of one connection, or none where it has none
-module _ (conn : ℕ) (P : Seat → Seat → Type 0) (Q : Type 0) (old new : Seats) where
-  pub near_through : (slot now : Option Seat) → Some slot ≡ slice_get old.near.items conn → new.near.items ≡ slice_set old.near.items conn now
+-- a change of one connection, or none where it is not there
+module _ (conn : ℕ) (P : Connection → Connection → Type 0) (Q : Type 0) (old new : ConnectionTable) where
+  pub near_through : (slot now : Option Connection) → Some slot ≡ slice_get old.near.items conn → new.near.items ≡ slice_set old.near.items conn now
       → new.far ≡ old.far → Within P Q slot now → Through conn P Q old new
   near_through slot now was near far within = by within
     where
-      is : seat_of old conn ≡ slot
-      is = sym (ap (λ s. seat_at s (get nat_eq old.far conn)) was)
+      is : connection_of old conn ≡ slot
+      is = sym (ap (λ s. connection_at s (get nat_eq old.far conn)) was)
 
-      set : IsSet (seat_of old) conn now (seat_of new)
+      set : IsSet (connection_of old) conn now (connection_of new)
       set = near_set old new conn now (slot_within old.near.items conn slot (sym was)) near far
 
-      same : now ≡ None → seat_of old conn ≡ None → (q : ℕ) (t : Bool) → nat_eq conn q ≡ t → cond t now (seat_of old q) ≡ seat_of old q
-      same nothing none q true e = nothing ∙ sym none ∙ ap (seat_of old) (one_number conn q e)
+      same : now ≡ None → connection_of old conn ≡ None → (q : ℕ) (t : Bool) → nat_eq conn q ≡ t → cond t now (connection_of old q) ≡ connection_of old q
+      same nothing none q true e = nothing ∙ sym none ∙ ap (connection_of old) (one_number conn q e)
       same nothing none q false e = refl
 
       by : Within P Q slot now → Through conn P Q old new
-      by (in_seat seat changed here there so) = at_seat seat changed (is ∙ here) (λ q. set q ∙ ap (λ s. cond (nat_eq conn q) s (seat_of old q)) there) so
-      by (in_none here there so) = no_seat (is ∙ here) (λ q. set q ∙ same there (is ∙ here) q (nat_eq conn q) refl) so
+      by (in_connection connection changed here there so) = at_connection connection changed (is ∙ here) (λ q. set q ∙ ap (λ s. cond (nat_eq conn q) s (connection_of old q)) there) so
+      by (in_none here there so) = no_connection (is ∙ here) (λ q. set q ∙ same there (is ∙ here) q (nat_eq conn q) refl) so
 
-  pub far_through : (seat now : Seat) → None ≡ slice_get old.near.items conn → Some seat ≡ get nat_eq old.far conn → new.near.items ≡ old.near.items
-      → (IsSome (get_by (nat_eq conn) old.far) → UpdatesBy nat_eq (nat_eq conn) old.far new.far (Some now)) → P seat now → Through conn P Q old new
-  far_through seat now behind is near updates so =
-      at_seat seat now (sym (ap (λ s. seat_at s (get nat_eq old.far conn)) behind) ∙ sym is)
+  pub far_through : (connection now : Connection) → None ≡ slice_get old.near.items conn → Some connection ≡ get nat_eq old.far conn → new.near.items ≡ old.near.items
+      → (IsSome (get_by (nat_eq conn) old.far) → UpdatesBy nat_eq (nat_eq conn) old.far new.far (Some now)) → P connection now → Through conn P Q old new
+  far_through connection now behind is near updates so =
+      at_connection connection now (sym (ap (λ s. connection_at s (get nat_eq old.far conn)) behind) ∙ sym is)
       (far_set old new conn (Some now) behind near (updates (sym (ap is_some is))).0) so
 
   pub far_vacant : None ≡ slice_get old.near.items conn → None ≡ get nat_eq old.far conn → new.near.items ≡ old.near.items → new.far ≡ old.far → Q
       → Through conn P Q old new
   far_vacant behind none near far so =
-      no_seat (sym (ap (λ s. seat_at s (get nat_eq old.far conn)) behind) ∙ sym none)
-      (λ q. ap (λ xs. seat_at (slice_get xs q) (get nat_eq new.far q)) near ∙ ap (λ f. seat_at (slice_get old.near.items q) (get nat_eq f q)) far) so
+      no_connection (sym (ap (λ s. connection_at s (get nat_eq old.far conn)) behind) ∙ sym none)
+      (λ q. ap (λ xs. connection_at (slice_get xs q) (get nat_eq new.far q)) near ∙ ap (λ f. connection_at (slice_get old.near.items q) (get nat_eq f q)) far) so
 
--- how many seats there are then
-kept_some : {P : Seat → Seat → Type 0} {Q : Type 0} (slot now : Option Seat) → Within P Q slot now → is_some now ≡ is_some slot
-kept_some slot now (in_seat seat changed here there so) = ap is_some there ∙ sym (ap is_some here)
+-- how many there are then
+kept_some : {P : Connection → Connection → Type 0} {Q : Type 0} (slot now : Option Connection) → Within P Q slot now → is_some now ≡ is_some slot
+kept_some slot now (in_connection connection changed here there so) = ap is_some there ∙ sym (ap is_some here)
 kept_some slot now (in_none here there so) = ap is_some there ∙ sym (ap is_some here)
 
-module _ (old new : Seats) (conn : ℕ) where
-  pub near_kept : {P : Seat → Seat → Type 0} {Q : Type 0} (slot now : Option Seat) → Some slot ≡ slice_get old.near.items conn
-      → new.near.items ≡ slice_set old.near.items conn now → new.far ≡ old.far → Within P Q slot now → seat_count new ≡ seat_count old
+module _ (old new : ConnectionTable) (conn : ℕ) where
+  pub near_kept : {P : Connection → Connection → Type 0} {Q : Type 0} (slot now : Option Connection) → Some slot ≡ slice_get old.near.items conn
+      → new.near.items ≡ slice_set old.near.items conn now → new.far ≡ old.far → Within P Q slot now → connection_count new ≡ connection_count old
   near_kept slot now is near far within =
       omega (
         arith,
@@ -159,43 +159,43 @@ module _ (old new : Seats) (conn : ℕ) where
         ap {B = ℕ} (λ t. cond t 1 0) (kept_some slot now within),
       )
 
-  pub near_vacated : (slot : Option Seat) → Some slot ≡ slice_get old.near.items conn → new.near.items ≡ slice_set old.near.items conn None
-      → new.far ≡ old.far → seat_count new + cond (is_some (seat_of old conn)) 1 0 ≡ seat_count old
+  pub near_vacated : (slot : Option Connection) → Some slot ≡ slice_get old.near.items conn → new.near.items ≡ slice_set old.near.items conn None
+      → new.far ≡ old.far → connection_count new + cond (is_some (connection_of old conn)) 1 0 ≡ connection_count old
   near_vacated slot is near far =
       omega (
         arith,
         slots_counted old.near.items conn None slot (sym is),
         ap (count_by is_some) near,
         ap hash_map_len far,
-        ap {B = ℕ} (λ s. cond (is_some (seat_at s (get nat_eq old.far conn))) 1 0) is,
+        ap {B = ℕ} (λ s. cond (is_some (connection_at s (get nat_eq old.far conn))) 1 0) is,
       )
 
-  pub far_vacated : (taken : Option Seat) → None ≡ slice_get old.near.items conn → new.near.items ≡ old.near.items → taken ≡ get nat_eq old.far conn
-      → hash_map_len new.far + cond (is_some taken) 1 0 ≡ hash_map_len old.far → seat_count new + cond (is_some (seat_of old conn)) 1 0 ≡ seat_count old
+  pub far_vacated : (taken : Option Connection) → None ≡ slice_get old.near.items conn → new.near.items ≡ old.near.items → taken ≡ get nat_eq old.far conn
+      → hash_map_len new.far + cond (is_some taken) 1 0 ≡ hash_map_len old.far → connection_count new + cond (is_some (connection_of old conn)) 1 0 ≡ connection_count old
   far_vacated taken behind near is fewer =
       omega (
         arith,
         fewer,
         ap (count_by is_some) near,
         ap {B = ℕ} (λ s. cond (is_some s) 1 0) is,
-        ap {B = ℕ} (λ s. cond (is_some (seat_at s (get nat_eq old.far conn))) 1 0) behind,
+        ap {B = ℕ} (λ s. cond (is_some (connection_at s (get nat_eq old.far conn))) 1 0) behind,
       )
 
 -- bytes that are offered are to be written
-abbrev pub IsQueuedAt : ℕ → List ℕ → Seats → Seats → Type 0
+abbrev pub IsQueuedAt : ℕ → List ℕ → ConnectionTable → ConnectionTable → Type 0
 IsQueuedAt conn bytes old new = Through conn (λ s t. IsQueued s bytes t) ⊥ old new
 
-module _ (conn : ℕ) (bytes : List ℕ) (old new : Seats) (result : Result Offered Overflow) where
+module _ (conn : ℕ) (bytes : List ℕ) (old new : ConnectionTable) (result : Result Offered Overflow) where
   pub queued_first : result ≡ Ok First → IsOfferedAt conn bytes old result new → IsQueuedAt conn bytes old new
   queued_first is offered = by (subst (λ r. IsOfferedAt conn bytes old r new) is offered)
     where
       by : IsOfferedAt conn bytes old (Ok First) new → IsQueuedAt conn bytes old new
-      by (no_seat none same never) = cc never
-      by (at_seat seat now was set so) = at_seat seat now was set so.0
+      by (no_connection none same never) = cc never
+      by (at_connection connection now was set so) = at_connection connection now was set so.0
 
   pub queued_more : result ≡ Ok More → IsOfferedAt conn bytes old result new → IsQueuedAt conn bytes old new
   queued_more is offered = by (subst (λ r. IsOfferedAt conn bytes old r new) is offered)
     where
       by : IsOfferedAt conn bytes old (Ok More) new → IsQueuedAt conn bytes old new
-      by (no_seat none same never) = cc never
-      by (at_seat seat now was set so) = at_seat seat now was set so.0
+      by (no_connection none same never) = cc never
+      by (at_connection connection now was set so) = at_connection connection now was set so.0

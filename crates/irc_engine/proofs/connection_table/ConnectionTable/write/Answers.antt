@@ -1,7 +1,7 @@
 use Rattle.std.proofs.Common.{refl}
 use Rattle.std.specs.Vec.{with_item}
-use Rattle.irc_engine.proofs.SeatLaws.{found_slot, no_slot, near_through, near_kept, far_through, far_vacant}
-use Rattle.irc_engine.proofs.seat.Seats.write.Goals as goal
+use Rattle.irc_engine.proofs.TableLaws.{found_slot, no_slot, near_through, near_kept, far_through, far_vacant}
+use Rattle.irc_engine.proofs.connection_table.ConnectionTable.write.Goals as goal
 
 pub returns-in-Some-clause-at : goal.returns-in-Some-clause-at
 returns-in-Some-clause-at g c =

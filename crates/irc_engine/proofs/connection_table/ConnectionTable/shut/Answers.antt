@@ -1,6 +1,6 @@
 use Rattle.std.proofs.Common.{refl}
-use Rattle.irc_engine.proofs.SeatLaws.{found_slot, no_slot, near_through, far_through, far_vacant}
-use Rattle.irc_engine.proofs.seat.Seats.shut.Goals as goal
+use Rattle.irc_engine.proofs.TableLaws.{found_slot, no_slot, near_through, far_through, far_vacant}
+use Rattle.irc_engine.proofs.connection_table.ConnectionTable.shut.Goals as goal
 
 pub returns-in-Some-clause-at : goal.returns-in-Some-clause-at
 returns-in-Some-clause-at c =

@@ -1,7 +1,7 @@
-//! The place of each connection that is open: its outbox, and what has come of its next line.
+//! The connections that are there, by number: the outbox of each, and what has come of its next line.
 ghost use Rattle.std.specs.Prelude.{◌≡◌, ℕ, Some, None, is_some, length, option_copied, IfOk, OnOk};
 ghost use Rattle.std.specs.List.{slice_get};
-ghost use Rattle.irc_engine.specs.Loops.Seats.{fresh_seat, has_some_at, is_done_at, is_open_at, open_kind_at, seat_count, seat_of, CountsWithout, Sets, IsOffered, IsOfferedAt, IsOfferedIn, IsShutAt, IsWrittenAt, IsWrittenIn, Frames, FramesAt, Within};
+ghost use Rattle.irc_engine.specs.Loops.Tables.{fresh_connection, has_some_at, is_done_at, is_open_at, open_kind_at, connection_count, connection_of, CountsWithout, Sets, IsOffered, IsOfferedAt, IsOfferedIn, IsShutAt, IsWrittenAt, IsWrittenIn, Frames, FramesAt, Within};
 
 use crate::boxed_framer::BoxedFramer;
 use crate::kind::Kind;
@@ -15,9 +15,9 @@ use std::hash::{BuildHasherDefault, FoldHasher};
 /// Memory for outboxes is asked of the system in pieces of so many bytes (our own choice).
 const PIECE: usize = 2_097_152;
 
-/// The place of a connection.
+/// A connection.
 #[derive(Drop)]
-pub struct Seat {
+pub struct Connection {
     /// Whether it is a client's or a link's.
     pub kind: Kind,
     /// What is still to be written to it.
@@ -37,14 +37,14 @@ pub(crate) enum Offered {
     More,
 }
 
-impl Seat {
+impl Connection {
     /// That of a connection that has just been made.
     pub(crate) fn fresh(alloc: Global, kind: Kind, room: usize) -> Result<Self, AllocError>
-        ensures { IfOk result (λ seat. seat ≡ fresh_seat kind room) }
+        ensures { IfOk result (λ connection. connection ≡ fresh_connection kind room) }
     {
         let outbox = Outbox::with_capacity(alloc, room)?;
         let framer = BoxedFramer::new(alloc)?;
-        Ok(Seat {
+        Ok(Connection {
             kind,
             outbox,
             framer: Some(framer),
@@ -103,30 +103,30 @@ impl Seat {
     }
 }
 
-/// The places of the connections, by their numbers. What goes to many is offered at each of their numbers in turn: those that a wire gives first are
+/// The connections, by their numbers. What goes to many is offered at each of their numbers in turn: those that a wire gives first are
 /// found without a search.
 #[derive(Drop)]
-pub(crate) struct Seats {
+pub(crate) struct ConnectionTable {
     /// Those of the numbers below its length, each at its number.
-    near: Vec<Option<Seat>, Global>,
+    near: Vec<Option<Connection>, Global>,
     /// Those of other numbers.
-    far: HashMap<u64, Seat, BuildHasherDefault<FoldHasher>, Global>,
+    far: HashMap<u64, Connection, BuildHasherDefault<FoldHasher>, Global>,
 }
 
-impl Seats {
-    /// No seats.
+impl ConnectionTable {
+    /// No connections.
     pub(crate) fn new(alloc: Global) -> Self
-        ensures { (conn : ℕ) → seat_of result conn ≡ None }
+        ensures { (conn : ℕ) → connection_of result conn ≡ None }
     {
-        Seats {
+        ConnectionTable {
             near: Vec::new(alloc),
             far: HashMap::new(alloc),
         }
     }
 
-    /// The seat of a connection, if it has one.
-    fn find(&self, conn: u64) -> Option<&Seat>
-        ensures { option_copied result ≡ seat_of self.now conn }
+    /// The connection of a number, if there is one.
+    fn find(&self, conn: u64) -> Option<&Connection>
+        ensures { option_copied result ≡ connection_of self.now conn }
     {
         match self.near.get(conn as usize) {
             Some(slot) => slot.as_ref(),
@@ -134,54 +134,54 @@ impl Seats {
         }
     }
 
-    /// Whether a connection has a seat.
+    /// Whether a connection is there.
     pub(crate) fn contains(&self, conn: u64) -> bool
-        ensures { result ≡ is_some (seat_of self.now conn) }
+        ensures { result ≡ is_some (connection_of self.now conn) }
     {
         self.find(conn).is_some()
     }
 
-    /// Whether a connection has a seat that the server has not closed.
+    /// Whether a connection is there that the server has not closed.
     pub(crate) fn is_open(&self, conn: u64) -> bool
-        ensures { result ≡ is_open_at (seat_of self.now conn) }
+        ensures { result ≡ is_open_at (connection_of self.now conn) }
     {
         match self.find(conn) {
-            Some(seat) => seat.framer.is_some(),
+            Some(connection) => connection.framer.is_some(),
             None => false,
         }
     }
 
-    /// The kind of a connection that has a seat that the server has not closed.
+    /// The kind of a connection that is there and that the server has not closed.
     pub(crate) fn open_kind(&self, conn: u64) -> Option<Kind>
-        ensures { result ≡ open_kind_at (seat_of self.now conn) }
+        ensures { result ≡ open_kind_at (connection_of self.now conn) }
     {
         match self.find(conn) {
-            Some(seat) => seat.open_kind(),
+            Some(connection) => connection.open_kind(),
             None => None,
         }
     }
 
     /// Whether a connection is one that the server has closed, with nothing left to write.
     pub(crate) fn is_done(&self, conn: u64) -> bool
-        ensures { result ≡ is_done_at (seat_of self.now conn) }
+        ensures { result ≡ is_done_at (connection_of self.now conn) }
     {
         match self.find(conn) {
-            Some(seat) => seat.is_done(),
+            Some(connection) => connection.is_done(),
             None => false,
         }
     }
 
     /// Whether a connection has bytes to write.
     pub(crate) fn has_some(&self, conn: u64) -> bool
-        ensures { result ≡ has_some_at (seat_of self.now conn) }
+        ensures { result ≡ has_some_at (connection_of self.now conn) }
     {
         match self.find(conn) {
-            Some(seat) => seat.outbox.len() > 0,
+            Some(connection) => connection.outbox.len() > 0,
             None => false,
         }
     }
 
-    /// A connection has a seat from now on, where it had none.
+    /// A connection is there from now on, where none of its number was.
     pub(crate) fn give_seat(
         &mut self,
         alloc: Global,
@@ -189,10 +189,10 @@ impl Seats {
         kind: Kind,
         room: usize,
     ) -> Result<(), AllocError>
-        ensures { OnOk result (Sets self.old conn (Some (fresh_seat kind room)) self.new) }
+        ensures { OnOk result (Sets self.old conn (Some (fresh_connection kind room)) self.new) }
     {
         ask_ahead(alloc, conn as usize, room);
-        let fresh = Seat::fresh(alloc, kind, room)?;
+        let fresh = Connection::fresh(alloc, kind, room)?;
         let next = self.near.len();
         match self.near.get_mut(conn as usize) {
             Some(slot) => {
@@ -204,28 +204,28 @@ impl Seats {
         }
     }
 
-    /// The first number behind those of the near seats has this seat from now on.
-    fn put_next(&mut self, seat: Seat) -> Result<(), AllocError>
-        ensures { OnOk result (Sets self.old (length self.old.near.items) (Some seat) self.new) }
+    /// This connection is there from now on, at the first number behind those of the near ones.
+    fn put_next(&mut self, connection: Connection) -> Result<(), AllocError>
+        ensures { OnOk result (Sets self.old (length self.old.near.items) (Some connection) self.new) }
     {
-        match self.near.push(Some(seat)) {
+        match self.near.push(Some(connection)) {
             Ok(()) => Ok(()),
             Err(_) => Err(AllocError),
         }
     }
 
-    /// A number behind those of the near seats has this seat from now on.
-    fn put_far(&mut self, conn: u64, seat: Seat) -> Result<(), AllocError>
+    /// This connection is there from now on, at a number behind those of the near ones.
+    fn put_far(&mut self, conn: u64, connection: Connection) -> Result<(), AllocError>
         requires { slice_get self.old.near.items conn ≡ None }
-        ensures { OnOk result (Sets self.old conn (Some seat) self.new) }
+        ensures { OnOk result (Sets self.old conn (Some connection) self.new) }
     {
-        match self.far.insert(conn, seat) {
+        match self.far.insert(conn, connection) {
             Ok(_) => Ok(()),
             Err(_) => Err(AllocError),
         }
     }
 
-    /// A connection has no seat any more.
+    /// A connection is there no more.
     pub(crate) fn vacate(&mut self, conn: u64)
         ensures at { Sets self.old conn None self.new }
         ensures len { CountsWithout conn self.old self.new }
@@ -244,12 +244,12 @@ impl Seats {
     /// Where they do not fit.
     pub(crate) fn offer(&mut self, conn: u64, bytes: &[u8]) -> Result<Offered, Overflow>
         ensures at { IsOfferedAt conn bytes.now self.old result self.new }
-        ensures len { seat_count self.new ≡ seat_count self.old }
+        ensures len { connection_count self.new ≡ connection_count self.old }
     {
         match self.near.get_mut(conn as usize) {
             Some(slot) => offer(slot, bytes),
             None => match self.far.get_mut(&conn) {
-                Some(seat) => seat.offer(bytes),
+                Some(connection) => connection.offer(bytes),
                 None => Ok(Offered::Nothing),
             },
         }
@@ -258,13 +258,13 @@ impl Seats {
     /// The server has closed a connection.
     pub(crate) fn shut(&mut self, conn: u64)
         ensures at { IsShutAt conn self.old self.new }
-        ensures len { seat_count self.new ≡ seat_count self.old }
+        ensures len { connection_count self.new ≡ connection_count self.old }
     {
         match self.near.get_mut(conn as usize) {
             Some(slot) => shut(slot),
             None => {
-                if let Some(seat) = self.far.get_mut(&conn) {
-                    seat.framer = None;
+                if let Some(connection) = self.far.get_mut(&conn) {
+                    connection.framer = None;
                 }
             }
         }
@@ -274,70 +274,70 @@ impl Seats {
     /// not open.
     pub(crate) fn take(&mut self, conn: u64, piece: &[u8]) -> Option<(usize, Kind, Option<Line>)>
         ensures at { FramesAt conn piece.now self.old result self.new }
-        ensures len { seat_count self.new ≡ seat_count self.old }
+        ensures len { connection_count self.new ≡ connection_count self.old }
     {
         match self.near.get_mut(conn as usize) {
             Some(slot) => take(slot, piece),
             None => match self.far.get_mut(&conn) {
-                Some(seat) => seat.take(piece),
+                Some(connection) => connection.take(piece),
                 None => None,
             },
         }
     }
 
-    /// Writes once to a connection, if it has a seat.
+    /// Writes once to a connection, if it is there.
     ///
     /// # Errors
     /// Where the device failed.
     pub(crate) fn write<W: Wire>(&mut self, wire: &mut W, conn: u64) -> Result<usize, IoFault>
         ensures at { IsWrittenAt W.is_after conn self.old wire.old result self.new wire.new }
-        ensures len { seat_count self.new ≡ seat_count self.old }
+        ensures len { connection_count self.new ≡ connection_count self.old }
     {
         match self.near.get_mut(conn as usize) {
             Some(slot) => write(slot, wire, conn),
             None => match self.far.get_mut(&conn) {
-                Some(seat) => seat.outbox.write_some(wire, conn),
+                Some(connection) => connection.outbox.write_some(wire, conn),
                 None => Ok(0),
             },
         }
     }
 }
 
-/// Offers bytes to the connection whose seat this is, if it is one.
-fn offer(slot: &mut Option<Seat>, bytes: &[u8]) -> Result<Offered, Overflow>
+/// Offers bytes to the connection of this place, if there is one.
+fn offer(slot: &mut Option<Connection>, bytes: &[u8]) -> Result<Offered, Overflow>
     ensures { IsOfferedIn bytes.now slot.old result slot.new }
 {
     match slot {
-        Some(seat) => seat.offer(bytes),
+        Some(connection) => connection.offer(bytes),
         None => Ok(Offered::Nothing),
     }
 }
 
-/// The server has closed the connection whose seat this is, if it is one.
-fn shut(slot: &mut Option<Seat>)
+/// The server has closed the connection of this place, if there is one.
+fn shut(slot: &mut Option<Connection>)
     ensures { Within (λ s t. t ≡ record s { framer = None }) (Unit {0}) slot.old slot.new }
 {
-    if let Some(seat) = slot {
-        seat.framer = None;
+    if let Some(connection) = slot {
+        connection.framer = None;
     }
 }
 
-/// Takes bytes that have come from the connection whose seat this is, if it is one.
-fn take(slot: &mut Option<Seat>, piece: &[u8]) -> Option<(usize, Kind, Option<Line>)>
+/// Takes bytes that have come from the connection of this place, if there is one.
+fn take(slot: &mut Option<Connection>, piece: &[u8]) -> Option<(usize, Kind, Option<Line>)>
     ensures { Within (λ s t. Frames s piece.now result t) (result ≡ None) slot.old slot.new }
 {
     match slot {
-        Some(seat) => seat.take(piece),
+        Some(connection) => connection.take(piece),
         None => None,
     }
 }
 
-/// Writes once to the connection whose seat this is, if it is one.
-fn write<W: Wire>(slot: &mut Option<Seat>, wire: &mut W, conn: u64) -> Result<usize, IoFault>
+/// Writes once to the connection of this place, if there is one.
+fn write<W: Wire>(slot: &mut Option<Connection>, wire: &mut W, conn: u64) -> Result<usize, IoFault>
     ensures { IsWrittenIn W.is_after conn slot.old wire.old result slot.new wire.new }
 {
     match slot {
-        Some(seat) => seat.outbox.write_some(wire, conn),
+        Some(connection) => connection.outbox.write_some(wire, conn),
         None => Ok(0),
     }
 }
