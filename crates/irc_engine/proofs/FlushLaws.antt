@@ -13,19 +13,19 @@ use Rattle.std.proofs.lemmas.List.Folds.{list_all-append}
 use Rattle.std.proofs.lemmas.List.Sums.{sum_by-append}
 use Rattle.std.proofs.lemmas.Map.Keys.{IsStrictlyIncreasing-from_sorted, le_from_not_gt}
 use Rattle.irc_outbox.specs.Calls.{Call, is_some_bytes, is_write_to, times_written}
-use Rattle.irc_engine.specs.declared.board.Board.{Board}
+use Rattle.irc_engine.specs.declared.connections.Connections.{Connections}
 use Rattle.irc_engine.specs.declared.engine.Desk.{Desk}
 use Rattle.irc_engine.specs.declared.connection_table.Connection.{Connection}
 use Rattle.irc_engine.specs.Carrying.{has_some_at}
 use Rattle.irc_engine.specs.Writing.{one_if, destination, destinations, is_some_write, WritesEach}
 use Rattle.irc_engine.specs.Laws.Turns.{was_there}
-use Rattle.irc_engine.specs.Loops.Boards.{has, AreWrites, IsMarked, KeepsMarks, Writes}
+use Rattle.irc_engine.specs.Loops.Connections.{has, AreWrites, IsMarked, KeepsMarks, Writes}
 use Rattle.irc_engine.specs.Loops.Desks.{moment_of}
 use Rattle.irc_engine.specs.Loops.Flushing.{Flushing, FlushesSoFar}
 use Rattle.irc_engine.specs.Loops.Tables.{connection_of}
 use Rattle.irc_engine.specs.Hearing.{nothing_of}
 use Rattle.irc_engine.specs.Running.{AllTold, Flushes, IsInOrder, Ran, RanOn}
-use Rattle.irc_engine.proofs.RunLaws.{ran_after, ran_board, ran_both, ran_marked}
+use Rattle.irc_engine.proofs.RunLaws.{ran_after, ran_connections, ran_both, ran_marked}
 use Rattle.irc_engine.proofs.TableLaws.{one_number}
 
 sorted_none : IsStrictlySortedBy nat_cmp []
@@ -185,28 +185,28 @@ still_false false = refl
 
 module _ {W : Type 0} (is_after : W → List Call → Type 0) where
   -- all that are noted are to be written to
-  pub flushes_none : (desk : Desk W) (rest pending : BTreeSet ℕ) → ((q : ℕ) → has rest q ≡ false) → pending ≡ desk.board.waiting
-      → FlushesSoFar is_after pending desk (record desk { board = record desk.board { waiting = rest } })
+  pub flushes_none : (desk : Desk W) (rest pending : BTreeSet ℕ) → ((q : ℕ) → has rest q ≡ false) → pending ≡ desk.connections.waiting
+      → FlushesSoFar is_after pending desk (record desk { connections = record desk.connections { waiting = rest } })
   flushes_none desk rest pending none is = record {
     exchanges = [];
-    ran = ran_marked is_after desk.server _ desk.board rest;
+    ran = ran_marked is_after desk.server _ desk.connections rest;
     told = λ told. told;
     halfway = λ order. record {
       all_told = order.all_told;
       marks = λ q. record {
-        noted_is = all_pending (has pending q) (has rest q) (connection_of desk.board.table q) (none q) (ap (λ s. has s q) is ∙ order.noted q);
+        noted_is = all_pending (has pending q) (has rest q) (connection_of desk.connections.table q) (none q) (ap (λ s. has s q) is ∙ order.noted q);
         not_done = order.none_done q;
       };
-      flushing = flush_begun (has pending) (connection_of desk.board.table) (λ q. ap (λ s. has s q) is ∙ order.noted q);
+      flushing = flush_begun (has pending) (connection_of desk.connections.table) (λ q. ap (λ s. has s q) is ∙ order.noted q);
     };
     quiet = λ nobody q. ap (λ s. has s q) is ∙ nobody q;
   }
 
   -- one connection more is written to, and the server is told of those that are lost
-  pub flushes_one : (old now new : Desk W) (mid : Board W) (pending later : BTreeSet ℕ) (conn : ℕ) → has pending conn ≡ true
+  pub flushes_one : (old now new : Desk W) (mid : Connections W) (pending later : BTreeSet ℕ) (conn : ℕ) → has pending conn ≡ true
       → ((q : ℕ) → has later q ≡ cond (nat_eq conn q) false (has pending q)) → ((q : ℕ) → has pending q ≡ true → is_gt (nat_cmp conn q) ≡ false)
-      → Writes is_after conn now.board mid → RanOn is_after (moment_of (record now { board = mid })) (moment_of new) → AllTold (moment_of new)
-      → KeepsMarks mid new.board → FlushesSoFar is_after pending old now → FlushesSoFar is_after later old new
+      → Writes is_after conn now.connections mid → RanOn is_after (moment_of (record now { connections = mid })) (moment_of new) → AllTold (moment_of new)
+      → KeepsMarks mid new.connections → FlushesSoFar is_after pending old now → FlushesSoFar is_after later old new
   flushes_one old now new mid pending later conn popped later_is least wrote ran told keeps so_far = record {
     exchanges = so_far.exchanges ++ wrote.exchanges;
     ran = ran_both is_after so_far.exchanges wrote.exchanges [] nothing_of nothing_of nothing_of (moment_of old) (moment_of now) (moment_of new)
@@ -216,18 +216,18 @@ module _ {W : Type 0} (is_after : W → List Call → Type 0) where
       all_told = told;
       marks = λ q. keeps q (has later q) (subst (λ (b : Bool). IsMarked b (connection_of mid.table q) (has mid.waiting q)) (sym (later_is q)) (wrote.marks q
           (has pending q) (half.marks q)));
-      flushing = flush_on conn (has pending) (has later) (connection_of old.board.table) (connection_of now.board.table)
-          (connection_of new.board.table) so_far.exchanges wrote.exchanges
-          (has now.board.waiting conn) popped later_is least
-          (subst (λ (b : Bool). IsMarked b (connection_of now.board.table conn) (has now.board.waiting conn)) popped (half.marks conn)) wrote.are_writes
-          (λ q there. was_there q (connection_of now.board.table q) (connection_of new.board.table q) more.calls more.outs (more.fates q) there) half.flushing;
+      flushing = flush_on conn (has pending) (has later) (connection_of old.connections.table) (connection_of now.connections.table)
+          (connection_of new.connections.table) so_far.exchanges wrote.exchanges
+          (has now.connections.waiting conn) popped later_is least
+          (subst (λ (b : Bool). IsMarked b (connection_of now.connections.table conn) (has now.connections.waiting conn)) popped (half.marks conn)) wrote.are_writes
+          (λ q there. was_there q (connection_of now.connections.table q) (connection_of new.connections.table q) more.calls more.outs (more.fates q) there) half.flushing;
     };
     quiet = λ nobody q. later_is q ∙ ap (λ b. cond (nat_eq conn q) false b) (so_far.quiet nobody q) ∙ still_false (nat_eq conn q);
   }
     where
       more : Ran is_after wrote.exchanges [] nothing_of (moment_of now) (moment_of new)
-      more = ran_after is_after wrote.exchanges [] nothing_of (moment_of now) (moment_of (record now { board = mid })) (moment_of new)
-          (ran_board is_after now.server _ wrote.exchanges now.board mid wrote.carries) ran
+      more = ran_after is_after wrote.exchanges [] nothing_of (moment_of now) (moment_of (record now { connections = mid })) (moment_of new)
+          (ran_connections is_after now.server _ wrote.exchanges now.connections mid wrote.carries) ran
 
   module _ (pending : BTreeSet ℕ) (old new : Desk W) (none : (q : ℕ) → has pending q ≡ false) (so_far : FlushesSoFar is_after pending old new) where
     -- all have been written to
@@ -235,7 +235,7 @@ module _ {W : Type 0} (is_after : W → List Call → Type 0) where
     flushes_all = record {
       exchanges = so_far.exchanges;
       ran = so_far.ran;
-      each = λ order. flush_done (has pending) (connection_of old.board.table) (connection_of new.board.table) so_far.exchanges none (so_far.halfway order).flushing;
+      each = λ order. flush_done (has pending) (connection_of old.connections.table) (connection_of new.connections.table) so_far.exchanges none (so_far.halfway order).flushing;
     }
 
     pub in_order_again : IsInOrder (moment_of old) → IsInOrder (moment_of new)
@@ -245,6 +245,6 @@ module _ {W : Type 0} (is_after : W → List Call → Type 0) where
       none_done = λ q. (half.marks q).not_done;
     }
       where
-        marked : (q : ℕ) → IsMarked (has pending q) (connection_of new.board.table q) (has new.board.waiting q)
-            → IsMarked false (connection_of new.board.table q) (has new.board.waiting q)
-        marked q is = subst (λ (b : Bool). IsMarked b (connection_of new.board.table q) (has new.board.waiting q)) (none q) is
+        marked : (q : ℕ) → IsMarked (has pending q) (connection_of new.connections.table q) (has new.connections.waiting q)
+            → IsMarked false (connection_of new.connections.table q) (has new.connections.waiting q)
+        marked q is = subst (λ (b : Bool). IsMarked b (connection_of new.connections.table q) (has new.connections.waiting q)) (none q) is

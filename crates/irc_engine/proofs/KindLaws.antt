@@ -3,7 +3,7 @@ use Rattle.std.proofs.Common.{◌≡◌, Bool, true, false, ◌&&◌, ◌||◌, 
 use Rattle.irc_engine.specs.declared.kind.Kind.{Kind}
 use Rattle.irc_engine.specs.declared.connection_table.Connection.{Connection}
 use Rattle.irc_engine.specs.Carrying.{is_open_at, kind_at, open_kind_at, IsOfKind, kind_of_connection, kind_of_loss, KeepsKind}
-use Rattle.irc_engine.specs.Loops.Boards.{lost_by}
+use Rattle.irc_engine.specs.Loops.Connections.{lost_by}
 
 module _ (old new : Option Connection) (was now : Option Kind) (connection : kind_at new ≡ kind_at old) where
   -- it is of the kind that it was of, and is told as lost as it was

@@ -2,8 +2,8 @@ pub mod HearingLaws
 pub mod TableLaws
 pub mod KindLaws
 pub mod CarryingLaws
-pub mod BoardLaws
-pub mod BoardSteps
+pub mod EachConnection
+pub mod ConnectionSteps
 pub mod MarkLaws
 pub mod WriteSteps
 pub mod FlushLaws

@@ -1,19 +1,19 @@
--- Which connections are noted to be written to, step by step of the board.
+-- Which connections are noted to be written to, step by step.
 use Rattle.std.proofs.Common.{◌≡◌, ℕ, ◌<◌, Bool, true, false, not, ◌&&◌, ◌||◌, cond, nat_eq, is_some, Option, Some, None, Result, Ok, Err, List, [], ◌∷◌, ◌++◌, length, refl, sym, ◌∙◌, ap, subst, arith}
 use Rattle.std.specs.BTreeSet.{BTreeSet}
 use Rattle.arrayvec.specs.ArrayVec.{ArrayVec}
 use Rattle.irc_outbox.specs.declared.outbox.Overflow.{Overflow}
 use Rattle.irc_outbox.specs.Calls.{Call, is_some_bytes}
-use Rattle.irc_engine.specs.declared.board.Board.{Board}
+use Rattle.irc_engine.specs.declared.connections.Connections.{Connections}
 use Rattle.irc_engine.specs.declared.connection_table.Offered.{Offered}
 use Rattle.irc_engine.specs.declared.connection_table.Offered.TheVariants.{Nothing, First, More}
 use Rattle.irc_engine.specs.declared.kind.Kind.{Kind}
 use Rattle.irc_engine.specs.declared.connection_table.Connection.{Connection}
 use Rattle.irc_engine.specs.Carrying.{fresh_connection, has_some_at, is_done_at}
 use Rattle.irc_engine.specs.Loops.Tables.{connection_of, at_connection, no_connection, IsOfferedAt, IsQueued, IsSet, IsShutAt, FramesAt}
-use Rattle.irc_engine.specs.Loops.Boards.{has, ended, stayed, IsNoted, IsMarked, IsMarkedAt, KeepsMarks, KeepsNotes, Settles}
+use Rattle.irc_engine.specs.Loops.Connections.{has, ended, stayed, IsNoted, IsMarked, IsMarkedAt, KeepsMarks, KeepsNotes, Settles}
 use Rattle.irc_engine.proofs.TableLaws.{one_number}
-use Rattle.irc_engine.proofs.BoardLaws.{at_once, set_here, set_other}
+use Rattle.irc_engine.proofs.EachConnection.{at_once, set_here, set_other}
 
 marked_as : (pending : Bool) (old new : Option Connection) (was now : Bool) → new ≡ old → now ≡ was → IsMarked pending old was → IsMarked pending new now
 marked_as pending old new was now connection noted is =
@@ -47,7 +47,7 @@ queued_marked pending noted connection now bytes queued is = record {
   not_done = done_open (is_some now.framer) (is_some_bytes now.outbox.bytes) (ap (λ (s : Connection). is_some s.framer) queued.is ∙ queued.unshut);
 }
 
-module _ {W : Type 0} (conn : ℕ) (old new : Board W) (others : (q : ℕ) → nat_eq conn q ≡ false → connection_of new.table q ≡ connection_of old.table q) (now : Bool)
+module _ {W : Type 0} (conn : ℕ) (old new : Connections W) (others : (q : ℕ) → nat_eq conn q ≡ false → connection_of new.table q ≡ connection_of old.table q) (now : Bool)
     (noted : IsNoted old.waiting conn now new.waiting) where
   here : has new.waiting conn ≡ now
   here = noted conn ∙ at_once conn now (has old.waiting conn)
@@ -80,7 +80,7 @@ module _ {W : Type 0} (conn : ℕ) (old new : Board W) (others : (q : ℕ) → n
           (subst (λ (b : Bool). IsMarked false (connection_of new.table conn) b) (sym here) so))
       by q pending false two is = subst (λ (t : Bool). IsMarkedAt q (cond t false pending) new) (sym two) (elsewhere q pending two is)
 
-module _ {W : Type 0} (conn : ℕ) (old new : Board W) where
+module _ {W : Type 0} (conn : ℕ) (old new : Connections W) where
   -- bytes are the first that wait
   pub marks_first : (bytes : List ℕ) (result : Result Offered Overflow) → result ≡ Ok First → IsOfferedAt conn bytes old.table result new.table
       → IsNoted old.waiting conn true new.waiting → KeepsMarks old new
@@ -190,7 +190,7 @@ module _ {W : Type 0} (conn : ℕ) (old new : Board W) where
         not_done = done_open (is_some now.framer) (is_some_bytes now.outbox.bytes) (ap (λ (s : Connection). is_some s.framer) so.is);
       }
 
-  module _ (mid : Board W) (others : (q : ℕ) → nat_eq conn q ≡ false → connection_of mid.table q ≡ connection_of old.table q)
+  module _ (mid : Connections W) (others : (q : ℕ) → nat_eq conn q ≡ false → connection_of mid.table q ≡ connection_of old.table q)
       (waiting : (q : ℕ) → has mid.waiting q ≡ has old.waiting q) where
     -- a connection is there no more
     pub marks_ended : IsSet (connection_of mid.table) conn None (connection_of new.table) → IsNoted mid.waiting conn false new.waiting → KeepsMarks old new
@@ -219,7 +219,7 @@ module _ {W : Type 0} (conn : ℕ) (old new : Board W) where
         (record { noted_is = refl; not_done = undone }))
 
   -- a connection has been made, and more is done
-  pub notes_made : (mid : Board W) (kind : Kind) (room : ℕ) → connection_of old.table conn ≡ None → IsSet (connection_of old.table) conn (Some (fresh_connection kind room)) (connection_of mid.table)
+  pub notes_made : (mid : Connections W) (kind : Kind) (room : ℕ) → connection_of old.table conn ≡ None → IsSet (connection_of old.table) conn (Some (fresh_connection kind room)) (connection_of mid.table)
       → ((q : ℕ) → has mid.waiting q ≡ has old.waiting q) → KeepsMarks mid new → KeepsNotes old new
   notes_made mid kind room none set waiting keeps = λ q is. keeps q false (by q (nat_eq conn q) refl is)
     where

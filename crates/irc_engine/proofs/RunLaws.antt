@@ -15,7 +15,7 @@ use Rattle.irc_batch.specs.Batches.{Sent}
 use Rattle.irc_server.specs.declared.event.ServerFault.{ServerFault}
 use Rattle.irc_stage.specs.View.{View}
 use Rattle.irc_server.specs.Happening.{IsHandled}
-use Rattle.irc_engine.specs.declared.board.Board.{Board}
+use Rattle.irc_engine.specs.declared.connections.Connections.{Connections}
 use Rattle.irc_engine.specs.declared.kind.Kind.{Kind}
 use Rattle.irc_engine.specs.declared.kind.Kind.TheVariants as kinds
 use Rattle.irc_engine.specs.declared.connection_table.Connection.{Connection}
@@ -28,9 +28,9 @@ use Rattle.irc_engine.specs.Running.{Moment, AreAsked, AsksOnce, IsNews, a_line,
 use Rattle.irc_engine.specs.Writing.{one_if}
 use Rattle.irc_engine.proofs.HearingLaws.{lines_by-append, times_gone-append, hears_on, hears_kept, hears_same, hears_gone, hears_deaf}
 use Rattle.irc_engine.specs.Loops.Tables.{connection_of, at_connection, no_connection, FramesAt}
-use Rattle.irc_engine.specs.Loops.Boards.{has, lost_at, lost_by, Carries, Loses}
+use Rattle.irc_engine.specs.Loops.Connections.{has, lost_at, lost_by, Carries, Loses}
 use Rattle.irc_engine.specs.Loops.Desks.{came, passed_on}
-use Rattle.irc_engine.proofs.BoardLaws.{adds_none, adds_both, at_once, set_here, set_other, close_elsewhere, last_close}
+use Rattle.irc_engine.proofs.EachConnection.{adds_none, adds_both, at_once, set_here, set_other, close_elsewhere, last_close}
 use Rattle.irc_engine.proofs.TableLaws.{one_number, nat_eq-refl}
 use Rattle.irc_engine.proofs.KindLaws.{kind_kept, kind_of_lost, some_lost}
 use Rattle.arrayvec.specs.ArrayVec.{ArrayVec}
@@ -150,7 +150,7 @@ apart_after conn (Some old) was calls outs (Some new) now passed apart =
     ∙ ap (λ t. ((is_some was || (is_some old.framer && false)) && not (is_closed_by conn outs)) && t) passed.fate.still_open
     ∙ apart_some (is_some was) (is_some old.framer) (is_closed_by conn outs) apart
 
--- the board has done something: the server is told nothing
+-- something is done of itself: the server is told nothing
 tells_passage : (conn : ℕ) (old : Option Connection) (was : Option Kind) (calls : List Call) (outs : List Sent) (new : Option Connection) (now : Option Kind)
     → Passage conn old was calls outs new now
     → Tells conn (record { lost = is_some was; unshut = is_open_at old }) [] outs (record { lost = is_some now; unshut = is_open_at new })
@@ -273,14 +273,14 @@ news_before : {W : Type 0} (old mid : Moment W) → ((conn : ℕ) → KeepsKind 
 news_before old mid keep event (a_line kind conn line is told) = a_line kind conn line (keep conn kind is) told
 news_before old mid keep event (an_end kind conn is told) = an_end kind conn (keep conn kind is) told
 
--- the engine's board, and what else there is of it, at one moment
-abbrev pub at_board : {W : Type 0} → Option View → ℕ → Board W → Moment W
-at_board server room board = record {
+-- the engine's connections, and what else there is of it, at one moment
+abbrev pub at_connections : {W : Type 0} → Option View → ℕ → Connections W → Moment W
+at_connections server room connections = record {
   server = server;
-  wire = board.wire;
-  connections = connection_of board.table;
-  lost = lost_at board.lost;
-  waiting = has board.waiting;
+  wire = connections.wire;
+  connections = connection_of connections.table;
+  lost = lost_at connections.lost;
+  waiting = has connections.waiting;
   read_room = room;
 }
 
@@ -342,27 +342,27 @@ module _ {W : Type 0} (is_after : W → List Call → Type 0) where
   }
 
   -- nothing has happened, but that other connections are noted
-  pub ran_marked : (server : Option View) (room : ℕ) (board : Board W) (waiting : BTreeSet ℕ)
-      → RanOn is_after (at_board server room board) (at_board server room (record board { waiting = waiting }))
-  ran_marked server room board waiting = record {
+  pub ran_marked : (server : Option View) (room : ℕ) (connections : Connections W) (waiting : BTreeSet ℕ)
+      → RanOn is_after (at_connections server room connections) (at_connections server room (record connections { waiting = waiting }))
+  ran_marked server room connections waiting = record {
     events = [];
     outs = [];
     calls = [];
     are_asked = (refl, refl);
-    account = adds_none is_after board.wire board.wire refl;
+    account = adds_none is_after connections.wire connections.wire refl;
     exchanged = refl;
-    fates = λ conn. same_fate conn (connection_of board.table conn);
+    fates = λ conn. same_fate conn (connection_of connections.table conn);
     are_news = tt;
     keep_kinds = λ conn kind is. is;
-    hears = λ conn. hears_kept (begun_at (connection_of board.table conn));
-    tells = λ conn. tells_still conn (standing_of conn (at_board server room board));
+    hears = λ conn. hears_kept (begun_at (connection_of connections.table conn));
+    tells = λ conn. tells_still conn (standing_of conn (at_connections server room connections));
     same_room = refl;
   }
 
-  -- the board has done what the server put out by an event
-  ran_event : (server after : Option View) (room : ℕ) (old new : Board W) (event : Event) (result : Result (Unit {0}) ServerFault) (before outs : List Sent) → before ≡ []
+  -- what the server put out by an event is done
+  ran_event : (server after : Option View) (room : ℕ) (old new : Connections W) (event : Event) (result : Result (Unit {0}) ServerFault) (before outs : List Sent) → before ≡ []
       → IsHandled server event before result after outs → Carries is_after [] old outs new
-      → Ran is_after [] (event ∷ []) nothing_of (at_board server room old) (at_board after room new)
+      → Ran is_after [] (event ∷ []) nothing_of (at_connections server room old) (at_connections after room new)
   ran_event server after room old new event result before outs none handled carries = record {
     events = [];
     outs = outs;
@@ -386,9 +386,9 @@ module _ {W : Type 0} (is_after : W → List Call → Type 0) where
     same_room = refl;
   }
 
-  pub asked_once : (server after : Option View) (room : ℕ) (old new : Board W) (event : Event) (result : Result (Unit {0}) ServerFault) (before outs : List Sent)
+  pub asked_once : (server after : Option View) (room : ℕ) (old new : Connections W) (event : Event) (result : Result (Unit {0}) ServerFault) (before outs : List Sent)
       → before ≡ [] → IsHandled server event before result after outs → Carries is_after [] old outs new
-      → AsksOnce is_after event (at_board server room old) (at_board after room new)
+      → AsksOnce is_after event (at_connections server room old) (at_connections after room new)
   unfolding ran_event
   asked_once server after room old new event result before outs none handled carries =
       (ran_event server after room old new event result before outs none handled carries, refl)
@@ -397,10 +397,10 @@ module _ {W : Type 0} (is_after : W → List Call → Type 0) where
   pub asks_as : (event told : Event) (old new : Moment W) → event ≡ told → AsksOnce is_after event old new → AsksOnce is_after told old new
   asks_as event told old new same asks = subst (λ (e : Event). AsksOnce is_after e old new) same asks
 
-  -- the board has done something of itself
-  pub ran_board : (server : Option View) (room : ℕ) (exchanges : List Call) (old new : Board W) → Carries is_after exchanges old [] new
-      → Ran is_after exchanges [] nothing_of (at_board server room old) (at_board server room new)
-  ran_board server room exchanges old new carries = record {
+  -- something is done that no event asks for
+  pub ran_connections : (server : Option View) (room : ℕ) (exchanges : List Call) (old new : Connections W) → Carries is_after exchanges old [] new
+      → Ran is_after exchanges [] nothing_of (at_connections server room old) (at_connections server room new)
+  ran_connections server room exchanges old new carries = record {
     events = [];
     outs = [];
     calls = carries.calls;
@@ -450,9 +450,9 @@ module _ {W : Type 0} (is_after : W → List Call → Type 0) where
   still_lost true l = refl
   still_lost false l = refl
 
-  pub ran_gone : (server : Option View) (room conn : ℕ) (kind : Kind) (old mid : Board W) (new : Moment W) → mid.wire ≡ old.wire → mid.table ≡ old.table
+  pub ran_gone : (server : Option View) (room conn : ℕ) (kind : Kind) (old mid : Connections W) (new : Moment W) → mid.wire ≡ old.wire → mid.table ≡ old.table
       → lost_at old.lost conn ≡ Some kind → ((q : ℕ) → lost_at mid.lost q ≡ cond (nat_eq conn q) None (lost_at old.lost q))
-      → Ran is_after [] (end_event_of kind conn ∷ []) nothing_of (at_board server room mid) new → RanOn is_after (at_board server room old) new
+      → Ran is_after [] (end_event_of kind conn ∷ []) nothing_of (at_connections server room mid) new → RanOn is_after (at_connections server room old) new
   ran_gone server room conn kind old mid new wire table as_lost popped ran = record {
     events = end_event_of kind conn ∷ ran.events;
     outs = ran.outs;
@@ -463,8 +463,8 @@ module _ {W : Type 0} (is_after : W → List Call → Type 0) where
     fates = λ q. subst (λ (s : Option Connection). Fate q s ran.calls ran.outs (new.connections q)) (at q) (ran.fates q);
     are_news = (
       an_end kind conn (kind_of_loss as_lost) refl,
-      all_as (IsNews (at_board server room mid)) (IsNews (at_board server room old))
-          (news_before (at_board server room old) (at_board server room mid) kept) ran.events ran.are_news,
+      all_as (IsNews (at_connections server room mid)) (IsNews (at_connections server room old))
+          (news_before (at_connections server room old) (at_connections server room mid) kept) ran.events ran.are_news,
     );
     keep_kinds = λ q one is. kept q one (ran.keep_kinds q one is);
     hears = λ q. subst (λ (ls : List (List ℕ)). Hears (begun_at (connection_of old.table q)) [] ls (begun_at (new.connections q))) (sym (no_line_of_an_end kind conn q ran.events))
@@ -504,9 +504,9 @@ module _ {W : Type 0} (is_after : W → List Call → Type 0) where
   goes_by conn room (Ok End) bytes n is q = cc is
   goes_by conn room (Err fault) bytes n is q = cc is
 
-  pub ran_read : (server : Option View) (old new : Board W) (size later conn room : ℕ) (answer : Result Got IoFault) (bytes : List ℕ) (n : ℕ) → came answer ≡ Some n
+  pub ran_read : (server : Option View) (old new : Connections W) (size later conn room : ℕ) (answer : Result Got IoFault) (bytes : List ℕ) (n : ℕ) → came answer ≡ Some n
       → Adds is_after old.wire (reads conn room answer bytes) new.wire → new.table ≡ old.table → new.lost ≡ old.lost → later ≡ size
-      → Ran is_after (reads conn room answer bytes ∷ []) [] nothing_of (at_board server size old) (at_board server later new)
+      → Ran is_after (reads conn room answer bytes ∷ []) [] nothing_of (at_connections server size old) (at_connections server later new)
   ran_read server old new size later conn room answer bytes n is account table lost as_large = record {
     events = [];
     outs = [];
@@ -520,7 +520,7 @@ module _ {W : Type 0} (is_after : W → List Call → Type 0) where
     keep_kinds = λ q. kind_kept (connection_of old.table q) (connection_of new.table q) (lost_at old.lost q) (lost_at new.lost q) (ap kind_at (at q))
         (ap (λ l. lost_at l q) lost);
     hears = λ q. hears_same (begun_at (connection_of old.table q)) (begun_at (connection_of new.table q)) (ap begun_at (at q));
-    tells = λ q. tells_as q (standing_of q (at_board server size old)) (standing_of q (at_board server later new))
+    tells = λ q. tells_as q (standing_of q (at_connections server size old)) (standing_of q (at_connections server later new))
         (ap (λ l. is_some (lost_at l q)) lost) (ap is_open_at (at q));
     same_room = as_large;
   }
@@ -545,10 +545,10 @@ module _ {W : Type 0} (is_after : W → List Call → Type 0) where
   cut_here conn room (Ok End) bytes is = ap (λ t. t || false) (nat_eq-refl conn)
   cut_here conn room (Err fault) bytes is = ap (λ t. t || false) (nat_eq-refl conn)
 
-  pub ran_cut : (server : Option View) (size later : ℕ) (old mid new : Board W) (conn room : ℕ) (answer : Result Got IoFault) (bytes : List ℕ) → came answer ≡ None
+  pub ran_cut : (server : Option View) (size later : ℕ) (old mid new : Connections W) (conn room : ℕ) (answer : Result Got IoFault) (bytes : List ℕ) → came answer ≡ None
       → is_open_at (connection_of old.table conn) ≡ true → Adds is_after old.wire (reads conn room answer bytes) mid.wire → mid.table ≡ old.table → mid.lost ≡ old.lost
       → Loses is_after conn mid new → later ≡ size
-      → Ran is_after (reads conn room answer bytes ∷ []) [] nothing_of (at_board server size old) (at_board server later new)
+      → Ran is_after (reads conn room answer bytes ∷ []) [] nothing_of (at_connections server size old) (at_connections server later new)
   ran_cut server size later old mid new conn room answer bytes is unshut account same same_lost loses as_large = record {
     events = [];
     outs = [];
@@ -595,15 +595,15 @@ module _ {W : Type 0} (is_after : W → List Call → Type 0) where
           (ap kind_at (set q) ∙ ap (λ t. kind_at (cond t None (connection_of old.table q))) two)
           (lost_as q ∙ ap (λ t. lost_by t (connection_of old.table conn) (lost_at old.lost q)) two)
 
-      tells_cut : (q : ℕ) (t : Bool) → nat_eq conn q ≡ t → Tells q (standing_of q (at_board server size old)) [] [] (standing_of q (at_board server later new))
+      tells_cut : (q : ℕ) (t : Bool) → nat_eq conn q ≡ t → Tells q (standing_of q (at_connections server size old)) [] [] (standing_of q (at_connections server later new))
       tells_cut q true one =
-          subst (λ (l : Bool). Tells q (standing_of q (at_board server size old)) [] [] (record { lost = l; unshut = is_open_at (connection_of new.table q) })) (sym (lost_is q))
-          (subst (λ (s : Option Connection). Tells q (standing_of q (at_board server size old)) [] []
+          subst (λ (l : Bool). Tells q (standing_of q (at_connections server size old)) [] [] (record { lost = l; unshut = is_open_at (connection_of new.table q) })) (sym (lost_is q))
+          (subst (λ (s : Option Connection). Tells q (standing_of q (at_connections server size old)) [] []
           (record { lost = is_some (lost_at old.lost q) || (nat_eq conn q && is_open_at (connection_of old.table conn)); unshut = is_open_at s })) (sym (set q))
           (lost_now q (is_some (lost_at old.lost q)) (is_open_at (connection_of old.table q)) (nat_eq conn q) (is_open_at (connection_of old.table conn)) (connection_of old.table q) one
           (ap (λ p. is_open_at (connection_of old.table p)) (sym (one_number conn q one)) ∙ unshut) unshut))
       tells_cut q false two =
-          tells_as q (standing_of q (at_board server size old)) (standing_of q (at_board server later new))
+          tells_as q (standing_of q (at_connections server size old)) (standing_of q (at_connections server later new))
           (lost_is q ∙ ap (λ t. is_some (lost_at old.lost q) || (t && is_open_at (connection_of old.table conn))) two ∙ or_false (is_some (lost_at old.lost q)))
           (ap is_open_at (set q) ∙ ap (λ t. is_open_at (cond t None (connection_of old.table q))) two)
 
@@ -617,13 +617,13 @@ module _ {W : Type 0} (is_after : W → List Call → Type 0) where
       }
 
   -- A framer has taken bytes, and the line that they complete is passed on.
-  pub ran_framed : (server : Option View) (size : ℕ) (old mid : Board W) (new : Moment W) (conn : ℕ) (piece : List ℕ) (used : ℕ) (kind : Kind) (line : Option (ArrayVec ℕ))
+  pub ran_framed : (server : Option View) (size : ℕ) (old mid : Connections W) (new : Moment W) (conn : ℕ) (piece : List ℕ) (used : ℕ) (kind : Kind) (line : Option (ArrayVec ℕ))
       (result : Option (ℕ × Kind × Option (ArrayVec ℕ))) → result ≡ Some (used, kind, line) → FramesAt conn piece old.table result mid.table → mid.wire ≡ old.wire → mid.lost ≡ old.lost
-      → Ran is_after [] (passed_on kind conn line) nothing_of (at_board server size mid) new
-      → Ran is_after [] [] (only_of conn (take used piece)) (at_board server size old) new
+      → Ran is_after [] (passed_on kind conn line) nothing_of (at_connections server size mid) new
+      → Ran is_after [] [] (only_of conn (take used piece)) (at_connections server size old) new
   ran_framed server size old mid new conn piece used kind line result is frames wire lost ran = by (subst (λ r. FramesAt conn piece old.table r mid.table) is frames)
     where
-      by : FramesAt conn piece old.table (Some (used, kind, line)) mid.table → Ran is_after [] [] (only_of conn (take used piece)) (at_board server size old) new
+      by : FramesAt conn piece old.table (Some (used, kind, line)) mid.table → Ran is_after [] [] (only_of conn (take used piece)) (at_connections server size old) new
       by (no_connection none same never) = cc never
       by (at_connection connection now was set so) = record {
         events = passed_on kind conn line ++ ran.events;
@@ -645,8 +645,8 @@ module _ {W : Type 0} (is_after : W → List Call → Type 0) where
               never_cut = refl;
             }))) q)
             (ran.fates q);
-        are_news = all_both (IsNews (at_board server size old)) (passed_on kind conn line) ran.events (line_is_news line)
-            (all_as (IsNews (at_board server size mid)) (IsNews (at_board server size old)) (news_before (at_board server size old) (at_board server size mid) kept)
+        are_news = all_both (IsNews (at_connections server size old)) (passed_on kind conn line) ran.events (line_is_news line)
+            (all_as (IsNews (at_connections server size mid)) (IsNews (at_connections server size old)) (news_before (at_connections server size old) (at_connections server size mid) kept)
             ran.events ran.are_news);
         keep_kinds = λ q one is. kept q one (ran.keep_kinds q one is);
         hears = λ q.
@@ -657,14 +657,14 @@ module _ {W : Type 0} (is_after : W → List Call → Type 0) where
             (hears_on (begun_at (connection_of old.table q)) (begun_at (connection_of mid.table q)) (begun_at (new.connections q)) (only_of conn (take used piece) q) []
             (lines_by q (passed_on kind conn line)) (lines_by q ran.events) (framed q (nat_eq conn q) refl) (ran.hears q)));
         tells = λ q. subst (λ (s : Standing). Tells q s (passed_on kind conn line ++ ran.events) ran.outs (standing_of q new)) (same_standing q)
-            (told_by_no_line q kind conn line (standing_of q (at_board server size mid)) (standing_of q new) ran.events ran.outs (ran.tells q));
+            (told_by_no_line q kind conn line (standing_of q (at_connections server size mid)) (standing_of q new) ran.events ran.outs (ran.tells q));
         same_room = ran.same_room;
       }
         where
           is_now : connection_of mid.table conn ≡ Some now
           is_now = set_here (connection_of old.table) (connection_of mid.table) conn (Some now) set
 
-          line_is_news : (line : Option (ArrayVec ℕ)) → AllByRecursion (IsNews (at_board server size old)) (passed_on kind conn line)
+          line_is_news : (line : Option (ArrayVec ℕ)) → AllByRecursion (IsNews (at_connections server size old)) (passed_on kind conn line)
           line_is_news None = tt
           line_is_news (Some l) = (a_line kind conn l (kind_of_connection (ap kind_at was ∙ ap Some (sym so.kind_is))) refl, tt)
 
@@ -684,7 +684,7 @@ module _ {W : Type 0} (is_after : W → List Call → Type 0) where
               ∙ sym (ap is_open_at was) ∙ ap (λ p. is_open_at (connection_of old.table p)) (one_number conn q one)
           unshut_as q false two = ap is_open_at (set_other (connection_of old.table) (connection_of mid.table) conn (Some now) set q two)
 
-          same_standing : (q : ℕ) → standing_of q (at_board server size mid) ≡ standing_of q (at_board server size old)
+          same_standing : (q : ℕ) → standing_of q (at_connections server size mid) ≡ standing_of q (at_connections server size old)
           same_standing q = ap (λ l. record { lost = is_some (lost_at l q); unshut = is_open_at (connection_of mid.table q) }) lost
               ∙ ap (λ o. record { lost = is_some (lost_at old.lost q); unshut = o }) (unshut_as q (nat_eq conn q) refl)
 
@@ -707,13 +707,13 @@ module _ {W : Type 0} (is_after : W → List Call → Type 0) where
               (ap begun_at (set_other (connection_of old.table) (connection_of mid.table) conn (Some now) set q two))))
 
   -- bytes come of a connection that is not open
-  pub ran_refused : (server : Option View) (size : ℕ) (old new : Board W) (conn : ℕ) (piece bytes : List ℕ) (result : Option (ℕ × Kind × Option (ArrayVec ℕ))) → result ≡ None
+  pub ran_refused : (server : Option View) (size : ℕ) (old new : Connections W) (conn : ℕ) (piece bytes : List ℕ) (result : Option (ℕ × Kind × Option (ArrayVec ℕ))) → result ≡ None
       → FramesAt conn piece old.table result new.table → new.wire ≡ old.wire → new.lost ≡ old.lost
-      → Ran is_after [] [] (only_of conn bytes) (at_board server size old) (at_board server size new)
+      → Ran is_after [] [] (only_of conn bytes) (at_connections server size old) (at_connections server size new)
   ran_refused server size old new conn piece bytes result is frames wire lost = by (subst (λ r. FramesAt conn piece old.table r new.table) is frames)
     where
       so_then : begun_at (connection_of old.table conn) ≡ None → ((q : ℕ) → connection_of new.table q ≡ connection_of old.table q)
-          → Ran is_after [] [] (only_of conn bytes) (at_board server size old) (at_board server size new)
+          → Ran is_after [] [] (only_of conn bytes) (at_connections server size old) (at_connections server size new)
       so_then shut same = record {
         events = [];
         outs = [];
@@ -726,7 +726,7 @@ module _ {W : Type 0} (is_after : W → List Call → Type 0) where
         keep_kinds = λ q. kind_kept (connection_of old.table q) (connection_of new.table q) (lost_at old.lost q) (lost_at new.lost q) (ap kind_at (same q))
             (ap (λ l. lost_at l q) lost);
         hears = λ q. subst (λ (s : Option Connection). Hears (begun_at (connection_of old.table q)) (only_of conn bytes q) [] (begun_at s)) (sym (same q)) (deaf q (nat_eq conn q) refl);
-        tells = λ q. tells_as q (standing_of q (at_board server size old)) (standing_of q (at_board server size new)) (ap (λ l. is_some (lost_at l q)) lost) (ap is_open_at (same q));
+        tells = λ q. tells_as q (standing_of q (at_connections server size old)) (standing_of q (at_connections server size new)) (ap (λ l. is_some (lost_at l q)) lost) (ap is_open_at (same q));
         same_room = refl;
       }
         where
@@ -741,7 +741,7 @@ module _ {W : Type 0} (is_after : W → List Call → Type 0) where
           set ∙ ap (λ t. cond t (Some now) (connection_of old.table q)) one ∙ ap Some now_is ∙ sym was ∙ ap (λ p. connection_of old.table p) (one_number conn q one)
       as_before q connection now false two was now_is set = set ∙ ap (λ t. cond t (Some now) (connection_of old.table q)) two
 
-      by : FramesAt conn piece old.table None new.table → Ran is_after [] [] (only_of conn bytes) (at_board server size old) (at_board server size new)
+      by : FramesAt conn piece old.table None new.table → Ran is_after [] [] (only_of conn bytes) (at_connections server size old) (at_connections server size new)
       by (no_connection none same never) = so_then (ap begun_at none) same
       by (at_connection connection now was set so) = so_then (ap begun_at was ∙ so.0) (λ q. as_before q connection now (nat_eq conn q) refl was so.1 (set q))
 

@@ -7,7 +7,7 @@ use Rattle.irc_engine.specs.declared.engine.Desk.{Desk}
 use Rattle.irc_engine.specs.declared.engine.Rooms.{Rooms}
 use Rattle.irc_engine.specs.declared.engine.EngineFault.{EngineFault}
 use Rattle.irc_engine.specs.Running.{Moment, AllTold, Answers, Does, Flushes, IsInOrder}
-use Rattle.irc_engine.specs.Loops.Boards.{IsMarkedAt, KeepsNotes}
+use Rattle.irc_engine.specs.Loops.Connections.{IsMarkedAt, KeepsNotes}
 use Rattle.irc_engine.specs.Loops.Desks.{moment_of}
 use Rattle.irc_engine.proofs.RunLaws.{ran_none}
 use Rattle.irc_engine.specs.Turning.{EngineView, Taken, takes_it, runs_out, Turned, takes_turn, wants_memory, Turns, Runs, stopped}
@@ -30,15 +30,15 @@ nothing_to_do is_after rooms now ready (inr is) = subst (λ r. Answers is_after 
 
 -- what is ready is done, and then outboxes are written
 module _ {W : Type 0} (is_after : W → List Call → Type 0) (old between new : Desk W) where
-  order_between : (AllTold (moment_of old) → AllTold (moment_of between)) → KeepsNotes old.board between.board → IsInOrder (moment_of old)
+  order_between : (AllTold (moment_of old) → AllTold (moment_of between)) → KeepsNotes old.connections between.connections → IsInOrder (moment_of old)
       → IsInOrder (moment_of between)
   order_between told notes order = record { all_told = told order.all_told; noted = λ q. (marked q).noted_is; none_done = λ q. (marked q).not_done }
     where
-      marked : (q : ℕ) → IsMarkedAt q false between.board
+      marked : (q : ℕ) → IsMarkedAt q false between.connections
       marked q = notes q (record { noted_is = order.noted q; not_done = order.none_done q })
 
   pub does_both : {E : Type 0} (rooms : Rooms) (ready : Ready) (result : Result (Unit {0}) E) → Answers is_after rooms ready (moment_of old) (moment_of between)
-      → (AllTold (moment_of old) → AllTold (moment_of between)) → KeepsNotes old.board between.board
+      → (AllTold (moment_of old) → AllTold (moment_of between)) → KeepsNotes old.connections between.connections
       → OnOk result (Flushes is_after (moment_of between) (moment_of new))
       → OnOk result (AllTold (moment_of between) → AllTold (moment_of new))
       → OnOk result (IsInOrder (moment_of between) → IsInOrder (moment_of new)) → OnOk result (Does is_after rooms ready (moment_of old) (moment_of new))

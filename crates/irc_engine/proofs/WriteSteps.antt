@@ -3,13 +3,13 @@ use Rattle.std.proofs.Common.{◌≡◌, ℕ, ◌≤◌, Bool, true, false, cond
 use Rattle.irc_outbox.specs.declared.wire.IoFault.{IoFault}
 use Rattle.irc_outbox.specs.Calls.{Call, writes, closes, bytes_taken, is_some_bytes}
 use Rattle.irc_outbox.specs.Outboxes.{IsFront}
-use Rattle.irc_engine.specs.declared.board.Board.{Board}
+use Rattle.irc_engine.specs.declared.connections.Connections.{Connections}
 use Rattle.irc_engine.specs.declared.connection_table.Connection.{Connection}
 use Rattle.irc_engine.specs.Loops.Counts.{count_of}
 use Rattle.irc_engine.specs.Loops.Tables.{connection_of, at_connection, no_connection, IsWrittenAt}
-use Rattle.irc_engine.specs.Loops.Boards.{has, lost_at, lost_by, AreWrites, Carries, Loses, Settles, Writes}
-use Rattle.irc_engine.proofs.BoardLaws.{adds_both, at_once, set_here, set_other, write_elsewhere, write_drops}
-use Rattle.irc_engine.proofs.BoardSteps.{carries_none, carries_on, one_connection, settled}
+use Rattle.irc_engine.specs.Loops.Connections.{has, lost_at, lost_by, AreWrites, Carries, Loses, Settles, Writes}
+use Rattle.irc_engine.proofs.EachConnection.{adds_both, at_once, set_here, set_other, write_elsewhere, write_drops}
+use Rattle.irc_engine.proofs.ConnectionSteps.{carries_none, carries_on, one_connection, settled}
 use Rattle.irc_engine.proofs.KindLaws.{kind_kept}
 use Rattle.irc_engine.proofs.CarryingLaws.{nothing_owed, still, kept_some}
 use Rattle.irc_engine.proofs.HearingLaws.{hears_same}
@@ -21,12 +21,12 @@ some_offered (b ∷ bytes) [] is some = absurd (omega (arith, is.some (omega ari
 some_offered (b ∷ bytes) (c ∷ front) is some = refl
 
 -- one write is made, if the connection is there
-pub record Wrote {W : Type 0} (is_after : W → List Call → Type 0) (conn : ℕ) (old new : Board W) : Type 0 where
+pub record Wrote {W : Type 0} (is_after : W → List Call → Type 0) (conn : ℕ) (old new : Connections W) : Type 0 where
   pub exchanges : List Call
   pub carries : Carries is_after exchanges old [] new
   pub are_writes : AreWrites conn (connection_of old.table conn) exchanges
 
-module _ {W : Type 0} (is_after : W → List Call → Type 0) (conn : ℕ) (old mid : Board W) (lost : mid.lost ≡ old.lost)
+module _ {W : Type 0} (is_after : W → List Call → Type 0) (conn : ℕ) (old mid : Connections W) (lost : mid.lost ≡ old.lost)
     (count : count_of mid ≤ count_of old) where
   -- it does not fail
   wrote : (n : ℕ) → IsWrittenAt is_after conn old.table old.wire (Ok n) mid.table mid.wire → Wrote is_after conn old mid
@@ -73,7 +73,7 @@ module _ {W : Type 0} (is_after : W → List Call → Type 0) (conn : ℕ) (old 
   others result (no_connection none same so) q two = same q
   others result (at_connection connection now was set so) q two = set_other (connection_of old.table) (connection_of mid.table) conn (Some now) set q two
 
-  module _ (new : Board W) (waiting : (q : ℕ) → has mid.waiting q ≡ has old.waiting q) where
+  module _ (new : Connections W) (waiting : (q : ℕ) → has mid.waiting q ≡ has old.waiting q) where
     -- then it ends, or it stays
     pub write_settled : (n : ℕ) (result : Result ℕ IoFault) → result ≡ Ok n → IsWrittenAt is_after conn old.table old.wire result mid.table mid.wire
         → Settles is_after conn mid new → Writes is_after conn old new

@@ -2,12 +2,12 @@
 ghost use Rattle.std.specs.Prelude.{◌≡◌, ◌≤◌, true, Ok, [], ◌∷◌, length, IfOk, OnOk};
 ghost use Rattle.irc_engine.specs.Loops.Counts.{count_of};
 ghost use Rattle.irc_engine.specs.Loops.Desks.{came, engine_view, moment_of, passed_on, AsksFor, HearsFrom, IsNobodyNoted, KeepsOrder, KeepsTold, Spans};
-ghost use Rattle.irc_engine.specs.Loops.Boards.{KeepsMarks, KeepsNotes};
+ghost use Rattle.irc_engine.specs.Loops.Connections.{KeepsMarks, KeepsNotes};
 ghost use Rattle.irc_engine.specs.Running.{AllTold, Answers, AsksOnce, Does, Flushes, PassesOn, RanOn, Reads, Starts, TellsLosses};
 ghost use Rattle.irc_engine.specs.Turning.{brings_nothing, IsNew, Runs, Taken, Turned};
 
-use crate::board::{Board, take_lowest};
 use crate::connection_table::ConnectionTable;
+use crate::connections::{Connections, take_lowest};
 use crate::kind::Kind;
 use irc_batch::Batch;
 use irc_line::Line;
@@ -56,7 +56,7 @@ pub struct Engine<W: Wire> {
 #[derive(Drop)]
 pub(crate) struct Desk<W: Wire> {
     pub server: Server,
-    pub board: Board<W>,
+    pub connections: Connections<W>,
     /// What the server has put out by the event at hand.
     pub out: Batch,
     /// Where bytes are read to.
@@ -88,7 +88,7 @@ impl<W: Wire + Drop> Engine<W> {
             },
             desk: Desk {
                 server,
-                board: Board {
+                connections: Connections {
                     wire,
                     table: ConnectionTable::new(alloc),
                     waiting: BTreeSet::new(alloc),
@@ -114,7 +114,7 @@ impl<W: Wire> Engine<W> {
         if self.failed {
             return Err(EngineFault::Failed);
         }
-        match self.desk.board.wire.ready() {
+        match self.desk.connections.wire.ready() {
             Ok(ready) => self.take(ready),
             Err(_) => Err(EngineFault::Device),
         }
@@ -162,7 +162,7 @@ impl<W: Wire> Desk<W> {
     fn answer(&mut self, ready: Ready, rooms: Rooms) -> Result<(), AllocError>
         ensures done { OnOk result (Spans (Answers W.is_after rooms ready) self.old self.new) }
         ensures told { OnOk result (KeepsTold self.old self.new) }
-        ensures notes { OnOk result (KeepsNotes self.old.board self.new.board) }
+        ensures notes { OnOk result (KeepsNotes self.old.connections self.new.connections) }
         ensures quiet { brings_nothing ready ≡ true → (result ≡ Ok tt) × (self.new ≡ self.old) }
     {
         match ready {
@@ -186,12 +186,14 @@ impl<W: Wire> Desk<W> {
     fn start(&mut self, conn: u64, kind: Kind, room: usize, event: &Event) -> Result<(), AllocError>
         ensures done { OnOk result (Spans (Starts W.is_after kind room conn event.now) self.old self.new) }
         ensures told { OnOk result (KeepsTold self.old self.new) }
-        ensures notes { OnOk result (KeepsNotes self.old.board self.new.board) }
+        ensures notes { OnOk result (KeepsNotes self.old.connections self.new.connections) }
     {
-        if self.board.table.contains(conn) {
+        if self.connections.table.contains(conn) {
             return Ok(());
         }
-        self.board.table.give_seat(self.alloc, conn, kind, room)?;
+        self.connections
+            .table
+            .give_seat(self.alloc, conn, kind, room)?;
         self.pass(event)
     }
 
@@ -199,15 +201,15 @@ impl<W: Wire> Desk<W> {
     fn read(&mut self, conn: u64) -> Result<(), AllocError>
         ensures done { OnOk result (Spans (Reads W.is_after conn) self.old self.new) }
         ensures told { OnOk result (KeepsTold self.old self.new) }
-        ensures marks { OnOk result (KeepsMarks self.old.board self.new.board) }
+        ensures marks { OnOk result (KeepsMarks self.old.connections self.new.connections) }
     {
-        if !self.board.table.is_open(conn) {
+        if !self.connections.table.is_open(conn) {
             return Ok(());
         }
-        match came(self.board.wire.read(conn, &mut self.buffer)) {
+        match came(self.connections.wire.read(conn, &mut self.buffer)) {
             Some(count) => self.take_lines(conn, count),
             None => {
-                self.board.lose(conn)?;
+                self.connections.lose(conn)?;
                 self.tell_losses()
             }
         }
@@ -218,11 +220,14 @@ impl<W: Wire> Desk<W> {
         requires { count ≤ length self.old.buffer.items }
         ensures ran { OnOk result (HearsFrom W.is_after conn count self.old self.new) }
         ensures told { OnOk result (KeepsTold self.old self.new) }
-        ensures marks { OnOk result (KeepsMarks self.old.board self.new.board) }
+        ensures marks { OnOk result (KeepsMarks self.old.connections self.new.connections) }
     {
         let mut used = 0;
         while used < count {
-            let Some((more, kind, line)) = self.board.table.take(conn, &self.buffer[used..count])
+            let Some((more, kind, line)) = self
+                .connections
+                .table
+                .take(conn, &self.buffer[used..count])
             else {
                 return Ok(());
             };
@@ -236,7 +241,7 @@ impl<W: Wire> Desk<W> {
     fn pass_line(&mut self, conn: u64, kind: Kind, line: Option<Line>) -> Result<(), AllocError>
         ensures ran { OnOk result (AsksFor W.is_after (passed_on kind conn line) self.old self.new) }
         ensures told { OnOk result (KeepsTold self.old self.new) }
-        ensures marks { OnOk result (KeepsMarks self.old.board self.new.board) }
+        ensures marks { OnOk result (KeepsMarks self.old.connections self.new.connections) }
         ensures same { self.new.buffer ≡ self.old.buffer }
     {
         match line {
@@ -250,7 +255,7 @@ impl<W: Wire> Desk<W> {
         ensures ran { OnOk result (AsksFor W.is_after (event.now ∷ []) self.old self.new) }
         ensures in_order { OnOk result (Spans (PassesOn W.is_after event.now) self.old self.new) }
         ensures told { OnOk result (AllTold (moment_of self.new)) }
-        ensures marks { OnOk result (KeepsMarks self.old.board self.new.board) }
+        ensures marks { OnOk result (KeepsMarks self.old.connections self.new.connections) }
         ensures same { self.new.buffer ≡ self.old.buffer }
     {
         self.handle(event)?;
@@ -262,10 +267,10 @@ impl<W: Wire> Desk<W> {
         ensures ran { OnOk result (Spans (RanOn W.is_after) self.old self.new) }
         ensures in_order { OnOk result (Spans (TellsLosses W.is_after) self.old self.new) }
         ensures told { OnOk result (AllTold (moment_of self.new)) }
-        ensures marks { OnOk result (KeepsMarks self.old.board self.new.board) }
+        ensures marks { OnOk result (KeepsMarks self.old.connections self.new.connections) }
         ensures same { self.new.buffer ≡ self.old.buffer }
     {
-        while let Some((conn, kind)) = take_lowest(&mut self.board.lost) {
+        while let Some((conn, kind)) = take_lowest(&mut self.connections.lost) {
             self.handle(&kind.end_event(conn))?;
         }
         Ok(())
@@ -273,15 +278,15 @@ impl<W: Wire> Desk<W> {
 
     /// Passes an event on to the server, and does what it puts out.
     fn handle(&mut self, event: &Event) -> Result<(), AllocError>
-        ensures count { OnOk result (count_of self.new.board ≤ count_of self.old.board) }
+        ensures count { OnOk result (count_of self.new.connections ≤ count_of self.old.connections) }
         ensures asks { OnOk result (Spans (AsksOnce W.is_after event.now) self.old self.new) }
-        ensures marks { OnOk result (KeepsMarks self.old.board self.new.board) }
+        ensures marks { OnOk result (KeepsMarks self.old.connections self.new.connections) }
         ensures same { self.new.buffer ≡ self.old.buffer }
     {
         self.out.clear();
         match self.server.handle(event, &mut self.out) {
             Err(ServerFault::Memory | ServerFault::Failed) => Err(AllocError),
-            _ => self.board.deal(&self.out),
+            _ => self.connections.deal(&self.out),
         }
     }
 
@@ -292,9 +297,9 @@ impl<W: Wire> Desk<W> {
         ensures in_order { OnOk result (KeepsOrder self.old self.new) }
         ensures quiet { IsNobodyNoted self.old → result ≡ Ok tt }
     {
-        let mut waiting = replace(&mut self.board.waiting, BTreeSet::new(self.alloc));
+        let mut waiting = replace(&mut self.connections.waiting, BTreeSet::new(self.alloc));
         while let Some(conn) = waiting.pop_first() {
-            self.board.write(conn)?;
+            self.connections.write(conn)?;
             self.tell_losses()?;
         }
         Ok(())

@@ -13,16 +13,16 @@ use Rattle.irc_engine.specs.declared.kind.Kind.{Kind}
 use Rattle.irc_engine.specs.Hearing.{line_event_of, nothing_of, only_of}
 use Rattle.irc_engine.specs.Running.{Moment, AllTold, IsInOrder, Ran}
 use Rattle.irc_engine.specs.Turning.{EngineView}
-use Rattle.irc_engine.specs.Loops.Boards.{has, lost_at}
+use Rattle.irc_engine.specs.Loops.Connections.{has, lost_at}
 use Rattle.irc_engine.specs.Loops.Tables.{connection_of}
 
 abbrev pub moment_of : {W : Type 0} → Desk W → Moment W
 moment_of desk = record {
   server = desk.server;
-  wire = desk.board.wire;
-  connections = connection_of desk.board.table;
-  lost = lost_at desk.board.lost;
-  waiting = has desk.board.waiting;
+  wire = desk.connections.wire;
+  connections = connection_of desk.connections.table;
+  lost = lost_at desk.connections.lost;
+  waiting = has desk.connections.waiting;
   read_room = vec_len desk.buffer;
 }
 
@@ -64,4 +64,4 @@ KeepsOrder old new = IsInOrder (moment_of old) → IsInOrder (moment_of new)
 
 -- nobody is noted as one to be written to
 abbrev pub IsNobodyNoted : {W : Type 0} → Desk W → Type 0
-IsNobodyNoted desk = (conn : ℕ) → has desk.board.waiting conn ≡ false
+IsNobodyNoted desk = (conn : ℕ) → has desk.connections.waiting conn ≡ false

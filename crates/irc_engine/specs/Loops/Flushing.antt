@@ -12,7 +12,7 @@ use Rattle.irc_engine.specs.Carrying.{has_some_at}
 use Rattle.irc_engine.specs.Hearing.{nothing_of}
 use Rattle.irc_engine.specs.Running.{AllTold, IsInOrder, Ran}
 use Rattle.irc_engine.specs.Writing.{one_if, destinations, is_some_write}
-use Rattle.irc_engine.specs.Loops.Boards.{has, IsMarkedAt}
+use Rattle.irc_engine.specs.Loops.Connections.{has, IsMarkedAt}
 use Rattle.irc_engine.specs.Loops.Desks.{moment_of, IsNobodyNoted}
 use Rattle.irc_engine.specs.Loops.Tables.{connection_of}
 
@@ -27,8 +27,8 @@ pub record Flushing (pending : ℕ → Bool) (was : ℕ → Option Connection) (
 -- so far it is in order, but for those that are pending
 pub record Halfway {W : Type 0} (pending : BTreeSet ℕ) (old : Desk W) (calls : List Call) (now : Desk W) : Type 0 where
   pub all_told : AllTold (moment_of now)
-  pub marks : (q : ℕ) → IsMarkedAt q (has pending q) now.board
-  pub flushing : Flushing (has pending) (connection_of old.board.table) calls (connection_of now.board.table)
+  pub marks : (q : ℕ) → IsMarkedAt q (has pending q) now.connections
+  pub flushing : Flushing (has pending) (connection_of old.connections.table) calls (connection_of now.connections.table)
 
 pub record FlushesSoFar {W : Type 0} (is_after : W → List Call → Type 0) (pending : BTreeSet ℕ) (old now : Desk W) : Type 0 where
   pub exchanges : List Call

@@ -2,7 +2,7 @@ use Rattle.std.proofs.Common.{false, ◌∙◌, ap}
 use Rattle.std.specs.BTreeMap.{is_at}
 use Rattle.std.specs.List.{list_any}
 use Rattle.std.specs.Ordering.{nat_cmp}
-use Rattle.irc_engine.specs.Loops.Boards.{has}
+use Rattle.irc_engine.specs.Loops.Connections.{has}
 use Rattle.irc_engine.proofs.FlushLaws.{never, emptied, flushes_none, flushes_one, flushes_all, in_order_again}
 use Rattle.irc_engine.proofs.TableLaws.{set_at}
 use Rattle.irc_engine.proofs.engine.Desk.flush.Goals as goal

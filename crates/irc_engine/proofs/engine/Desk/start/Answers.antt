@@ -19,6 +19,6 @@ returns-clause-told g c = on_ok c.pass.result _ _ (λ told before. told) c.pass.
 pub returns-clause-notes : goal.returns-clause-notes
 returns-clause-notes g c =
     on_ok c.pass.result _ _
-    (λ marks. notes_made _ c.args.self.now.board c.pass.new.self.board (record c.args.self.now.board { table = c.give_seat.new.self }) _ _
+    (λ marks. notes_made _ c.args.self.now.connections c.pass.new.self.connections (record c.args.self.now.connections { table = c.give_seat.new.self }) _ _
     (none_there _ (sym c.contains.ensures ∙ c.if-contains.false)) c.in_ok-give_seat.ensures (λ q. refl) marks)
     c.pass.ensures.marks

@@ -1,7 +1,7 @@
 use Rattle.std.proofs.Common.{[], ◌≡◌, ◌≤◌, ◌-◌, take}
 use Rattle.irc_engine.specs.Hearing.{only_of}
 use Rattle.irc_engine.specs.Running.{Ran}
-use Rattle.irc_engine.specs.Loops.Boards.{KeepsMarks}
+use Rattle.irc_engine.specs.Loops.Connections.{KeepsMarks}
 use Rattle.irc_engine.specs.Loops.Desks.{moment_of, KeepsTold}
 use Rattle.irc_engine.proofs.engine.Desk.take_lines.Given as goal
 
@@ -10,7 +10,7 @@ abbrev pub invariant-loop-used : goal.invariant-loop-used
 invariant-loop-used g l = record {
   ran : Ran g.W.Wire.is_after [] [] (only_of l.conn (take l.used l.fn.self.buffer.items)) (moment_of l.fn.self) (moment_of l.self);
   told : KeepsTold l.fn.self l.self;
-  marks : KeepsMarks l.fn.self.board l.self.board;
+  marks : KeepsMarks l.fn.self.connections l.self.connections;
   within : l.used ≤ l.count;
   same : l.self.buffer ≡ l.fn.self.buffer;
   items : l.self.buffer.items ≡ l.fn.self.buffer.items;

@@ -3,7 +3,7 @@ use Rattle.std.specs.BTreeMap.{is_at}
 use Rattle.std.specs.Map.{lookup}
 use Rattle.std.specs.Ordering.{nat_cmp}
 use Rattle.std.proofs.lemmas.Map.Keys.{le_from_not_gt}
-use Rattle.irc_engine.specs.Loops.Boards.{lost_at}
+use Rattle.irc_engine.specs.Loops.Connections.{lost_at}
 use Rattle.irc_engine.specs.declared.kind.Kind.{Kind}
 use Rattle.irc_engine.specs.Loops.Desks.{moment_of}
 use Rattle.irc_engine.specs.Running.{RanOn, TellsLosses, none_so_far, tells_lowest}
@@ -19,10 +19,10 @@ loop-conn-preserved g c =
     let asks = asks_as _ _ _ _ _ c.end_event.ensures c.in_ok-handle.ensures.asks in
     record {
       ran = ran_on _ _ _ _ c.loop-conn.invariant.ran
-          (ran_gone _ _ _ _ _ c.loop-conn.self.board (record c.loop-conn.self.board { lost = c.take_lowest.new.lost }) _ refl refl c.in-Some.ensures.member
-          (λ q. c.in-Some.ensures.updates.0 q ∙ set_at (lost_at c.loop-conn.self.board.lost) None _ q) asks.0);
+          (ran_gone _ _ _ _ _ c.loop-conn.self.connections (record c.loop-conn.self.connections { lost = c.take_lowest.new.lost }) _ refl refl c.in-Some.ensures.member
+          (λ q. c.in-Some.ensures.updates.0 q ∙ set_at (lost_at c.loop-conn.self.connections.lost) None _ q) asks.0);
       in_order = tells_lowest _ _ _ _ _ c.loop-conn.invariant.in_order (record { is_lost = c.in-Some.ensures.member; is_lowest = λ q there. le_from_not_gt _ q (c.in-Some.ensures.least q there) }) refl
-          (λ q. c.in-Some.ensures.updates.0 q ∙ set_at (lost_at c.loop-conn.self.board.lost) None _ q) asks;
+          (λ q. c.in-Some.ensures.updates.0 q ∙ set_at (lost_at c.loop-conn.self.connections.lost) None _ q) asks;
       marks = λ q pending is. c.in_ok-handle.ensures.marks q pending (c.loop-conn.invariant.marks q pending is);
       same = c.handle.ensures.same ∙ c.loop-conn.invariant.same;
     }
