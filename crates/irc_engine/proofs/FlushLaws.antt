@@ -14,13 +14,13 @@ use Rattle.std.proofs.lemmas.List.Sums.{sum_by-append}
 use Rattle.std.proofs.lemmas.Map.Keys.{IsStrictlyIncreasing-from_sorted, le_from_not_gt}
 use Rattle.irc_outbox.specs.Calls.{Call, is_some_bytes, is_write_to, times_written}
 use Rattle.irc_engine.specs.declared.connections.Connections.{Connections}
-use Rattle.irc_engine.specs.declared.engine.Desk.{Desk}
+use Rattle.irc_engine.specs.declared.engine.Core.{Core}
 use Rattle.irc_engine.specs.declared.connection_table.Connection.{Connection}
 use Rattle.irc_engine.specs.Carrying.{has_some_at}
 use Rattle.irc_engine.specs.Writing.{one_if, destination, destinations, is_some_write, WritesEach}
 use Rattle.irc_engine.specs.Laws.Turns.{was_there}
 use Rattle.irc_engine.specs.Loops.Connections.{has, AreWrites, IsMarked, KeepsMarks, Writes}
-use Rattle.irc_engine.specs.Loops.Desks.{moment_of}
+use Rattle.irc_engine.specs.Loops.Moments.{moment_of}
 use Rattle.irc_engine.specs.Loops.Flushing.{Flushing, FlushesSoFar}
 use Rattle.irc_engine.specs.Loops.Tables.{connection_of}
 use Rattle.irc_engine.specs.Hearing.{nothing_of}
@@ -185,25 +185,25 @@ still_false false = refl
 
 module _ {W : Type 0} (is_after : W → List Call → Type 0) where
   -- all that are noted are to be written to
-  pub flushes_none : (desk : Desk W) (rest pending : BTreeSet ℕ) → ((q : ℕ) → has rest q ≡ false) → pending ≡ desk.connections.waiting
-      → FlushesSoFar is_after pending desk (record desk { connections = record desk.connections { waiting = rest } })
-  flushes_none desk rest pending none is = record {
+  pub flushes_none : (core : Core W) (rest pending : BTreeSet ℕ) → ((q : ℕ) → has rest q ≡ false) → pending ≡ core.connections.waiting
+      → FlushesSoFar is_after pending core (record core { connections = record core.connections { waiting = rest } })
+  flushes_none core rest pending none is = record {
     exchanges = [];
-    ran = ran_marked is_after desk.server _ desk.connections rest;
+    ran = ran_marked is_after core.server _ core.connections rest;
     told = λ told. told;
     halfway = λ order. record {
       all_told = order.all_told;
       marks = λ q. record {
-        noted_is = all_pending (has pending q) (has rest q) (connection_of desk.connections.table q) (none q) (ap (λ s. has s q) is ∙ order.noted q);
+        noted_is = all_pending (has pending q) (has rest q) (connection_of core.connections.table q) (none q) (ap (λ s. has s q) is ∙ order.noted q);
         not_done = order.none_done q;
       };
-      flushing = flush_begun (has pending) (connection_of desk.connections.table) (λ q. ap (λ s. has s q) is ∙ order.noted q);
+      flushing = flush_begun (has pending) (connection_of core.connections.table) (λ q. ap (λ s. has s q) is ∙ order.noted q);
     };
     quiet = λ nobody q. ap (λ s. has s q) is ∙ nobody q;
   }
 
   -- one connection more is written to, and the server is told of those that are lost
-  pub flushes_one : (old now new : Desk W) (mid : Connections W) (pending later : BTreeSet ℕ) (conn : ℕ) → has pending conn ≡ true
+  pub flushes_one : (old now new : Core W) (mid : Connections W) (pending later : BTreeSet ℕ) (conn : ℕ) → has pending conn ≡ true
       → ((q : ℕ) → has later q ≡ cond (nat_eq conn q) false (has pending q)) → ((q : ℕ) → has pending q ≡ true → is_gt (nat_cmp conn q) ≡ false)
       → Writes is_after conn now.connections mid → RanOn is_after (moment_of (record now { connections = mid })) (moment_of new) → AllTold (moment_of new)
       → KeepsMarks mid new.connections → FlushesSoFar is_after pending old now → FlushesSoFar is_after later old new
@@ -229,7 +229,7 @@ module _ {W : Type 0} (is_after : W → List Call → Type 0) where
       more = ran_after is_after wrote.exchanges [] nothing_of (moment_of now) (moment_of (record now { connections = mid })) (moment_of new)
           (ran_connections is_after now.server _ wrote.exchanges now.connections mid wrote.carries) ran
 
-  module _ (pending : BTreeSet ℕ) (old new : Desk W) (none : (q : ℕ) → has pending q ≡ false) (so_far : FlushesSoFar is_after pending old new) where
+  module _ (pending : BTreeSet ℕ) (old new : Core W) (none : (q : ℕ) → has pending q ≡ false) (so_far : FlushesSoFar is_after pending old new) where
     -- all have been written to
     pub flushes_all : Flushes is_after (moment_of old) (moment_of new)
     flushes_all = record {

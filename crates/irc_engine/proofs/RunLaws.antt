@@ -29,7 +29,7 @@ use Rattle.irc_engine.specs.Writing.{one_if}
 use Rattle.irc_engine.proofs.HearingLaws.{lines_by-append, times_gone-append, hears_on, hears_kept, hears_same, hears_gone, hears_deaf}
 use Rattle.irc_engine.specs.Loops.Tables.{connection_of, at_connection, no_connection, FramesAt}
 use Rattle.irc_engine.specs.Loops.Connections.{has, lost_at, lost_by, Carries, Loses}
-use Rattle.irc_engine.specs.Loops.Desks.{came, passed_on}
+use Rattle.irc_engine.specs.Loops.Moments.{came, passed_on}
 use Rattle.irc_engine.proofs.EachConnection.{adds_none, adds_both, at_once, set_here, set_other, close_elsewhere, last_close}
 use Rattle.irc_engine.proofs.TableLaws.{one_number, nat_eq-refl}
 use Rattle.irc_engine.proofs.KindLaws.{kind_kept, kind_of_lost, some_lost}

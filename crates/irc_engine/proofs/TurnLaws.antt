@@ -3,12 +3,12 @@ use Rattle.std.proofs.Common.{◌≡◌, ℕ, ◌<◌, false, IsErrAnd, Result, 
 use Rattle.irc_outbox.specs.declared.wire.Ready.{Ready}
 use Rattle.irc_outbox.specs.declared.wire.Ready.TheVariants.{Idle, Writable}
 use Rattle.irc_outbox.specs.Calls.{Call, asks, Adds}
-use Rattle.irc_engine.specs.declared.engine.Desk.{Desk}
+use Rattle.irc_engine.specs.declared.engine.Core.{Core}
 use Rattle.irc_engine.specs.declared.engine.Rooms.{Rooms}
 use Rattle.irc_engine.specs.declared.engine.EngineFault.{EngineFault}
 use Rattle.irc_engine.specs.Running.{Moment, AllTold, Answers, Does, Flushes, IsInOrder}
 use Rattle.irc_engine.specs.Loops.Connections.{IsMarkedAt, KeepsNotes}
-use Rattle.irc_engine.specs.Loops.Desks.{moment_of}
+use Rattle.irc_engine.specs.Loops.Moments.{moment_of}
 use Rattle.irc_engine.proofs.RunLaws.{ran_none}
 use Rattle.irc_engine.specs.Turning.{EngineView, Taken, takes_it, runs_out, Turned, takes_turn, wants_memory, Turns, Runs, stopped}
 
@@ -29,7 +29,7 @@ nothing_to_do is_after rooms now ready (inl is) = subst (λ r. Answers is_after 
 nothing_to_do is_after rooms now ready (inr is) = subst (λ r. Answers is_after rooms r now now) (sym is.1) (ran_none is_after now)
 
 -- what is ready is done, and then outboxes are written
-module _ {W : Type 0} (is_after : W → List Call → Type 0) (old between new : Desk W) where
+module _ {W : Type 0} (is_after : W → List Call → Type 0) (old between new : Core W) where
   order_between : (AllTold (moment_of old) → AllTold (moment_of between)) → KeepsNotes old.connections between.connections → IsInOrder (moment_of old)
       → IsInOrder (moment_of between)
   order_between told notes order = record { all_told = told order.all_told; noted = λ q. (marked q).noted_is; none_done = λ q. (marked q).not_done }

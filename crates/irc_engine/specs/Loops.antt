@@ -1,5 +1,5 @@
 pub mod Tables
 pub mod Counts
 pub mod Connections
-pub mod Desks
+pub mod Moments
 pub mod Flushing

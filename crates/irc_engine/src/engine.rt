@@ -1,7 +1,7 @@
 //! An engine: one server over a wire.
 ghost use Rattle.std.specs.Prelude.{◌≡◌, ◌≤◌, true, Ok, [], ◌∷◌, length, IfOk, OnOk};
 ghost use Rattle.irc_engine.specs.Loops.Counts.{count_of};
-ghost use Rattle.irc_engine.specs.Loops.Desks.{came, engine_view, moment_of, passed_on, AsksFor, HearsFrom, IsNobodyNoted, KeepsOrder, KeepsTold, Spans};
+ghost use Rattle.irc_engine.specs.Loops.Moments.{came, engine_view, moment_of, passed_on, AsksFor, HearsFrom, IsNobodyNoted, KeepsOrder, KeepsTold, Spans};
 ghost use Rattle.irc_engine.specs.Loops.Connections.{KeepsMarks, KeepsNotes};
 ghost use Rattle.irc_engine.specs.Running.{AllTold, Answers, AsksOnce, Does, Flushes, PassesOn, RanOn, Reads, Starts, TellsLosses};
 ghost use Rattle.irc_engine.specs.Turning.{brings_nothing, IsNew, Runs, Taken, Turned};
@@ -49,12 +49,12 @@ pub struct Rooms {
 pub struct Engine<W: Wire> {
     failed: bool,
     rooms: Rooms,
-    desk: Desk<W>,
+    core: Core<W>,
 }
 
 /// What an engine is made of.
 #[derive(Drop)]
-pub(crate) struct Desk<W: Wire> {
+pub(crate) struct Core<W: Wire> {
     pub server: Server,
     pub connections: Connections<W>,
     /// What the server has put out by the event at hand.
@@ -86,7 +86,7 @@ impl<W: Wire + Drop> Engine<W> {
                 client: client_room,
                 link: link_room,
             },
-            desk: Desk {
+            core: Core {
                 server,
                 connections: Connections {
                     wire,
@@ -114,7 +114,7 @@ impl<W: Wire> Engine<W> {
         if self.failed {
             return Err(EngineFault::Failed);
         }
-        match self.desk.connections.wire.ready() {
+        match self.core.connections.wire.ready() {
             Ok(ready) => self.take(ready),
             Err(_) => Err(EngineFault::Device),
         }
@@ -125,7 +125,7 @@ impl<W: Wire> Engine<W> {
         ensures { Taken W.is_after ready (engine_view self.old) (engine_view self.new) result }
     {
         self.failed = true;
-        match self.desk.turn(ready, self.rooms) {
+        match self.core.turn(ready, self.rooms) {
             Ok(()) => {
                 self.failed = false;
                 Ok(())
@@ -148,7 +148,7 @@ impl<W: Wire> Engine<W> {
     }
 }
 
-impl<W: Wire> Desk<W> {
+impl<W: Wire> Core<W> {
     /// Does what is ready, and writes.
     fn turn(&mut self, ready: Ready, rooms: Rooms) -> Result<(), AllocError>
         ensures done { OnOk result (Spans (Does W.is_after rooms ready) self.old self.new) }

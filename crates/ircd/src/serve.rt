@@ -1,6 +1,6 @@
 //! `ircd serve`: a server on TCP sockets.
 ghost use Rattle.std.specs.Prelude.{IfErr};
-ghost use Rattle.irc_engine.specs.Loops.Desks.{engine_view};
+ghost use Rattle.irc_engine.specs.Loops.Moments.{engine_view};
 ghost use Rattle.ircd.specs.Loops.Turns.{IsOfFile, IsRun, Opens, TakesTurns};
 ghost use Rattle.ircd.specs.Serving.{ServesFile, ServesText};
 

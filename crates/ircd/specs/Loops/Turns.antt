@@ -4,7 +4,7 @@ use Rattle.irc_outbox.specs.Calls.{Call}
 use Rattle.irc_sockets.specs.declared.mio_wire.MioWire.{MioWire}
 use Rattle.irc_engine.specs.declared.engine.Engine.{Engine}
 use Rattle.irc_engine.specs.Turning.{EngineView, Turns}
-use Rattle.irc_engine.specs.Loops.Desks.{engine_view}
+use Rattle.irc_engine.specs.Loops.Moments.{engine_view}
 use Rattle.irc_endings.specs.declared.fault.Stop.{Stop}
 use Rattle.irc_endings.specs.declared.fault.Stop.TheVariants.{BadConfiguration, Failed}
 use Rattle.ircd.specs.declared.setup.Setup.{Setup}

@@ -1,6 +1,6 @@
 use Rattle.std.proofs.Common.{subst, arith}
 use Rattle.irc_engine.specs.Turning.{Turned, Turns, no_turn, one_more, all_taken}
-use Rattle.irc_engine.specs.Loops.Desks.{engine_view}
+use Rattle.irc_engine.specs.Loops.Moments.{engine_view}
 use Rattle.irc_engine.proofs.TurnLaws.{stops_by}
 use Rattle.irc_engine.proofs.engine.Engine.run.Goals as goal
 

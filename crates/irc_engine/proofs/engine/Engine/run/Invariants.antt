@@ -1,5 +1,5 @@
 use Rattle.irc_engine.specs.Turning.{Turns}
-use Rattle.irc_engine.specs.Loops.Desks.{engine_view}
+use Rattle.irc_engine.specs.Loops.Moments.{engine_view}
 use Rattle.irc_engine.proofs.engine.Engine.run.Given as goal
 
 -- so many turns were taken so far

@@ -5,7 +5,7 @@ use Rattle.std.specs.Ordering.{nat_cmp}
 use Rattle.irc_engine.specs.Loops.Connections.{has}
 use Rattle.irc_engine.proofs.FlushLaws.{never, emptied, flushes_none, flushes_one, flushes_all, in_order_again}
 use Rattle.irc_engine.proofs.TableLaws.{set_at}
-use Rattle.irc_engine.proofs.engine.Desk.flush.Goals as goal
+use Rattle.irc_engine.proofs.engine.Core.flush.Goals as goal
 
 pub loop-conn-init : goal.loop-conn-init
 loop-conn-init g c = flushes_none _ c.args.self.now _ _ (λ q. ap (λ s. has s q) c.replace-waiting.ensures.after ∙ ap (list_any (is_at

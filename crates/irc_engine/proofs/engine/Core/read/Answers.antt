@@ -2,7 +2,7 @@ use Rattle.std.proofs.Common.{refl, sym, ◌∙◌}
 use Rattle.irc_engine.specs.Running.{not_open, read_once}
 use Rattle.irc_engine.proofs.RunLaws.{on_ok, ran_none, ran_after, ran_read, ran_cut, ran_fed, ran_ended, front_after}
 use Rattle.irc_engine.proofs.MarkLaws.{marks_ended}
-use Rattle.irc_engine.proofs.engine.Desk.read.Goals as goal
+use Rattle.irc_engine.proofs.engine.Core.read.Goals as goal
 
 pub returns-then-not-is_open-clause-done : goal.returns-then-not-is_open-clause-done
 returns-then-not-is_open-clause-done g c = not_open (sym c.is_open.ensures ∙ c.if-not-is_open.true) (ran_none _ _)

@@ -5,11 +5,11 @@ use Rattle.std.specs.Ordering.{nat_cmp}
 use Rattle.std.proofs.lemmas.Map.Keys.{le_from_not_gt}
 use Rattle.irc_engine.specs.Loops.Connections.{lost_at}
 use Rattle.irc_engine.specs.declared.kind.Kind.{Kind}
-use Rattle.irc_engine.specs.Loops.Desks.{moment_of}
+use Rattle.irc_engine.specs.Loops.Moments.{moment_of}
 use Rattle.irc_engine.specs.Running.{RanOn, TellsLosses, none_so_far, tells_lowest}
 use Rattle.irc_engine.proofs.TableLaws.{set_at}
 use Rattle.irc_engine.proofs.RunLaws.{asks_as, ran_none, ran_on, ran_gone}
-use Rattle.irc_engine.proofs.engine.Desk.tell_losses.Goals as goal
+use Rattle.irc_engine.proofs.engine.Core.tell_losses.Goals as goal
 
 pub loop-conn-init : goal.loop-conn-init
 loop-conn-init g c = record { ran = ran_none _ _; in_order = none_so_far; marks = λ q pending is. is; same = refl }

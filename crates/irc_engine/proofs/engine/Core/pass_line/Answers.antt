@@ -1,5 +1,5 @@
 use Rattle.irc_engine.proofs.RunLaws.{on_ok, ran_no_line}
-use Rattle.irc_engine.proofs.engine.Desk.pass_line.Goals as goal
+use Rattle.irc_engine.proofs.engine.Core.pass_line.Goals as goal
 
 pub returns-in-Some-clause-told : goal.returns-in-Some-clause-told
 returns-in-Some-clause-told g c = on_ok c.pass.result _ _ (λ told before. told) c.pass.ensures.told

@@ -1,7 +1,7 @@
 use Rattle.std.proofs.Common.{ap}
 use Rattle.irc_batch.specs.Batches.{Batch}
 use Rattle.irc_engine.proofs.RunLaws.{on_ok, asked_once}
-use Rattle.irc_engine.proofs.engine.Desk.handle.Goals as goal
+use Rattle.irc_engine.proofs.engine.Core.handle.Goals as goal
 
 pub returns-in_default-clause-asks : goal.returns-in_default-clause-asks
 returns-in_default-clause-asks g c =

@@ -2,7 +2,7 @@ use Rattle.std.proofs.Common.{refl, sym, ◌∙◌}
 use Rattle.irc_engine.specs.Running.{in_use, makes_connection}
 use Rattle.irc_engine.proofs.MarkLaws.{notes_made}
 use Rattle.irc_engine.proofs.RunLaws.{on_ok, ran_none, none_there}
-use Rattle.irc_engine.proofs.engine.Desk.start.Goals as goal
+use Rattle.irc_engine.proofs.engine.Core.start.Goals as goal
 
 pub returns-then-contains-clause-done : goal.returns-then-contains-clause-done
 returns-then-contains-clause-done g c = in_use (sym c.contains.ensures ∙ c.if-contains.true) (ran_none _ _)

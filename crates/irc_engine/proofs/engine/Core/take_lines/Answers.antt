@@ -2,7 +2,7 @@ use Rattle.std.proofs.Common.{refl, ◌∙◌, ap, arith, Some, ℕ, Vec, Global
 use Rattle.std.specs.List.{slice_range}
 use Rattle.irc_engine.proofs.RunLaws.{ran_unfed, ran_step, ran_rest, ran_framed, ran_refused, frames_within, used_within}
 use Rattle.irc_engine.proofs.MarkLaws.{marks_framed}
-use Rattle.irc_engine.proofs.engine.Desk.take_lines.Goals as goal
+use Rattle.irc_engine.proofs.engine.Core.take_lines.Goals as goal
 
 pub loop-used-init : goal.loop-used-init
 loop-used-init g c = record { ran = ran_unfed _ _ _; told = λ told. told; marks = λ q pending is. is; within = omega arith; same = refl; items = refl }

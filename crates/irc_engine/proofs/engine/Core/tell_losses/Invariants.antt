@@ -2,8 +2,8 @@ use Rattle.std.proofs.Common.{◌≡◌}
 use Rattle.irc_engine.specs.Loops.Connections.{KeepsMarks}
 use Rattle.irc_engine.specs.Loops.Counts.{count_of}
 use Rattle.irc_engine.specs.Running.{RanOn, TellsLosses}
-use Rattle.irc_engine.specs.Loops.Desks.{moment_of}
-use Rattle.irc_engine.proofs.engine.Desk.tell_losses.Given as goal
+use Rattle.irc_engine.specs.Loops.Moments.{moment_of}
+use Rattle.irc_engine.proofs.engine.Core.tell_losses.Given as goal
 
 abbrev pub invariant-loop-conn : goal.invariant-loop-conn
 invariant-loop-conn g l = record {

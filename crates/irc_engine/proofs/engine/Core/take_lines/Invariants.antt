@@ -2,8 +2,8 @@ use Rattle.std.proofs.Common.{[], ◌≡◌, ◌≤◌, ◌-◌, take}
 use Rattle.irc_engine.specs.Hearing.{only_of}
 use Rattle.irc_engine.specs.Running.{Ran}
 use Rattle.irc_engine.specs.Loops.Connections.{KeepsMarks}
-use Rattle.irc_engine.specs.Loops.Desks.{moment_of, KeepsTold}
-use Rattle.irc_engine.proofs.engine.Desk.take_lines.Given as goal
+use Rattle.irc_engine.specs.Loops.Moments.{moment_of, KeepsTold}
+use Rattle.irc_engine.proofs.engine.Core.take_lines.Given as goal
 
 -- the bytes so far are heard
 abbrev pub invariant-loop-used : goal.invariant-loop-used

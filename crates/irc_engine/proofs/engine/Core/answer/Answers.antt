@@ -1,7 +1,7 @@
 use Rattle.std.proofs.Common.{false}
 use Rattle.irc_engine.proofs.RunLaws.{on_ok}
 use Rattle.irc_engine.proofs.TurnLaws.{nothing_to_do}
-use Rattle.irc_engine.proofs.engine.Desk.answer.Goals as goal
+use Rattle.irc_engine.proofs.engine.Core.answer.Goals as goal
 
 pub returns-in-Idle-clause-done : goal.returns-in-Idle-clause-done
 returns-in-Idle-clause-done g c = nothing_to_do _ _ _ _ c.in-Idle.is

@@ -1,5 +1,5 @@
 use Rattle.irc_engine.proofs.TurnLaws.{does_both}
-use Rattle.irc_engine.proofs.engine.Desk.turn.Goals as goal
+use Rattle.irc_engine.proofs.engine.Core.turn.Goals as goal
 
 pub returns-clause-done : goal.returns-clause-done
 returns-clause-done g c =
