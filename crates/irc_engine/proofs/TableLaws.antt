@@ -57,31 +57,31 @@ at_place f g i x here there q = by (nat_eq i q) refl
 slot_set : {X : Type 0} (xs : List X) (i q : ℕ) (x : X) → i < length xs → slice_get (slice_set xs i x) q ≡ cond (nat_eq i q) (Some x) (slice_get xs q)
 slot_set xs i q x within = at_place (slice_get (slice_set xs i x)) (slice_get xs) i (Some x) (set_here xs i x within) (λ q apart. set_there xs i q x apart) q
 
--- what is there at a number is changed, where it is one of the near ones
-slot_changed : (old new : ConnectionTable) (conn : ℕ) (slot : Option Connection) → ((q : ℕ) → slice_get new.near.items q ≡ cond (nat_eq conn q) (Some slot) (slice_get old.near.items q))
-    → new.far ≡ old.far → IsSet (connection_of old) conn slot (connection_of new)
-slot_changed old new conn slot near far q =
-    ap (λ f. connection_at (slice_get new.near.items q) (get nat_eq f q)) far ∙ ap (λ s. connection_at s (get nat_eq old.far q)) (near q) ∙ by (nat_eq conn q)
+-- what is there at a number is changed, where it is one of the dense ones
+slot_changed : (old new : ConnectionTable) (conn : ℕ) (slot : Option Connection) → ((q : ℕ) → slice_get new.dense.items q ≡ cond (nat_eq conn q) (Some slot) (slice_get old.dense.items q))
+    → new.sparse ≡ old.sparse → IsSet (connection_of old) conn slot (connection_of new)
+slot_changed old new conn slot dense sparse q =
+    ap (λ f. connection_at (slice_get new.dense.items q) (get nat_eq f q)) sparse ∙ ap (λ s. connection_at s (get nat_eq old.sparse q)) (dense q) ∙ by (nat_eq conn q)
   where
-    by : (t : Bool) → connection_at (cond t (Some slot) (slice_get old.near.items q)) (get nat_eq old.far q) ≡ cond t slot (connection_of old q)
+    by : (t : Bool) → connection_at (cond t (Some slot) (slice_get old.dense.items q)) (get nat_eq old.sparse q) ≡ cond t slot (connection_of old q)
     by true = refl
     by false = refl
 
-pub near_set : (old new : ConnectionTable) (conn : ℕ) (slot : Option Connection) → conn < length old.near.items → new.near.items ≡ slice_set old.near.items conn slot
-    → new.far ≡ old.far → IsSet (connection_of old) conn slot (connection_of new)
-near_set old new conn slot within near far = slot_changed old new conn slot (λ q. ap (λ xs. slice_get xs q) near ∙ slot_set old.near.items conn q slot within) far
+pub dense_set : (old new : ConnectionTable) (conn : ℕ) (slot : Option Connection) → conn < length old.dense.items → new.dense.items ≡ slice_set old.dense.items conn slot
+    → new.sparse ≡ old.sparse → IsSet (connection_of old) conn slot (connection_of new)
+dense_set old new conn slot within dense sparse = slot_changed old new conn slot (λ q. ap (λ xs. slice_get xs q) dense ∙ slot_set old.dense.items conn q slot within) sparse
 
 -- and where it is another
-pub far_set : (old new : ConnectionTable) (conn : ℕ) (slot : Option Connection) → None ≡ slice_get old.near.items conn → new.near.items ≡ old.near.items
-    → ((q : ℕ) → get nat_eq new.far q ≡ cond (nat_eq conn q) slot (get nat_eq old.far q)) → IsSet (connection_of old) conn slot (connection_of new)
-far_set old new conn slot behind near far q =
-    ap (λ xs. connection_at (slice_get xs q) (get nat_eq new.far q)) near ∙ ap (connection_at (slice_get old.near.items q)) (far q) ∙ by (nat_eq conn q) refl
+pub sparse_set : (old new : ConnectionTable) (conn : ℕ) (slot : Option Connection) → None ≡ slice_get old.dense.items conn → new.dense.items ≡ old.dense.items
+    → ((q : ℕ) → get nat_eq new.sparse q ≡ cond (nat_eq conn q) slot (get nat_eq old.sparse q)) → IsSet (connection_of old) conn slot (connection_of new)
+sparse_set old new conn slot behind dense sparse q =
+    ap (λ xs. connection_at (slice_get xs q) (get nat_eq new.sparse q)) dense ∙ ap (connection_at (slice_get old.dense.items q)) (sparse q) ∙ by (nat_eq conn q) refl
   where
-    by : (t : Bool) → nat_eq conn q ≡ t → connection_at (slice_get old.near.items q) (cond t slot (get nat_eq old.far q)) ≡ cond t slot (connection_of old q)
-    by true is = sym (ap (λ s. connection_at s slot) (subst (λ n. None ≡ slice_get old.near.items n) (one_number conn q is) behind))
+    by : (t : Bool) → nat_eq conn q ≡ t → connection_at (slice_get old.dense.items q) (cond t slot (get nat_eq old.sparse q)) ≡ cond t slot (connection_of old q)
+    by true is = sym (ap (λ s. connection_at s slot) (subst (λ n. None ≡ slice_get old.dense.items n) (one_number conn q is) behind))
     by false is = refl
 
--- how many are near, once one of them has changed
+-- how many are dense, once one of them has changed
 count_cons : (slot : Option Connection) (xs : List (Option Connection)) → count_by is_some (slot ∷ xs) ≡ cond (is_some slot) 1 0 + count_by is_some xs
 count_cons slot xs = sum_by-cons (λ s. cond (is_some s) 1 0) slot xs
 
@@ -112,15 +112,15 @@ no_slot (y ∷ xs) (suc i) behind = no_slot xs i (omega (arith, behind))
 
 -- a change of one connection, or none where it is not there
 module _ (conn : ℕ) (P : Connection → Connection → Type 0) (Q : Type 0) (old new : ConnectionTable) where
-  pub near_through : (slot now : Option Connection) → Some slot ≡ slice_get old.near.items conn → new.near.items ≡ slice_set old.near.items conn now
-      → new.far ≡ old.far → Within P Q slot now → Through conn P Q old new
-  near_through slot now was near far within = by within
+  pub dense_through : (slot now : Option Connection) → Some slot ≡ slice_get old.dense.items conn → new.dense.items ≡ slice_set old.dense.items conn now
+      → new.sparse ≡ old.sparse → Within P Q slot now → Through conn P Q old new
+  dense_through slot now was dense sparse within = by within
     where
       is : connection_of old conn ≡ slot
-      is = sym (ap (λ s. connection_at s (get nat_eq old.far conn)) was)
+      is = sym (ap (λ s. connection_at s (get nat_eq old.sparse conn)) was)
 
       set : IsSet (connection_of old) conn now (connection_of new)
-      set = near_set old new conn now (slot_within old.near.items conn slot (sym was)) near far
+      set = dense_set old new conn now (slot_within old.dense.items conn slot (sym was)) dense sparse
 
       same : now ≡ None → connection_of old conn ≡ None → (q : ℕ) (t : Bool) → nat_eq conn q ≡ t → cond t now (connection_of old q) ≡ connection_of old q
       same nothing none q true e = nothing ∙ sym none ∙ ap (connection_of old) (one_number conn q e)
@@ -130,17 +130,17 @@ module _ (conn : ℕ) (P : Connection → Connection → Type 0) (Q : Type 0) (o
       by (in_connection connection changed here there so) = at_connection connection changed (is ∙ here) (λ q. set q ∙ ap (λ s. cond (nat_eq conn q) s (connection_of old q)) there) so
       by (in_none here there so) = no_connection (is ∙ here) (λ q. set q ∙ same there (is ∙ here) q (nat_eq conn q) refl) so
 
-  pub far_through : (connection now : Connection) → None ≡ slice_get old.near.items conn → Some connection ≡ get nat_eq old.far conn → new.near.items ≡ old.near.items
-      → (IsSome (get_by (nat_eq conn) old.far) → UpdatesBy nat_eq (nat_eq conn) old.far new.far (Some now)) → P connection now → Through conn P Q old new
-  far_through connection now behind is near updates so =
-      at_connection connection now (sym (ap (λ s. connection_at s (get nat_eq old.far conn)) behind) ∙ sym is)
-      (far_set old new conn (Some now) behind near (updates (sym (ap is_some is))).0) so
+  pub sparse_through : (connection now : Connection) → None ≡ slice_get old.dense.items conn → Some connection ≡ get nat_eq old.sparse conn → new.dense.items ≡ old.dense.items
+      → (IsSome (get_by (nat_eq conn) old.sparse) → UpdatesBy nat_eq (nat_eq conn) old.sparse new.sparse (Some now)) → P connection now → Through conn P Q old new
+  sparse_through connection now behind is dense updates so =
+      at_connection connection now (sym (ap (λ s. connection_at s (get nat_eq old.sparse conn)) behind) ∙ sym is)
+      (sparse_set old new conn (Some now) behind dense (updates (sym (ap is_some is))).0) so
 
-  pub far_vacant : None ≡ slice_get old.near.items conn → None ≡ get nat_eq old.far conn → new.near.items ≡ old.near.items → new.far ≡ old.far → Q
+  pub sparse_absent : None ≡ slice_get old.dense.items conn → None ≡ get nat_eq old.sparse conn → new.dense.items ≡ old.dense.items → new.sparse ≡ old.sparse → Q
       → Through conn P Q old new
-  far_vacant behind none near far so =
-      no_connection (sym (ap (λ s. connection_at s (get nat_eq old.far conn)) behind) ∙ sym none)
-      (λ q. ap (λ xs. connection_at (slice_get xs q) (get nat_eq new.far q)) near ∙ ap (λ f. connection_at (slice_get old.near.items q) (get nat_eq f q)) far) so
+  sparse_absent behind none dense sparse so =
+      no_connection (sym (ap (λ s. connection_at s (get nat_eq old.sparse conn)) behind) ∙ sym none)
+      (λ q. ap (λ xs. connection_at (slice_get xs q) (get nat_eq new.sparse q)) dense ∙ ap (λ f. connection_at (slice_get old.dense.items q) (get nat_eq f q)) sparse) so
 
 -- how many there are then
 kept_some : {P : Connection → Connection → Type 0} {Q : Type 0} (slot now : Option Connection) → Within P Q slot now → is_some now ≡ is_some slot
@@ -148,37 +148,37 @@ kept_some slot now (in_connection connection changed here there so) = ap is_some
 kept_some slot now (in_none here there so) = ap is_some there ∙ sym (ap is_some here)
 
 module _ (old new : ConnectionTable) (conn : ℕ) where
-  pub near_kept : {P : Connection → Connection → Type 0} {Q : Type 0} (slot now : Option Connection) → Some slot ≡ slice_get old.near.items conn
-      → new.near.items ≡ slice_set old.near.items conn now → new.far ≡ old.far → Within P Q slot now → connection_count new ≡ connection_count old
-  near_kept slot now is near far within =
+  pub dense_kept : {P : Connection → Connection → Type 0} {Q : Type 0} (slot now : Option Connection) → Some slot ≡ slice_get old.dense.items conn
+      → new.dense.items ≡ slice_set old.dense.items conn now → new.sparse ≡ old.sparse → Within P Q slot now → connection_count new ≡ connection_count old
+  dense_kept slot now is dense sparse within =
       omega (
         arith,
-        slots_counted old.near.items conn now slot (sym is),
-        ap (count_by is_some) near,
-        ap hash_map_len far,
+        slots_counted old.dense.items conn now slot (sym is),
+        ap (count_by is_some) dense,
+        ap hash_map_len sparse,
         ap {B = ℕ} (λ t. cond t 1 0) (kept_some slot now within),
       )
 
-  pub near_vacated : (slot : Option Connection) → Some slot ≡ slice_get old.near.items conn → new.near.items ≡ slice_set old.near.items conn None
-      → new.far ≡ old.far → connection_count new + cond (is_some (connection_of old conn)) 1 0 ≡ connection_count old
-  near_vacated slot is near far =
+  pub dense_removed : (slot : Option Connection) → Some slot ≡ slice_get old.dense.items conn → new.dense.items ≡ slice_set old.dense.items conn None
+      → new.sparse ≡ old.sparse → connection_count new + cond (is_some (connection_of old conn)) 1 0 ≡ connection_count old
+  dense_removed slot is dense sparse =
       omega (
         arith,
-        slots_counted old.near.items conn None slot (sym is),
-        ap (count_by is_some) near,
-        ap hash_map_len far,
-        ap {B = ℕ} (λ s. cond (is_some (connection_at s (get nat_eq old.far conn))) 1 0) is,
+        slots_counted old.dense.items conn None slot (sym is),
+        ap (count_by is_some) dense,
+        ap hash_map_len sparse,
+        ap {B = ℕ} (λ s. cond (is_some (connection_at s (get nat_eq old.sparse conn))) 1 0) is,
       )
 
-  pub far_vacated : (taken : Option Connection) → None ≡ slice_get old.near.items conn → new.near.items ≡ old.near.items → taken ≡ get nat_eq old.far conn
-      → hash_map_len new.far + cond (is_some taken) 1 0 ≡ hash_map_len old.far → connection_count new + cond (is_some (connection_of old conn)) 1 0 ≡ connection_count old
-  far_vacated taken behind near is fewer =
+  pub sparse_removed : (taken : Option Connection) → None ≡ slice_get old.dense.items conn → new.dense.items ≡ old.dense.items → taken ≡ get nat_eq old.sparse conn
+      → hash_map_len new.sparse + cond (is_some taken) 1 0 ≡ hash_map_len old.sparse → connection_count new + cond (is_some (connection_of old conn)) 1 0 ≡ connection_count old
+  sparse_removed taken behind dense is fewer =
       omega (
         arith,
         fewer,
-        ap (count_by is_some) near,
+        ap (count_by is_some) dense,
         ap {B = ℕ} (λ s. cond (is_some s) 1 0) is,
-        ap {B = ℕ} (λ s. cond (is_some (connection_at s (get nat_eq old.far conn))) 1 0) behind,
+        ap {B = ℕ} (λ s. cond (is_some (connection_at s (get nat_eq old.sparse conn))) 1 0) behind,
       )
 
 -- bytes that are offered are to be written

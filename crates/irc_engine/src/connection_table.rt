@@ -108,9 +108,9 @@ impl Connection {
 #[derive(Drop)]
 pub(crate) struct ConnectionTable {
     /// Those of the numbers below its length, each at its number.
-    near: Vec<Option<Connection>, Global>,
+    dense: Vec<Option<Connection>, Global>,
     /// Those of other numbers.
-    far: HashMap<u64, Connection, BuildHasherDefault<FoldHasher>, Global>,
+    sparse: HashMap<u64, Connection, BuildHasherDefault<FoldHasher>, Global>,
 }
 
 impl ConnectionTable {
@@ -119,8 +119,8 @@ impl ConnectionTable {
         ensures { (conn : ℕ) → connection_of result conn ≡ None }
     {
         ConnectionTable {
-            near: Vec::new(alloc),
-            far: HashMap::new(alloc),
+            dense: Vec::new(alloc),
+            sparse: HashMap::new(alloc),
         }
     }
 
@@ -128,9 +128,9 @@ impl ConnectionTable {
     fn find(&self, conn: u64) -> Option<&Connection>
         ensures { option_copied result ≡ connection_of self.now conn }
     {
-        match self.near.get(conn as usize) {
+        match self.dense.get(conn as usize) {
             Some(slot) => slot.as_ref(),
-            None => self.far.get(&conn),
+            None => self.sparse.get(&conn),
         }
     }
 
@@ -193,33 +193,33 @@ impl ConnectionTable {
     {
         ask_ahead(alloc, conn as usize, room);
         let fresh = Connection::fresh(alloc, kind, room)?;
-        let next = self.near.len();
-        match self.near.get_mut(conn as usize) {
+        let next = self.dense.len();
+        match self.dense.get_mut(conn as usize) {
             Some(slot) => {
                 *slot = Some(fresh);
                 Ok(())
             }
-            None if conn as usize == next => self.put_next(fresh),
-            None => self.put_far(conn, fresh),
+            None if conn as usize == next => self.insert_next(fresh),
+            None => self.insert_sparse(conn, fresh),
         }
     }
 
-    /// This connection is there from now on, at the first number behind those of the near ones.
-    fn put_next(&mut self, connection: Connection) -> Result<(), AllocError>
-        ensures { OnOk result (Sets self.old (length self.old.near.items) (Some connection) self.new) }
+    /// This connection is there from now on, at the first number behind those of the dense ones.
+    fn insert_next(&mut self, connection: Connection) -> Result<(), AllocError>
+        ensures { OnOk result (Sets self.old (length self.old.dense.items) (Some connection) self.new) }
     {
-        match self.near.push(Some(connection)) {
+        match self.dense.push(Some(connection)) {
             Ok(()) => Ok(()),
             Err(_) => Err(AllocError),
         }
     }
 
-    /// This connection is there from now on, at a number behind those of the near ones.
-    fn put_far(&mut self, conn: u64, connection: Connection) -> Result<(), AllocError>
-        requires { slice_get self.old.near.items conn ≡ None }
+    /// This connection is there from now on, at a number behind those of the dense ones.
+    fn insert_sparse(&mut self, conn: u64, connection: Connection) -> Result<(), AllocError>
+        requires { slice_get self.old.dense.items conn ≡ None }
         ensures { OnOk result (Sets self.old conn (Some connection) self.new) }
     {
-        match self.far.insert(conn, connection) {
+        match self.sparse.insert(conn, connection) {
             Ok(_) => Ok(()),
             Err(_) => Err(AllocError),
         }
@@ -230,10 +230,10 @@ impl ConnectionTable {
         ensures at { Sets self.old conn None self.new }
         ensures len { CountsWithout conn self.old self.new }
     {
-        match self.near.get_mut(conn as usize) {
+        match self.dense.get_mut(conn as usize) {
             Some(slot) => *slot = None,
             None => {
-                self.far.remove(&conn);
+                self.sparse.remove(&conn);
             }
         }
     }
@@ -246,9 +246,9 @@ impl ConnectionTable {
         ensures at { IsOfferedAt conn bytes.now self.old result self.new }
         ensures len { connection_count self.new ≡ connection_count self.old }
     {
-        match self.near.get_mut(conn as usize) {
+        match self.dense.get_mut(conn as usize) {
             Some(slot) => offer(slot, bytes),
-            None => match self.far.get_mut(&conn) {
+            None => match self.sparse.get_mut(&conn) {
                 Some(connection) => connection.offer(bytes),
                 None => Ok(Offered::Nothing),
             },
@@ -260,10 +260,10 @@ impl ConnectionTable {
         ensures at { IsShutAt conn self.old self.new }
         ensures len { connection_count self.new ≡ connection_count self.old }
     {
-        match self.near.get_mut(conn as usize) {
+        match self.dense.get_mut(conn as usize) {
             Some(slot) => shut(slot),
             None => {
-                if let Some(connection) = self.far.get_mut(&conn) {
+                if let Some(connection) = self.sparse.get_mut(&conn) {
                     connection.framer = None;
                 }
             }
@@ -276,9 +276,9 @@ impl ConnectionTable {
         ensures at { FramesAt conn piece.now self.old result self.new }
         ensures len { connection_count self.new ≡ connection_count self.old }
     {
-        match self.near.get_mut(conn as usize) {
+        match self.dense.get_mut(conn as usize) {
             Some(slot) => take(slot, piece),
-            None => match self.far.get_mut(&conn) {
+            None => match self.sparse.get_mut(&conn) {
                 Some(connection) => connection.take(piece),
                 None => None,
             },
@@ -293,9 +293,9 @@ impl ConnectionTable {
         ensures at { IsWrittenAt W.is_after conn self.old wire.old result self.new wire.new }
         ensures len { connection_count self.new ≡ connection_count self.old }
     {
-        match self.near.get_mut(conn as usize) {
+        match self.dense.get_mut(conn as usize) {
             Some(slot) => write(slot, wire, conn),
-            None => match self.far.get_mut(&conn) {
+            None => match self.sparse.get_mut(&conn) {
                 Some(connection) => connection.outbox.write_some(wire, conn),
                 None => Ok(0),
             },

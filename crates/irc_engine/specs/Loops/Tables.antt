@@ -16,18 +16,18 @@ use Rattle.irc_engine.specs.declared.connection_table.Offered.{Offered}
 use Rattle.irc_engine.specs.declared.connection_table.Offered.TheVariants.{Nothing, First, More}
 pub use Rattle.irc_engine.specs.Carrying.{fresh_connection, has_some_at, is_done_at, is_open_at, open_kind_at}
 
--- a number among the near ones has the connection that is there, and another that of the other map
+-- a number among the dense ones has the connection that is there, and another that of the other map
 abbrev pub connection_at : Option (Option Connection) → Option Connection → Option Connection
-connection_at (Some near) far = near
-connection_at None far = far
+connection_at (Some dense) sparse = dense
+connection_at None sparse = sparse
 
 -- the connection of a number, if there is one
 abbrev pub connection_of : ConnectionTable → ℕ → Option Connection
-connection_of table conn = connection_at (slice_get table.near.items conn) (get nat_eq table.far conn)
+connection_of table conn = connection_at (slice_get table.dense.items conn) (get nat_eq table.sparse conn)
 
 -- how many there are
 abbrev pub connection_count : ConnectionTable → ℕ
-connection_count table = count_by is_some table.near.items + hash_map_len table.far
+connection_count table = count_by is_some table.dense.items + hash_map_len table.sparse
 
 -- all connections are as they were, but one
 abbrev pub IsSet : (ℕ → Option Connection) → ℕ → Option Connection → (ℕ → Option Connection) → Type 0
