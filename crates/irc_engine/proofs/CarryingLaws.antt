@@ -45,7 +45,7 @@ answers-append conn (end_of_link which reason ∷ a) b = by (nat_eq which conn) 
     by false rest = rest
 
 -- what is owed by two stretches, where the first may close the connection
-pub owed-append : (unshut : Bool) (conn : ℕ) (a b : List Sent) → owed unshut conn (a ++ b) ≡ owed unshut conn a ++ owed (unshut && not (is_closed_by conn a)) conn b
+pub owed-append : (is_open : Bool) (conn : ℕ) (a b : List Sent) → owed is_open conn (a ++ b) ≡ owed is_open conn a ++ owed (is_open && not (is_closed_by conn a)) conn b
 owed-append true conn a b = answers-append conn a b
 owed-append false conn a b = refl
 
@@ -63,18 +63,18 @@ module _ (conn : ℕ) (a b : List Call) (x y : List Sent) where
     never = times_closed-append conn a b ∙ ap (λ n. n + times_closed conn b) one.never ∙ ap (λ n. 0 + n) other.never;
   }
 
-  carried_on : (unshut still : Bool) (held mid end : List ℕ) → still ≡ (unshut && not (is_closed_by conn x)) → held ++ owed unshut conn x ≡ written conn a ++ mid
-      → mid ++ owed still conn y ≡ written conn b ++ end → held ++ owed unshut conn (x ++ y) ≡ written conn (a ++ b) ++ end
-  carried_on unshut still held mid end is one other =
-      ap (λ xs. held ++ xs) (owed-append unshut conn x y ∙ ap (λ t. owed unshut conn x ++ owed t conn y) (sym is))
-      ∙ one_after_other held (owed unshut conn x) (owed still conn y) (written conn a) (written conn b) mid end one other
+  carried_on : (is_open still : Bool) (held mid end : List ℕ) → still ≡ (is_open && not (is_closed_by conn x)) → held ++ owed is_open conn x ≡ written conn a ++ mid
+      → mid ++ owed still conn y ≡ written conn b ++ end → held ++ owed is_open conn (x ++ y) ≡ written conn (a ++ b) ++ end
+  carried_on is_open still held mid end is one other =
+      ap (λ xs. held ++ xs) (owed-append is_open conn x y ∙ ap (λ t. owed is_open conn x ++ owed t conn y) (sym is))
+      ∙ one_after_other held (owed is_open conn x) (owed still conn y) (written conn a) (written conn b) mid end one other
       ∙ ap (λ xs. xs ++ end) (sym (written-append conn a b))
 
-  open_on : (unshut still now : Bool) → still ≡ (unshut && not (is_closed_by conn x)) → now ≡ (still && not (is_closed_by conn y))
-      → now ≡ (unshut && not (is_closed_by conn (x ++ y)))
-  open_on unshut still now is then =
-      then ∙ ap (λ t. t && not (is_closed_by conn y)) is ∙ both unshut (is_closed_by conn x) (is_closed_by conn y)
-      ∙ ap (λ t. unshut && not t) (sym (is_closed_by-append conn x y))
+  open_on : (is_open still now : Bool) → still ≡ (is_open && not (is_closed_by conn x)) → now ≡ (still && not (is_closed_by conn y))
+      → now ≡ (is_open && not (is_closed_by conn (x ++ y)))
+  open_on is_open still now is then =
+      then ∙ ap (λ t. t && not (is_closed_by conn y)) is ∙ both is_open (is_closed_by conn x) (is_closed_by conn y)
+      ∙ ap (λ t. is_open && not t) (sym (is_closed_by-append conn x y))
     where
       both : (o c d : Bool) → ((o && not c) && not d) ≡ (o && not (c || d))
       both true true d = refl
@@ -94,8 +94,8 @@ module _ (conn : ℕ) (a b : List Call) (x y : List Sent) where
   }
 
   why_then : (old mid : Connection) (left : List ℕ) → Stays conn old a x mid → Why conn mid b y left → Why conn old (a ++ b) (x ++ y) left
-  why_then old mid left one (finished shut none) =
-      finished (sym (open_on (is_some old.framer) (is_some mid.framer) false one.still_open (sym shut))) none
+  why_then old mid left one (finished closed none) =
+      finished (sym (open_on (is_some old.framer) (is_some mid.framer) false one.still_open (sym closed))) none
   why_then old mid left one (cut_off cut) =
       cut_off (is_cut_off-append conn a b ∙ ap (λ t. t || is_cut_off conn b) one.never_cut ∙ cut)
   why_then old mid left one (overflowed more) = overflowed (subst (λ (n : ℕ). n < length left) one.same_room more)
@@ -111,17 +111,17 @@ module _ (conn : ℕ) (a b : List Call) (x y : List Sent) where
   either : (s t : Bool) → s ≡ true → (s || t) ≡ true
   either s t is = ap (λ u. u || t) is
 
-  shut_still : (o c d : Bool) → (o && not c) ≡ false → (o && not (c || d)) ≡ false
-  shut_still true true d is = refl
-  shut_still true false d is = cc is
-  shut_still false c d is = refl
+  closed_still : (o c d : Bool) → (o && not c) ≡ false → (o && not (c || d)) ≡ false
+  closed_still true true d is = refl
+  closed_still true false d is = cc is
+  closed_still false c d is = refl
 
   why_still : (old : Connection) (left : List ℕ) → Why conn old a x left
       → Why conn old (a ++ b) (x ++ y) (left ++ owed (is_some old.framer && not (is_closed_by conn x)) conn y)
-  why_still old left (finished shut none) =
+  why_still old left (finished closed none) =
       finished
-      (ap (λ t. is_some old.framer && not t) (is_closed_by-append conn x y) ∙ shut_still (is_some old.framer) (is_closed_by conn x) (is_closed_by conn y) shut)
-      (ap (λ t. left ++ owed t conn y) shut ∙ append-nil left ∙ none)
+      (ap (λ t. is_some old.framer && not t) (is_closed_by-append conn x y) ∙ closed_still (is_some old.framer) (is_closed_by conn x) (is_closed_by conn y) closed)
+      (ap (λ t. left ++ owed t conn y) closed ∙ append-nil left ∙ none)
   why_still old left (cut_off cut) = cut_off (is_cut_off-append conn a b ∙ either (is_cut_off conn a) (is_cut_off conn b) cut)
   why_still old left (overflowed more) =
       let rest = owed (is_some old.framer && not (is_closed_by conn x)) conn y in
@@ -215,7 +215,7 @@ elsewhere_both conn a b x y one other = record {
   never_closed = is_closed_by-append conn x y ∙ ap (λ t. t || is_closed_by conn y) one.never_closed ∙ other.never_closed;
 }
 
-pub nothing_owed : (unshut : Bool) (conn : ℕ) (outs : List Sent) → answers conn outs ≡ [] → owed unshut conn outs ≡ []
+pub nothing_owed : (is_open : Bool) (conn : ℕ) (outs : List Sent) → answers conn outs ≡ [] → owed is_open conn outs ≡ []
 nothing_owed true conn outs none = none
 nothing_owed false conn outs none = refl
 
@@ -263,7 +263,7 @@ pub same_fate : (conn : ℕ) (connection : Option Connection) → Fate conn conn
 same_fate conn connection = untouched_fate conn [] [] (record { silent = record { nothing = refl; never = refl }; never_cut = refl; nothing = refl; never_closed = refl }) connection
 
 -- What is put out matters to a connection by what is owed to it and by whether it is closed.
-module _ (conn : ℕ) (calls : List Call) (outs outs' : List Sent) (owes : (unshut : Bool) → owed unshut conn outs ≡ owed unshut conn outs')
+module _ (conn : ℕ) (calls : List Call) (outs outs' : List Sent) (owes : (is_open : Bool) → owed is_open conn outs ≡ owed is_open conn outs')
     (closes : is_closed_by conn outs ≡ is_closed_by conn outs') where
   why_as : (old : Connection) (left : List ℕ) → Why conn old calls outs left → Why conn old calls outs' left
   why_as old left (finished is none) = finished (ap (λ b. is_some old.framer && not b) (sym closes) ∙ is) none

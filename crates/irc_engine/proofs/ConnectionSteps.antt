@@ -8,8 +8,8 @@ use Rattle.irc_outbox.specs.Calls.{Call, closes, is_some_bytes}
 use Rattle.irc_batch.specs.Batches.{Sent, end_of, end_of_link, line_on, line_to}
 use Rattle.irc_batch.specs.declared.close_reason.CloseReason.{CloseReason}
 use Rattle.irc_engine.specs.declared.connections.Connections.{Connections}
-use Rattle.irc_engine.specs.declared.connection_table.Offered.{Offered}
-use Rattle.irc_engine.specs.declared.connection_table.Offered.TheVariants.{Nothing}
+use Rattle.irc_engine.specs.declared.connection_table.Pushed.{Pushed}
+use Rattle.irc_engine.specs.declared.connection_table.Pushed.TheVariants.{Nothing}
 use Rattle.irc_engine.specs.declared.kind.Kind.{Kind}
 use Rattle.irc_engine.specs.declared.connection_table.Connection.{Connection}
 use Rattle.irc_line.specs.Lines.{Begun}
@@ -17,12 +17,12 @@ use Rattle.irc_engine.specs.Hearing.{Hears}
 use Rattle.irc_engine.proofs.HearingLaws.{hears_gone, hears_same}
 use Rattle.irc_engine.specs.Carrying.{owed, is_closed_by, is_exchange, AddsAll, Passage, finished}
 use Rattle.irc_engine.specs.Loops.Counts.{count_of}
-use Rattle.irc_engine.specs.Loops.Tables.{connection_count, connection_of, is_done_at, AreSame, at_connection, no_connection, IsOfferedAt, IsShutAt}
+use Rattle.irc_engine.specs.Loops.Tables.{connection_count, connection_of, is_done_at, AreSame, at_connection, no_connection, IsPushedAt, IsClosedAt}
 use Rattle.irc_engine.specs.Loops.Connections.{lost_at, lost_by, IsLostAs, Ends, Loses, Settles, ended, stayed, Carries}
 use Rattle.irc_engine.proofs.TableLaws.{nat_eq-refl, IsQueuedAt}
 use Rattle.irc_engine.proofs.KindLaws.{kind_kept, kind_forgotten, kind_gone}
 use Rattle.irc_engine.proofs.CarryingLaws.{IsElsewhere, nothing_owed, passage_as, passage_on, untouched, still, kept_none, kept_some}
-use Rattle.irc_engine.proofs.EachConnection.{adds_none, adds_both, at_once, by_number, set_here, set_other, nothing_else, close_elsewhere, line_elsewhere, shut_elsewhere, ends_fewer, last_close, line_drops}
+use Rattle.irc_engine.proofs.EachConnection.{adds_none, adds_both, at_once, by_number, set_here, set_other, nothing_else, close_elsewhere, line_elsewhere, closed_elsewhere, ends_fewer, last_close, line_drops}
 
 and_false : (o : Bool) → (o && false) ≡ false
 and_false true = refl
@@ -74,7 +74,7 @@ module _ {W : Type 0} (is_after : W → List Call → Type 0) where
       line_taken (at_connection connection now was set queued) =
           let outs : List Sent = line_to conn text ∷ [] in
           let owes : owed (is_some connection.framer) conn outs ≡ text =
-          ap (λ t. owed t conn outs) queued.unshut ∙ ap (λ xs. xs ++ []) (at_once conn text []) ∙ append-nil text in
+          ap (λ t. owed t conn outs) queued.is_open ∙ ap (λ xs. xs ++ []) (at_once conn text []) ∙ append-nil text in
           record {
             calls = [];
             account = adds_none is_after old.wire new.wire wire;
@@ -96,16 +96,16 @@ module _ {W : Type 0} (is_after : W → List Call → Type 0) where
             count = count;
           }
 
-      none_owed : (unshut : Bool) → (unshut ≡ true → text ≡ []) → owed unshut conn (line_to conn text ∷ []) ≡ []
+      none_owed : (is_open : Bool) → (is_open ≡ true → text ≡ []) → owed is_open conn (line_to conn text ∷ []) ≡ []
       none_owed true never = ap (λ xs. xs ++ []) (at_once conn text []) ∙ append-nil text ∙ never refl
       none_owed false never = refl
 
       -- a line of nothing, or to a connection that the server has closed, or that is not there
-      pub line_passed : (result : Result Offered Overflow) → result ≡ Ok Nothing → IsOfferedAt conn text old.table result new.table
+      pub line_passed : (result : Result Pushed Overflow) → result ≡ Ok Nothing → IsPushedAt conn text old.table result new.table
           → Carries is_after [] old (line_to conn text ∷ []) new
-      line_passed result is offered = by (subst (λ r. IsOfferedAt conn text old.table r new.table) is offered)
+      line_passed result is pushed = by (subst (λ r. IsPushedAt conn text old.table r new.table) is pushed)
         where
-          by : IsOfferedAt conn text old.table (Ok Nothing) new.table → Carries is_after [] old (line_to conn text ∷ []) new
+          by : IsPushedAt conn text old.table (Ok Nothing) new.table → Carries is_after [] old (line_to conn text ∷ []) new
           by (no_connection none same never) = record {
             calls = [];
             account = adds_none is_after old.wire new.wire wire;
@@ -146,9 +146,9 @@ module _ {W : Type 0} (is_after : W → List Call → Type 0) where
     closed_now x = ap (λ t. x && not (t || false)) (nat_eq-refl conn) ∙ and_false x
 
     -- the server has closed a connection
-    pub shut_now : IsShutAt conn old.table new.table → IsLostAs old.lost conn None new.lost → new.wire ≡ old.wire → count_of new ≤ count_of old
+    pub carries_close : IsClosedAt conn old.table new.table → IsLostAs old.lost conn None new.lost → new.wire ≡ old.wire → count_of new ≤ count_of old
         → Carries is_after [] old (end_of conn ∷ []) new
-    shut_now shut forgotten wire count = by shut
+    carries_close closed forgotten wire count = by closed
       where
         others_lost : (q : ℕ) → nat_eq conn q ≡ false → lost_at new.lost q ≡ lost_at old.lost q
         others_lost q two = forgotten q ∙ ap (λ t. cond {A = Option Kind} t None (lost_at old.lost q)) two
@@ -156,11 +156,11 @@ module _ {W : Type 0} (is_after : W → List Call → Type 0) where
         not_lost : lost_at new.lost conn ≡ None
         not_lost = forgotten conn ∙ at_once {A = Option Kind} conn None (lost_at old.lost conn)
 
-        by : IsShutAt conn old.table new.table → Carries is_after [] old (end_of conn ∷ []) new
+        by : IsClosedAt conn old.table new.table → Carries is_after [] old (end_of conn ∷ []) new
         by (no_connection none same so) = record {
           calls = [];
           account = adds_none is_after old.wire new.wire wire;
-          passage = one_connection [] (end_of conn ∷ []) None None none (same conn ∙ none) (λ q two. same q) others_lost (λ q two. shut_elsewhere conn q two)
+          passage = one_connection [] (end_of conn ∷ []) None None none (same conn ∙ none) (λ q two. same q) others_lost (λ q two. closed_elsewhere conn q two)
               (record {
                 fate = record { nothing = refl; never = refl };
                 lost_is = ap is_some not_lost ∙ sym (closed_now _);
@@ -174,7 +174,7 @@ module _ {W : Type 0} (is_after : W → List Call → Type 0) where
           calls = [];
           account = adds_none is_after old.wire new.wire wire;
           passage = one_connection [] (end_of conn ∷ []) (Some connection) (Some now) was (set_here (connection_of old.table) (connection_of new.table) conn (Some now) set)
-              (set_other (connection_of old.table) (connection_of new.table) conn (Some now) set) others_lost (λ q two. shut_elsewhere conn q two)
+              (set_other (connection_of old.table) (connection_of new.table) conn (Some now) set) others_lost (λ q two. closed_elsewhere conn q two)
               (record {
                 fate = record {
                   carried = ap (λ xs. connection.outbox.bytes ++ xs) (nothing_owed (is_some connection.framer) conn (end_of conn ∷ []) (at_once conn [] []))
@@ -192,15 +192,15 @@ module _ {W : Type 0} (is_after : W → List Call → Type 0) where
           count = count;
         }
 
-    shut_and_empty : (o : Bool) (bytes : List ℕ) → (not o && not (is_some_bytes bytes)) ≡ true → (o ≡ false) × (bytes ≡ [])
-    shut_and_empty true bytes is = cc is
-    shut_and_empty false [] is = (refl, refl)
-    shut_and_empty false (b ∷ bytes) is = cc is
+    closed_and_empty : (o : Bool) (bytes : List ℕ) → (not o && not (is_some_bytes bytes)) ≡ true → (o ≡ false) × (bytes ≡ [])
+    closed_and_empty true bytes is = cc is
+    closed_and_empty false [] is = (refl, refl)
+    closed_and_empty false (b ∷ bytes) is = cc is
 
-    shut_lost : (l o : Bool) → o ≡ false → l ≡ ((l || (o && true)) && true)
-    shut_lost true o is = refl
-    shut_lost false true is = sym is
-    shut_lost false false is = refl
+    closed_lost : (l o : Bool) → o ≡ false → l ≡ ((l || (o && true)) && true)
+    closed_lost true o is = refl
+    closed_lost false true is = sym is
+    closed_lost false false is = refl
 
     -- a connection that the server has closed ends, once nothing is left
     pub ends_done : is_done_at (connection_of old.table conn) ≡ true → Ends is_after conn old new → Carries is_after [] old [] new
@@ -209,7 +209,7 @@ module _ {W : Type 0} (is_after : W → List Call → Type 0) where
         by : (s : Option Connection) → connection_of old.table conn ≡ s → is_done_at s ≡ true → Carries is_after [] old [] new
         by None was never = cc never
         by (Some connection) was is =
-            let parts = shut_and_empty (is_some connection.framer) connection.outbox.bytes is in
+            let parts = closed_and_empty (is_some connection.framer) connection.outbox.bytes is in
             record {
               calls = closes conn ∷ [];
               account = ends.account;
@@ -223,7 +223,7 @@ module _ {W : Type 0} (is_after : W → List Call → Type 0) where
                       once = last_close conn;
                       why = finished (ap (λ o. o && true) parts.0) refl;
                     };
-                    lost_is = ap (λ l. is_some (lost_at l conn)) ends.lost ∙ shut_lost (is_some (lost_at old.lost conn)) (is_some connection.framer) parts.0;
+                    lost_is = ap (λ l. is_some (lost_at l conn)) ends.lost ∙ closed_lost (is_some (lost_at old.lost conn)) (is_some connection.framer) parts.0;
                     keeps_kind = kind_gone (Some connection) (lost_at old.lost conn) (lost_at new.lost conn) (ap (λ l. lost_at l conn) ends.lost);
                     hears_none = hears_gone connection.framer;
                   });
@@ -238,14 +238,14 @@ module _ {W : Type 0} (is_after : W → List Call → Type 0) where
 
   module _ (conn : ℕ) (old mid new : Connections W) (loses : Loses is_after conn mid new) (lost : mid.lost ≡ old.lost) (count : count_of mid ≤ count_of old) where
     -- a line does not fit, and the connection is lost
-    pub line_lost : (text : List ℕ) (overflow : Overflow) (result : Result Offered Overflow) → result ≡ Err overflow
-        → IsOfferedAt conn text old.table result mid.table → mid.wire ≡ old.wire → Carries is_after [] old (line_to conn text ∷ []) new
-    line_lost text overflow result is offered wire = by (subst (λ r. IsOfferedAt conn text old.table r mid.table) is offered)
+    pub line_lost : (text : List ℕ) (overflow : Overflow) (result : Result Pushed Overflow) → result ≡ Err overflow
+        → IsPushedAt conn text old.table result mid.table → mid.wire ≡ old.wire → Carries is_after [] old (line_to conn text ∷ []) new
+    line_lost text overflow result is pushed wire = by (subst (λ r. IsPushedAt conn text old.table r mid.table) is pushed)
       where
-        by : IsOfferedAt conn text old.table (Err overflow) mid.table → Carries is_after [] old (line_to conn text ∷ []) new
+        by : IsPushedAt conn text old.table (Err overflow) mid.table → Carries is_after [] old (line_to conn text ∷ []) new
         by (no_connection none same never) = cc never
-        by (at_connection connection now was set (unshut, more, now_is)) =
-            line_drops is_after conn old new connection text unshut more (record {
+        by (at_connection connection now was set (is_open, more, now_is)) =
+            line_drops is_after conn old new connection text is_open more (record {
               was = was;
               account = subst (λ w. AddsAll is_after w (closes conn ∷ []) new.wire) wire loses.account;
               table = λ q. loses.table q ∙ over q (nat_eq conn q) refl (set q);
@@ -262,7 +262,7 @@ module _ {W : Type 0} (is_after : W → List Call → Type 0) where
 
 -- a link is a connection of the wire: what is put out on it goes there as to a client
 pub carries_as : {W : Type 0} (is_after : W → List Call → Type 0) (exchanges : List Call) (old : Connections W) (outs outs' : List Sent) (new : Connections W)
-    → ((conn : ℕ) (unshut : Bool) → owed unshut conn outs ≡ owed unshut conn outs') → ((conn : ℕ) → is_closed_by conn outs ≡ is_closed_by conn outs')
+    → ((conn : ℕ) (is_open : Bool) → owed is_open conn outs ≡ owed is_open conn outs') → ((conn : ℕ) → is_closed_by conn outs ≡ is_closed_by conn outs')
     → Carries is_after exchanges old outs new → Carries is_after exchanges old outs' new
 carries_as is_after exchanges old outs outs' new owes ends carries = record {
   calls = carries.calls;
@@ -277,7 +277,7 @@ pub on_link : {W : Type 0} (is_after : W → List Call → Type 0) (old : Connec
 on_link is_after old link text new carries =
     carries_as is_after [] old (line_to link text ∷ []) (line_on link text ∷ []) new by (λ conn. refl) carries
   where
-    by : (conn : ℕ) (unshut : Bool) → owed unshut conn (line_to link text ∷ []) ≡ owed unshut conn (line_on link text ∷ [])
+    by : (conn : ℕ) (is_open : Bool) → owed is_open conn (line_to link text ∷ []) ≡ owed is_open conn (line_on link text ∷ [])
     by conn true = refl
     by conn false = refl
 
@@ -286,6 +286,6 @@ pub of_link : {W : Type 0} (is_after : W → List Call → Type 0) (old : Connec
 of_link is_after old link reason new carries =
     carries_as is_after [] old (end_of link ∷ []) (end_of_link link reason ∷ []) new by (λ conn. refl) carries
   where
-    by : (conn : ℕ) (unshut : Bool) → owed unshut conn (end_of link ∷ []) ≡ owed unshut conn (end_of_link link reason ∷ [])
+    by : (conn : ℕ) (is_open : Bool) → owed is_open conn (end_of link ∷ []) ≡ owed is_open conn (end_of_link link reason ∷ [])
     by conn true = refl
     by conn false = refl

@@ -13,7 +13,7 @@ use Rattle.irc_engine.specs.Loops.Tables.{connection_count, connection_of, IsSet
 use Rattle.irc_engine.specs.Loops.Connections.{lost_at, lost_by, IsLostAs, Ends, Loses, Carries}
 use Rattle.irc_engine.proofs.TableLaws.{one_number, nat_eq-refl}
 use Rattle.irc_engine.proofs.HearingLaws.{hears_gone}
-use Rattle.irc_engine.proofs.KindLaws.{kind_of_lost, some_lost, lost_by_open, lost_by_shut, open_some}
+use Rattle.irc_engine.proofs.KindLaws.{kind_of_lost, some_lost, lost_by_open, lost_by_close, open_some}
 use Rattle.irc_engine.proofs.CarryingLaws.{IsElsewhere, untouched, elsewhere_both}
 
 -- accounts
@@ -84,8 +84,8 @@ line_elsewhere conn q text two = record {
   never_closed = refl;
 }
 
-pub shut_elsewhere : (conn q : ℕ) → nat_eq conn q ≡ false → IsElsewhere q [] (end_of conn ∷ [])
-shut_elsewhere conn q two = record {
+pub closed_elsewhere : (conn q : ℕ) → nat_eq conn q ≡ false → IsElsewhere q [] (end_of conn ∷ [])
+closed_elsewhere conn q two = record {
   silent = record { nothing = refl; never = refl };
   never_cut = refl;
   nothing = ap (λ t. cond t [] []) two;
@@ -97,13 +97,13 @@ shut_elsewhere conn q two = record {
 module _ {W : Type 0} (is_after : W → List Call → Type 0) (conn : ℕ) (old done : Connections W) where
   pub lost_open : (lost : BTreeMap ℕ Kind) (kind : Kind) → Ends is_after conn old done → open_kind_at (connection_of old.table conn) ≡ Some kind
       → IsLostAs done.lost conn (Some kind) lost → btree_map_len lost ≤ btree_map_len done.lost + 1 → Loses is_after conn old (record done { lost = lost })
-  lost_open lost kind ends unshut noted len =
+  lost_open lost kind ends is_open noted len =
       let fewer : connection_count done.table + 1 ≡ connection_count old.table =
-      ap (λ t. connection_count done.table + cond t 1 0) (sym (open_some (connection_of old.table conn) kind unshut)) ∙ ends.len in
+      ap (λ t. connection_count done.table + cond t 1 0) (sym (open_some (connection_of old.table conn) kind is_open)) ∙ ends.len in
       record {
         account = ends.account;
         table = ends.table;
-        lost = λ q. noted q ∙ lost_by_open (nat_eq conn q) (connection_of old.table conn) kind (lost_at done.lost q) unshut
+        lost = λ q. noted q ∙ lost_by_open (nat_eq conn q) (connection_of old.table conn) kind (lost_at done.lost q) is_open
             ∙ ap (λ l. lost_by (nat_eq conn q) (connection_of old.table conn) (lost_at l q)) ends.lost;
         waiting = ends.waiting;
         count = omega (arith, ap btree_map_len ends.lost);
@@ -118,11 +118,11 @@ module _ {W : Type 0} (is_after : W → List Call → Type 0) (conn : ℕ) (old 
       let fewer = fewer_or (is_some (connection_of old.table conn)) (connection_count done.table) (connection_count old.table) ends.len in
       omega (arith, ap btree_map_len ends.lost)
 
-  pub lost_shut : Ends is_after conn old done → open_kind_at (connection_of old.table conn) ≡ None → Loses is_after conn old done
-  lost_shut ends shut = record {
+  pub lost_closed : Ends is_after conn old done → open_kind_at (connection_of old.table conn) ≡ None → Loses is_after conn old done
+  lost_closed ends closed = record {
     account = ends.account;
     table = ends.table;
-    lost = λ q. ap (λ l. lost_at l q) ends.lost ∙ lost_by_shut (nat_eq conn q) (connection_of old.table conn) (lost_at old.lost q) shut;
+    lost = λ q. ap (λ l. lost_at l q) ends.lost ∙ lost_by_close (nat_eq conn q) (connection_of old.table conn) (lost_at old.lost q) closed;
     waiting = ends.waiting;
     count = ends_fewer ends;
   }
@@ -153,10 +153,10 @@ module _ {W : Type 0} (is_after : W → List Call → Type 0) (conn : ℕ) (old 
   -- a line that does not fit its outbox
   pub line_drops : (text : List ℕ) → is_some connection.framer ≡ true → connection.outbox.room < length connection.outbox.bytes + length text
       → Drops is_after conn connection [] old new → Carries is_after [] old (line_to conn text ∷ []) new
-  line_drops text unshut more drops =
+  line_drops text is_open more drops =
       let outs : List Sent = line_to conn text ∷ [] in
       let owes : owed (is_some connection.framer) conn outs ≡ text =
-      ap (λ t. owed t conn outs) unshut ∙ ap (λ xs. xs ++ []) (at_once conn text []) ∙ append-nil text in
+      ap (λ t. owed t conn outs) is_open ∙ ap (λ xs. xs ++ []) (at_once conn text []) ∙ append-nil text in
       record {
         calls = closes conn ∷ [];
         account = drops.account;

@@ -45,7 +45,7 @@ some_lost false connection was = or_none (is_some was)
 some_lost true None was = or_none (is_some was)
 some_lost true (Some connection) was = by (is_some connection.framer)
   where
-    by : (unshut : Bool) → is_some (cond unshut (Some connection.kind) was) ≡ (is_some was || unshut)
+    by : (is_open : Bool) → is_some (cond is_open (Some connection.kind) was) ≡ (is_some was || is_open)
     by true = or_all (is_some was)
     by false = or_none (is_some was)
 
@@ -54,16 +54,16 @@ pub lost_by_open : (it_is : Bool) (connection : Option Connection) (kind : Kind)
 lost_by_open false connection kind was is = refl
 lost_by_open true connection kind was is = by (is_open_at connection) is
   where
-    by : (unshut : Bool) → cond unshut (kind_at connection) None ≡ Some kind → Some kind ≡ cond unshut (kind_at connection) was
+    by : (is_open : Bool) → cond is_open (kind_at connection) None ≡ Some kind → Some kind ≡ cond is_open (kind_at connection) was
     by true is = sym is
     by false is = cc is
 
-pub lost_by_shut : (it_is : Bool) (connection : Option Connection) (was : Option Kind) → open_kind_at connection ≡ None → was ≡ lost_by it_is connection was
-lost_by_shut false connection was is = refl
-lost_by_shut true None was is = refl
-lost_by_shut true (Some connection) was is = by (is_some connection.framer) is
+pub lost_by_close : (it_is : Bool) (connection : Option Connection) (was : Option Kind) → open_kind_at connection ≡ None → was ≡ lost_by it_is connection was
+lost_by_close false connection was is = refl
+lost_by_close true None was is = refl
+lost_by_close true (Some connection) was is = by (is_some connection.framer) is
   where
-    by : (unshut : Bool) → cond unshut (Some connection.kind) None ≡ None → was ≡ cond unshut (Some connection.kind) was
+    by : (is_open : Bool) → cond is_open (Some connection.kind) None ≡ None → was ≡ cond is_open (Some connection.kind) was
     by true is = cc is
     by false is = refl
 

@@ -5,12 +5,12 @@ use Rattle.arrayvec.specs.ArrayVec.{ArrayVec}
 use Rattle.irc_outbox.specs.declared.outbox.Overflow.{Overflow}
 use Rattle.irc_outbox.specs.Calls.{Call, is_some_bytes}
 use Rattle.irc_engine.specs.declared.connections.Connections.{Connections}
-use Rattle.irc_engine.specs.declared.connection_table.Offered.{Offered}
-use Rattle.irc_engine.specs.declared.connection_table.Offered.TheVariants.{Nothing, First, More}
+use Rattle.irc_engine.specs.declared.connection_table.Pushed.{Pushed}
+use Rattle.irc_engine.specs.declared.connection_table.Pushed.TheVariants.{Nothing, First, More}
 use Rattle.irc_engine.specs.declared.kind.Kind.{Kind}
 use Rattle.irc_engine.specs.declared.connection_table.Connection.{Connection}
 use Rattle.irc_engine.specs.Carrying.{fresh_connection, has_some_at, is_done_at}
-use Rattle.irc_engine.specs.Loops.Tables.{connection_of, at_connection, no_connection, IsOfferedAt, IsQueued, IsSet, IsShutAt, FramesAt}
+use Rattle.irc_engine.specs.Loops.Tables.{connection_of, at_connection, no_connection, IsPushedAt, IsQueued, IsSet, IsClosedAt, FramesAt}
 use Rattle.irc_engine.specs.Loops.Connections.{has, ended, stayed, IsNoted, IsMarked, IsMarkedAt, KeepsMarks, KeepsNotes, Settles}
 use Rattle.irc_engine.proofs.TableLaws.{one_number}
 use Rattle.irc_engine.proofs.EachConnection.{at_once, set_here, set_other}
@@ -44,7 +44,7 @@ queued_marked : (pending noted : Bool) (connection now : Connection) (bytes : Li
     → IsMarked pending (Some now) noted
 queued_marked pending noted connection now bytes queued is = record {
   noted_is = is ∙ sym (ap (λ (s : Connection). is_some_bytes s.outbox.bytes) queued.is ∙ some_behind connection.outbox.bytes bytes queued.some);
-  not_done = done_open (is_some now.framer) (is_some_bytes now.outbox.bytes) (ap (λ (s : Connection). is_some s.framer) queued.is ∙ queued.unshut);
+  not_done = done_open (is_some now.framer) (is_some_bytes now.outbox.bytes) (ap (λ (s : Connection). is_some s.framer) queued.is ∙ queued.is_open);
 }
 
 module _ {W : Type 0} (conn : ℕ) (old new : Connections W) (others : (q : ℕ) → nat_eq conn q ≡ false → connection_of new.table q ≡ connection_of old.table q) (now : Bool)
@@ -82,11 +82,11 @@ module _ {W : Type 0} (conn : ℕ) (old new : Connections W) (others : (q : ℕ)
 
 module _ {W : Type 0} (conn : ℕ) (old new : Connections W) where
   -- bytes are the first that wait
-  pub marks_first : (bytes : List ℕ) (result : Result Offered Overflow) → result ≡ Ok First → IsOfferedAt conn bytes old.table result new.table
+  pub marks_first : (bytes : List ℕ) (result : Result Pushed Overflow) → result ≡ Ok First → IsPushedAt conn bytes old.table result new.table
       → IsNoted old.waiting conn true new.waiting → KeepsMarks old new
-  marks_first bytes result is offered noted = by (subst (λ r. IsOfferedAt conn bytes old.table r new.table) is offered)
+  marks_first bytes result is pushed noted = by (subst (λ r. IsPushedAt conn bytes old.table r new.table) is pushed)
     where
-      by : IsOfferedAt conn bytes old.table (Ok First) new.table → KeepsMarks old new
+      by : IsPushedAt conn bytes old.table (Ok First) new.table → KeepsMarks old new
       by (no_connection none same never) = cc never
       by (at_connection connection now was set so) =
           marks_by conn old new (set_other (connection_of old.table) (connection_of new.table) conn (Some now) set) true noted
@@ -114,11 +114,11 @@ module _ {W : Type 0} (conn : ℕ) (old new : Connections W) where
       by false two = ap (λ t. cond t (has old.waiting conn) (has old.waiting q)) two
 
   -- bytes wait behind others: it is noted, or the turn is about to write to it
-  pub marks_more : (bytes : List ℕ) (result : Result Offered Overflow) → result ≡ Ok More → IsOfferedAt conn bytes old.table result new.table
+  pub marks_more : (bytes : List ℕ) (result : Result Pushed Overflow) → result ≡ Ok More → IsPushedAt conn bytes old.table result new.table
       → ((q : ℕ) → has new.waiting q ≡ has old.waiting q) → KeepsMarks old new
-  marks_more bytes result is offered noted = by (subst (λ r. IsOfferedAt conn bytes old.table r new.table) is offered)
+  marks_more bytes result is pushed noted = by (subst (λ r. IsPushedAt conn bytes old.table r new.table) is pushed)
     where
-      by : IsOfferedAt conn bytes old.table (Ok More) new.table → KeepsMarks old new
+      by : IsPushedAt conn bytes old.table (Ok More) new.table → KeepsMarks old new
       by (no_connection none same never) = cc never
       by (at_connection connection now was set so) =
           marks_by conn old new (set_other (connection_of old.table) (connection_of new.table) conn (Some now) set) (has old.waiting conn)
@@ -129,33 +129,33 @@ module _ {W : Type 0} (conn : ℕ) (old new : Connections W) where
           ((subst (λ (s : Option Connection). IsMarked pending s (has old.waiting conn)) was is).noted_is ∙ so.1)))
 
   -- its outbox has taken none
-  pub marks_passed : (bytes : List ℕ) (result : Result Offered Overflow) → result ≡ Ok Nothing → IsOfferedAt conn bytes old.table result new.table
+  pub marks_passed : (bytes : List ℕ) (result : Result Pushed Overflow) → result ≡ Ok Nothing → IsPushedAt conn bytes old.table result new.table
       → ((q : ℕ) → has new.waiting q ≡ has old.waiting q) → KeepsMarks old new
-  marks_passed bytes result is offered noted = by (subst (λ r. IsOfferedAt conn bytes old.table r new.table) is offered)
+  marks_passed bytes result is pushed noted = by (subst (λ r. IsPushedAt conn bytes old.table r new.table) is pushed)
     where
-      by : IsOfferedAt conn bytes old.table (Ok Nothing) new.table → KeepsMarks old new
+      by : IsPushedAt conn bytes old.table (Ok Nothing) new.table → KeepsMarks old new
       by (no_connection none same never) = marks_same same noted
       by (at_connection connection now was set (never, now_is)) = marks_same (same_connections connection now was set now_is) noted
 
   -- it did not fit
-  pub others_refused : (bytes : List ℕ) (overflow : Overflow) (result : Result Offered Overflow) → result ≡ Err overflow
-      → IsOfferedAt conn bytes old.table result new.table
+  pub others_refused : (bytes : List ℕ) (overflow : Overflow) (result : Result Pushed Overflow) → result ≡ Err overflow
+      → IsPushedAt conn bytes old.table result new.table
       → (q : ℕ) → connection_of new.table q ≡ connection_of old.table q
-  others_refused bytes overflow result is offered = by (subst (λ r. IsOfferedAt conn bytes old.table r new.table) is offered)
+  others_refused bytes overflow result is pushed = by (subst (λ r. IsPushedAt conn bytes old.table r new.table) is pushed)
     where
-      by : IsOfferedAt conn bytes old.table (Err overflow) new.table → (q : ℕ) → connection_of new.table q ≡ connection_of old.table q
+      by : IsPushedAt conn bytes old.table (Err overflow) new.table → (q : ℕ) → connection_of new.table q ≡ connection_of old.table q
       by (no_connection none same never) = same
-      by (at_connection connection now was set (unshut, more, now_is)) = same_connections connection now was set now_is
+      by (at_connection connection now was set (is_open, more, now_is)) = same_connections connection now was set now_is
 
-  pub shut_others : IsShutAt conn old.table new.table → (q : ℕ) → nat_eq conn q ≡ false → connection_of new.table q ≡ connection_of old.table q
-  shut_others (no_connection none same so) q two = same q
-  shut_others (at_connection connection now was set so) q two = set_other (connection_of old.table) (connection_of new.table) conn (Some now) set q two
+  pub closed_others : IsClosedAt conn old.table new.table → (q : ℕ) → nat_eq conn q ≡ false → connection_of new.table q ≡ connection_of old.table q
+  closed_others (no_connection none same so) q two = same q
+  closed_others (at_connection connection now was set so) q two = set_other (connection_of old.table) (connection_of new.table) conn (Some now) set q two
 
   -- the server has closed a connection, and something is left to write
-  pub marks_shut : IsShutAt conn old.table new.table → ((q : ℕ) → has new.waiting q ≡ has old.waiting q) → is_done_at (connection_of new.table conn) ≡ false
+  pub marks_closed : IsClosedAt conn old.table new.table → ((q : ℕ) → has new.waiting q ≡ has old.waiting q) → is_done_at (connection_of new.table conn) ≡ false
       → KeepsMarks old new
-  marks_shut (no_connection none same so) noted undone = marks_same same noted
-  marks_shut (at_connection connection now was set now_is) noted undone =
+  marks_closed (no_connection none same so) noted undone = marks_same same noted
+  marks_closed (at_connection connection now was set now_is) noted undone =
       marks_by conn old new (set_other (connection_of old.table) (connection_of new.table) conn (Some now) set) (has old.waiting conn)
       (as_before noted)
       (λ pending is. record {

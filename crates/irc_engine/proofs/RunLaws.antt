@@ -72,19 +72,19 @@ tells_on conn was mid now a b x y one other = λ apart.
     let then = other first.apart in
     record {
       at_most = omega (arith, first.at_most, then.at_most, times_gone-append conn a b);
-      unless_closed = λ unshut.
-          let parts = either_false (is_closed_by conn x) (is_closed_by conn y) (sym (is_closed_by-append conn x y) ∙ unshut) in
+      unless_closed = λ is_open.
+          let parts = either_false (is_closed_by conn x) (is_closed_by conn y) (sym (is_closed_by-append conn x y) ∙ is_open) in
           omega (arith, first.unless_closed parts.0, then.unless_closed parts.1, times_gone-append conn a b);
       apart = then.apart;
     }
 
 tells_still : (conn : ℕ) (now : Standing) → Tells conn now [] [] now
-tells_still conn now = λ apart. record { at_most = omega arith; unless_closed = λ unshut. omega arith; apart = apart }
+tells_still conn now = λ apart. record { at_most = omega arith; unless_closed = λ is_open. omega arith; apart = apart }
 
-tells_as : (conn : ℕ) (was now : Standing) → now.lost ≡ was.lost → now.unshut ≡ was.unshut → Tells conn was [] [] now
-tells_as conn was now lost unshut =
-    subst (λ (l : Bool). Tells conn was [] [] (record { lost = l; unshut = now.unshut })) (sym lost)
-    (subst (λ (o : Bool). Tells conn was [] [] (record { lost = was.lost; unshut = o })) (sym unshut) (tells_still conn was))
+tells_as : (conn : ℕ) (was now : Standing) → now.lost ≡ was.lost → now.is_open ≡ was.is_open → Tells conn was [] [] now
+tells_as conn was now lost is_open =
+    subst (λ (l : Bool). Tells conn was [] [] (record { lost = l; is_open = now.is_open })) (sym lost)
+    (subst (λ (o : Bool). Tells conn was [] [] (record { lost = was.lost; is_open = o })) (sym is_open) (tells_still conn was))
 
 fewer : (b c : Bool) → 0 + one_if (b && not c) ≤ one_if b
 fewer true true = omega arith
@@ -153,12 +153,12 @@ apart_after conn (Some old) was calls outs (Some new) now passed apart =
 -- something is done of itself: the server is told nothing
 tells_passage : (conn : ℕ) (old : Option Connection) (was : Option Kind) (calls : List Call) (outs : List Sent) (new : Option Connection) (now : Option Kind)
     → Passage conn old was calls outs new now
-    → Tells conn (record { lost = is_some was; unshut = is_open_at old }) [] outs (record { lost = is_some now; unshut = is_open_at new })
+    → Tells conn (record { lost = is_some was; is_open = is_open_at old }) [] outs (record { lost = is_some now; is_open = is_open_at new })
 tells_passage conn old was calls outs new now passed = λ apart. record {
   at_most = subst (λ (b : Bool). 0 + one_if b ≤ one_if (is_some was || is_open_at old)) (sym known) (fewer (is_some was || is_open_at old) (is_closed_by conn outs));
-  unless_closed = λ unshut.
+  unless_closed = λ is_open.
       let same : one_if (is_some now || is_open_at new) ≡ one_if (is_some was || is_open_at old) =
-      ap one_if (known ∙ ap (λ c. (is_some was || is_open_at old) && not c) unshut ∙ and_true (is_some was || is_open_at old)) in
+      ap one_if (known ∙ ap (λ c. (is_some was || is_open_at old) && not c) is_open ∙ and_true (is_some was || is_open_at old)) in
       omega (arith, same);
   apart = apart_after conn old was calls outs new now passed apart;
 }
@@ -172,12 +172,12 @@ or_false false = refl
 
 -- an open connection is lost
 lost_now : (q : ℕ) (l o t p : Bool) (s : Option Connection) → t ≡ true → o ≡ true → p ≡ true
-    → Tells q (record { lost = l; unshut = o }) [] [] (record { lost = l || (t && p); unshut = is_open_at (cond t None s) })
-lost_now q l o false p s one here unshut = cc one
-lost_now q l false t p s one here unshut = cc here
-lost_now q l o t false s one here unshut = cc unshut
-lost_now q true true true true s one here unshut = λ apart. cc apart
-lost_now q false true true true s one here unshut = λ apart. record { at_most = omega arith; unless_closed = λ never. omega arith; apart = refl }
+    → Tells q (record { lost = l; is_open = o }) [] [] (record { lost = l || (t && p); is_open = is_open_at (cond t None s) })
+lost_now q l o false p s one here is_open = cc one
+lost_now q l false t p s one here is_open = cc here
+lost_now q l o t false s one here is_open = cc is_open
+lost_now q true true true true s one here is_open = λ apart. cc apart
+lost_now q false true true true s one here is_open = λ apart. record { at_most = omega arith; unless_closed = λ never. omega arith; apart = refl }
 
 line_told : (kind : Kind) (conn q : ℕ) (line : ArrayVec ℕ) → lines_by q (line_event_of kind conn line ∷ []) ≡ cond (nat_eq conn q) (line.items ∷ []) [] ++ []
 line_told kinds.Client conn q line = refl
@@ -421,15 +421,15 @@ module _ {W : Type 0} (is_after : W → List Call → Type 0) where
   gone_once kinds.Link conn q t is = ap (λ u. 0 + cond u 1 0) is
 
   gone_of : (kind : Kind) (conn q : ℕ) (t l o : Bool) (events : List Event) (outs : List Sent) (now : Standing) → nat_eq conn q ≡ t → (t ≡ true → l ≡ true)
-      → Tells q (record { lost = cond t false l; unshut = o }) events outs now
-      → Tells q (record { lost = l; unshut = o }) (end_event_of kind conn ∷ events) outs now
+      → Tells q (record { lost = cond t false l; is_open = o }) events outs now
+      → Tells q (record { lost = l; is_open = o }) (end_event_of kind conn ∷ events) outs now
   gone_of kind conn q true true true events outs now is lost tells = λ apart. cc apart
   gone_of kind conn q true true false events outs now is lost tells = λ apart.
       let told = tells refl in
       let here = gone_once kind conn q true is in
       record {
         at_most = omega (arith, told.at_most, here, times_gone-append q (end_event_of kind conn ∷ []) events);
-        unless_closed = λ unshut. omega (arith, told.unless_closed unshut, here, times_gone-append q (end_event_of kind conn ∷ []) events);
+        unless_closed = λ is_open. omega (arith, told.unless_closed is_open, here, times_gone-append q (end_event_of kind conn ∷ []) events);
         apart = told.apart;
       }
   gone_of kind conn q true false o events outs now is lost tells = cc (lost refl)
@@ -438,7 +438,7 @@ module _ {W : Type 0} (is_after : W → List Call → Type 0) where
       let here = gone_once kind conn q false is in
       record {
         at_most = omega (arith, told.at_most, here, times_gone-append q (end_event_of kind conn ∷ []) events);
-        unless_closed = λ unshut. omega (arith, told.unless_closed unshut, here, times_gone-append q (end_event_of kind conn ∷ []) events);
+        unless_closed = λ is_open. omega (arith, told.unless_closed is_open, here, times_gone-append q (end_event_of kind conn ∷ []) events);
         apart = told.apart;
       }
 
@@ -471,9 +471,9 @@ module _ {W : Type 0} (is_after : W → List Call → Type 0) where
         (subst (λ (s : Option Connection). Hears (begun_at s) [] (lines_by q ran.events) (begun_at (new.connections q))) (at q) (ran.hears q));
     tells = λ q. gone_of kind conn q (nat_eq conn q) (is_some (lost_at old.lost q)) (is_open_at (connection_of old.table q)) ran.events ran.outs (standing_of q new) refl
         (λ one. ap (λ p. is_some (lost_at old.lost p)) (sym (one_number conn q one)) ∙ ap is_some as_lost)
-        (subst (λ (l : Bool). Tells q (record { lost = l; unshut = is_open_at (connection_of old.table q) }) ran.events ran.outs (standing_of q new))
+        (subst (λ (l : Bool). Tells q (record { lost = l; is_open = is_open_at (connection_of old.table q) }) ran.events ran.outs (standing_of q new))
         (ap is_some (popped q) ∙ still_lost (nat_eq conn q) (lost_at old.lost q))
-        (subst (λ (s : Option Connection). Tells q (record { lost = is_some (lost_at mid.lost q); unshut = is_open_at s }) ran.events ran.outs (standing_of q new)) (at q) (ran.tells q)));
+        (subst (λ (s : Option Connection). Tells q (record { lost = is_some (lost_at mid.lost q); is_open = is_open_at s }) ran.events ran.outs (standing_of q new)) (at q) (ran.tells q)));
     same_room = ran.same_room;
   }
     where
@@ -549,7 +549,7 @@ module _ {W : Type 0} (is_after : W → List Call → Type 0) where
       → is_open_at (connection_of old.table conn) ≡ true → Adds is_after old.wire (reads conn room answer bytes) mid.wire → mid.table ≡ old.table → mid.lost ≡ old.lost
       → Loses is_after conn mid new → later ≡ size
       → Ran is_after (reads conn room answer bytes ∷ []) [] nothing_of (at_connections server size old) (at_connections server later new)
-  ran_cut server size later old mid new conn room answer bytes is unshut account same same_lost loses as_large = record {
+  ran_cut server size later old mid new conn room answer bytes is is_open account same same_lost loses as_large = record {
     events = [];
     outs = [];
     calls = calls;
@@ -559,7 +559,7 @@ module _ {W : Type 0} (is_after : W → List Call → Type 0) where
     fates = fate_of_one conn (connection_of old.table) (connection_of new.table) calls [] (set_other (connection_of old.table) (connection_of new.table) conn None set)
         (λ q two. elsewhere_both q (reads conn room answer bytes ∷ []) (closes conn ∷ []) [] [] (cut_elsewhere conn room answer bytes is q two) (close_elsewhere conn q two))
         (subst (λ (s : Option Connection). Fate conn (connection_of old.table conn) calls [] s) (sym (set_here (connection_of old.table) (connection_of new.table) conn None set))
-        (here (connection_of old.table conn) unshut));
+        (here (connection_of old.table conn) is_open));
     are_news = tt;
     keep_kinds = λ q. kind_cut q (nat_eq conn q) refl;
     hears = λ q. subst (λ (s : Option Connection). Hears (begun_at (connection_of old.table q)) [] [] (begun_at s)) (sym (set q)) (hears_cut (nat_eq conn q) (connection_of old.table q));
@@ -597,11 +597,11 @@ module _ {W : Type 0} (is_after : W → List Call → Type 0) where
 
       tells_cut : (q : ℕ) (t : Bool) → nat_eq conn q ≡ t → Tells q (standing_of q (at_connections server size old)) [] [] (standing_of q (at_connections server later new))
       tells_cut q true one =
-          subst (λ (l : Bool). Tells q (standing_of q (at_connections server size old)) [] [] (record { lost = l; unshut = is_open_at (connection_of new.table q) })) (sym (lost_is q))
+          subst (λ (l : Bool). Tells q (standing_of q (at_connections server size old)) [] [] (record { lost = l; is_open = is_open_at (connection_of new.table q) })) (sym (lost_is q))
           (subst (λ (s : Option Connection). Tells q (standing_of q (at_connections server size old)) [] []
-          (record { lost = is_some (lost_at old.lost q) || (nat_eq conn q && is_open_at (connection_of old.table conn)); unshut = is_open_at s })) (sym (set q))
+          (record { lost = is_some (lost_at old.lost q) || (nat_eq conn q && is_open_at (connection_of old.table conn)); is_open = is_open_at s })) (sym (set q))
           (lost_now q (is_some (lost_at old.lost q)) (is_open_at (connection_of old.table q)) (nat_eq conn q) (is_open_at (connection_of old.table conn)) (connection_of old.table q) one
-          (ap (λ p. is_open_at (connection_of old.table p)) (sym (one_number conn q one)) ∙ unshut) unshut))
+          (ap (λ p. is_open_at (connection_of old.table p)) (sym (one_number conn q one)) ∙ is_open) is_open))
       tells_cut q false two =
           tells_as q (standing_of q (at_connections server size old)) (standing_of q (at_connections server later new))
           (lost_is q ∙ ap (λ t. is_some (lost_at old.lost q) || (t && is_open_at (connection_of old.table conn))) two ∙ or_false (is_some (lost_at old.lost q)))
@@ -609,7 +609,7 @@ module _ {W : Type 0} (is_after : W → List Call → Type 0) where
 
       here : (s : Option Connection) → is_open_at s ≡ true → Fate conn s (reads conn room answer bytes ∷ closes conn ∷ []) [] None
       here None never = cc never
-      here (Some connection) is_unshut = record {
+      here (Some connection) is_open = record {
         left = connection.outbox.bytes ++ owed (is_some connection.framer) conn [];
         carried = refl;
         once = last_close conn;
@@ -678,15 +678,15 @@ module _ {W : Type 0} (is_after : W → List Call → Type 0) where
           kept q = kind_kept (connection_of old.table q) (connection_of mid.table q) (lost_at old.lost q) (lost_at mid.lost q) (kind_as q (nat_eq conn q) refl)
               (ap (λ l. lost_at l q) lost)
 
-          unshut_as : (q : ℕ) (t : Bool) → nat_eq conn q ≡ t → is_open_at (connection_of mid.table q) ≡ is_open_at (connection_of old.table q)
-          unshut_as q true one = ap (λ p. is_open_at (connection_of mid.table p)) (sym (one_number conn q one))
+          open_as : (q : ℕ) (t : Bool) → nat_eq conn q ≡ t → is_open_at (connection_of mid.table q) ≡ is_open_at (connection_of old.table q)
+          open_as q true one = ap (λ p. is_open_at (connection_of mid.table p)) (sym (one_number conn q one))
               ∙ ap is_open_at is_now ∙ ap (λ (s : Connection). is_some s.framer) so.is ∙ sym (ap is_some so.was)
               ∙ sym (ap is_open_at was) ∙ ap (λ p. is_open_at (connection_of old.table p)) (one_number conn q one)
-          unshut_as q false two = ap is_open_at (set_other (connection_of old.table) (connection_of mid.table) conn (Some now) set q two)
+          open_as q false two = ap is_open_at (set_other (connection_of old.table) (connection_of mid.table) conn (Some now) set q two)
 
           same_standing : (q : ℕ) → standing_of q (at_connections server size mid) ≡ standing_of q (at_connections server size old)
-          same_standing q = ap (λ l. record { lost = is_some (lost_at l q); unshut = is_open_at (connection_of mid.table q) }) lost
-              ∙ ap (λ o. record { lost = is_some (lost_at old.lost q); unshut = o }) (unshut_as q (nat_eq conn q) refl)
+          same_standing q = ap (λ l. record { lost = is_some (lost_at l q); is_open = is_open_at (connection_of mid.table q) }) lost
+              ∙ ap (λ o. record { lost = is_some (lost_at old.lost q); is_open = o }) (open_as q (nat_eq conn q) refl)
 
           framed : (q : ℕ) (t : Bool) → nat_eq conn q ≡ t
               → Hears (begun_at (connection_of old.table q)) (only_of conn (take used piece) q) (lines_by q (passed_on kind conn line)) (begun_at (connection_of mid.table q))
@@ -714,7 +714,7 @@ module _ {W : Type 0} (is_after : W → List Call → Type 0) where
     where
       so_then : begun_at (connection_of old.table conn) ≡ None → ((q : ℕ) → connection_of new.table q ≡ connection_of old.table q)
           → Ran is_after [] [] (only_of conn bytes) (at_connections server size old) (at_connections server size new)
-      so_then shut same = record {
+      so_then closed same = record {
         events = [];
         outs = [];
         calls = [];
@@ -731,7 +731,7 @@ module _ {W : Type 0} (is_after : W → List Call → Type 0) where
       }
         where
           deaf : (q : ℕ) (t : Bool) → nat_eq conn q ≡ t → Hears (begun_at (connection_of old.table q)) (only_of conn bytes q) [] (begun_at (connection_of old.table q))
-          deaf q true one = hears_deaf (only_of conn bytes q) (begun_at (connection_of old.table q)) (ap (λ p. begun_at (connection_of old.table p)) (sym (one_number conn q one)) ∙ shut)
+          deaf q true one = hears_deaf (only_of conn bytes q) (begun_at (connection_of old.table q)) (ap (λ p. begun_at (connection_of old.table p)) (sym (one_number conn q one)) ∙ closed)
           deaf q false two = subst (λ (bs : List ℕ). Hears (begun_at (connection_of old.table q)) bs [] (begun_at (connection_of old.table q)))
               (sym (ap (λ t. cond t bytes []) two)) (hears_kept (begun_at (connection_of old.table q)))
 

@@ -8,11 +8,11 @@ use Rattle.std.specs.HashMap.{get, get_by, hash_map_len, UpdatesBy}
 use Rattle.std.proofs.lemmas.Bool.{eq-eqb, eqb-true}
 use Rattle.std.proofs.lemmas.List.Sums.{sum_by-cons}
 use Rattle.irc_outbox.specs.declared.outbox.Overflow.{Overflow}
-use Rattle.irc_engine.specs.declared.connection_table.Offered.{Offered}
-use Rattle.irc_engine.specs.declared.connection_table.Offered.TheVariants.{First, More}
+use Rattle.irc_engine.specs.declared.connection_table.Pushed.{Pushed}
+use Rattle.irc_engine.specs.declared.connection_table.Pushed.TheVariants.{First, More}
 use Rattle.irc_engine.specs.declared.connection_table.Connection.{Connection}
 use Rattle.irc_engine.specs.declared.connection_table.ConnectionTable.{ConnectionTable}
-use Rattle.irc_engine.specs.Loops.Tables.{connection_at, connection_count, connection_of, IsOfferedAt, IsQueued, IsSet, Through, at_connection, no_connection, Within, in_none, in_connection}
+use Rattle.irc_engine.specs.Loops.Tables.{connection_at, connection_count, connection_of, IsPushedAt, IsQueued, IsSet, Through, at_connection, no_connection, Within, in_none, in_connection}
 
 pub one_number : (a b : ℕ) → nat_eq a b ≡ true → a ≡ b
 one_number a b same = eqb-true a b same
@@ -181,21 +181,21 @@ module _ (old new : ConnectionTable) (conn : ℕ) where
         ap {B = ℕ} (λ s. cond (is_some (connection_at s (get nat_eq old.sparse conn))) 1 0) behind,
       )
 
--- bytes that are offered are to be written
+-- bytes that are pushed are to be written
 abbrev pub IsQueuedAt : ℕ → List ℕ → ConnectionTable → ConnectionTable → Type 0
 IsQueuedAt conn bytes old new = Through conn (λ s t. IsQueued s bytes t) ⊥ old new
 
-module _ (conn : ℕ) (bytes : List ℕ) (old new : ConnectionTable) (result : Result Offered Overflow) where
-  pub queued_first : result ≡ Ok First → IsOfferedAt conn bytes old result new → IsQueuedAt conn bytes old new
-  queued_first is offered = by (subst (λ r. IsOfferedAt conn bytes old r new) is offered)
+module _ (conn : ℕ) (bytes : List ℕ) (old new : ConnectionTable) (result : Result Pushed Overflow) where
+  pub queued_first : result ≡ Ok First → IsPushedAt conn bytes old result new → IsQueuedAt conn bytes old new
+  queued_first is pushed = by (subst (λ r. IsPushedAt conn bytes old r new) is pushed)
     where
-      by : IsOfferedAt conn bytes old (Ok First) new → IsQueuedAt conn bytes old new
+      by : IsPushedAt conn bytes old (Ok First) new → IsQueuedAt conn bytes old new
       by (no_connection none same never) = cc never
       by (at_connection connection now was set so) = at_connection connection now was set so.0
 
-  pub queued_more : result ≡ Ok More → IsOfferedAt conn bytes old result new → IsQueuedAt conn bytes old new
-  queued_more is offered = by (subst (λ r. IsOfferedAt conn bytes old r new) is offered)
+  pub queued_more : result ≡ Ok More → IsPushedAt conn bytes old result new → IsQueuedAt conn bytes old new
+  queued_more is pushed = by (subst (λ r. IsPushedAt conn bytes old r new) is pushed)
     where
-      by : IsOfferedAt conn bytes old (Ok More) new → IsQueuedAt conn bytes old new
+      by : IsPushedAt conn bytes old (Ok More) new → IsQueuedAt conn bytes old new
       by (no_connection none same never) = cc never
       by (at_connection connection now was set so) = at_connection connection now was set so.0

@@ -15,10 +15,10 @@ use Rattle.irc_engine.proofs.CarryingLaws.{nothing_owed, still, kept_some}
 use Rattle.irc_engine.proofs.HearingLaws.{hears_same}
 use Rattle.irc_engine.proofs.MarkLaws.{unmarks_gone, unmarks_settled}
 
-some_offered : (bytes front : List ℕ) → IsFront bytes front → is_some_bytes bytes ≡ true → is_some_bytes front ≡ true
-some_offered [] front is some = cc some
-some_offered (b ∷ bytes) [] is some = absurd (omega (arith, is.some (omega arith)))
-some_offered (b ∷ bytes) (c ∷ front) is some = refl
+some_pushed : (bytes front : List ℕ) → IsFront bytes front → is_some_bytes bytes ≡ true → is_some_bytes front ≡ true
+some_pushed [] front is some = cc some
+some_pushed (b ∷ bytes) [] is some = absurd (omega (arith, is.some (omega arith)))
+some_pushed (b ∷ bytes) (c ∷ front) is some = refl
 
 -- one write is made, if the connection is there
 pub record Wrote {W : Type 0} (is_after : W → List Call → Type 0) (conn : ℕ) (old new : Connections W) : Type 0 where
@@ -65,7 +65,7 @@ module _ {W : Type 0} (is_after : W → List Call → Type 0) (conn : ℕ) (old 
           count = count;
         };
         are_writes = subst (λ (s : Option Connection). AreWrites conn s (writes conn w.front (Ok n) ∷ [])) (sym was)
-            (record { front = w.front; answer = Ok n; exchanges_are = refl; some = some_offered connection.outbox.bytes w.front w.is_front });
+            (record { front = w.front; answer = Ok n; exchanges_are = refl; some = some_pushed connection.outbox.bytes w.front w.is_front });
       }
 
   others : (result : Result ℕ IoFault) → IsWrittenAt is_after conn old.table old.wire result mid.table mid.wire
@@ -110,7 +110,7 @@ module _ {W : Type 0} (is_after : W → List Call → Type 0) (conn : ℕ) (old 
                 count = omega (arith, loses.count, count);
               });
               are_writes = subst (λ (s : Option Connection). AreWrites conn s (writes conn w.front (Err fault) ∷ [])) (sym was)
-                  (record { front = w.front; answer = Err fault; exchanges_are = refl; some = some_offered connection.outbox.bytes w.front w.is_front });
+                  (record { front = w.front; answer = Err fault; exchanges_are = refl; some = some_pushed connection.outbox.bytes w.front w.is_front });
               marks = unmarks_gone conn old new mid (others result written) waiting loses.table loses.waiting;
             }
           where

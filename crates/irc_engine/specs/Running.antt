@@ -34,18 +34,18 @@ pub record Moment (W : Type 0) : Type 0 where
 -- how a connection stands with the server: it was lost and the server has yet to be told, or it is open, or neither
 pub record Standing : Type 0 where
   pub lost : Bool
-  pub unshut : Bool
+  pub is_open : Bool
 
 abbrev pub standing_of : {W : Type 0} → ℕ → Moment W → Standing
-standing_of conn now = record { lost = is_some (now.lost conn); unshut = is_open_at (now.connections conn) }
+standing_of conn now = record { lost = is_some (now.lost conn); is_open = is_open_at (now.connections conn) }
 
 -- whether the server knows of it
 abbrev pub is_known : Standing → Bool
-is_known now = now.lost || now.unshut
+is_known now = now.lost || now.is_open
 
 -- it is not lost and open at once
 abbrev pub IsApart : Standing → Type 0
-IsApart now = (now.lost && now.unshut) ≡ false
+IsApart now = (now.lost && now.is_open) ≡ false
 
 -- the server has been told of each connection that was lost
 abbrev pub AllTold : {W : Type 0} → Moment W → Type 0

@@ -1,7 +1,7 @@
 //! The connections that are there, by number: the outbox of each, and what has come of its next line.
 ghost use Rattle.std.specs.Prelude.{◌≡◌, ℕ, Some, None, is_some, length, option_copied, IfOk, OnOk};
 ghost use Rattle.std.specs.List.{slice_get};
-ghost use Rattle.irc_engine.specs.Loops.Tables.{fresh_connection, has_some_at, is_done_at, is_open_at, open_kind_at, connection_count, connection_of, CountsWithout, Sets, IsOffered, IsOfferedAt, IsOfferedIn, IsShutAt, IsWrittenAt, IsWrittenIn, Frames, FramesAt, Within};
+ghost use Rattle.irc_engine.specs.Loops.Tables.{fresh_connection, has_some_at, is_done_at, is_open_at, open_kind_at, connection_count, connection_of, CountsWithout, Sets, IsPushedTo, IsPushedAt, IsPushedIn, IsClosedAt, IsWrittenAt, IsWrittenIn, Frames, FramesAt, Within};
 
 use crate::boxed_framer::BoxedFramer;
 use crate::kind::Kind;
@@ -26,9 +26,9 @@ pub struct Connection {
     pub framer: Option<BoxedFramer>,
 }
 
-/// What has come of bytes that were offered to a connection.
+/// What has come of bytes that were pushed to a connection.
 #[derive(Clone, Copy)]
-pub(crate) enum Offered {
+pub(crate) enum Pushed {
     /// None are to be written.
     Nothing,
     /// They are the first that wait to be written.
@@ -73,18 +73,18 @@ impl Connection {
     ///
     /// # Errors
     /// Where they do not fit.
-    fn offer(&mut self, bytes: &[u8]) -> Result<Offered, Overflow>
-        ensures { IsOffered self.old bytes.now result self.new }
+    fn push(&mut self, bytes: &[u8]) -> Result<Pushed, Overflow>
+        ensures { IsPushedTo self.old bytes.now result self.new }
     {
         if self.framer.is_none() || bytes.is_empty() {
-            return Ok(Offered::Nothing);
+            return Ok(Pushed::Nothing);
         }
         let held = self.outbox.len();
         self.outbox.push(bytes)?;
         if held == 0 {
-            Ok(Offered::First)
+            Ok(Pushed::First)
         } else {
-            Ok(Offered::More)
+            Ok(Pushed::More)
         }
     }
 
@@ -103,7 +103,7 @@ impl Connection {
     }
 }
 
-/// The connections, by their numbers. What goes to many is offered at each of their numbers in turn: those that a wire gives first are
+/// The connections, by their numbers. What goes to many is pushed at each of their numbers in turn: those that a wire gives first are
 /// found without a search.
 #[derive(Drop)]
 pub(crate) struct ConnectionTable {
@@ -182,7 +182,7 @@ impl ConnectionTable {
     }
 
     /// A connection is there from now on, where none of its number was.
-    pub(crate) fn give_seat(
+    pub(crate) fn insert(
         &mut self,
         alloc: Global,
         conn: u64,
@@ -226,7 +226,7 @@ impl ConnectionTable {
     }
 
     /// A connection is there no more.
-    pub(crate) fn vacate(&mut self, conn: u64)
+    pub(crate) fn remove(&mut self, conn: u64)
         ensures at { Sets self.old conn None self.new }
         ensures len { CountsWithout conn self.old self.new }
     {
@@ -238,30 +238,30 @@ impl ConnectionTable {
         }
     }
 
-    /// Offers bytes to a connection.
+    /// Pushes bytes to a connection.
     ///
     /// # Errors
     /// Where they do not fit.
-    pub(crate) fn offer(&mut self, conn: u64, bytes: &[u8]) -> Result<Offered, Overflow>
-        ensures at { IsOfferedAt conn bytes.now self.old result self.new }
+    pub(crate) fn push(&mut self, conn: u64, bytes: &[u8]) -> Result<Pushed, Overflow>
+        ensures at { IsPushedAt conn bytes.now self.old result self.new }
         ensures len { connection_count self.new ≡ connection_count self.old }
     {
         match self.dense.get_mut(conn as usize) {
-            Some(slot) => offer(slot, bytes),
+            Some(slot) => push(slot, bytes),
             None => match self.sparse.get_mut(&conn) {
-                Some(connection) => connection.offer(bytes),
-                None => Ok(Offered::Nothing),
+                Some(connection) => connection.push(bytes),
+                None => Ok(Pushed::Nothing),
             },
         }
     }
 
     /// The server has closed a connection.
-    pub(crate) fn shut(&mut self, conn: u64)
-        ensures at { IsShutAt conn self.old self.new }
+    pub(crate) fn close_when_written(&mut self, conn: u64)
+        ensures at { IsClosedAt conn self.old self.new }
         ensures len { connection_count self.new ≡ connection_count self.old }
     {
         match self.dense.get_mut(conn as usize) {
-            Some(slot) => shut(slot),
+            Some(slot) => close_when_written(slot),
             None => {
                 if let Some(connection) = self.sparse.get_mut(&conn) {
                     connection.framer = None;
@@ -303,18 +303,18 @@ impl ConnectionTable {
     }
 }
 
-/// Offers bytes to the connection of this place, if there is one.
-fn offer(slot: &mut Option<Connection>, bytes: &[u8]) -> Result<Offered, Overflow>
-    ensures { IsOfferedIn bytes.now slot.old result slot.new }
+/// Pushes bytes to the connection of this place, if there is one.
+fn push(slot: &mut Option<Connection>, bytes: &[u8]) -> Result<Pushed, Overflow>
+    ensures { IsPushedIn bytes.now slot.old result slot.new }
 {
     match slot {
-        Some(connection) => connection.offer(bytes),
-        None => Ok(Offered::Nothing),
+        Some(connection) => connection.push(bytes),
+        None => Ok(Pushed::Nothing),
     }
 }
 
 /// The server has closed the connection of this place, if there is one.
-fn shut(slot: &mut Option<Connection>)
+fn close_when_written(slot: &mut Option<Connection>)
     ensures { Within (λ s t. t ≡ record s { framer = None }) (Unit {0}) slot.old slot.new }
 {
     if let Some(connection) = slot {

@@ -6,7 +6,7 @@ ghost use Rattle.irc_engine.specs.Loops.Connections.{lost_at, Carries, CarriesOn
 ghost use Rattle.irc_engine.specs.Writing.{one_if};
 ghost use Rattle.irc_batch.specs.Batches.{end_of, line_to, sent_of};
 
-use crate::connection_table::{ConnectionTable, Offered};
+use crate::connection_table::{ConnectionTable, Pushed};
 use crate::kind::Kind;
 use irc_batch::{Batch, Out};
 use irc_outbox::Wire;
@@ -83,7 +83,7 @@ impl<W: Wire> Connections<W> {
     fn end(&mut self, conn: u64)
         ensures { Ends W.is_after conn self.old self.new }
     {
-        self.table.vacate(conn);
+        self.table.remove(conn);
         forget(&mut self.waiting, conn);
         self.wire.close(conn);
     }
@@ -106,21 +106,21 @@ impl<W: Wire> Connections<W> {
         ensures carries { OnOk result (CarriesOne W.is_after self.old (line_to conn line.now) self.new) }
         ensures marks { OnOk result (KeepsMarks self.old self.new) }
     {
-        match self.table.offer(conn, line) {
-            Ok(Offered::First) => note(&mut self.waiting, conn),
-            Ok(Offered::More) => Ok(()),
-            Ok(Offered::Nothing) => Ok(()),
+        match self.table.push(conn, line) {
+            Ok(Pushed::First) => note(&mut self.waiting, conn),
+            Ok(Pushed::More) => Ok(()),
+            Ok(Pushed::Nothing) => Ok(()),
             Err(_) => self.lose(conn),
         }
     }
 
     /// The server has closed a connection: it ends once nothing is left to write.
-    fn shut(&mut self, conn: u64)
+    fn close_when_written(&mut self, conn: u64)
         ensures carries { CarriesOne W.is_after self.old (end_of conn) self.new }
         ensures marks { KeepsMarks self.old self.new }
     {
         forget_loss(&mut self.lost, conn);
-        self.table.shut(conn);
+        self.table.close_when_written(conn);
         if self.table.is_done(conn) {
             self.end(conn);
         }
@@ -135,11 +135,11 @@ impl<W: Wire> Connections<W> {
             Out::Line(conn, line) => self.send(conn, line),
             Out::LinkLine(link, line) => self.send(link, line),
             Out::Close(conn) => {
-                self.shut(conn);
+                self.close_when_written(conn);
                 Ok(())
             }
             Out::LinkClose(link, _) => {
-                self.shut(link);
+                self.close_when_written(link);
                 Ok(())
             }
         }

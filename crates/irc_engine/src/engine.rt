@@ -191,9 +191,7 @@ impl<W: Wire> Core<W> {
         if self.connections.table.contains(conn) {
             return Ok(());
         }
-        self.connections
-            .table
-            .give_seat(self.alloc, conn, kind, room)?;
+        self.connections.table.insert(self.alloc, conn, kind, room)?;
         self.pass(event)
     }
 

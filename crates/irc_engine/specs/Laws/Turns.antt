@@ -85,8 +85,8 @@ module _ {W : Type 0} (is_after : W → List Call → Type 0) (rooms : Rooms) (c
 
   reads_waits : (which : ℕ) (old new : Moment W) → Reads is_after which old new → has_some_at (old.connections conn) ≡ true
       → is_some (new.connections conn) ≡ true → has_some_at (new.connections conn) ≡ true
-  reads_waits which old new (not_open shut ran) some there = ran_waits [] [] _ old new refl ran some there
-  reads_waits which old new (read_once size answer bytes unshut as_large ran) some there = ran_waits _ [] _ old new refl ran some there
+  reads_waits which old new (not_open closed ran) some there = ran_waits [] [] _ old new refl ran some there
+  reads_waits which old new (read_once size answer bytes is_open as_large ran) some there = ran_waits _ [] _ old new refl ran some there
 
   answers_wait : (report : Ready) (old new : Moment W) → Answers is_after rooms report old new → has_some_at (old.connections conn) ≡ true
       → is_some (new.connections conn) ≡ true

@@ -12,8 +12,8 @@ use Rattle.irc_outbox.specs.Outboxes.{holding, WritesSome}
 use Rattle.irc_engine.specs.declared.kind.Kind.{Kind}
 use Rattle.irc_engine.specs.declared.connection_table.Connection.{Connection}
 use Rattle.irc_engine.specs.declared.connection_table.ConnectionTable.{ConnectionTable}
-use Rattle.irc_engine.specs.declared.connection_table.Offered.{Offered}
-use Rattle.irc_engine.specs.declared.connection_table.Offered.TheVariants.{Nothing, First, More}
+use Rattle.irc_engine.specs.declared.connection_table.Pushed.{Pushed}
+use Rattle.irc_engine.specs.declared.connection_table.Pushed.TheVariants.{Nothing, First, More}
 pub use Rattle.irc_engine.specs.Carrying.{fresh_connection, has_some_at, is_done_at, is_open_at, open_kind_at}
 
 -- a number among the dense ones has the connection that is there, and another that of the other map
@@ -55,27 +55,27 @@ pub data Within (P : Connection → Connection → Type 0) (Q : Type 0) (old new
 
 -- bytes are to be written, behind those that wait already
 pub record IsQueued (old : Connection) (bytes : List ℕ) (new : Connection) : Type 0 where
-  pub unshut : is_some old.framer ≡ true
+  pub is_open : is_some old.framer ≡ true
   pub some : 0 < length bytes
   pub fits : length old.outbox.bytes + length bytes ≤ old.outbox.room
   pub is : new ≡ record old { outbox = holding (old.outbox.bytes ++ bytes) old.outbox.room }
 
--- bytes are offered to be written: what is told says whether others wait already
-abbrev pub IsOffered : Connection → List ℕ → Result Offered Overflow → Connection → Type 0
-IsOffered old bytes (Ok Nothing) new = (is_some old.framer ≡ true → bytes ≡ []) × (new ≡ old)
-IsOffered old bytes (Ok First) new = IsQueued old bytes new × (is_some_bytes old.outbox.bytes ≡ false)
-IsOffered old bytes (Ok More) new = IsQueued old bytes new × (is_some_bytes old.outbox.bytes ≡ true)
-IsOffered old bytes (Err overflow) new = (is_some old.framer ≡ true) × (old.outbox.room < length old.outbox.bytes + length bytes) × (new ≡ old)
+-- bytes are pushed to be written: what is told says whether others wait already
+abbrev pub IsPushedTo : Connection → List ℕ → Result Pushed Overflow → Connection → Type 0
+IsPushedTo old bytes (Ok Nothing) new = (is_some old.framer ≡ true → bytes ≡ []) × (new ≡ old)
+IsPushedTo old bytes (Ok First) new = IsQueued old bytes new × (is_some_bytes old.outbox.bytes ≡ false)
+IsPushedTo old bytes (Ok More) new = IsQueued old bytes new × (is_some_bytes old.outbox.bytes ≡ true)
+IsPushedTo old bytes (Err overflow) new = (is_some old.framer ≡ true) × (old.outbox.room < length old.outbox.bytes + length bytes) × (new ≡ old)
 
-abbrev pub IsOfferedAt : ℕ → List ℕ → ConnectionTable → Result Offered Overflow → ConnectionTable → Type 0
-IsOfferedAt conn bytes old result new = Through conn (λ s t. IsOffered s bytes result t) (result ≡ Ok Nothing) old new
+abbrev pub IsPushedAt : ℕ → List ℕ → ConnectionTable → Result Pushed Overflow → ConnectionTable → Type 0
+IsPushedAt conn bytes old result new = Through conn (λ s t. IsPushedTo s bytes result t) (result ≡ Ok Nothing) old new
 
-abbrev pub IsOfferedIn : List ℕ → Option Connection → Result Offered Overflow → Option Connection → Type 0
-IsOfferedIn bytes old result new = Within (λ s t. IsOffered s bytes result t) (result ≡ Ok Nothing) old new
+abbrev pub IsPushedIn : List ℕ → Option Connection → Result Pushed Overflow → Option Connection → Type 0
+IsPushedIn bytes old result new = Within (λ s t. IsPushedTo s bytes result t) (result ≡ Ok Nothing) old new
 
 -- the server has closed a connection
-abbrev pub IsShutAt : ℕ → ConnectionTable → ConnectionTable → Type 0
-IsShutAt conn old new = Through conn (λ s t. t ≡ record s { framer = None }) (Unit {0}) old new
+abbrev pub IsClosedAt : ℕ → ConnectionTable → ConnectionTable → Type 0
+IsClosedAt conn old new = Through conn (λ s t. t ≡ record s { framer = None }) (Unit {0}) old new
 
 -- a framer takes bytes of a piece up to the end of the next line, and the kind is told
 pub record FramesSome (old : Connection) (piece : List ℕ) (used : ℕ) (kind : Kind) (line : Option (ArrayVec ℕ)) (new : Connection) : Type 0 where

@@ -13,5 +13,5 @@ returns-in-LinkLine-clause-carries g c =
 
 pub returns-in-LinkClose-clause-carries : goal.returns-in-LinkClose-clause-carries
 returns-in-LinkClose-clause-carries g c =
-    subst (λ o. Carries g.W.Wire.is_after [] c.args.self.now (sent_of o ∷ []) c.shut-in-LinkClose.new.self) (sym c.in-LinkClose.is)
-    (of_link _ _ _ _ _ c.shut-in-LinkClose.ensures.carries)
+    subst (λ o. Carries g.W.Wire.is_after [] c.args.self.now (sent_of o ∷ []) c.close_when_written-in-LinkClose.new.self) (sym c.in-LinkClose.is)
+    (of_link _ _ _ _ _ c.close_when_written-in-LinkClose.ensures.carries)

@@ -1,5 +1,5 @@
 use Rattle.std.proofs.Common.{sym, ◌∙◌}
-use Rattle.irc_engine.proofs.EachConnection.{lost_open, lost_shut}
+use Rattle.irc_engine.proofs.EachConnection.{lost_open, lost_closed}
 use Rattle.irc_engine.proofs.RunLaws.{on_both}
 use Rattle.irc_engine.proofs.connections.Connections.lose.Goals as goal
 
@@ -9,4 +9,4 @@ returns-in-Some g c =
     c.note_loss.ensures.noted c.note_loss.ensures.len
 
 pub returns-in-None : goal.returns-in-None
-returns-in-None g c = lost_shut _ _ _ _ c.end.ensures (sym c.open_kind-open.ensures ∙ c.in-None.is)
+returns-in-None g c = lost_closed _ _ _ _ c.end.ensures (sym c.open_kind-open.ensures ∙ c.in-None.is)

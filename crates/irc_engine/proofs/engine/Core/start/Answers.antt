@@ -10,7 +10,7 @@ returns-then-contains-clause-done g c = in_use (sym c.contains.ensures ∙ c.if-
 pub returns-clause-done : goal.returns-clause-done
 returns-clause-done g c =
     on_ok c.pass.result _ _
-    (λ ran. makes_connection _ (none_there _ (sym c.contains.ensures ∙ c.if-contains.false)) refl refl refl refl refl c.in_ok-give_seat.ensures ran)
+    (λ ran. makes_connection _ (none_there _ (sym c.contains.ensures ∙ c.if-contains.false)) refl refl refl refl refl c.in_ok-insert.ensures ran)
     c.pass.ensures.ran
 
 pub returns-clause-told : goal.returns-clause-told
@@ -19,6 +19,6 @@ returns-clause-told g c = on_ok c.pass.result _ _ (λ told before. told) c.pass.
 pub returns-clause-notes : goal.returns-clause-notes
 returns-clause-notes g c =
     on_ok c.pass.result _ _
-    (λ marks. notes_made _ c.args.self.now.connections c.pass.new.self.connections (record c.args.self.now.connections { table = c.give_seat.new.self }) _ _
-    (none_there _ (sym c.contains.ensures ∙ c.if-contains.false)) c.in_ok-give_seat.ensures (λ q. refl) marks)
+    (λ marks. notes_made _ c.args.self.now.connections c.pass.new.self.connections (record c.args.self.now.connections { table = c.insert.new.self }) _ _
+    (none_there _ (sym c.contains.ensures ∙ c.if-contains.false)) c.in_ok-insert.ensures (λ q. refl) marks)
     c.pass.ensures.marks

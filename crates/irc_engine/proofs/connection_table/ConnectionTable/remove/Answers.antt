@@ -1,7 +1,7 @@
 use Rattle.std.proofs.Common.{None, refl}
 use Rattle.std.specs.Vec.{with_item}
 use Rattle.irc_engine.proofs.TableLaws.{found_slot, no_slot, dense_removed, sparse_removed, sparse_set}
-use Rattle.irc_engine.proofs.connection_table.ConnectionTable.vacate.Goals as goal
+use Rattle.irc_engine.proofs.connection_table.ConnectionTable.remove.Goals as goal
 
 pub returns-in-Some-clause-len : goal.returns-in-Some-clause-len
 returns-in-Some-clause-len c =
