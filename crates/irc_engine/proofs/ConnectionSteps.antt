@@ -18,7 +18,7 @@ use Rattle.irc_engine.proofs.HearingLaws.{hears_gone, hears_same}
 use Rattle.irc_engine.specs.Carrying.{owed, is_closed_by, is_exchange, AddsAll, Passage, finished}
 use Rattle.irc_engine.specs.Loops.Counts.{count_of}
 use Rattle.irc_engine.specs.Loops.Tables.{connection_count, connection_of, is_done_at, AreSame, at_connection, no_connection, IsPushedAt, IsClosedAt}
-use Rattle.irc_engine.specs.Loops.Connections.{lost_at, lost_by, IsLostAs, Ends, Loses, Settles, ended, stayed, Carries}
+use Rattle.irc_engine.specs.Loops.Connections.{lost_at, lost_by, IsLostAs, Ends, Loses, EndsOrWaits, ended, stayed, Carries}
 use Rattle.irc_engine.proofs.TableLaws.{nat_eq-refl, IsQueuedAt}
 use Rattle.irc_engine.proofs.KindLaws.{kind_kept, kind_forgotten, kind_gone}
 use Rattle.irc_engine.proofs.CarryingLaws.{IsElsewhere, nothing_owed, passage_as, passage_on, untouched, still, kept_none, kept_some}
@@ -231,9 +231,9 @@ module _ {W : Type 0} (is_after : W → List Call → Type 0) where
               count = ends_fewer is_after conn old new ends;
             }
 
-  pub settled : (conn : ℕ) (old new : Connections W) → Settles is_after conn old new → Carries is_after [] old [] new
-  settled conn old new (ended done ends) = ends_done conn old new done ends
-  settled conn old new (stayed undone wire table lost noted) =
+  pub ended_or_waits : (conn : ℕ) (old new : Connections W) → EndsOrWaits is_after conn old new → Carries is_after [] old [] new
+  ended_or_waits conn old new (ended done ends) = ends_done conn old new done ends
+  ended_or_waits conn old new (stayed undone wire table lost noted) =
       carries_none old new wire (λ q. ap (λ s. connection_of s q) table) lost (omega (arith, ap connection_count table, ap (λ (m : BTreeMap ℕ Kind). length m.entries) lost))
 
   module _ (conn : ℕ) (old mid new : Connections W) (loses : Loses is_after conn mid new) (lost : mid.lost ≡ old.lost) (count : count_of mid ≤ count_of old) where

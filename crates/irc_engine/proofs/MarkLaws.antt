@@ -11,7 +11,7 @@ use Rattle.irc_engine.specs.declared.kind.Kind.{Kind}
 use Rattle.irc_engine.specs.declared.connection_table.Connection.{Connection}
 use Rattle.irc_engine.specs.Carrying.{fresh_connection, has_some_at, is_done_at}
 use Rattle.irc_engine.specs.Loops.Tables.{connection_of, at_connection, no_connection, IsPushedAt, IsQueued, IsSet, IsClosedAt, FramesAt}
-use Rattle.irc_engine.specs.Loops.Connections.{has, ended, stayed, IsNoted, IsMarked, IsMarkedAt, KeepsMarks, KeepsNotes, Settles}
+use Rattle.irc_engine.specs.Loops.Connections.{has, ended, stayed, IsNoted, IsMarked, IsMarkedAt, KeepsMarks, KeepsNotes, EndsOrWaits}
 use Rattle.irc_engine.proofs.TableLaws.{one_number}
 use Rattle.irc_engine.proofs.EachConnection.{at_once, set_here, set_other}
 
@@ -209,10 +209,10 @@ module _ {W : Type 0} (conn : ℕ) (old new : Connections W) where
         (subst (λ (s : Option Connection). IsMarked false s false) (sym (set_here (connection_of mid.table) (connection_of new.table) conn None set)) (marked_none false))
 
     -- after a write
-    pub unmarks_settled : (is_after : W → List Call → Type 0) → Settles is_after conn mid new
+    pub unmarks_written : (is_after : W → List Call → Type 0) → EndsOrWaits is_after conn mid new
         → (q : ℕ) (pending : Bool) → IsMarkedAt q pending old → IsMarkedAt q (cond (nat_eq conn q) false pending) new
-    unmarks_settled is_after (ended done ends) = unmarks_gone ends.table ends.waiting
-    unmarks_settled is_after (stayed undone wire table lost noted) =
+    unmarks_written is_after (ended done ends) = unmarks_gone ends.table ends.waiting
+    unmarks_written is_after (stayed undone wire table lost noted) =
         unmarks_by conn old new (λ q two. ap (λ s. connection_of s q) table ∙ others q two) (has_some_at (connection_of mid.table conn))
         (λ q. noted q ∙ ap (λ b. cond (nat_eq conn q) (has_some_at (connection_of mid.table conn)) b) (waiting q))
         (subst (λ (s : Option Connection). IsMarked false s (has_some_at (connection_of mid.table conn))) (sym (ap (λ s. connection_of s conn) table))

@@ -7,13 +7,13 @@ use Rattle.irc_engine.specs.declared.connections.Connections.{Connections}
 use Rattle.irc_engine.specs.declared.connection_table.Connection.{Connection}
 use Rattle.irc_engine.specs.Loops.Counts.{count_of}
 use Rattle.irc_engine.specs.Loops.Tables.{connection_of, at_connection, no_connection, IsWrittenAt}
-use Rattle.irc_engine.specs.Loops.Connections.{has, lost_at, lost_by, AreWrites, Carries, Loses, Settles, Writes}
+use Rattle.irc_engine.specs.Loops.Connections.{has, lost_at, lost_by, AreWrites, Carries, Loses, EndsOrWaits, Writes}
 use Rattle.irc_engine.proofs.EachConnection.{adds_both, at_once, set_here, set_other, write_elsewhere, write_drops}
-use Rattle.irc_engine.proofs.ConnectionSteps.{carries_none, carries_on, one_connection, settled}
+use Rattle.irc_engine.proofs.ConnectionSteps.{carries_none, carries_on, one_connection, ended_or_waits}
 use Rattle.irc_engine.proofs.KindLaws.{kind_kept}
 use Rattle.irc_engine.proofs.CarryingLaws.{nothing_owed, still, kept_some}
 use Rattle.irc_engine.proofs.HearingLaws.{hears_same}
-use Rattle.irc_engine.proofs.MarkLaws.{unmarks_gone, unmarks_settled}
+use Rattle.irc_engine.proofs.MarkLaws.{unmarks_gone, unmarks_written}
 
 some_pushed : (bytes front : List ℕ) → IsFront bytes front → is_some_bytes bytes ≡ true → is_some_bytes front ≡ true
 some_pushed [] front is some = cc some
@@ -75,16 +75,16 @@ module _ {W : Type 0} (is_after : W → List Call → Type 0) (conn : ℕ) (old 
 
   module _ (new : Connections W) (waiting : (q : ℕ) → has mid.waiting q ≡ has old.waiting q) where
     -- then it ends, or it stays
-    pub write_settled : (n : ℕ) (result : Result ℕ IoFault) → result ≡ Ok n → IsWrittenAt is_after conn old.table old.wire result mid.table mid.wire
-        → Settles is_after conn mid new → Writes is_after conn old new
-    write_settled n result is written settles =
+    pub write_done : (n : ℕ) (result : Result ℕ IoFault) → result ≡ Ok n → IsWrittenAt is_after conn old.table old.wire result mid.table mid.wire
+        → EndsOrWaits is_after conn mid new → Writes is_after conn old new
+    write_done n result is written ends_or_waits =
         let one = wrote n (subst (λ r. IsWrittenAt is_after conn old.table old.wire r mid.table mid.wire) is written) in
         record {
           exchanges = one.exchanges;
           carries = subst (λ (cs : List Call). Carries is_after cs old [] new) (append-nil one.exchanges)
-              (carries_on is_after old mid new one.exchanges [] [] [] one.carries (settled is_after conn mid new settles));
+              (carries_on is_after old mid new one.exchanges [] [] [] one.carries (ended_or_waits is_after conn mid new ends_or_waits));
           are_writes = one.are_writes;
-          marks = unmarks_settled conn old new mid (others result written) waiting is_after settles;
+          marks = unmarks_written conn old new mid (others result written) waiting is_after ends_or_waits;
         }
 
     -- it fails, and the connection is lost

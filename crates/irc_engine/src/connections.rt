@@ -2,7 +2,7 @@
 ghost use Rattle.std.specs.Prelude.{◌≡◌, ◌+◌, ◌<◌, ◌≤◌, ◌↔◌, true, false, is_some, Some, None, [], IfNone, IfSome, IsSome, OnOk};
 ghost use Rattle.std.specs.Ordering.{nat_cmp};
 ghost use Rattle.std.specs.BTreeMap.{btree_map_len, IsLowerBound, IsUnchanged, Updates};
-ghost use Rattle.irc_engine.specs.Loops.Connections.{lost_at, Carries, CarriesOne, Ends, IsLostAs, IsNoted, KeepsMarks, Loses, Settles, Writes};
+ghost use Rattle.irc_engine.specs.Loops.Connections.{lost_at, Carries, CarriesOne, Ends, IsLostAs, IsNoted, KeepsMarks, Loses, EndsOrWaits, Writes};
 ghost use Rattle.irc_engine.specs.Writing.{one_if};
 ghost use Rattle.irc_batch.specs.Batches.{end_of, line_to, sent_of};
 
@@ -127,7 +127,7 @@ impl<W: Wire> Connections<W> {
     }
 
     /// Does one thing that the server has put out.
-    fn deal_one(&mut self, out: Out<'_>) -> Result<(), AllocError>
+    fn dispatch_one(&mut self, out: Out<'_>) -> Result<(), AllocError>
         ensures carries { OnOk result (CarriesOne W.is_after self.old (sent_of out.entry) self.new) }
         ensures marks { OnOk result (KeepsMarks self.old self.new) }
     {
@@ -146,7 +146,7 @@ impl<W: Wire> Connections<W> {
     }
 
     /// Does what the server has put out.
-    pub(crate) fn deal(&mut self, outs: &Batch) -> Result<(), AllocError>
+    pub(crate) fn dispatch(&mut self, outs: &Batch) -> Result<(), AllocError>
         ensures carries { OnOk result (Carries W.is_after [] self.old outs.now.outs self.new) }
         ensures marks { OnOk result (KeepsMarks self.old self.new) }
     {
@@ -154,7 +154,7 @@ impl<W: Wire> Connections<W> {
             let Some(out) = outs.get(place) else {
                 unreachable!();
             };
-            self.deal_one(out)?;
+            self.dispatch_one(out)?;
         }
         Ok(())
     }
@@ -164,14 +164,14 @@ impl<W: Wire> Connections<W> {
         ensures { OnOk result (Writes W.is_after conn self.old self.new) }
     {
         match self.table.write(&mut self.wire, conn) {
-            Ok(_) => self.settle(conn),
+            Ok(_) => self.end_or_wait(conn),
             Err(_) => self.lose(conn),
         }
     }
 
     /// After a write: a connection ends, or waits just where something is left.
-    fn settle(&mut self, conn: u64) -> Result<(), AllocError>
-        ensures { OnOk result (Settles W.is_after conn self.old self.new) }
+    fn end_or_wait(&mut self, conn: u64) -> Result<(), AllocError>
+        ensures { OnOk result (EndsOrWaits W.is_after conn self.old self.new) }
     {
         if self.table.is_done(conn) {
             self.end(conn);

@@ -284,7 +284,7 @@ impl<W: Wire> Core<W> {
         self.out.clear();
         match self.server.handle(event, &mut self.out) {
             Err(ServerFault::Memory | ServerFault::Failed) => Err(AllocError),
-            _ => self.connections.deal(&self.out),
+            _ => self.connections.dispatch(&self.out),
         }
     }
 

@@ -50,10 +50,10 @@ pub record Loses {W : Type 0} (is_after : W → List Call → Type 0) (conn : �
   pub count : count_of new ≤ count_of old
 
 -- after a write, a connection ends if the server has closed it and nothing is left; else it is noted just where something is left
-pub data Settles {W : Type 0} (is_after : W → List Call → Type 0) (conn : ℕ) (old new : Connections W) : Type 0 where
-  ended : is_done_at (connection_of old.table conn) ≡ true → Ends is_after conn old new → Settles is_after conn old new
+pub data EndsOrWaits {W : Type 0} (is_after : W → List Call → Type 0) (conn : ℕ) (old new : Connections W) : Type 0 where
+  ended : is_done_at (connection_of old.table conn) ≡ true → Ends is_after conn old new → EndsOrWaits is_after conn old new
   stayed : is_done_at (connection_of old.table conn) ≡ false → new.wire ≡ old.wire → new.table ≡ old.table → new.lost ≡ old.lost
-      → IsNoted old.waiting conn (has_some_at (connection_of old.table conn)) new.waiting → Settles is_after conn old new
+      → IsNoted old.waiting conn (has_some_at (connection_of old.table conn)) new.waiting → EndsOrWaits is_after conn old new
 
 -- What the server has put out is done, and other calls are made of the wire; just these of them ask what is ready, read or write.
 pub record Carries {W : Type 0} (is_after : W → List Call → Type 0) (exchanges : List Call) (old : Connections W) (outs : List Sent) (new : Connections W) : Type 0 where

@@ -2,7 +2,7 @@ use Rattle.std.proofs.Common.{refl, sym, ◌∙◌}
 use Rattle.irc_engine.specs.Loops.Connections.{ended, stayed}
 use Rattle.irc_engine.proofs.MarkLaws.{noted_as}
 use Rattle.irc_engine.proofs.RunLaws.{on_ok}
-use Rattle.irc_engine.proofs.connections.Connections.settle.Goals as goal
+use Rattle.irc_engine.proofs.connections.Connections.end_or_wait.Goals as goal
 
 pub returns-then-is_done : goal.returns-then-is_done
 returns-then-is_done g c = ended (sym c.is_done.ensures ∙ c.if-is_done.true) c.end.ensures

@@ -3,7 +3,7 @@ use Rattle.irc_batch.specs.Batches.{sent_of}
 use Rattle.irc_engine.specs.Loops.Connections.{Carries}
 use Rattle.irc_engine.proofs.ConnectionSteps.{of_link, on_link}
 use Rattle.irc_engine.proofs.RunLaws.{on_ok}
-use Rattle.irc_engine.proofs.connections.Connections.deal_one.Goals as goal
+use Rattle.irc_engine.proofs.connections.Connections.dispatch_one.Goals as goal
 
 pub returns-in-LinkLine-clause-carries : goal.returns-in-LinkLine-clause-carries
 returns-in-LinkLine-clause-carries g c =

@@ -1,6 +1,6 @@
 use Rattle.std.proofs.Common.{[], take}
 use Rattle.irc_engine.specs.Loops.Connections.{Carries, KeepsMarks}
-use Rattle.irc_engine.proofs.connections.Connections.deal.Given as goal
+use Rattle.irc_engine.proofs.connections.Connections.dispatch.Given as goal
 
 -- what has been put out so far is done
 abbrev pub invariant-loop-place : goal.invariant-loop-place
