@@ -6,7 +6,7 @@ use Rattle.std.proofs.lemmas.List.Sums.{sum_by-append}
 use Rattle.irc_outbox.specs.Calls.{Call, written, written_by, times_closed, is_close_of}
 use Rattle.irc_batch.specs.Batches.{Sent, end_of, end_of_link, line_on, line_to}
 use Rattle.irc_engine.specs.declared.kind.Kind.{Kind}
-use Rattle.irc_engine.specs.declared.seat.Seat.{Seat}
+use Rattle.irc_engine.specs.declared.connection_table.Connection.{Connection}
 use Rattle.irc_engine.specs.Hearing.{begun_at}
 use Rattle.irc_engine.proofs.HearingLaws.{hears_on, hears_kept}
 use Rattle.irc_engine.specs.Carrying.{answers, is_closing, is_closed_by, owed, ends_at, is_cut_off, Silent, Stays, Why, finished, cut_off, overflowed, Leaves, Fate, is_lost_after, Passage}
@@ -45,7 +45,7 @@ answers-append conn (end_of_link which reason ∷ a) b = by (nat_eq which conn) 
     by false rest = rest
 
 -- what is owed by two stretches, where the first may close the connection
-pub owed-append : (unshut : Bool) (conn : ℕ) (a b : List Sent) → owed unshut conn (a ++ b) ≡ owed unshut conn a ++ owed (unshut && not (is_closed_by conn a)) conn b
+pub owed-append : (is_open : Bool) (conn : ℕ) (a b : List Sent) → owed is_open conn (a ++ b) ≡ owed is_open conn a ++ owed (is_open && not (is_closed_by conn a)) conn b
 owed-append true conn a b = answers-append conn a b
 owed-append false conn a b = refl
 
@@ -63,18 +63,18 @@ module _ (conn : ℕ) (a b : List Call) (x y : List Sent) where
     never = times_closed-append conn a b ∙ ap (λ n. n + times_closed conn b) one.never ∙ ap (λ n. 0 + n) other.never;
   }
 
-  carried_on : (unshut still : Bool) (held mid end : List ℕ) → still ≡ (unshut && not (is_closed_by conn x)) → held ++ owed unshut conn x ≡ written conn a ++ mid
-      → mid ++ owed still conn y ≡ written conn b ++ end → held ++ owed unshut conn (x ++ y) ≡ written conn (a ++ b) ++ end
-  carried_on unshut still held mid end is one other =
-      ap (λ xs. held ++ xs) (owed-append unshut conn x y ∙ ap (λ t. owed unshut conn x ++ owed t conn y) (sym is))
-      ∙ one_after_other held (owed unshut conn x) (owed still conn y) (written conn a) (written conn b) mid end one other
+  carried_on : (is_open still : Bool) (held mid end : List ℕ) → still ≡ (is_open && not (is_closed_by conn x)) → held ++ owed is_open conn x ≡ written conn a ++ mid
+      → mid ++ owed still conn y ≡ written conn b ++ end → held ++ owed is_open conn (x ++ y) ≡ written conn (a ++ b) ++ end
+  carried_on is_open still held mid end is one other =
+      ap (λ xs. held ++ xs) (owed-append is_open conn x y ∙ ap (λ t. owed is_open conn x ++ owed t conn y) (sym is))
+      ∙ one_after_other held (owed is_open conn x) (owed still conn y) (written conn a) (written conn b) mid end one other
       ∙ ap (λ xs. xs ++ end) (sym (written-append conn a b))
 
-  open_on : (unshut still now : Bool) → still ≡ (unshut && not (is_closed_by conn x)) → now ≡ (still && not (is_closed_by conn y))
-      → now ≡ (unshut && not (is_closed_by conn (x ++ y)))
-  open_on unshut still now is then =
-      then ∙ ap (λ t. t && not (is_closed_by conn y)) is ∙ both unshut (is_closed_by conn x) (is_closed_by conn y)
-      ∙ ap (λ t. unshut && not t) (sym (is_closed_by-append conn x y))
+  open_on : (is_open still now : Bool) → still ≡ (is_open && not (is_closed_by conn x)) → now ≡ (still && not (is_closed_by conn y))
+      → now ≡ (is_open && not (is_closed_by conn (x ++ y)))
+  open_on is_open still now is then =
+      then ∙ ap (λ t. t && not (is_closed_by conn y)) is ∙ both is_open (is_closed_by conn x) (is_closed_by conn y)
+      ∙ ap (λ t. is_open && not t) (sym (is_closed_by-append conn x y))
     where
       both : (o c d : Bool) → ((o && not c) && not d) ≡ (o && not (c || d))
       both true true d = refl
@@ -84,7 +84,7 @@ module _ (conn : ℕ) (a b : List Call) (x y : List Sent) where
   never_on : times_closed conn a ≡ 0 → (n : ℕ) → times_closed conn b ≡ n → times_closed conn (a ++ b) ≡ n
   never_on none n is = times_closed-append conn a b ∙ ap (λ m. m + times_closed conn b) none ∙ ap (λ m. 0 + m) is ∙ omega arith
 
-  stays_on : (old mid new : Seat) → Stays conn old a x mid → Stays conn mid b y new → Stays conn old (a ++ b) (x ++ y) new
+  stays_on : (old mid new : Connection) → Stays conn old a x mid → Stays conn mid b y new → Stays conn old (a ++ b) (x ++ y) new
   stays_on old mid new one other = record {
     carried = carried_on (is_some old.framer) (is_some mid.framer) old.outbox.bytes mid.outbox.bytes new.outbox.bytes one.still_open one.carried other.carried;
     same_room = other.same_room ∙ one.same_room;
@@ -93,14 +93,14 @@ module _ (conn : ℕ) (a b : List Call) (x y : List Sent) where
     never_cut = is_cut_off-append conn a b ∙ ap (λ t. t || is_cut_off conn b) one.never_cut ∙ other.never_cut;
   }
 
-  why_then : (old mid : Seat) (left : List ℕ) → Stays conn old a x mid → Why conn mid b y left → Why conn old (a ++ b) (x ++ y) left
-  why_then old mid left one (finished shut none) =
-      finished (sym (open_on (is_some old.framer) (is_some mid.framer) false one.still_open (sym shut))) none
+  why_then : (old mid : Connection) (left : List ℕ) → Stays conn old a x mid → Why conn mid b y left → Why conn old (a ++ b) (x ++ y) left
+  why_then old mid left one (finished closed none) =
+      finished (sym (open_on (is_some old.framer) (is_some mid.framer) false one.still_open (sym closed))) none
   why_then old mid left one (cut_off cut) =
       cut_off (is_cut_off-append conn a b ∙ ap (λ t. t || is_cut_off conn b) one.never_cut ∙ cut)
   why_then old mid left one (overflowed more) = overflowed (subst (λ (n : ℕ). n < length left) one.same_room more)
 
-  leaves_then : (old mid : Seat) → Stays conn old a x mid → Leaves conn mid b y → Leaves conn old (a ++ b) (x ++ y)
+  leaves_then : (old mid : Connection) → Stays conn old a x mid → Leaves conn mid b y → Leaves conn old (a ++ b) (x ++ y)
   leaves_then old mid one other = record {
     left = other.left;
     carried = carried_on (is_some old.framer) (is_some mid.framer) old.outbox.bytes mid.outbox.bytes other.left one.still_open one.carried other.carried;
@@ -111,23 +111,23 @@ module _ (conn : ℕ) (a b : List Call) (x y : List Sent) where
   either : (s t : Bool) → s ≡ true → (s || t) ≡ true
   either s t is = ap (λ u. u || t) is
 
-  shut_still : (o c d : Bool) → (o && not c) ≡ false → (o && not (c || d)) ≡ false
-  shut_still true true d is = refl
-  shut_still true false d is = cc is
-  shut_still false c d is = refl
+  closed_still : (o c d : Bool) → (o && not c) ≡ false → (o && not (c || d)) ≡ false
+  closed_still true true d is = refl
+  closed_still true false d is = cc is
+  closed_still false c d is = refl
 
-  why_still : (old : Seat) (left : List ℕ) → Why conn old a x left
+  why_still : (old : Connection) (left : List ℕ) → Why conn old a x left
       → Why conn old (a ++ b) (x ++ y) (left ++ owed (is_some old.framer && not (is_closed_by conn x)) conn y)
-  why_still old left (finished shut none) =
+  why_still old left (finished closed none) =
       finished
-      (ap (λ t. is_some old.framer && not t) (is_closed_by-append conn x y) ∙ shut_still (is_some old.framer) (is_closed_by conn x) (is_closed_by conn y) shut)
-      (ap (λ t. left ++ owed t conn y) shut ∙ append-nil left ∙ none)
+      (ap (λ t. is_some old.framer && not t) (is_closed_by-append conn x y) ∙ closed_still (is_some old.framer) (is_closed_by conn x) (is_closed_by conn y) closed)
+      (ap (λ t. left ++ owed t conn y) closed ∙ append-nil left ∙ none)
   why_still old left (cut_off cut) = cut_off (is_cut_off-append conn a b ∙ either (is_cut_off conn a) (is_cut_off conn b) cut)
   why_still old left (overflowed more) =
       let rest = owed (is_some old.framer && not (is_closed_by conn x)) conn y in
       overflowed (omega (arith, more, length-append {A = ℕ} left rest))
 
-  left_already : (old : Seat) → Leaves conn old a x → Silent conn b → Leaves conn old (a ++ b) (x ++ y)
+  left_already : (old : Connection) → Leaves conn old a x → Silent conn b → Leaves conn old (a ++ b) (x ++ y)
   left_already old one other = record {
     left = one.left ++ owed (is_some old.framer && not (is_closed_by conn x)) conn y;
     carried =
@@ -138,7 +138,7 @@ module _ (conn : ℕ) (a b : List Call) (x y : List Sent) where
     why = why_still old one.left one.why;
   }
 
-  pub fate_on : (old mid new : Option Seat) → Fate conn old a x mid → Fate conn mid b y new → Fate conn old (a ++ b) (x ++ y) new
+  pub fate_on : (old mid new : Option Connection) → Fate conn old a x mid → Fate conn mid b y new → Fate conn old (a ++ b) (x ++ y) new
   fate_on None None None one other = silent_on one other
   fate_on None None (Some new) one other = absurd other
   fate_on None (Some mid) new one other = absurd one
@@ -172,7 +172,7 @@ module _ (conn : ℕ) (a b : List Call) (x y : List Sent) where
   lost_late false false true d n = refl
   lost_late false false false d n = refl
 
-  lost_on : (old mid new : Option Seat) (was between : Bool) → Fate conn old a x mid → Fate conn mid b y new
+  lost_on : (old mid new : Option Connection) (was between : Bool) → Fate conn old a x mid → Fate conn mid b y new
       → between ≡ is_lost_after old was (is_closed_by conn x) mid
       → is_lost_after mid between (is_closed_by conn y) new ≡ is_lost_after old was (is_closed_by conn x || is_closed_by conn y) new
   lost_on None None new was between one other is =
@@ -188,7 +188,7 @@ module _ (conn : ℕ) (a b : List Call) (x y : List Sent) where
       ∙ lost_both was (is_some old.framer && true) (is_closed_by conn x) (is_closed_by conn y)
   lost_on (Some old) None (Some new) was between one other is = absurd other
 
-  pub passage_on : (old mid new : Option Seat) (was between now : Option Kind) → Passage conn old was a x mid between → Passage conn mid between b y new now
+  pub passage_on : (old mid new : Option Connection) (was between now : Option Kind) → Passage conn old was a x mid between → Passage conn mid between b y new now
       → Passage conn old was (a ++ b) (x ++ y) new now
   passage_on old mid new was between now one other = record {
     fate = fate_on old mid new one.fate other.fate;
@@ -215,7 +215,7 @@ elsewhere_both conn a b x y one other = record {
   never_closed = is_closed_by-append conn x y ∙ ap (λ t. t || is_closed_by conn y) one.never_closed ∙ other.never_closed;
 }
 
-pub nothing_owed : (unshut : Bool) (conn : ℕ) (outs : List Sent) → answers conn outs ≡ [] → owed unshut conn outs ≡ []
+pub nothing_owed : (is_open : Bool) (conn : ℕ) (outs : List Sent) → answers conn outs ≡ [] → owed is_open conn outs ≡ []
 nothing_owed true conn outs none = none
 nothing_owed false conn outs none = refl
 
@@ -223,14 +223,14 @@ pub still : (t c : Bool) → c ≡ false → t ≡ (t && not c)
 still true c is = ap not (sym is)
 still false c is = refl
 
-pub untouched_fate : (conn : ℕ) (calls : List Call) (outs : List Sent) → IsElsewhere conn calls outs → (seat : Option Seat) → Fate conn seat calls outs seat
+pub untouched_fate : (conn : ℕ) (calls : List Call) (outs : List Sent) → IsElsewhere conn calls outs → (connection : Option Connection) → Fate conn connection calls outs connection
 untouched_fate conn calls outs apart None = apart.silent
-untouched_fate conn calls outs apart (Some seat) = record {
+untouched_fate conn calls outs apart (Some connection) = record {
   carried =
-      ap (λ xs. seat.outbox.bytes ++ xs) (nothing_owed (is_some seat.framer) conn outs apart.nothing) ∙ append-nil seat.outbox.bytes
-      ∙ ap (λ xs. xs ++ seat.outbox.bytes) (sym apart.silent.nothing);
+      ap (λ xs. connection.outbox.bytes ++ xs) (nothing_owed (is_some connection.framer) conn outs apart.nothing) ∙ append-nil connection.outbox.bytes
+      ∙ ap (λ xs. xs ++ connection.outbox.bytes) (sym apart.silent.nothing);
   same_room = refl;
-  still_open = still (is_some seat.framer) (is_closed_by conn outs) apart.never_closed;
+  still_open = still (is_some connection.framer) (is_closed_by conn outs) apart.never_closed;
   never = apart.silent.never;
   never_cut = apart.never_cut;
 }
@@ -244,14 +244,14 @@ kept_some true o = refl
 kept_some false true = refl
 kept_some false false = refl
 
-kept_lost : (seat : Option Seat) (l c : Bool) → c ≡ false → l ≡ is_lost_after seat l c seat
+kept_lost : (connection : Option Connection) (l c : Bool) → c ≡ false → l ≡ is_lost_after connection l c connection
 kept_lost None l c is = kept_none l ∙ ap (λ t. (l || false) && not t) (sym is)
-kept_lost (Some seat) l c is = kept_some l (is_some seat.framer) ∙ ap (λ t. (l || (is_some seat.framer && false)) && not t) (sym is)
+kept_lost (Some connection) l c is = kept_some l (is_some connection.framer) ∙ ap (λ t. (l || (is_some connection.framer && false)) && not t) (sym is)
 
-pub untouched : (conn : ℕ) (calls : List Call) (outs : List Sent) → IsElsewhere conn calls outs → (old new : Option Seat) (was now : Option Kind) → new ≡ old → now ≡ was
+pub untouched : (conn : ℕ) (calls : List Call) (outs : List Sent) → IsElsewhere conn calls outs → (old new : Option Connection) (was now : Option Kind) → new ≡ old → now ≡ was
     → Passage conn old was calls outs new now
 untouched conn calls outs apart old new was now same as_lost =
-    subst (λ (s : Option Seat). Passage conn old was calls outs s now) (sym same)
+    subst (λ (s : Option Connection). Passage conn old was calls outs s now) (sym same)
     (subst (λ (l : Option Kind). Passage conn old was calls outs old l) (sym as_lost) (record {
       fate = untouched_fate conn calls outs apart old;
       lost_is = kept_lost old (is_some was) (is_closed_by conn outs) apart.never_closed;
@@ -259,18 +259,18 @@ untouched conn calls outs apart old new was now same as_lost =
       hears_none = hears_kept (begun_at old);
     }))
 
-pub same_fate : (conn : ℕ) (seat : Option Seat) → Fate conn seat [] [] seat
-same_fate conn seat = untouched_fate conn [] [] (record { silent = record { nothing = refl; never = refl }; never_cut = refl; nothing = refl; never_closed = refl }) seat
+pub same_fate : (conn : ℕ) (connection : Option Connection) → Fate conn connection [] [] connection
+same_fate conn connection = untouched_fate conn [] [] (record { silent = record { nothing = refl; never = refl }; never_cut = refl; nothing = refl; never_closed = refl }) connection
 
 -- What is put out matters to a connection by what is owed to it and by whether it is closed.
-module _ (conn : ℕ) (calls : List Call) (outs outs' : List Sent) (owes : (unshut : Bool) → owed unshut conn outs ≡ owed unshut conn outs')
+module _ (conn : ℕ) (calls : List Call) (outs outs' : List Sent) (owes : (is_open : Bool) → owed is_open conn outs ≡ owed is_open conn outs')
     (closes : is_closed_by conn outs ≡ is_closed_by conn outs') where
-  why_as : (old : Seat) (left : List ℕ) → Why conn old calls outs left → Why conn old calls outs' left
+  why_as : (old : Connection) (left : List ℕ) → Why conn old calls outs left → Why conn old calls outs' left
   why_as old left (finished is none) = finished (ap (λ b. is_some old.framer && not b) (sym closes) ∙ is) none
   why_as old left (cut_off is) = cut_off is
   why_as old left (overflowed more) = overflowed more
 
-  fate_as : (old new : Option Seat) → Fate conn old calls outs new → Fate conn old calls outs' new
+  fate_as : (old new : Option Connection) → Fate conn old calls outs new → Fate conn old calls outs' new
   fate_as None None fate = fate
   fate_as None (Some new) fate = fate
   fate_as (Some old) (Some new) fate = record {
@@ -287,7 +287,7 @@ module _ (conn : ℕ) (calls : List Call) (outs outs' : List Sent) (owes : (unsh
     why = why_as old fate.left fate.why;
   }
 
-  pub passage_as : (old : Option Seat) (was_lost : Option Kind) (new : Option Seat) (is_lost : Option Kind) → Passage conn old was_lost calls outs new is_lost
+  pub passage_as : (old : Option Connection) (was_lost : Option Kind) (new : Option Connection) (is_lost : Option Kind) → Passage conn old was_lost calls outs new is_lost
       → Passage conn old was_lost calls outs' new is_lost
   passage_as old was_lost new is_lost passage = record {
     fate = fate_as old new passage.fate;

@@ -13,35 +13,35 @@ use Rattle.std.proofs.lemmas.List.Folds.{list_all-append}
 use Rattle.std.proofs.lemmas.List.Sums.{sum_by-append}
 use Rattle.std.proofs.lemmas.Map.Keys.{IsStrictlyIncreasing-from_sorted, le_from_not_gt}
 use Rattle.irc_outbox.specs.Calls.{Call, is_some_bytes, is_write_to, times_written}
-use Rattle.irc_engine.specs.declared.board.Board.{Board}
-use Rattle.irc_engine.specs.declared.engine.Desk.{Desk}
-use Rattle.irc_engine.specs.declared.seat.Seat.{Seat}
+use Rattle.irc_engine.specs.declared.connections.Connections.{Connections}
+use Rattle.irc_engine.specs.declared.engine.Core.{Core}
+use Rattle.irc_engine.specs.declared.connection_table.Connection.{Connection}
 use Rattle.irc_engine.specs.Carrying.{has_some_at}
 use Rattle.irc_engine.specs.Writing.{one_if, destination, destinations, is_some_write, WritesEach}
-use Rattle.irc_engine.specs.Laws.Turns.{had_seat}
-use Rattle.irc_engine.specs.Loops.Boards.{has, AreWrites, IsMarked, KeepsMarks, Writes}
-use Rattle.irc_engine.specs.Loops.Desks.{moment_of}
+use Rattle.irc_engine.specs.Laws.Turns.{was_there}
+use Rattle.irc_engine.specs.Loops.Connections.{has, AreWrites, IsMarked, KeepsMarks, Writes}
+use Rattle.irc_engine.specs.Loops.Moments.{moment_of}
 use Rattle.irc_engine.specs.Loops.Flushing.{Flushing, FlushesSoFar}
-use Rattle.irc_engine.specs.Loops.Seats.{seat_of}
+use Rattle.irc_engine.specs.Loops.Tables.{connection_of}
 use Rattle.irc_engine.specs.Hearing.{nothing_of}
 use Rattle.irc_engine.specs.Running.{AllTold, Flushes, IsInOrder, Ran, RanOn}
-use Rattle.irc_engine.proofs.RunLaws.{ran_after, ran_board, ran_both, ran_marked}
-use Rattle.irc_engine.proofs.SeatLaws.{one_number}
+use Rattle.irc_engine.proofs.RunLaws.{ran_after, ran_connections, ran_both, ran_marked}
+use Rattle.irc_engine.proofs.TableLaws.{one_number}
 
 sorted_none : IsStrictlySortedBy nat_cmp []
 unfolding IsStrictlySortedBy
 sorted_none = tt
 
-pub flush_begun : (pending : ℕ → Bool) (seats : ℕ → Option Seat) → ((q : ℕ) → pending q ≡ has_some_at (seats q)) → Flushing pending seats [] seats
-flush_begun pending seats is = record {
+pub flush_begun : (pending : ℕ → Bool) (connections : ℕ → Option Connection) → ((q : ℕ) → pending q ≡ has_some_at (connections q)) → Flushing pending connections [] connections
+flush_begun pending connections is = record {
   write_some = refl;
   sorted = sorted_none;
   behind = λ q here. tt;
-  at_most = λ q. let same : one_if (pending q) ≡ one_if (has_some_at (seats q)) = ap one_if (is q) in omega (arith, same);
-  unless_closed = λ q there. let same : one_if (pending q) ≡ one_if (has_some_at (seats q)) = ap one_if (is q) in omega (arith, same);
+  at_most = λ q. let same : one_if (pending q) ≡ one_if (has_some_at (connections q)) = ap one_if (is q) in omega (arith, same);
+  unless_closed = λ q there. let same : one_if (pending q) ≡ one_if (has_some_at (connections q)) = ap one_if (is q) in omega (arith, same);
 }
 
-pub flush_done : (pending : ℕ → Bool) (was now : ℕ → Option Seat) (calls : List Call) → ((q : ℕ) → pending q ≡ false) → Flushing pending was calls now
+pub flush_done : (pending : ℕ → Bool) (was now : ℕ → Option Connection) (calls : List Call) → ((q : ℕ) → pending q ≡ false) → Flushing pending was calls now
     → WritesEach was calls now
 flush_done pending was now calls none flushing = record {
   write_some = flushing.write_some;
@@ -67,11 +67,11 @@ once_there true true is = refl
 once_there true false is = cc is
 once_there false s is = refl
 
-writes_more : (conn : ℕ) (seat : Option Seat) (noted : Bool) (more : List Call) → IsMarked true seat noted → AreWrites conn seat more
-    → WritesMore conn (is_some seat) more
+writes_more : (conn : ℕ) (connection : Option Connection) (noted : Bool) (more : List Call) → IsMarked true connection noted → AreWrites conn connection more
+    → WritesMore conn (is_some connection) more
 writes_more conn None noted more mark none =
     subst (λ (cs : List Call). WritesMore conn false cs) (sym none) (record { some_more = refl; goes_to = refl; times = λ q. never_there (nat_eq conn q) })
-writes_more conn (Some seat) noted more mark one =
+writes_more conn (Some connection) noted more mark one =
     subst (λ (cs : List Call). WritesMore conn true cs) (sym one.exchanges_are) (record {
       some_more = ap (λ t. t && true) some;
       goes_to = refl;
@@ -118,8 +118,8 @@ as_many true true false n h so here is = cc (here refl)
 as_many true false there n h so here is = cc (so refl)
 as_many false p there n h so here is = omega (arith, is)
 
--- one connection is written to, if it has a seat
-module _ (conn : ℕ) (pending later : ℕ → Bool) (was now new : ℕ → Option Seat) (calls more : List Call) (noted : Bool) (popped : pending conn ≡ true)
+-- one connection is written to, if it is there
+module _ (conn : ℕ) (pending later : ℕ → Bool) (was now new : ℕ → Option Connection) (calls more : List Call) (noted : Bool) (popped : pending conn ≡ true)
     (later_is : (q : ℕ) → later q ≡ cond (nat_eq conn q) false (pending q)) (least : (q : ℕ) → pending q ≡ true → is_gt (nat_cmp conn q) ≡ false)
     (mark : IsMarked true (now conn) noted) (are_writes : AreWrites conn (now conn) more) (stays : (q : ℕ) → is_some (new q) ≡ true → is_some (now q) ≡ true)
     (so_far : Flushing pending was calls now) where
@@ -164,9 +164,9 @@ pending_alone : (p : Bool) → ((p && true) || false) ≡ p
 pending_alone true = refl
 pending_alone false = refl
 
-all_pending : (p w : Bool) (seat : Option Seat) → w ≡ false → p ≡ has_some_at seat → ((p && is_some seat) || w) ≡ has_some_at seat
+all_pending : (p w : Bool) (connection : Option Connection) → w ≡ false → p ≡ has_some_at connection → ((p && is_some connection) || w) ≡ has_some_at connection
 all_pending p w None none is = ap (λ b. (b && false) || w) is ∙ none
-all_pending p w (Some seat) none is = ap (λ b. (p && true) || b) none ∙ pending_alone p ∙ is
+all_pending p w (Some connection) none is = ap (λ b. (p && true) || b) none ∙ pending_alone p ∙ is
 
 pub never : (t : Bool) → t ≡ true → t ≡ false → ⊥
 never t is not_so = cc (sym is ∙ not_so)
@@ -185,28 +185,28 @@ still_false false = refl
 
 module _ {W : Type 0} (is_after : W → List Call → Type 0) where
   -- all that are noted are to be written to
-  pub flushes_none : (desk : Desk W) (rest pending : BTreeSet ℕ) → ((q : ℕ) → has rest q ≡ false) → pending ≡ desk.board.waiting
-      → FlushesSoFar is_after pending desk (record desk { board = record desk.board { waiting = rest } })
-  flushes_none desk rest pending none is = record {
+  pub flushes_none : (core : Core W) (rest pending : BTreeSet ℕ) → ((q : ℕ) → has rest q ≡ false) → pending ≡ core.connections.waiting
+      → FlushesSoFar is_after pending core (record core { connections = record core.connections { waiting = rest } })
+  flushes_none core rest pending none is = record {
     exchanges = [];
-    ran = ran_marked is_after desk.server _ desk.board rest;
+    ran = ran_marked is_after core.server _ core.connections rest;
     told = λ told. told;
     halfway = λ order. record {
       all_told = order.all_told;
       marks = λ q. record {
-        noted_is = all_pending (has pending q) (has rest q) (seat_of desk.board.seats q) (none q) (ap (λ s. has s q) is ∙ order.noted q);
+        noted_is = all_pending (has pending q) (has rest q) (connection_of core.connections.table q) (none q) (ap (λ s. has s q) is ∙ order.noted q);
         not_done = order.none_done q;
       };
-      flushing = flush_begun (has pending) (seat_of desk.board.seats) (λ q. ap (λ s. has s q) is ∙ order.noted q);
+      flushing = flush_begun (has pending) (connection_of core.connections.table) (λ q. ap (λ s. has s q) is ∙ order.noted q);
     };
     quiet = λ nobody q. ap (λ s. has s q) is ∙ nobody q;
   }
 
   -- one connection more is written to, and the server is told of those that are lost
-  pub flushes_one : (old now new : Desk W) (mid : Board W) (pending later : BTreeSet ℕ) (conn : ℕ) → has pending conn ≡ true
+  pub flushes_one : (old now new : Core W) (mid : Connections W) (pending later : BTreeSet ℕ) (conn : ℕ) → has pending conn ≡ true
       → ((q : ℕ) → has later q ≡ cond (nat_eq conn q) false (has pending q)) → ((q : ℕ) → has pending q ≡ true → is_gt (nat_cmp conn q) ≡ false)
-      → Writes is_after conn now.board mid → RanOn is_after (moment_of (record now { board = mid })) (moment_of new) → AllTold (moment_of new)
-      → KeepsMarks mid new.board → FlushesSoFar is_after pending old now → FlushesSoFar is_after later old new
+      → Writes is_after conn now.connections mid → RanOn is_after (moment_of (record now { connections = mid })) (moment_of new) → AllTold (moment_of new)
+      → KeepsMarks mid new.connections → FlushesSoFar is_after pending old now → FlushesSoFar is_after later old new
   flushes_one old now new mid pending later conn popped later_is least wrote ran told keeps so_far = record {
     exchanges = so_far.exchanges ++ wrote.exchanges;
     ran = ran_both is_after so_far.exchanges wrote.exchanges [] nothing_of nothing_of nothing_of (moment_of old) (moment_of now) (moment_of new)
@@ -214,28 +214,28 @@ module _ {W : Type 0} (is_after : W → List Call → Type 0) where
     told = λ before. told;
     halfway = λ order. let half = so_far.halfway order in record {
       all_told = told;
-      marks = λ q. keeps q (has later q) (subst (λ (b : Bool). IsMarked b (seat_of mid.seats q) (has mid.waiting q)) (sym (later_is q)) (wrote.marks q
+      marks = λ q. keeps q (has later q) (subst (λ (b : Bool). IsMarked b (connection_of mid.table q) (has mid.waiting q)) (sym (later_is q)) (wrote.marks q
           (has pending q) (half.marks q)));
-      flushing = flush_on conn (has pending) (has later) (seat_of old.board.seats) (seat_of now.board.seats)
-          (seat_of new.board.seats) so_far.exchanges wrote.exchanges
-          (has now.board.waiting conn) popped later_is least
-          (subst (λ (b : Bool). IsMarked b (seat_of now.board.seats conn) (has now.board.waiting conn)) popped (half.marks conn)) wrote.are_writes
-          (λ q there. had_seat q (seat_of now.board.seats q) (seat_of new.board.seats q) more.calls more.outs (more.fates q) there) half.flushing;
+      flushing = flush_on conn (has pending) (has later) (connection_of old.connections.table) (connection_of now.connections.table)
+          (connection_of new.connections.table) so_far.exchanges wrote.exchanges
+          (has now.connections.waiting conn) popped later_is least
+          (subst (λ (b : Bool). IsMarked b (connection_of now.connections.table conn) (has now.connections.waiting conn)) popped (half.marks conn)) wrote.are_writes
+          (λ q there. was_there q (connection_of now.connections.table q) (connection_of new.connections.table q) more.calls more.outs (more.fates q) there) half.flushing;
     };
     quiet = λ nobody q. later_is q ∙ ap (λ b. cond (nat_eq conn q) false b) (so_far.quiet nobody q) ∙ still_false (nat_eq conn q);
   }
     where
       more : Ran is_after wrote.exchanges [] nothing_of (moment_of now) (moment_of new)
-      more = ran_after is_after wrote.exchanges [] nothing_of (moment_of now) (moment_of (record now { board = mid })) (moment_of new)
-          (ran_board is_after now.server _ wrote.exchanges now.board mid wrote.carries) ran
+      more = ran_after is_after wrote.exchanges [] nothing_of (moment_of now) (moment_of (record now { connections = mid })) (moment_of new)
+          (ran_connections is_after now.server _ wrote.exchanges now.connections mid wrote.carries) ran
 
-  module _ (pending : BTreeSet ℕ) (old new : Desk W) (none : (q : ℕ) → has pending q ≡ false) (so_far : FlushesSoFar is_after pending old new) where
+  module _ (pending : BTreeSet ℕ) (old new : Core W) (none : (q : ℕ) → has pending q ≡ false) (so_far : FlushesSoFar is_after pending old new) where
     -- all have been written to
     pub flushes_all : Flushes is_after (moment_of old) (moment_of new)
     flushes_all = record {
       exchanges = so_far.exchanges;
       ran = so_far.ran;
-      each = λ order. flush_done (has pending) (seat_of old.board.seats) (seat_of new.board.seats) so_far.exchanges none (so_far.halfway order).flushing;
+      each = λ order. flush_done (has pending) (connection_of old.connections.table) (connection_of new.connections.table) so_far.exchanges none (so_far.halfway order).flushing;
     }
 
     pub in_order_again : IsInOrder (moment_of old) → IsInOrder (moment_of new)
@@ -245,6 +245,6 @@ module _ {W : Type 0} (is_after : W → List Call → Type 0) where
       none_done = λ q. (half.marks q).not_done;
     }
       where
-        marked : (q : ℕ) → IsMarked (has pending q) (seat_of new.board.seats q) (has new.board.waiting q)
-            → IsMarked false (seat_of new.board.seats q) (has new.board.waiting q)
-        marked q is = subst (λ (b : Bool). IsMarked b (seat_of new.board.seats q) (has new.board.waiting q)) (none q) is
+        marked : (q : ℕ) → IsMarked (has pending q) (connection_of new.connections.table q) (has new.connections.waiting q)
+            → IsMarked false (connection_of new.connections.table q) (has new.connections.waiting q)
+        marked q is = subst (λ (b : Bool). IsMarked b (connection_of new.connections.table q) (has new.connections.waiting q)) (none q) is

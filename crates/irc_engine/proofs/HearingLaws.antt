@@ -39,7 +39,7 @@ hears_same old new same = subst (λ (b : Option Begun). Hears old [] [] b) (sym 
 
 -- bytes that come of a connection that is not open
 pub hears_deaf : (came : List ℕ) (b : Option Begun) → b ≡ None → Hears b came [] b
-hears_deaf came b shut = subst (λ (o : Option Begun). Hears o came [] o) (sym shut) refl
+hears_deaf came b closed = subst (λ (o : Option Begun). Hears o came [] o) (sym closed) refl
 
 pub hears_on : (a b c : Option Begun) (x y : List ℕ) (f g : List (List ℕ)) → Hears a x f b → Hears b y g c → Hears a (x ++ y) (f ++ g) c
 hears_on None None None x y f g one other = ap (λ ls. ls ++ g) one ∙ other

@@ -1,9 +1,9 @@
 pub mod HearingLaws
-pub mod SeatLaws
+pub mod TableLaws
 pub mod KindLaws
 pub mod CarryingLaws
-pub mod BoardLaws
-pub mod BoardSteps
+pub mod EachConnection
+pub mod ConnectionSteps
 pub mod MarkLaws
 pub mod WriteSteps
 pub mod FlushLaws

@@ -15,23 +15,23 @@ use Rattle.irc_batch.specs.Batches.{Sent}
 use Rattle.irc_server.specs.declared.event.ServerFault.{ServerFault}
 use Rattle.irc_stage.specs.View.{View}
 use Rattle.irc_server.specs.Happening.{IsHandled}
-use Rattle.irc_engine.specs.declared.board.Board.{Board}
+use Rattle.irc_engine.specs.declared.connections.Connections.{Connections}
 use Rattle.irc_engine.specs.declared.kind.Kind.{Kind}
 use Rattle.irc_engine.specs.declared.kind.Kind.TheVariants as kinds
-use Rattle.irc_engine.specs.declared.seat.Seat.{Seat}
-use Rattle.irc_engine.specs.declared.seat.Seats.{Seats}
-use Rattle.irc_engine.specs.Carrying.{is_exchange, owed, is_open_at, is_cut_off, is_closed_by, kind_at, AddsAll, Fate, IsOfKind, kind_of_seat, kind_of_loss, KeepsKind, Passage, cut_off}
+use Rattle.irc_engine.specs.declared.connection_table.Connection.{Connection}
+use Rattle.irc_engine.specs.declared.connection_table.ConnectionTable.{ConnectionTable}
+use Rattle.irc_engine.specs.Carrying.{is_exchange, owed, is_open_at, is_cut_off, is_closed_by, kind_at, AddsAll, Fate, IsOfKind, kind_of_connection, kind_of_loss, KeepsKind, Passage, cut_off}
 use Rattle.irc_line.specs.Lines.{Begun}
 use Rattle.irc_line.specs.Framed.{found_in}
 use Rattle.irc_engine.specs.Hearing.{begun_at, end_event_of, line_event_of, lines_by, times_gone, nothing_of, only_of, Hears}
 use Rattle.irc_engine.specs.Running.{Moment, AreAsked, AsksOnce, IsNews, a_line, an_end, Ran, RanOn, Standing, standing_of, Tells}
 use Rattle.irc_engine.specs.Writing.{one_if}
 use Rattle.irc_engine.proofs.HearingLaws.{lines_by-append, times_gone-append, hears_on, hears_kept, hears_same, hears_gone, hears_deaf}
-use Rattle.irc_engine.specs.Loops.Seats.{seat_of, at_seat, no_seat, FramesAt}
-use Rattle.irc_engine.specs.Loops.Boards.{has, lost_at, lost_by, Carries, Loses}
-use Rattle.irc_engine.specs.Loops.Desks.{came, passed_on}
-use Rattle.irc_engine.proofs.BoardLaws.{adds_none, adds_both, at_once, set_here, set_other, close_elsewhere, last_close}
-use Rattle.irc_engine.proofs.SeatLaws.{one_number, nat_eq-refl}
+use Rattle.irc_engine.specs.Loops.Tables.{connection_of, at_connection, no_connection, FramesAt}
+use Rattle.irc_engine.specs.Loops.Connections.{has, lost_at, lost_by, Carries, Loses}
+use Rattle.irc_engine.specs.Loops.Moments.{came, passed_on}
+use Rattle.irc_engine.proofs.EachConnection.{adds_none, adds_both, at_once, set_here, set_other, close_elsewhere, last_close}
+use Rattle.irc_engine.proofs.TableLaws.{one_number, nat_eq-refl}
 use Rattle.irc_engine.proofs.KindLaws.{kind_kept, kind_of_lost, some_lost}
 use Rattle.arrayvec.specs.ArrayVec.{ArrayVec}
 use Rattle.irc_engine.proofs.CarryingLaws.{is_closed_by-append, IsElsewhere, elsewhere_both, fate_on, same_fate, untouched_fate, nothing_owed, still}
@@ -44,9 +44,9 @@ pub on_both : {E : Type 0} (result : Result (Unit {0}) E) (P Q R : Type 0) → (
 on_both (Ok done) P Q R so holds too = so holds too
 on_both (Err fault) P Q R so holds too = tt
 
-pub none_there : (seat : Option Seat) → is_some seat ≡ false → seat ≡ None
+pub none_there : (connection : Option Connection) → is_some connection ≡ false → connection ≡ None
 none_there None none = refl
-none_there (Some seat) none = cc none
+none_there (Some connection) none = cc none
 
 pub asked_on : (old mid new : Option View) (a b : List Event) (x y : List Sent) → AreAsked old a x mid → AreAsked mid b y new → AreAsked old (a ++ b) (x ++ y) new
 asked_on old mid new [] b x y one other =
@@ -72,19 +72,19 @@ tells_on conn was mid now a b x y one other = λ apart.
     let then = other first.apart in
     record {
       at_most = omega (arith, first.at_most, then.at_most, times_gone-append conn a b);
-      unless_closed = λ unshut.
-          let parts = either_false (is_closed_by conn x) (is_closed_by conn y) (sym (is_closed_by-append conn x y) ∙ unshut) in
+      unless_closed = λ is_open.
+          let parts = either_false (is_closed_by conn x) (is_closed_by conn y) (sym (is_closed_by-append conn x y) ∙ is_open) in
           omega (arith, first.unless_closed parts.0, then.unless_closed parts.1, times_gone-append conn a b);
       apart = then.apart;
     }
 
 tells_still : (conn : ℕ) (now : Standing) → Tells conn now [] [] now
-tells_still conn now = λ apart. record { at_most = omega arith; unless_closed = λ unshut. omega arith; apart = apart }
+tells_still conn now = λ apart. record { at_most = omega arith; unless_closed = λ is_open. omega arith; apart = apart }
 
-tells_as : (conn : ℕ) (was now : Standing) → now.lost ≡ was.lost → now.unshut ≡ was.unshut → Tells conn was [] [] now
-tells_as conn was now lost unshut =
-    subst (λ (l : Bool). Tells conn was [] [] (record { lost = l; unshut = now.unshut })) (sym lost)
-    (subst (λ (o : Bool). Tells conn was [] [] (record { lost = was.lost; unshut = o })) (sym unshut) (tells_still conn was))
+tells_as : (conn : ℕ) (was now : Standing) → now.lost ≡ was.lost → now.is_open ≡ was.is_open → Tells conn was [] [] now
+tells_as conn was now lost is_open =
+    subst (λ (l : Bool). Tells conn was [] [] (record { lost = l; is_open = now.is_open })) (sym lost)
+    (subst (λ (o : Bool). Tells conn was [] [] (record { lost = was.lost; is_open = o })) (sym is_open) (tells_still conn was))
 
 fewer : (b c : Bool) → 0 + one_if (b && not c) ≤ one_if b
 fewer true true = omega arith
@@ -119,7 +119,7 @@ known_left false false true = refl
 known_left false false false = refl
 
 -- the server knows of just those connections of which it knew, but for those that it has closed
-known_after : (conn : ℕ) (old : Option Seat) (was : Option Kind) (calls : List Call) (outs : List Sent) (new : Option Seat) (now : Option Kind)
+known_after : (conn : ℕ) (old : Option Connection) (was : Option Kind) (calls : List Call) (outs : List Sent) (new : Option Connection) (now : Option Kind)
     → Passage conn old was calls outs new now → (is_some now || is_open_at new) ≡ ((is_some was || is_open_at old) && not (is_closed_by conn outs))
 known_after conn None was calls outs None now passed = ap (λ t. t || false) passed.lost_is ∙ known_none (is_some was) (is_closed_by conn outs)
 known_after conn None was calls outs (Some new) now passed = absurd passed.fate
@@ -141,7 +141,7 @@ apart_some true false false is = refl
 apart_some false true c is = refl
 apart_some false false c is = refl
 
-apart_after : (conn : ℕ) (old : Option Seat) (was : Option Kind) (calls : List Call) (outs : List Sent) (new : Option Seat) (now : Option Kind)
+apart_after : (conn : ℕ) (old : Option Connection) (was : Option Kind) (calls : List Call) (outs : List Sent) (new : Option Connection) (now : Option Kind)
     → Passage conn old was calls outs new now → (is_some was && is_open_at old) ≡ false → (is_some now && is_open_at new) ≡ false
 apart_after conn old was calls outs None now passed apart = never_both (is_some now)
 apart_after conn None was calls outs (Some new) now passed apart = absurd passed.fate
@@ -150,15 +150,15 @@ apart_after conn (Some old) was calls outs (Some new) now passed apart =
     ∙ ap (λ t. ((is_some was || (is_some old.framer && false)) && not (is_closed_by conn outs)) && t) passed.fate.still_open
     ∙ apart_some (is_some was) (is_some old.framer) (is_closed_by conn outs) apart
 
--- the board has done something: the server is told nothing
-tells_passage : (conn : ℕ) (old : Option Seat) (was : Option Kind) (calls : List Call) (outs : List Sent) (new : Option Seat) (now : Option Kind)
+-- something is done of itself: the server is told nothing
+tells_passage : (conn : ℕ) (old : Option Connection) (was : Option Kind) (calls : List Call) (outs : List Sent) (new : Option Connection) (now : Option Kind)
     → Passage conn old was calls outs new now
-    → Tells conn (record { lost = is_some was; unshut = is_open_at old }) [] outs (record { lost = is_some now; unshut = is_open_at new })
+    → Tells conn (record { lost = is_some was; is_open = is_open_at old }) [] outs (record { lost = is_some now; is_open = is_open_at new })
 tells_passage conn old was calls outs new now passed = λ apart. record {
   at_most = subst (λ (b : Bool). 0 + one_if b ≤ one_if (is_some was || is_open_at old)) (sym known) (fewer (is_some was || is_open_at old) (is_closed_by conn outs));
-  unless_closed = λ unshut.
+  unless_closed = λ is_open.
       let same : one_if (is_some now || is_open_at new) ≡ one_if (is_some was || is_open_at old) =
-      ap one_if (known ∙ ap (λ c. (is_some was || is_open_at old) && not c) unshut ∙ and_true (is_some was || is_open_at old)) in
+      ap one_if (known ∙ ap (λ c. (is_some was || is_open_at old) && not c) is_open ∙ and_true (is_some was || is_open_at old)) in
       omega (arith, same);
   apart = apart_after conn old was calls outs new now passed apart;
 }
@@ -171,13 +171,13 @@ or_false true = refl
 or_false false = refl
 
 -- an open connection is lost
-lost_now : (q : ℕ) (l o t p : Bool) (s : Option Seat) → t ≡ true → o ≡ true → p ≡ true
-    → Tells q (record { lost = l; unshut = o }) [] [] (record { lost = l || (t && p); unshut = is_open_at (cond t None s) })
-lost_now q l o false p s one here unshut = cc one
-lost_now q l false t p s one here unshut = cc here
-lost_now q l o t false s one here unshut = cc unshut
-lost_now q true true true true s one here unshut = λ apart. cc apart
-lost_now q false true true true s one here unshut = λ apart. record { at_most = omega arith; unless_closed = λ never. omega arith; apart = refl }
+lost_now : (q : ℕ) (l o t p : Bool) (s : Option Connection) → t ≡ true → o ≡ true → p ≡ true
+    → Tells q (record { lost = l; is_open = o }) [] [] (record { lost = l || (t && p); is_open = is_open_at (cond t None s) })
+lost_now q l o false p s one here is_open = cc one
+lost_now q l false t p s one here is_open = cc here
+lost_now q l o t false s one here is_open = cc is_open
+lost_now q true true true true s one here is_open = λ apart. cc apart
+lost_now q false true true true s one here is_open = λ apart. record { at_most = omega arith; unless_closed = λ never. omega arith; apart = refl }
 
 line_told : (kind : Kind) (conn q : ℕ) (line : ArrayVec ℕ) → lines_by q (line_event_of kind conn line ∷ []) ≡ cond (nat_eq conn q) (line.items ∷ []) [] ++ []
 line_told kinds.Client conn q line = refl
@@ -241,10 +241,10 @@ front_whole buffer used count within = ap (λ n. take n buffer) (omega (arith, w
 pub used_within : (bytes : List ℕ) (used count more : ℕ) → used < count → more ≤ length (take (count - used) bytes) → used + more ≤ count
 used_within bytes used count more within fits = omega (arith, within, fits, length-take (count - used) bytes)
 
-pub frames_within : (conn : ℕ) (piece : List ℕ) (old new : Seats) (used : ℕ) (kind : Kind) (line : Option (ArrayVec ℕ)) → FramesAt conn piece old (Some (used, kind, line)) new
+pub frames_within : (conn : ℕ) (piece : List ℕ) (old new : ConnectionTable) (used : ℕ) (kind : Kind) (line : Option (ArrayVec ℕ)) → FramesAt conn piece old (Some (used, kind, line)) new
     → used ≤ length piece
-frames_within conn piece old new used kind line (no_seat none same never) = cc never
-frames_within conn piece old new used kind line (at_seat seat now was set so) = so.within
+frames_within conn piece old new used kind line (no_connection none same never) = cc never
+frames_within conn piece old new used kind line (at_connection connection now was set so) = so.within
 
 -- what a read gave, in the buffer after it
 pub front_after : (answer : Result Got IoFault) (xs rest : List ℕ) (n room len : ℕ) → came answer ≡ Some n → FitsIn answer room → room ≡ len → length xs ≡ room
@@ -268,19 +268,19 @@ all_as : {X : Type 0} (P Q : X → Type 0) → ((x : X) → P x → Q x) → (xs
 all_as P Q so [] all = tt
 all_as P Q so (x ∷ xs) all = (so x all.0, all_as P Q so xs all.1)
 
-news_before : {W : Type 0} (old mid : Moment W) → ((conn : ℕ) → KeepsKind (old.seats conn) (old.lost conn) (mid.seats conn) (mid.lost conn)) → (event : Event)
+news_before : {W : Type 0} (old mid : Moment W) → ((conn : ℕ) → KeepsKind (old.connections conn) (old.lost conn) (mid.connections conn) (mid.lost conn)) → (event : Event)
     → IsNews mid event → IsNews old event
 news_before old mid keep event (a_line kind conn line is told) = a_line kind conn line (keep conn kind is) told
 news_before old mid keep event (an_end kind conn is told) = an_end kind conn (keep conn kind is) told
 
--- the engine's board, and what else there is of it, at one moment
-abbrev pub at_board : {W : Type 0} → Option View → ℕ → Board W → Moment W
-at_board server room board = record {
+-- the engine's connections, and what else there is of it, at one moment
+abbrev pub at_connections : {W : Type 0} → Option View → ℕ → Connections W → Moment W
+at_connections server room connections = record {
   server = server;
-  wire = board.wire;
-  seats = seat_of board.seats;
-  lost = lost_at board.lost;
-  waiting = has board.waiting;
+  wire = connections.wire;
+  connections = connection_of connections.table;
+  lost = lost_at connections.lost;
+  waiting = has connections.waiting;
   read_room = room;
 }
 
@@ -296,14 +296,14 @@ module _ {W : Type 0} (is_after : W → List Call → Type 0) where
     account = adds_both is_after old.wire mid.wire new.wire one.calls other.calls one.account other.account;
     exchanged = filter-append is_exchange one.calls other.calls ∙ ap (λ cs. cs ++ filter is_exchange other.calls) one.exchanged ∙ ap
         (λ cs. a ++ cs) other.exchanged;
-    fates = λ conn. fate_on conn one.calls other.calls one.outs other.outs (old.seats conn) (mid.seats conn) (new.seats conn) (one.fates conn) (other.fates conn);
+    fates = λ conn. fate_on conn one.calls other.calls one.outs other.outs (old.connections conn) (mid.connections conn) (new.connections conn) (one.fates conn) (other.fates conn);
     are_news = all_both (IsNews old) one.events other.events one.are_news
         (all_as (IsNews mid) (IsNews old) (news_before old mid one.keep_kinds) other.events other.are_news);
     keep_kinds = λ conn kind is. one.keep_kinds conn kind (other.keep_kinds conn kind is);
-    hears = λ conn. subst (λ (bs : List ℕ). Hears (begun_at (old.seats conn)) bs (lines_by conn (one.events ++ other.events)) (begun_at (new.seats conn))) (sym (is conn))
-        (subst (λ (ls : List (List ℕ)). Hears (begun_at (old.seats conn)) (f conn ++ g conn) ls (begun_at (new.seats conn)))
+    hears = λ conn. subst (λ (bs : List ℕ). Hears (begun_at (old.connections conn)) bs (lines_by conn (one.events ++ other.events)) (begun_at (new.connections conn))) (sym (is conn))
+        (subst (λ (ls : List (List ℕ)). Hears (begun_at (old.connections conn)) (f conn ++ g conn) ls (begun_at (new.connections conn)))
         (sym (lines_by-append conn one.events other.events))
-        (hears_on (begun_at (old.seats conn)) (begun_at (mid.seats conn)) (begun_at (new.seats conn)) (f conn) (g conn)
+        (hears_on (begun_at (old.connections conn)) (begun_at (mid.connections conn)) (begun_at (new.connections conn)) (f conn) (g conn)
         (lines_by conn one.events) (lines_by conn other.events) (one.hears conn) (other.hears conn)));
     tells = λ conn. tells_on conn (standing_of conn old) (standing_of conn mid) (standing_of conn new) one.events other.events one.outs other.outs
         (one.tells conn) (other.tells conn);
@@ -333,36 +333,36 @@ module _ {W : Type 0} (is_after : W → List Call → Type 0) where
     are_asked = (refl, refl);
     account = adds_none is_after old.wire old.wire refl;
     exchanged = refl;
-    fates = λ conn. same_fate conn (old.seats conn);
+    fates = λ conn. same_fate conn (old.connections conn);
     are_news = tt;
     keep_kinds = λ conn kind is. is;
-    hears = λ conn. hears_kept (begun_at (old.seats conn));
+    hears = λ conn. hears_kept (begun_at (old.connections conn));
     tells = λ conn. tells_still conn (standing_of conn old);
     same_room = refl;
   }
 
   -- nothing has happened, but that other connections are noted
-  pub ran_marked : (server : Option View) (room : ℕ) (board : Board W) (waiting : BTreeSet ℕ)
-      → RanOn is_after (at_board server room board) (at_board server room (record board { waiting = waiting }))
-  ran_marked server room board waiting = record {
+  pub ran_marked : (server : Option View) (room : ℕ) (connections : Connections W) (waiting : BTreeSet ℕ)
+      → RanOn is_after (at_connections server room connections) (at_connections server room (record connections { waiting = waiting }))
+  ran_marked server room connections waiting = record {
     events = [];
     outs = [];
     calls = [];
     are_asked = (refl, refl);
-    account = adds_none is_after board.wire board.wire refl;
+    account = adds_none is_after connections.wire connections.wire refl;
     exchanged = refl;
-    fates = λ conn. same_fate conn (seat_of board.seats conn);
+    fates = λ conn. same_fate conn (connection_of connections.table conn);
     are_news = tt;
     keep_kinds = λ conn kind is. is;
-    hears = λ conn. hears_kept (begun_at (seat_of board.seats conn));
-    tells = λ conn. tells_still conn (standing_of conn (at_board server room board));
+    hears = λ conn. hears_kept (begun_at (connection_of connections.table conn));
+    tells = λ conn. tells_still conn (standing_of conn (at_connections server room connections));
     same_room = refl;
   }
 
-  -- the board has done what the server put out by an event
-  ran_event : (server after : Option View) (room : ℕ) (old new : Board W) (event : Event) (result : Result (Unit {0}) ServerFault) (before outs : List Sent) → before ≡ []
+  -- what the server put out by an event is done
+  ran_event : (server after : Option View) (room : ℕ) (old new : Connections W) (event : Event) (result : Result (Unit {0}) ServerFault) (before outs : List Sent) → before ≡ []
       → IsHandled server event before result after outs → Carries is_after [] old outs new
-      → Ran is_after [] (event ∷ []) nothing_of (at_board server room old) (at_board after room new)
+      → Ran is_after [] (event ∷ []) nothing_of (at_connections server room old) (at_connections after room new)
   ran_event server after room old new event result before outs none handled carries = record {
     events = [];
     outs = outs;
@@ -382,13 +382,13 @@ module _ {W : Type 0} (is_after : W → List Call → Type 0) where
     are_news = tt;
     keep_kinds = λ conn. (carries.passage conn).keeps_kind;
     hears = λ conn. (carries.passage conn).hears_none;
-    tells = λ conn. tells_passage conn (seat_of old.seats conn) (lost_at old.lost conn) carries.calls outs (seat_of new.seats conn) (lost_at new.lost conn) (carries.passage conn);
+    tells = λ conn. tells_passage conn (connection_of old.table conn) (lost_at old.lost conn) carries.calls outs (connection_of new.table conn) (lost_at new.lost conn) (carries.passage conn);
     same_room = refl;
   }
 
-  pub asked_once : (server after : Option View) (room : ℕ) (old new : Board W) (event : Event) (result : Result (Unit {0}) ServerFault) (before outs : List Sent)
+  pub asked_once : (server after : Option View) (room : ℕ) (old new : Connections W) (event : Event) (result : Result (Unit {0}) ServerFault) (before outs : List Sent)
       → before ≡ [] → IsHandled server event before result after outs → Carries is_after [] old outs new
-      → AsksOnce is_after event (at_board server room old) (at_board after room new)
+      → AsksOnce is_after event (at_connections server room old) (at_connections after room new)
   unfolding ran_event
   asked_once server after room old new event result before outs none handled carries =
       (ran_event server after room old new event result before outs none handled carries, refl)
@@ -397,10 +397,10 @@ module _ {W : Type 0} (is_after : W → List Call → Type 0) where
   pub asks_as : (event told : Event) (old new : Moment W) → event ≡ told → AsksOnce is_after event old new → AsksOnce is_after told old new
   asks_as event told old new same asks = subst (λ (e : Event). AsksOnce is_after e old new) same asks
 
-  -- the board has done something of itself
-  pub ran_board : (server : Option View) (room : ℕ) (exchanges : List Call) (old new : Board W) → Carries is_after exchanges old [] new
-      → Ran is_after exchanges [] nothing_of (at_board server room old) (at_board server room new)
-  ran_board server room exchanges old new carries = record {
+  -- something is done that no event asks for
+  pub ran_connections : (server : Option View) (room : ℕ) (exchanges : List Call) (old new : Connections W) → Carries is_after exchanges old [] new
+      → Ran is_after exchanges [] nothing_of (at_connections server room old) (at_connections server room new)
+  ran_connections server room exchanges old new carries = record {
     events = [];
     outs = [];
     calls = carries.calls;
@@ -411,7 +411,7 @@ module _ {W : Type 0} (is_after : W → List Call → Type 0) where
     are_news = tt;
     keep_kinds = λ conn. (carries.passage conn).keeps_kind;
     hears = λ conn. (carries.passage conn).hears_none;
-    tells = λ conn. tells_passage conn (seat_of old.seats conn) (lost_at old.lost conn) carries.calls [] (seat_of new.seats conn) (lost_at new.lost conn) (carries.passage conn);
+    tells = λ conn. tells_passage conn (connection_of old.table conn) (lost_at old.lost conn) carries.calls [] (connection_of new.table conn) (lost_at new.lost conn) (carries.passage conn);
     same_room = refl;
   }
 
@@ -421,15 +421,15 @@ module _ {W : Type 0} (is_after : W → List Call → Type 0) where
   gone_once kinds.Link conn q t is = ap (λ u. 0 + cond u 1 0) is
 
   gone_of : (kind : Kind) (conn q : ℕ) (t l o : Bool) (events : List Event) (outs : List Sent) (now : Standing) → nat_eq conn q ≡ t → (t ≡ true → l ≡ true)
-      → Tells q (record { lost = cond t false l; unshut = o }) events outs now
-      → Tells q (record { lost = l; unshut = o }) (end_event_of kind conn ∷ events) outs now
+      → Tells q (record { lost = cond t false l; is_open = o }) events outs now
+      → Tells q (record { lost = l; is_open = o }) (end_event_of kind conn ∷ events) outs now
   gone_of kind conn q true true true events outs now is lost tells = λ apart. cc apart
   gone_of kind conn q true true false events outs now is lost tells = λ apart.
       let told = tells refl in
       let here = gone_once kind conn q true is in
       record {
         at_most = omega (arith, told.at_most, here, times_gone-append q (end_event_of kind conn ∷ []) events);
-        unless_closed = λ unshut. omega (arith, told.unless_closed unshut, here, times_gone-append q (end_event_of kind conn ∷ []) events);
+        unless_closed = λ is_open. omega (arith, told.unless_closed is_open, here, times_gone-append q (end_event_of kind conn ∷ []) events);
         apart = told.apart;
       }
   gone_of kind conn q true false o events outs now is lost tells = cc (lost refl)
@@ -438,7 +438,7 @@ module _ {W : Type 0} (is_after : W → List Call → Type 0) where
       let here = gone_once kind conn q false is in
       record {
         at_most = omega (arith, told.at_most, here, times_gone-append q (end_event_of kind conn ∷ []) events);
-        unless_closed = λ unshut. omega (arith, told.unless_closed unshut, here, times_gone-append q (end_event_of kind conn ∷ []) events);
+        unless_closed = λ is_open. omega (arith, told.unless_closed is_open, here, times_gone-append q (end_event_of kind conn ∷ []) events);
         apart = told.apart;
       }
 
@@ -450,52 +450,52 @@ module _ {W : Type 0} (is_after : W → List Call → Type 0) where
   still_lost true l = refl
   still_lost false l = refl
 
-  pub ran_gone : (server : Option View) (room conn : ℕ) (kind : Kind) (old mid : Board W) (new : Moment W) → mid.wire ≡ old.wire → mid.seats ≡ old.seats
+  pub ran_gone : (server : Option View) (room conn : ℕ) (kind : Kind) (old mid : Connections W) (new : Moment W) → mid.wire ≡ old.wire → mid.table ≡ old.table
       → lost_at old.lost conn ≡ Some kind → ((q : ℕ) → lost_at mid.lost q ≡ cond (nat_eq conn q) None (lost_at old.lost q))
-      → Ran is_after [] (end_event_of kind conn ∷ []) nothing_of (at_board server room mid) new → RanOn is_after (at_board server room old) new
-  ran_gone server room conn kind old mid new wire seats as_lost popped ran = record {
+      → Ran is_after [] (end_event_of kind conn ∷ []) nothing_of (at_connections server room mid) new → RanOn is_after (at_connections server room old) new
+  ran_gone server room conn kind old mid new wire table as_lost popped ran = record {
     events = end_event_of kind conn ∷ ran.events;
     outs = ran.outs;
     calls = ran.calls;
     are_asked = ran.are_asked;
     account = subst (λ w. AddsAll is_after w ran.calls new.wire) wire ran.account;
     exchanged = ran.exchanged;
-    fates = λ q. subst (λ (s : Option Seat). Fate q s ran.calls ran.outs (new.seats q)) (at q) (ran.fates q);
+    fates = λ q. subst (λ (s : Option Connection). Fate q s ran.calls ran.outs (new.connections q)) (at q) (ran.fates q);
     are_news = (
       an_end kind conn (kind_of_loss as_lost) refl,
-      all_as (IsNews (at_board server room mid)) (IsNews (at_board server room old))
-          (news_before (at_board server room old) (at_board server room mid) kept) ran.events ran.are_news,
+      all_as (IsNews (at_connections server room mid)) (IsNews (at_connections server room old))
+          (news_before (at_connections server room old) (at_connections server room mid) kept) ran.events ran.are_news,
     );
     keep_kinds = λ q one is. kept q one (ran.keep_kinds q one is);
-    hears = λ q. subst (λ (ls : List (List ℕ)). Hears (begun_at (seat_of old.seats q)) [] ls (begun_at (new.seats q))) (sym (no_line_of_an_end kind conn q ran.events))
-        (subst (λ (s : Option Seat). Hears (begun_at s) [] (lines_by q ran.events) (begun_at (new.seats q))) (at q) (ran.hears q));
-    tells = λ q. gone_of kind conn q (nat_eq conn q) (is_some (lost_at old.lost q)) (is_open_at (seat_of old.seats q)) ran.events ran.outs (standing_of q new) refl
+    hears = λ q. subst (λ (ls : List (List ℕ)). Hears (begun_at (connection_of old.table q)) [] ls (begun_at (new.connections q))) (sym (no_line_of_an_end kind conn q ran.events))
+        (subst (λ (s : Option Connection). Hears (begun_at s) [] (lines_by q ran.events) (begun_at (new.connections q))) (at q) (ran.hears q));
+    tells = λ q. gone_of kind conn q (nat_eq conn q) (is_some (lost_at old.lost q)) (is_open_at (connection_of old.table q)) ran.events ran.outs (standing_of q new) refl
         (λ one. ap (λ p. is_some (lost_at old.lost p)) (sym (one_number conn q one)) ∙ ap is_some as_lost)
-        (subst (λ (l : Bool). Tells q (record { lost = l; unshut = is_open_at (seat_of old.seats q) }) ran.events ran.outs (standing_of q new))
+        (subst (λ (l : Bool). Tells q (record { lost = l; is_open = is_open_at (connection_of old.table q) }) ran.events ran.outs (standing_of q new))
         (ap is_some (popped q) ∙ still_lost (nat_eq conn q) (lost_at old.lost q))
-        (subst (λ (s : Option Seat). Tells q (record { lost = is_some (lost_at mid.lost q); unshut = is_open_at s }) ran.events ran.outs (standing_of q new)) (at q) (ran.tells q)));
+        (subst (λ (s : Option Connection). Tells q (record { lost = is_some (lost_at mid.lost q); is_open = is_open_at s }) ran.events ran.outs (standing_of q new)) (at q) (ran.tells q)));
     same_room = ran.same_room;
   }
     where
-      at : (q : ℕ) → seat_of mid.seats q ≡ seat_of old.seats q
-      at q = ap (λ s. seat_of s q) seats
+      at : (q : ℕ) → connection_of mid.table q ≡ connection_of old.table q
+      at q = ap (λ s. connection_of s q) table
 
-      kept : (q : ℕ) → KeepsKind (seat_of old.seats q) (lost_at old.lost q) (seat_of mid.seats q) (lost_at mid.lost q)
-      kept q one (kind_of_seat is) = kind_of_seat (sym (ap kind_at (at q)) ∙ is)
+      kept : (q : ℕ) → KeepsKind (connection_of old.table q) (lost_at old.lost q) (connection_of mid.table q) (lost_at mid.lost q)
+      kept q one (kind_of_connection is) = kind_of_connection (sym (ap kind_at (at q)) ∙ is)
       kept q one (kind_of_loss is) = by (nat_eq conn q) (sym (popped q) ∙ is)
         where
-          by : (t : Bool) → cond t None (lost_at old.lost q) ≡ Some one → IsOfKind one (seat_of old.seats q) (lost_at old.lost q)
+          by : (t : Bool) → cond t None (lost_at old.lost q) ≡ Some one → IsOfKind one (connection_of old.table q) (lost_at old.lost q)
           by true never = cc never
           by false same = kind_of_loss same
 
   -- the fate of one connection, and that of the others
-  fate_of_one : (conn : ℕ) (old new : ℕ → Option Seat) (calls : List Call) (outs : List Sent) → ((q : ℕ) → nat_eq conn q ≡ false → new q ≡ old q)
+  fate_of_one : (conn : ℕ) (old new : ℕ → Option Connection) (calls : List Call) (outs : List Sent) → ((q : ℕ) → nat_eq conn q ≡ false → new q ≡ old q)
       → ((q : ℕ) → nat_eq conn q ≡ false → IsElsewhere q calls outs) → Fate conn (old conn) calls outs (new conn) → (q : ℕ) → Fate q (old q) calls outs (new q)
   fate_of_one conn old new calls outs same apart here q = by (nat_eq conn q) refl
     where
       by : (t : Bool) → nat_eq conn q ≡ t → Fate q (old q) calls outs (new q)
       by true one = subst (λ p. Fate p (old p) calls outs (new p)) (one_number conn q one) here
-      by false two = subst (λ (s : Option Seat). Fate q (old q) calls outs s) (sym (same q two)) (untouched_fate q calls outs (apart q two) (old q))
+      by false two = subst (λ (s : Option Connection). Fate q (old q) calls outs s) (sym (same q two)) (untouched_fate q calls outs (apart q two) (old q))
 
   -- a read that gave bytes, or none yet
   goes_by : (conn room : ℕ) (answer : Result Got IoFault) (bytes : List ℕ) (n : ℕ) → came answer ≡ Some n → (q : ℕ) → IsElsewhere q (reads conn room answer bytes ∷ []) []
@@ -504,29 +504,29 @@ module _ {W : Type 0} (is_after : W → List Call → Type 0) where
   goes_by conn room (Ok End) bytes n is q = cc is
   goes_by conn room (Err fault) bytes n is q = cc is
 
-  pub ran_read : (server : Option View) (old new : Board W) (size later conn room : ℕ) (answer : Result Got IoFault) (bytes : List ℕ) (n : ℕ) → came answer ≡ Some n
-      → Adds is_after old.wire (reads conn room answer bytes) new.wire → new.seats ≡ old.seats → new.lost ≡ old.lost → later ≡ size
-      → Ran is_after (reads conn room answer bytes ∷ []) [] nothing_of (at_board server size old) (at_board server later new)
-  ran_read server old new size later conn room answer bytes n is account seats lost as_large = record {
+  pub ran_read : (server : Option View) (old new : Connections W) (size later conn room : ℕ) (answer : Result Got IoFault) (bytes : List ℕ) (n : ℕ) → came answer ≡ Some n
+      → Adds is_after old.wire (reads conn room answer bytes) new.wire → new.table ≡ old.table → new.lost ≡ old.lost → later ≡ size
+      → Ran is_after (reads conn room answer bytes ∷ []) [] nothing_of (at_connections server size old) (at_connections server later new)
+  ran_read server old new size later conn room answer bytes n is account table lost as_large = record {
     events = [];
     outs = [];
     calls = reads conn room answer bytes ∷ [];
     are_asked = (refl, refl);
     account = account;
     exchanged = refl;
-    fates = λ q. subst (λ (s : Option Seat). Fate q (seat_of old.seats q) (reads conn room answer bytes ∷ []) [] s) (sym (at q))
-        (untouched_fate q (reads conn room answer bytes ∷ []) [] (goes_by conn room answer bytes n is q) (seat_of old.seats q));
+    fates = λ q. subst (λ (s : Option Connection). Fate q (connection_of old.table q) (reads conn room answer bytes ∷ []) [] s) (sym (at q))
+        (untouched_fate q (reads conn room answer bytes ∷ []) [] (goes_by conn room answer bytes n is q) (connection_of old.table q));
     are_news = tt;
-    keep_kinds = λ q. kind_kept (seat_of old.seats q) (seat_of new.seats q) (lost_at old.lost q) (lost_at new.lost q) (ap kind_at (at q))
+    keep_kinds = λ q. kind_kept (connection_of old.table q) (connection_of new.table q) (lost_at old.lost q) (lost_at new.lost q) (ap kind_at (at q))
         (ap (λ l. lost_at l q) lost);
-    hears = λ q. hears_same (begun_at (seat_of old.seats q)) (begun_at (seat_of new.seats q)) (ap begun_at (at q));
-    tells = λ q. tells_as q (standing_of q (at_board server size old)) (standing_of q (at_board server later new))
+    hears = λ q. hears_same (begun_at (connection_of old.table q)) (begun_at (connection_of new.table q)) (ap begun_at (at q));
+    tells = λ q. tells_as q (standing_of q (at_connections server size old)) (standing_of q (at_connections server later new))
         (ap (λ l. is_some (lost_at l q)) lost) (ap is_open_at (at q));
     same_room = as_large;
   }
     where
-      at : (q : ℕ) → seat_of new.seats q ≡ seat_of old.seats q
-      at q = ap (λ s. seat_of s q) seats
+      at : (q : ℕ) → connection_of new.table q ≡ connection_of old.table q
+      at q = ap (λ s. connection_of s q) table
 
   -- a read that ended or failed
   cut_elsewhere : (conn room : ℕ) (answer : Result Got IoFault) (bytes : List ℕ) → came answer ≡ None → (q : ℕ) → nat_eq conn q ≡ false
@@ -545,24 +545,24 @@ module _ {W : Type 0} (is_after : W → List Call → Type 0) where
   cut_here conn room (Ok End) bytes is = ap (λ t. t || false) (nat_eq-refl conn)
   cut_here conn room (Err fault) bytes is = ap (λ t. t || false) (nat_eq-refl conn)
 
-  pub ran_cut : (server : Option View) (size later : ℕ) (old mid new : Board W) (conn room : ℕ) (answer : Result Got IoFault) (bytes : List ℕ) → came answer ≡ None
-      → is_open_at (seat_of old.seats conn) ≡ true → Adds is_after old.wire (reads conn room answer bytes) mid.wire → mid.seats ≡ old.seats → mid.lost ≡ old.lost
+  pub ran_cut : (server : Option View) (size later : ℕ) (old mid new : Connections W) (conn room : ℕ) (answer : Result Got IoFault) (bytes : List ℕ) → came answer ≡ None
+      → is_open_at (connection_of old.table conn) ≡ true → Adds is_after old.wire (reads conn room answer bytes) mid.wire → mid.table ≡ old.table → mid.lost ≡ old.lost
       → Loses is_after conn mid new → later ≡ size
-      → Ran is_after (reads conn room answer bytes ∷ []) [] nothing_of (at_board server size old) (at_board server later new)
-  ran_cut server size later old mid new conn room answer bytes is unshut account same same_lost loses as_large = record {
+      → Ran is_after (reads conn room answer bytes ∷ []) [] nothing_of (at_connections server size old) (at_connections server later new)
+  ran_cut server size later old mid new conn room answer bytes is is_open account same same_lost loses as_large = record {
     events = [];
     outs = [];
     calls = calls;
     are_asked = (refl, refl);
     account = adds_both is_after old.wire mid.wire new.wire (reads conn room answer bytes ∷ []) (closes conn ∷ []) account loses.account;
     exchanged = refl;
-    fates = fate_of_one conn (seat_of old.seats) (seat_of new.seats) calls [] (set_other (seat_of old.seats) (seat_of new.seats) conn None set)
+    fates = fate_of_one conn (connection_of old.table) (connection_of new.table) calls [] (set_other (connection_of old.table) (connection_of new.table) conn None set)
         (λ q two. elsewhere_both q (reads conn room answer bytes ∷ []) (closes conn ∷ []) [] [] (cut_elsewhere conn room answer bytes is q two) (close_elsewhere conn q two))
-        (subst (λ (s : Option Seat). Fate conn (seat_of old.seats conn) calls [] s) (sym (set_here (seat_of old.seats) (seat_of new.seats) conn None set))
-        (here (seat_of old.seats conn) unshut));
+        (subst (λ (s : Option Connection). Fate conn (connection_of old.table conn) calls [] s) (sym (set_here (connection_of old.table) (connection_of new.table) conn None set))
+        (here (connection_of old.table conn) is_open));
     are_news = tt;
     keep_kinds = λ q. kind_cut q (nat_eq conn q) refl;
-    hears = λ q. subst (λ (s : Option Seat). Hears (begun_at (seat_of old.seats q)) [] [] (begun_at s)) (sym (set q)) (hears_cut (nat_eq conn q) (seat_of old.seats q));
+    hears = λ q. subst (λ (s : Option Connection). Hears (begun_at (connection_of old.table q)) [] [] (begun_at s)) (sym (set q)) (hears_cut (nat_eq conn q) (connection_of old.table q));
     tells = λ q. tells_cut q (nat_eq conn q) refl;
     same_room = as_large;
   }
@@ -570,180 +570,180 @@ module _ {W : Type 0} (is_after : W → List Call → Type 0) where
       calls : List Call
       calls = reads conn room answer bytes ∷ closes conn ∷ []
 
-      set : (q : ℕ) → seat_of new.seats q ≡ cond (nat_eq conn q) None (seat_of old.seats q)
-      set q = loses.seats q ∙ ap (λ s. cond (nat_eq conn q) None (seat_of s q)) same
+      set : (q : ℕ) → connection_of new.table q ≡ cond (nat_eq conn q) None (connection_of old.table q)
+      set q = loses.table q ∙ ap (λ s. cond (nat_eq conn q) None (connection_of s q)) same
 
-      hears_cut : (t : Bool) (s : Option Seat) → Hears (begun_at s) [] [] (begun_at (cond t None s))
+      hears_cut : (t : Bool) (s : Option Connection) → Hears (begun_at s) [] [] (begun_at (cond t None s))
       hears_cut true s = hears_gone (begun_at s)
       hears_cut false s = hears_kept (begun_at s)
 
-      lost_as : (q : ℕ) → lost_at new.lost q ≡ lost_by (nat_eq conn q) (seat_of old.seats conn) (lost_at old.lost q)
-      lost_as q = loses.lost q ∙ ap (λ l. lost_by (nat_eq conn q) (seat_of mid.seats conn) (lost_at l q)) same_lost
-          ∙ ap (λ s. lost_by (nat_eq conn q) (seat_of s conn) (lost_at old.lost q)) same
+      lost_as : (q : ℕ) → lost_at new.lost q ≡ lost_by (nat_eq conn q) (connection_of old.table conn) (lost_at old.lost q)
+      lost_as q = loses.lost q ∙ ap (λ l. lost_by (nat_eq conn q) (connection_of mid.table conn) (lost_at l q)) same_lost
+          ∙ ap (λ s. lost_by (nat_eq conn q) (connection_of s conn) (lost_at old.lost q)) same
 
-      lost_is : (q : ℕ) → is_some (lost_at new.lost q) ≡ (is_some (lost_at old.lost q) || (nat_eq conn q && is_open_at (seat_of old.seats conn)))
-      lost_is q = ap is_some (lost_as q) ∙ some_lost (nat_eq conn q) (seat_of old.seats conn) (lost_at old.lost q)
+      lost_is : (q : ℕ) → is_some (lost_at new.lost q) ≡ (is_some (lost_at old.lost q) || (nat_eq conn q && is_open_at (connection_of old.table conn)))
+      lost_is q = ap is_some (lost_as q) ∙ some_lost (nat_eq conn q) (connection_of old.table conn) (lost_at old.lost q)
 
-      kind_cut : (q : ℕ) (t : Bool) → nat_eq conn q ≡ t → KeepsKind (seat_of old.seats q) (lost_at old.lost q) (seat_of new.seats q) (lost_at new.lost q)
+      kind_cut : (q : ℕ) (t : Bool) → nat_eq conn q ≡ t → KeepsKind (connection_of old.table q) (lost_at old.lost q) (connection_of new.table q) (lost_at new.lost q)
       kind_cut q true one =
-          subst (λ (s : Option Seat). KeepsKind (seat_of old.seats q) (lost_at old.lost q) s (lost_at new.lost q))
-          (sym (set q ∙ ap (λ t. cond t None (seat_of old.seats q)) one))
-          (kind_of_lost (seat_of old.seats q) (lost_at old.lost q) (lost_at new.lost q) (nat_eq conn q)
-          (lost_as q ∙ ap (λ p. lost_by (nat_eq conn q) (seat_of old.seats p) (lost_at old.lost q)) (one_number conn q one)))
+          subst (λ (s : Option Connection). KeepsKind (connection_of old.table q) (lost_at old.lost q) s (lost_at new.lost q))
+          (sym (set q ∙ ap (λ t. cond t None (connection_of old.table q)) one))
+          (kind_of_lost (connection_of old.table q) (lost_at old.lost q) (lost_at new.lost q) (nat_eq conn q)
+          (lost_as q ∙ ap (λ p. lost_by (nat_eq conn q) (connection_of old.table p) (lost_at old.lost q)) (one_number conn q one)))
       kind_cut q false two =
-          kind_kept (seat_of old.seats q) (seat_of new.seats q) (lost_at old.lost q) (lost_at new.lost q)
-          (ap kind_at (set q) ∙ ap (λ t. kind_at (cond t None (seat_of old.seats q))) two)
-          (lost_as q ∙ ap (λ t. lost_by t (seat_of old.seats conn) (lost_at old.lost q)) two)
+          kind_kept (connection_of old.table q) (connection_of new.table q) (lost_at old.lost q) (lost_at new.lost q)
+          (ap kind_at (set q) ∙ ap (λ t. kind_at (cond t None (connection_of old.table q))) two)
+          (lost_as q ∙ ap (λ t. lost_by t (connection_of old.table conn) (lost_at old.lost q)) two)
 
-      tells_cut : (q : ℕ) (t : Bool) → nat_eq conn q ≡ t → Tells q (standing_of q (at_board server size old)) [] [] (standing_of q (at_board server later new))
+      tells_cut : (q : ℕ) (t : Bool) → nat_eq conn q ≡ t → Tells q (standing_of q (at_connections server size old)) [] [] (standing_of q (at_connections server later new))
       tells_cut q true one =
-          subst (λ (l : Bool). Tells q (standing_of q (at_board server size old)) [] [] (record { lost = l; unshut = is_open_at (seat_of new.seats q) })) (sym (lost_is q))
-          (subst (λ (s : Option Seat). Tells q (standing_of q (at_board server size old)) [] []
-          (record { lost = is_some (lost_at old.lost q) || (nat_eq conn q && is_open_at (seat_of old.seats conn)); unshut = is_open_at s })) (sym (set q))
-          (lost_now q (is_some (lost_at old.lost q)) (is_open_at (seat_of old.seats q)) (nat_eq conn q) (is_open_at (seat_of old.seats conn)) (seat_of old.seats q) one
-          (ap (λ p. is_open_at (seat_of old.seats p)) (sym (one_number conn q one)) ∙ unshut) unshut))
+          subst (λ (l : Bool). Tells q (standing_of q (at_connections server size old)) [] [] (record { lost = l; is_open = is_open_at (connection_of new.table q) })) (sym (lost_is q))
+          (subst (λ (s : Option Connection). Tells q (standing_of q (at_connections server size old)) [] []
+          (record { lost = is_some (lost_at old.lost q) || (nat_eq conn q && is_open_at (connection_of old.table conn)); is_open = is_open_at s })) (sym (set q))
+          (lost_now q (is_some (lost_at old.lost q)) (is_open_at (connection_of old.table q)) (nat_eq conn q) (is_open_at (connection_of old.table conn)) (connection_of old.table q) one
+          (ap (λ p. is_open_at (connection_of old.table p)) (sym (one_number conn q one)) ∙ is_open) is_open))
       tells_cut q false two =
-          tells_as q (standing_of q (at_board server size old)) (standing_of q (at_board server later new))
-          (lost_is q ∙ ap (λ t. is_some (lost_at old.lost q) || (t && is_open_at (seat_of old.seats conn))) two ∙ or_false (is_some (lost_at old.lost q)))
-          (ap is_open_at (set q) ∙ ap (λ t. is_open_at (cond t None (seat_of old.seats q))) two)
+          tells_as q (standing_of q (at_connections server size old)) (standing_of q (at_connections server later new))
+          (lost_is q ∙ ap (λ t. is_some (lost_at old.lost q) || (t && is_open_at (connection_of old.table conn))) two ∙ or_false (is_some (lost_at old.lost q)))
+          (ap is_open_at (set q) ∙ ap (λ t. is_open_at (cond t None (connection_of old.table q))) two)
 
-      here : (s : Option Seat) → is_open_at s ≡ true → Fate conn s (reads conn room answer bytes ∷ closes conn ∷ []) [] None
+      here : (s : Option Connection) → is_open_at s ≡ true → Fate conn s (reads conn room answer bytes ∷ closes conn ∷ []) [] None
       here None never = cc never
-      here (Some seat) is_unshut = record {
-        left = seat.outbox.bytes ++ owed (is_some seat.framer) conn [];
+      here (Some connection) is_open = record {
+        left = connection.outbox.bytes ++ owed (is_some connection.framer) conn [];
         carried = refl;
         once = last_close conn;
         why = cut_off (cut_here conn room answer bytes is);
       }
 
   -- A framer has taken bytes, and the line that they complete is passed on.
-  pub ran_framed : (server : Option View) (size : ℕ) (old mid : Board W) (new : Moment W) (conn : ℕ) (piece : List ℕ) (used : ℕ) (kind : Kind) (line : Option (ArrayVec ℕ))
-      (result : Option (ℕ × Kind × Option (ArrayVec ℕ))) → result ≡ Some (used, kind, line) → FramesAt conn piece old.seats result mid.seats → mid.wire ≡ old.wire → mid.lost ≡ old.lost
-      → Ran is_after [] (passed_on kind conn line) nothing_of (at_board server size mid) new
-      → Ran is_after [] [] (only_of conn (take used piece)) (at_board server size old) new
-  ran_framed server size old mid new conn piece used kind line result is frames wire lost ran = by (subst (λ r. FramesAt conn piece old.seats r mid.seats) is frames)
+  pub ran_framed : (server : Option View) (size : ℕ) (old mid : Connections W) (new : Moment W) (conn : ℕ) (piece : List ℕ) (used : ℕ) (kind : Kind) (line : Option (ArrayVec ℕ))
+      (result : Option (ℕ × Kind × Option (ArrayVec ℕ))) → result ≡ Some (used, kind, line) → FramesAt conn piece old.table result mid.table → mid.wire ≡ old.wire → mid.lost ≡ old.lost
+      → Ran is_after [] (passed_on kind conn line) nothing_of (at_connections server size mid) new
+      → Ran is_after [] [] (only_of conn (take used piece)) (at_connections server size old) new
+  ran_framed server size old mid new conn piece used kind line result is frames wire lost ran = by (subst (λ r. FramesAt conn piece old.table r mid.table) is frames)
     where
-      by : FramesAt conn piece old.seats (Some (used, kind, line)) mid.seats → Ran is_after [] [] (only_of conn (take used piece)) (at_board server size old) new
-      by (no_seat none same never) = cc never
-      by (at_seat seat now was set so) = record {
+      by : FramesAt conn piece old.table (Some (used, kind, line)) mid.table → Ran is_after [] [] (only_of conn (take used piece)) (at_connections server size old) new
+      by (no_connection none same never) = cc never
+      by (at_connection connection now was set so) = record {
         events = passed_on kind conn line ++ ran.events;
         outs = ran.outs;
         calls = ran.calls;
         are_asked = ran.are_asked;
         account = subst (λ w. AddsAll is_after w ran.calls new.wire) wire ran.account;
         exchanged = ran.exchanged;
-        fates = λ q. fate_on q [] ran.calls [] ran.outs (seat_of old.seats q) (seat_of mid.seats q) (new.seats q)
-            (fate_of_one conn (seat_of old.seats) (seat_of mid.seats) [] [] (set_other (seat_of old.seats) (seat_of mid.seats) conn (Some now) set)
+        fates = λ q. fate_on q [] ran.calls [] ran.outs (connection_of old.table q) (connection_of mid.table q) (new.connections q)
+            (fate_of_one conn (connection_of old.table) (connection_of mid.table) [] [] (set_other (connection_of old.table) (connection_of mid.table) conn (Some now) set)
             (λ q two. record { silent = record { nothing = refl; never = refl }; never_cut = refl; nothing = refl; never_closed = refl })
-            (subst (λ (s : Option Seat). Fate conn s [] [] (seat_of mid.seats conn)) (sym was)
-            (subst (λ (s : Option Seat). Fate conn (Some seat) [] [] s) (sym is_now) (record {
-              carried = ap (λ xs. seat.outbox.bytes ++ xs) (nothing_owed (is_some seat.framer) conn [] refl) ∙ append-nil seat.outbox.bytes
-                  ∙ sym (ap (λ (s : Seat). s.outbox.bytes) so.is);
-              same_room = ap (λ (s : Seat). s.outbox.room) so.is;
-              still_open = ap (λ (s : Seat). is_some s.framer) so.is ∙ sym (ap is_some so.was) ∙ still (is_some seat.framer) false refl;
+            (subst (λ (s : Option Connection). Fate conn s [] [] (connection_of mid.table conn)) (sym was)
+            (subst (λ (s : Option Connection). Fate conn (Some connection) [] [] s) (sym is_now) (record {
+              carried = ap (λ xs. connection.outbox.bytes ++ xs) (nothing_owed (is_some connection.framer) conn [] refl) ∙ append-nil connection.outbox.bytes
+                  ∙ sym (ap (λ (s : Connection). s.outbox.bytes) so.is);
+              same_room = ap (λ (s : Connection). s.outbox.room) so.is;
+              still_open = ap (λ (s : Connection). is_some s.framer) so.is ∙ sym (ap is_some so.was) ∙ still (is_some connection.framer) false refl;
               never = refl;
               never_cut = refl;
             }))) q)
             (ran.fates q);
-        are_news = all_both (IsNews (at_board server size old)) (passed_on kind conn line) ran.events (line_is_news line)
-            (all_as (IsNews (at_board server size mid)) (IsNews (at_board server size old)) (news_before (at_board server size old) (at_board server size mid) kept)
+        are_news = all_both (IsNews (at_connections server size old)) (passed_on kind conn line) ran.events (line_is_news line)
+            (all_as (IsNews (at_connections server size mid)) (IsNews (at_connections server size old)) (news_before (at_connections server size old) (at_connections server size mid) kept)
             ran.events ran.are_news);
         keep_kinds = λ q one is. kept q one (ran.keep_kinds q one is);
         hears = λ q.
-            subst (λ (ls : List (List ℕ)). Hears (begun_at (seat_of old.seats q)) (only_of conn (take used piece) q) ls (begun_at (new.seats q)))
+            subst (λ (ls : List (List ℕ)). Hears (begun_at (connection_of old.table q)) (only_of conn (take used piece) q) ls (begun_at (new.connections q)))
             (sym (lines_by-append q (passed_on kind conn line) ran.events))
-            (subst (λ (bs : List ℕ). Hears (begun_at (seat_of old.seats q)) bs (lines_by q (passed_on kind conn line) ++ lines_by q ran.events) (begun_at (new.seats q)))
+            (subst (λ (bs : List ℕ). Hears (begun_at (connection_of old.table q)) bs (lines_by q (passed_on kind conn line) ++ lines_by q ran.events) (begun_at (new.connections q)))
             (append-nil (only_of conn (take used piece) q))
-            (hears_on (begun_at (seat_of old.seats q)) (begun_at (seat_of mid.seats q)) (begun_at (new.seats q)) (only_of conn (take used piece) q) []
+            (hears_on (begun_at (connection_of old.table q)) (begun_at (connection_of mid.table q)) (begun_at (new.connections q)) (only_of conn (take used piece) q) []
             (lines_by q (passed_on kind conn line)) (lines_by q ran.events) (framed q (nat_eq conn q) refl) (ran.hears q)));
         tells = λ q. subst (λ (s : Standing). Tells q s (passed_on kind conn line ++ ran.events) ran.outs (standing_of q new)) (same_standing q)
-            (told_by_no_line q kind conn line (standing_of q (at_board server size mid)) (standing_of q new) ran.events ran.outs (ran.tells q));
+            (told_by_no_line q kind conn line (standing_of q (at_connections server size mid)) (standing_of q new) ran.events ran.outs (ran.tells q));
         same_room = ran.same_room;
       }
         where
-          is_now : seat_of mid.seats conn ≡ Some now
-          is_now = set_here (seat_of old.seats) (seat_of mid.seats) conn (Some now) set
+          is_now : connection_of mid.table conn ≡ Some now
+          is_now = set_here (connection_of old.table) (connection_of mid.table) conn (Some now) set
 
-          line_is_news : (line : Option (ArrayVec ℕ)) → AllByRecursion (IsNews (at_board server size old)) (passed_on kind conn line)
+          line_is_news : (line : Option (ArrayVec ℕ)) → AllByRecursion (IsNews (at_connections server size old)) (passed_on kind conn line)
           line_is_news None = tt
-          line_is_news (Some l) = (a_line kind conn l (kind_of_seat (ap kind_at was ∙ ap Some (sym so.kind_is))) refl, tt)
+          line_is_news (Some l) = (a_line kind conn l (kind_of_connection (ap kind_at was ∙ ap Some (sym so.kind_is))) refl, tt)
 
-          kind_as : (q : ℕ) (t : Bool) → nat_eq conn q ≡ t → kind_at (seat_of mid.seats q) ≡ kind_at (seat_of old.seats q)
-          kind_as q true one = ap (λ p. kind_at (seat_of mid.seats p)) (sym (one_number conn q one))
-              ∙ ap kind_at is_now ∙ ap (λ (s : Seat). Some s.kind) so.is
-              ∙ sym (ap kind_at was) ∙ ap (λ p. kind_at (seat_of old.seats p)) (one_number conn q one)
-          kind_as q false two = ap kind_at (set_other (seat_of old.seats) (seat_of mid.seats) conn (Some now) set q two)
+          kind_as : (q : ℕ) (t : Bool) → nat_eq conn q ≡ t → kind_at (connection_of mid.table q) ≡ kind_at (connection_of old.table q)
+          kind_as q true one = ap (λ p. kind_at (connection_of mid.table p)) (sym (one_number conn q one))
+              ∙ ap kind_at is_now ∙ ap (λ (s : Connection). Some s.kind) so.is
+              ∙ sym (ap kind_at was) ∙ ap (λ p. kind_at (connection_of old.table p)) (one_number conn q one)
+          kind_as q false two = ap kind_at (set_other (connection_of old.table) (connection_of mid.table) conn (Some now) set q two)
 
-          kept : (q : ℕ) → KeepsKind (seat_of old.seats q) (lost_at old.lost q) (seat_of mid.seats q) (lost_at mid.lost q)
-          kept q = kind_kept (seat_of old.seats q) (seat_of mid.seats q) (lost_at old.lost q) (lost_at mid.lost q) (kind_as q (nat_eq conn q) refl)
+          kept : (q : ℕ) → KeepsKind (connection_of old.table q) (lost_at old.lost q) (connection_of mid.table q) (lost_at mid.lost q)
+          kept q = kind_kept (connection_of old.table q) (connection_of mid.table q) (lost_at old.lost q) (lost_at mid.lost q) (kind_as q (nat_eq conn q) refl)
               (ap (λ l. lost_at l q) lost)
 
-          unshut_as : (q : ℕ) (t : Bool) → nat_eq conn q ≡ t → is_open_at (seat_of mid.seats q) ≡ is_open_at (seat_of old.seats q)
-          unshut_as q true one = ap (λ p. is_open_at (seat_of mid.seats p)) (sym (one_number conn q one))
-              ∙ ap is_open_at is_now ∙ ap (λ (s : Seat). is_some s.framer) so.is ∙ sym (ap is_some so.was)
-              ∙ sym (ap is_open_at was) ∙ ap (λ p. is_open_at (seat_of old.seats p)) (one_number conn q one)
-          unshut_as q false two = ap is_open_at (set_other (seat_of old.seats) (seat_of mid.seats) conn (Some now) set q two)
+          open_as : (q : ℕ) (t : Bool) → nat_eq conn q ≡ t → is_open_at (connection_of mid.table q) ≡ is_open_at (connection_of old.table q)
+          open_as q true one = ap (λ p. is_open_at (connection_of mid.table p)) (sym (one_number conn q one))
+              ∙ ap is_open_at is_now ∙ ap (λ (s : Connection). is_some s.framer) so.is ∙ sym (ap is_some so.was)
+              ∙ sym (ap is_open_at was) ∙ ap (λ p. is_open_at (connection_of old.table p)) (one_number conn q one)
+          open_as q false two = ap is_open_at (set_other (connection_of old.table) (connection_of mid.table) conn (Some now) set q two)
 
-          same_standing : (q : ℕ) → standing_of q (at_board server size mid) ≡ standing_of q (at_board server size old)
-          same_standing q = ap (λ l. record { lost = is_some (lost_at l q); unshut = is_open_at (seat_of mid.seats q) }) lost
-              ∙ ap (λ o. record { lost = is_some (lost_at old.lost q); unshut = o }) (unshut_as q (nat_eq conn q) refl)
+          same_standing : (q : ℕ) → standing_of q (at_connections server size mid) ≡ standing_of q (at_connections server size old)
+          same_standing q = ap (λ l. record { lost = is_some (lost_at l q); is_open = is_open_at (connection_of mid.table q) }) lost
+              ∙ ap (λ o. record { lost = is_some (lost_at old.lost q); is_open = o }) (open_as q (nat_eq conn q) refl)
 
           framed : (q : ℕ) (t : Bool) → nat_eq conn q ≡ t
-              → Hears (begun_at (seat_of old.seats q)) (only_of conn (take used piece) q) (lines_by q (passed_on kind conn line)) (begun_at (seat_of mid.seats q))
+              → Hears (begun_at (connection_of old.table q)) (only_of conn (take used piece) q) (lines_by q (passed_on kind conn line)) (begun_at (connection_of mid.table q))
           framed q true one =
-              subst (λ p. Hears (begun_at (seat_of old.seats p)) (only_of conn (take used piece) p) (lines_by p (passed_on kind conn line)) (begun_at (seat_of mid.seats p)))
+              subst (λ p. Hears (begun_at (connection_of old.table p)) (only_of conn (take used piece) p) (lines_by p (passed_on kind conn line)) (begun_at (connection_of mid.table p)))
               (one_number conn q one)
-              (subst (λ (s : Option Seat). Hears (begun_at s) (only_of conn (take used piece) conn) (lines_by conn (passed_on kind conn line)) (begun_at (seat_of mid.seats conn))) (sym was)
-              (subst (λ (s : Option Seat). Hears seat.framer (only_of conn (take used piece) conn) (lines_by conn (passed_on kind conn line)) (begun_at s)) (sym is_now)
-              (subst (λ (bs : List ℕ). Hears seat.framer bs (lines_by conn (passed_on kind conn line)) now.framer) (sym (at_once conn (take used piece) []))
-              (subst (λ (ls : List (List ℕ)). Hears seat.framer (take used piece) ls now.framer) (sym (lines_here kind conn line))
+              (subst (λ (s : Option Connection). Hears (begun_at s) (only_of conn (take used piece) conn) (lines_by conn (passed_on kind conn line)) (begun_at (connection_of mid.table conn))) (sym was)
+              (subst (λ (s : Option Connection). Hears connection.framer (only_of conn (take used piece) conn) (lines_by conn (passed_on kind conn line)) (begun_at s)) (sym is_now)
+              (subst (λ (bs : List ℕ). Hears connection.framer bs (lines_by conn (passed_on kind conn line)) now.framer) (sym (at_once conn (take used piece) []))
+              (subst (λ (ls : List (List ℕ)). Hears connection.framer (take used piece) ls now.framer) (sym (lines_here kind conn line))
               (subst (λ (b : Option Begun). Hears b (take used piece) (found_in line) now.framer) (sym so.was)
-              (subst (λ (b : Option Begun). Hears (Some so.before) (take used piece) (found_in line) b) (sym (ap (λ (s : Seat). s.framer) so.is)) so.takes))))))
+              (subst (λ (b : Option Begun). Hears (Some so.before) (take used piece) (found_in line) b) (sym (ap (λ (s : Connection). s.framer) so.is)) so.takes))))))
           framed q false two =
-              subst (λ (bs : List ℕ). Hears (begun_at (seat_of old.seats q)) bs (lines_by q (passed_on kind conn line)) (begun_at (seat_of mid.seats q)))
+              subst (λ (bs : List ℕ). Hears (begun_at (connection_of old.table q)) bs (lines_by q (passed_on kind conn line)) (begun_at (connection_of mid.table q)))
               (sym (ap (λ t. cond t (take used piece) []) two))
-              (subst (λ (ls : List (List ℕ)). Hears (begun_at (seat_of old.seats q)) [] ls (begun_at (seat_of mid.seats q))) (sym (lines_elsewhere kind conn q line two))
-              (hears_same (begun_at (seat_of old.seats q)) (begun_at (seat_of mid.seats q))
-              (ap begun_at (set_other (seat_of old.seats) (seat_of mid.seats) conn (Some now) set q two))))
+              (subst (λ (ls : List (List ℕ)). Hears (begun_at (connection_of old.table q)) [] ls (begun_at (connection_of mid.table q))) (sym (lines_elsewhere kind conn q line two))
+              (hears_same (begun_at (connection_of old.table q)) (begun_at (connection_of mid.table q))
+              (ap begun_at (set_other (connection_of old.table) (connection_of mid.table) conn (Some now) set q two))))
 
   -- bytes come of a connection that is not open
-  pub ran_refused : (server : Option View) (size : ℕ) (old new : Board W) (conn : ℕ) (piece bytes : List ℕ) (result : Option (ℕ × Kind × Option (ArrayVec ℕ))) → result ≡ None
-      → FramesAt conn piece old.seats result new.seats → new.wire ≡ old.wire → new.lost ≡ old.lost
-      → Ran is_after [] [] (only_of conn bytes) (at_board server size old) (at_board server size new)
-  ran_refused server size old new conn piece bytes result is frames wire lost = by (subst (λ r. FramesAt conn piece old.seats r new.seats) is frames)
+  pub ran_refused : (server : Option View) (size : ℕ) (old new : Connections W) (conn : ℕ) (piece bytes : List ℕ) (result : Option (ℕ × Kind × Option (ArrayVec ℕ))) → result ≡ None
+      → FramesAt conn piece old.table result new.table → new.wire ≡ old.wire → new.lost ≡ old.lost
+      → Ran is_after [] [] (only_of conn bytes) (at_connections server size old) (at_connections server size new)
+  ran_refused server size old new conn piece bytes result is frames wire lost = by (subst (λ r. FramesAt conn piece old.table r new.table) is frames)
     where
-      so_then : begun_at (seat_of old.seats conn) ≡ None → ((q : ℕ) → seat_of new.seats q ≡ seat_of old.seats q)
-          → Ran is_after [] [] (only_of conn bytes) (at_board server size old) (at_board server size new)
-      so_then shut same = record {
+      so_then : begun_at (connection_of old.table conn) ≡ None → ((q : ℕ) → connection_of new.table q ≡ connection_of old.table q)
+          → Ran is_after [] [] (only_of conn bytes) (at_connections server size old) (at_connections server size new)
+      so_then closed same = record {
         events = [];
         outs = [];
         calls = [];
         are_asked = (refl, refl);
         account = adds_none is_after old.wire new.wire wire;
         exchanged = refl;
-        fates = λ q. subst (λ (s : Option Seat). Fate q (seat_of old.seats q) [] [] s) (sym (same q)) (same_fate q (seat_of old.seats q));
+        fates = λ q. subst (λ (s : Option Connection). Fate q (connection_of old.table q) [] [] s) (sym (same q)) (same_fate q (connection_of old.table q));
         are_news = tt;
-        keep_kinds = λ q. kind_kept (seat_of old.seats q) (seat_of new.seats q) (lost_at old.lost q) (lost_at new.lost q) (ap kind_at (same q))
+        keep_kinds = λ q. kind_kept (connection_of old.table q) (connection_of new.table q) (lost_at old.lost q) (lost_at new.lost q) (ap kind_at (same q))
             (ap (λ l. lost_at l q) lost);
-        hears = λ q. subst (λ (s : Option Seat). Hears (begun_at (seat_of old.seats q)) (only_of conn bytes q) [] (begun_at s)) (sym (same q)) (deaf q (nat_eq conn q) refl);
-        tells = λ q. tells_as q (standing_of q (at_board server size old)) (standing_of q (at_board server size new)) (ap (λ l. is_some (lost_at l q)) lost) (ap is_open_at (same q));
+        hears = λ q. subst (λ (s : Option Connection). Hears (begun_at (connection_of old.table q)) (only_of conn bytes q) [] (begun_at s)) (sym (same q)) (deaf q (nat_eq conn q) refl);
+        tells = λ q. tells_as q (standing_of q (at_connections server size old)) (standing_of q (at_connections server size new)) (ap (λ l. is_some (lost_at l q)) lost) (ap is_open_at (same q));
         same_room = refl;
       }
         where
-          deaf : (q : ℕ) (t : Bool) → nat_eq conn q ≡ t → Hears (begun_at (seat_of old.seats q)) (only_of conn bytes q) [] (begun_at (seat_of old.seats q))
-          deaf q true one = hears_deaf (only_of conn bytes q) (begun_at (seat_of old.seats q)) (ap (λ p. begun_at (seat_of old.seats p)) (sym (one_number conn q one)) ∙ shut)
-          deaf q false two = subst (λ (bs : List ℕ). Hears (begun_at (seat_of old.seats q)) bs [] (begun_at (seat_of old.seats q)))
-              (sym (ap (λ t. cond t bytes []) two)) (hears_kept (begun_at (seat_of old.seats q)))
+          deaf : (q : ℕ) (t : Bool) → nat_eq conn q ≡ t → Hears (begun_at (connection_of old.table q)) (only_of conn bytes q) [] (begun_at (connection_of old.table q))
+          deaf q true one = hears_deaf (only_of conn bytes q) (begun_at (connection_of old.table q)) (ap (λ p. begun_at (connection_of old.table p)) (sym (one_number conn q one)) ∙ closed)
+          deaf q false two = subst (λ (bs : List ℕ). Hears (begun_at (connection_of old.table q)) bs [] (begun_at (connection_of old.table q)))
+              (sym (ap (λ t. cond t bytes []) two)) (hears_kept (begun_at (connection_of old.table q)))
 
-      as_before : (q : ℕ) (seat now : Seat) (t : Bool) → nat_eq conn q ≡ t → seat_of old.seats conn ≡ Some seat → now ≡ seat
-          → seat_of new.seats q ≡ cond (nat_eq conn q) (Some now) (seat_of old.seats q) → seat_of new.seats q ≡ seat_of old.seats q
-      as_before q seat now true one was now_is set =
-          set ∙ ap (λ t. cond t (Some now) (seat_of old.seats q)) one ∙ ap Some now_is ∙ sym was ∙ ap (λ p. seat_of old.seats p) (one_number conn q one)
-      as_before q seat now false two was now_is set = set ∙ ap (λ t. cond t (Some now) (seat_of old.seats q)) two
+      as_before : (q : ℕ) (connection now : Connection) (t : Bool) → nat_eq conn q ≡ t → connection_of old.table conn ≡ Some connection → now ≡ connection
+          → connection_of new.table q ≡ cond (nat_eq conn q) (Some now) (connection_of old.table q) → connection_of new.table q ≡ connection_of old.table q
+      as_before q connection now true one was now_is set =
+          set ∙ ap (λ t. cond t (Some now) (connection_of old.table q)) one ∙ ap Some now_is ∙ sym was ∙ ap (λ p. connection_of old.table p) (one_number conn q one)
+      as_before q connection now false two was now_is set = set ∙ ap (λ t. cond t (Some now) (connection_of old.table q)) two
 
-      by : FramesAt conn piece old.seats None new.seats → Ran is_after [] [] (only_of conn bytes) (at_board server size old) (at_board server size new)
-      by (no_seat none same never) = so_then (ap begun_at none) same
-      by (at_seat seat now was set so) = so_then (ap begun_at was ∙ so.0) (λ q. as_before q seat now (nat_eq conn q) refl was so.1 (set q))
+      by : FramesAt conn piece old.table None new.table → Ran is_after [] [] (only_of conn bytes) (at_connections server size old) (at_connections server size new)
+      by (no_connection none same never) = so_then (ap begun_at none) same
+      by (at_connection connection now was set so) = so_then (ap begun_at was ∙ so.0) (λ q. as_before q connection now (nat_eq conn q) refl was so.1 (set q))
 
   -- what a read gave is heard
   pub ran_fed : (exchanges : List Call) (conn : ℕ) (answer : Result Got IoFault) (buffer after : List ℕ) (n : ℕ) (old mid new : Moment W)

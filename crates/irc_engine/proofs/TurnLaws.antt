@@ -3,19 +3,18 @@ use Rattle.std.proofs.Common.{◌≡◌, ℕ, ◌<◌, false, IsErrAnd, Result, 
 use Rattle.irc_outbox.specs.declared.wire.Ready.{Ready}
 use Rattle.irc_outbox.specs.declared.wire.Ready.TheVariants.{Idle, Writable}
 use Rattle.irc_outbox.specs.Calls.{Call, asks, Adds}
-use Rattle.irc_engine.specs.declared.engine.Desk.{Desk}
-use Rattle.irc_engine.specs.declared.engine.Engine.{Engine}
+use Rattle.irc_engine.specs.declared.engine.Core.{Core}
 use Rattle.irc_engine.specs.declared.engine.Rooms.{Rooms}
 use Rattle.irc_engine.specs.declared.engine.EngineFault.{EngineFault}
 use Rattle.irc_engine.specs.Running.{Moment, AllTold, Answers, Does, Flushes, IsInOrder}
-use Rattle.irc_engine.specs.Loops.Boards.{IsMarkedAt, KeepsNotes}
-use Rattle.irc_engine.specs.Loops.Desks.{moment_of}
+use Rattle.irc_engine.specs.Loops.Connections.{IsMarkedAt, KeepsNotes}
+use Rattle.irc_engine.specs.Loops.Moments.{moment_of}
 use Rattle.irc_engine.proofs.RunLaws.{ran_none}
-use Rattle.irc_engine.specs.Turning.{Taken, takes_it, runs_out, Turned, takes_turn, wants_memory, Turns, Runs, stopped}
+use Rattle.irc_engine.specs.Turning.{EngineView, Taken, takes_it, runs_out, Turned, takes_turn, wants_memory, Turns, Runs, stopped}
 
-module _ {W : Type 0} (is_after : W → List Call → Type 0) (old new : Engine W) (ready : Ready) (asked : W) where
-  pub turned_from : (result : Result (Unit {0}) EngineFault) → old.failed ≡ false → Adds is_after old.desk.board.wire (asks (Ok ready)) asked
-      → Taken is_after old.rooms ready (record (moment_of old.desk) { wire = asked }) new result → Turned is_after old new result
+module _ {W : Type 0} (is_after : W → List Call → Type 0) (old new : EngineView W) (ready : Ready) (asked : W) where
+  pub turned_from : (result : Result (Unit {0}) EngineFault) → old.failed ≡ false → Adds is_after old.now.wire (asks (Ok ready)) asked
+      → Taken is_after ready (record old { now = record old.now { wire = asked } }) new result → Turned is_after old new result
   turned_from (Ok done) serves account (takes_it still same does) =
       takes_turn serves still same (record { report = ready; wire = asked; account = account; does = does })
   turned_from (Err fault) serves account (runs_out failed busy) =
@@ -30,16 +29,16 @@ nothing_to_do is_after rooms now ready (inl is) = subst (λ r. Answers is_after 
 nothing_to_do is_after rooms now ready (inr is) = subst (λ r. Answers is_after rooms r now now) (sym is.1) (ran_none is_after now)
 
 -- what is ready is done, and then outboxes are written
-module _ {W : Type 0} (is_after : W → List Call → Type 0) (old between new : Desk W) where
-  order_between : (AllTold (moment_of old) → AllTold (moment_of between)) → KeepsNotes old.board between.board → IsInOrder (moment_of old)
+module _ {W : Type 0} (is_after : W → List Call → Type 0) (old between new : Core W) where
+  order_between : (AllTold (moment_of old) → AllTold (moment_of between)) → KeepsNotes old.connections between.connections → IsInOrder (moment_of old)
       → IsInOrder (moment_of between)
   order_between told notes order = record { all_told = told order.all_told; noted = λ q. (marked q).noted_is; none_done = λ q. (marked q).not_done }
     where
-      marked : (q : ℕ) → IsMarkedAt q false between.board
+      marked : (q : ℕ) → IsMarkedAt q false between.connections
       marked q = notes q (record { noted_is = order.noted q; not_done = order.none_done q })
 
   pub does_both : {E : Type 0} (rooms : Rooms) (ready : Ready) (result : Result (Unit {0}) E) → Answers is_after rooms ready (moment_of old) (moment_of between)
-      → (AllTold (moment_of old) → AllTold (moment_of between)) → KeepsNotes old.board between.board
+      → (AllTold (moment_of old) → AllTold (moment_of between)) → KeepsNotes old.connections between.connections
       → OnOk result (Flushes is_after (moment_of between) (moment_of new))
       → OnOk result (AllTold (moment_of between) → AllTold (moment_of new))
       → OnOk result (IsInOrder (moment_of between) → IsInOrder (moment_of new)) → OnOk result (Does is_after rooms ready (moment_of old) (moment_of new))
@@ -54,7 +53,7 @@ module _ {W : Type 0} (is_after : W → List Call → Type 0) (old between new :
 
 -- one turn is not taken, behind those that were
 pub stops_by : {W : Type 0} (is_after : W → List Call
-    → Type 0) (old between new : Engine W) (taken turns : ℕ) (result : Result (Unit {0}) EngineFault) (fault : EngineFault)
+    → Type 0) (old between new : EngineView W) (taken turns : ℕ) (result : Result (Unit {0}) EngineFault) (fault : EngineFault)
     → taken < turns → Turns is_after old taken between → Turned is_after between new (Err fault) → IsErrAnd result (λ e. e ≡ fault)
     → Runs is_after old turns new result
 stops_by is_after old between new taken turns (Ok done) fault less so_far last fails = absurd fails

@@ -8,12 +8,12 @@ use Rattle.irc_outbox.specs.Outboxes.{holding}
 use Rattle.irc_outbox.specs.Calls.{Call, reads, writes, closes, is_some_bytes, written, times_closed}
 use Rattle.irc_batch.specs.Batches.{Sent, end_of, end_of_link, line_on, line_to}
 use Rattle.irc_engine.specs.declared.kind.Kind.{Kind}
-use Rattle.irc_engine.specs.declared.seat.Seat.{Seat}
+use Rattle.irc_engine.specs.declared.connection_table.Connection.{Connection}
 use Rattle.irc_engine.specs.Hearing.{begun_at, Hears}
 
--- the seat of a connection that has just been made
-abbrev pub fresh_seat : Kind → ℕ → Seat
-fresh_seat kind room = record { kind = kind; outbox = holding [] room; framer = Some nothing_begun }
+-- a connection that has just been made
+abbrev pub fresh_connection : Kind → ℕ → Connection
+fresh_connection kind room = record { kind = kind; outbox = holding [] room; framer = Some nothing_begun }
 
 -- The bytes to a connection among what the server puts out, up to where it closes it. A link is a connection of the wire too: no number is that of a
 -- client and of a link.
@@ -38,38 +38,38 @@ abbrev pub owed : Bool → ℕ → List Sent → List ℕ
 owed true conn outs = answers conn outs
 owed false conn outs = []
 
--- whether a connection has a seat that the server has not closed
-abbrev pub is_open_at : Option Seat → Bool
+-- whether a connection is there that the server has not closed
+abbrev pub is_open_at : Option Connection → Bool
 is_open_at None = false
-is_open_at (Some seat) = is_some seat.framer
+is_open_at (Some connection) = is_some connection.framer
 
--- the kind of the seat of a connection, if it has one
-abbrev pub kind_at : Option Seat → Option Kind
+-- the kind of a connection, if it is there
+abbrev pub kind_at : Option Connection → Option Kind
 kind_at None = None
-kind_at (Some seat) = Some seat.kind
+kind_at (Some connection) = Some connection.kind
 
 -- and if the server has not closed it
-abbrev pub open_kind_at : Option Seat → Option Kind
-open_kind_at seat = if is_open_at seat then kind_at seat else None
+abbrev pub open_kind_at : Option Connection → Option Kind
+open_kind_at connection = if is_open_at connection then kind_at connection else None
 
--- A connection is of this kind: it has a seat of this kind, or it was lost as one of this kind, and the server has yet to be told.
-pub data IsOfKind (kind : Kind) (seat : Option Seat) (lost : Option Kind) : Type 0 where
-  kind_of_seat : kind_at seat ≡ Some kind → IsOfKind kind seat lost
-  kind_of_loss : lost ≡ Some kind → IsOfKind kind seat lost
+-- A connection is of this kind: it is there, and of this kind, or it was lost as one of this kind, and the server has yet to be told.
+pub data IsOfKind (kind : Kind) (connection : Option Connection) (lost : Option Kind) : Type 0 where
+  kind_of_connection : kind_at connection ≡ Some kind → IsOfKind kind connection lost
+  kind_of_loss : lost ≡ Some kind → IsOfKind kind connection lost
 
 -- it is of no other kind than before
-abbrev pub KeepsKind : Option Seat → Option Kind → Option Seat → Option Kind → Type 0
+abbrev pub KeepsKind : Option Connection → Option Kind → Option Connection → Option Kind → Type 0
 KeepsKind old was new now = (kind : Kind) → IsOfKind kind new now → IsOfKind kind old was
 
--- whether it has a seat with bytes to write
-abbrev pub has_some_at : Option Seat → Bool
+-- whether it is there, with bytes to write
+abbrev pub has_some_at : Option Connection → Bool
 has_some_at None = false
-has_some_at (Some seat) = is_some_bytes seat.outbox.bytes
+has_some_at (Some connection) = is_some_bytes connection.outbox.bytes
 
--- whether it has a seat that the server has closed, with nothing left to write
-abbrev pub is_done_at : Option Seat → Bool
+-- whether it is there, closed by the server, with nothing left to write
+abbrev pub is_done_at : Option Connection → Bool
 is_done_at None = false
-is_done_at (Some seat) = not (is_some seat.framer) && not (is_some_bytes seat.outbox.bytes)
+is_done_at (Some connection) = not (is_some connection.framer) && not (is_some_bytes connection.outbox.bytes)
 
 -- a read of the connection that ended or failed, or a write that failed
 abbrev pub ends_at : ℕ → Call → Bool
@@ -96,7 +96,7 @@ pub record Silent (conn : ℕ) (calls : List Call) : Type 0 where
   pub never : times_closed conn calls ≡ 0
 
 -- A connection stays: what its outbox held, with what the server put out to it behind, is what was written, with what the outbox holds now behind.
-pub record Stays (conn : ℕ) (old : Seat) (calls : List Call) (outs : List Sent) (new : Seat) : Type 0 where
+pub record Stays (conn : ℕ) (old : Connection) (calls : List Call) (outs : List Sent) (new : Connection) : Type 0 where
   pub carried : old.outbox.bytes ++ owed (is_some old.framer) conn outs ≡ written conn calls ++ new.outbox.bytes
   pub same_room : new.outbox.room ≡ old.outbox.room
   pub still_open : is_some new.framer ≡ (is_some old.framer && not (is_closed_by conn outs))
@@ -105,30 +105,30 @@ pub record Stays (conn : ℕ) (old : Seat) (calls : List Call) (outs : List Sent
 
 -- Why a connection is closed with this left unwritten: the server closed it, and nothing is left; or the device failed at it, or it ended; or what was
 -- left did not fit its outbox.
-pub data Why (conn : ℕ) (old : Seat) (calls : List Call) (outs : List Sent) (left : List ℕ) : Type 0 where
+pub data Why (conn : ℕ) (old : Connection) (calls : List Call) (outs : List Sent) (left : List ℕ) : Type 0 where
   finished : (is_some old.framer && not (is_closed_by conn outs)) ≡ false → left ≡ [] → Why conn old calls outs left
   cut_off : is_cut_off conn calls ≡ true → Why conn old calls outs left
   overflowed : old.outbox.room < length left → Why conn old calls outs left
 
 -- A connection is closed, once: what was written is a front of what its outbox held, with what the server put out to it behind.
-pub record Leaves (conn : ℕ) (old : Seat) (calls : List Call) (outs : List Sent) : Type 0 where
+pub record Leaves (conn : ℕ) (old : Connection) (calls : List Call) (outs : List Sent) : Type 0 where
   pub left : List ℕ
   pub carried : old.outbox.bytes ++ owed (is_some old.framer) conn outs ≡ written conn calls ++ left
   pub once : times_closed conn calls ≡ 1
   pub why : Why conn old calls outs left
 
-abbrev pub Fate : ℕ → Option Seat → List Call → List Sent → Option Seat → Type 0
+abbrev pub Fate : ℕ → Option Connection → List Call → List Sent → Option Connection → Type 0
 Fate conn None calls outs None = Silent conn calls
 Fate conn None calls outs (Some new) = ⊥
 Fate conn (Some old) calls outs (Some new) = Stays conn old calls outs new
 Fate conn (Some old) calls outs None = Leaves conn old calls outs
 
--- The connections that were lost, of which the server has yet to be told: those that were, and those that were open and have no seat any more, but for
+-- The connections that were lost, of which the server has yet to be told: those that were, and those that were open and are there no more, but for
 -- those that the server has closed by now.
-abbrev pub is_lost_after : Option Seat → Bool → Bool → Option Seat → Bool
+abbrev pub is_lost_after : Option Connection → Bool → Bool → Option Connection → Bool
 is_lost_after old was_lost closed new = (was_lost || (is_open_at old && not (is_some new))) && not closed
 
-pub record Passage (conn : ℕ) (old : Option Seat) (was_lost : Option Kind) (calls : List Call) (outs : List Sent) (new : Option Seat) (is_lost : Option Kind)
+pub record Passage (conn : ℕ) (old : Option Connection) (was_lost : Option Kind) (calls : List Call) (outs : List Sent) (new : Option Connection) (is_lost : Option Kind)
     : Type 0 where
   pub fate : Fate conn old calls outs new
   pub lost_is : is_some is_lost ≡ is_lost_after old (is_some was_lost) (is_closed_by conn outs) new

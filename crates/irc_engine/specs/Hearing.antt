@@ -7,7 +7,7 @@ use Rattle.irc_server.specs.declared.event.Event.{Event}
 use Rattle.irc_server.specs.declared.event.Event.TheVariants.{Line, Gone, LinkLine, LinkDown}
 use Rattle.irc_engine.specs.declared.kind.Kind.{Kind}
 use Rattle.irc_engine.specs.declared.kind.Kind.TheVariants.{Client, Link}
-use Rattle.irc_engine.specs.declared.seat.Seat.{Seat}
+use Rattle.irc_engine.specs.declared.connection_table.Connection.{Connection}
 
 -- the event by which the server is told a line of a connection of some kind
 abbrev pub line_event_of : Kind → ℕ → ArrayVec ℕ → Event
@@ -37,10 +37,10 @@ is_gone_of conn other = false
 abbrev pub times_gone : ℕ → List Event → ℕ
 times_gone conn events = count_by (is_gone_of conn) events
 
--- what has come of the next line of a connection; nothing where it has no seat, or where the server has closed it
-abbrev pub begun_at : Option Seat → Option Begun
+-- what has come of the next line of a connection; nothing where it is not there, or where the server has closed it
+abbrev pub begun_at : Option Connection → Option Begun
 begun_at None = None
-begun_at (Some seat) = seat.framer
+begun_at (Some connection) = connection.framer
 
 -- the bytes, as those of one connection
 abbrev pub only_of : ℕ → List ℕ → ℕ → List ℕ

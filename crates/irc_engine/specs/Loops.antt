@@ -1,5 +1,5 @@
-pub mod Seats
+pub mod Tables
 pub mod Counts
-pub mod Boards
-pub mod Desks
+pub mod Connections
+pub mod Moments
 pub mod Flushing

@@ -16,17 +16,17 @@ use Rattle.irc_server.specs.Happening.{IsHandled}
 use Rattle.irc_engine.specs.declared.engine.Rooms.{Rooms}
 use Rattle.irc_engine.specs.declared.kind.Kind.{Kind}
 use Rattle.irc_engine.specs.declared.kind.Kind.TheVariants as kinds
-use Rattle.irc_engine.specs.declared.seat.Seat.{Seat}
-use Rattle.irc_engine.specs.Carrying.{has_some_at, is_closed_by, is_done_at, is_exchange, is_open_at, AddsAll, Fate, fresh_seat, IsOfKind, KeepsKind}
+use Rattle.irc_engine.specs.declared.connection_table.Connection.{Connection}
+use Rattle.irc_engine.specs.Carrying.{has_some_at, is_closed_by, is_done_at, is_exchange, is_open_at, AddsAll, Fate, fresh_connection, IsOfKind, KeepsKind}
 use Rattle.irc_engine.specs.Hearing.{begun_at, end_event_of, line_event_of, lines_by, nothing_of, only_of, times_gone, Hears}
 use Rattle.irc_engine.specs.Writing.{one_if, WritesEach}
 
--- an engine at one moment: its server, its wire, the seat of each connection, those that were lost and of which the server has yet to be told, with their
+-- an engine at one moment: its server, its wire, the connections, those that were lost and of which the server has yet to be told, with their
 -- kinds, those that are noted to be written to, and how many bytes it reads at most
 pub record Moment (W : Type 0) : Type 0 where
   pub server : Option View
   pub wire : W
-  pub seats : ℕ → Option Seat
+  pub connections : ℕ → Option Connection
   pub lost : ℕ → Option Kind
   pub waiting : ℕ → Bool
   pub read_room : ℕ
@@ -34,18 +34,18 @@ pub record Moment (W : Type 0) : Type 0 where
 -- how a connection stands with the server: it was lost and the server has yet to be told, or it is open, or neither
 pub record Standing : Type 0 where
   pub lost : Bool
-  pub unshut : Bool
+  pub is_open : Bool
 
 abbrev pub standing_of : {W : Type 0} → ℕ → Moment W → Standing
-standing_of conn now = record { lost = is_some (now.lost conn); unshut = is_open_at (now.seats conn) }
+standing_of conn now = record { lost = is_some (now.lost conn); is_open = is_open_at (now.connections conn) }
 
 -- whether the server knows of it
 abbrev pub is_known : Standing → Bool
-is_known now = now.lost || now.unshut
+is_known now = now.lost || now.is_open
 
 -- it is not lost and open at once
 abbrev pub IsApart : Standing → Type 0
-IsApart now = (now.lost && now.unshut) ≡ false
+IsApart now = (now.lost && now.is_open) ≡ false
 
 -- the server has been told of each connection that was lost
 abbrev pub AllTold : {W : Type 0} → Moment W → Type 0
@@ -55,8 +55,8 @@ AllTold now = (conn : ℕ) → now.lost conn ≡ None
 -- closed is closed on the wire as soon as nothing is left to write.
 pub record IsInOrder {W : Type 0} (now : Moment W) : Type 0 where
   pub all_told : AllTold now
-  pub noted : (conn : ℕ) → now.waiting conn ≡ has_some_at (now.seats conn)
-  pub none_done : (conn : ℕ) → is_done_at (now.seats conn) ≡ false
+  pub noted : (conn : ℕ) → now.waiting conn ≡ has_some_at (now.connections conn)
+  pub none_done : (conn : ℕ) → is_done_at (now.connections conn) ≡ false
 
 -- the server is asked for an event, and then for others
 pub record AskedFirst (old : Option View) (event : Event) (outs : List Sent) (rest : Option View → List Sent → Type 0) : Type 0 where
@@ -85,8 +85,8 @@ Tells conn was events outs now = IsApart was → IsTold conn was events outs now
 
 -- An event tells a line of a connection, or that it is gone, by the kind that it is of.
 pub data IsNews {W : Type 0} (now : Moment W) (event : Event) : Type 0 where
-  a_line : (kind : Kind) (conn : ℕ) (line : ArrayVec ℕ) → IsOfKind kind (now.seats conn) (now.lost conn) → event ≡ line_event_of kind conn line → IsNews now event
-  an_end : (kind : Kind) (conn : ℕ) → IsOfKind kind (now.seats conn) (now.lost conn) → event ≡ end_event_of kind conn → IsNews now event
+  a_line : (kind : Kind) (conn : ℕ) (line : ArrayVec ℕ) → IsOfKind kind (now.connections conn) (now.lost conn) → event ≡ line_event_of kind conn line → IsNews now event
+  an_end : (kind : Kind) (conn : ℕ) → IsOfKind kind (now.connections conn) (now.lost conn) → event ≡ end_event_of kind conn → IsNews now event
 
 -- From one moment to another: the server was asked for some events, calls were made of the wire, and each connection has met its fate. Just these
 -- of the calls asked what is ready, read or wrote. The events begin with the given ones; behind them are the lines that the bytes of each connection
@@ -99,10 +99,10 @@ pub record Ran {W : Type 0} (is_after : W → List Call → Type 0) (exchanges :
   pub are_asked : AreAsked old.server (first ++ events) outs new.server
   pub account : AddsAll is_after old.wire calls new.wire
   pub exchanged : filter is_exchange calls ≡ exchanges
-  pub fates : (conn : ℕ) → Fate conn (old.seats conn) calls outs (new.seats conn)
+  pub fates : (conn : ℕ) → Fate conn (old.connections conn) calls outs (new.connections conn)
   pub are_news : AllByRecursion (IsNews old) events
-  pub keep_kinds : (conn : ℕ) → KeepsKind (old.seats conn) (old.lost conn) (new.seats conn) (new.lost conn)
-  pub hears : (conn : ℕ) → Hears (begun_at (old.seats conn)) (came conn) (lines_by conn events) (begun_at (new.seats conn))
+  pub keep_kinds : (conn : ℕ) → KeepsKind (old.connections conn) (old.lost conn) (new.connections conn) (new.lost conn)
+  pub hears : (conn : ℕ) → Hears (begun_at (old.connections conn)) (came conn) (lines_by conn events) (begun_at (new.connections conn))
   pub tells : (conn : ℕ) → Tells conn (standing_of conn old) events outs (standing_of conn new)
   pub same_room : new.read_room ≡ old.read_room
 
@@ -132,20 +132,20 @@ pub record PassesOn {W : Type 0} (is_after : W → List Call → Type 0) (event 
   pub asks : AsksOnce is_after event old between
   pub losses : TellsLosses is_after between new
 
--- A client has connected or a link is open, and has a seat: nothing is owed to it, and nothing has come. The server is asked for this event. A number that has
--- a seat is passed over.
+-- A client has connected or a link is open, and is there from now on: nothing is owed to it, and nothing has come. The server is asked for this event. A number that is
+-- in use is passed over.
 pub data Starts {W : Type 0} (is_after : W → List Call → Type 0) (kind : Kind) (room conn : ℕ) (event : Event) (old new : Moment W) : Type 0 where
-  in_use : is_some (old.seats conn) ≡ true → RanOn is_after old new → Starts is_after kind room conn event old new
-  takes_seat : (between : Moment W) → old.seats conn ≡ None → between.server ≡ old.server → between.wire ≡ old.wire
+  in_use : is_some (old.connections conn) ≡ true → RanOn is_after old new → Starts is_after kind room conn event old new
+  makes_connection : (between : Moment W) → old.connections conn ≡ None → between.server ≡ old.server → between.wire ≡ old.wire
       → between.lost ≡ old.lost → between.waiting ≡ old.waiting → between.read_room ≡ old.read_room
-      → ((q : ℕ) → between.seats q ≡ (if nat_eq conn q then Some (fresh_seat kind room) else old.seats q))
+      → ((q : ℕ) → between.connections q ≡ (if nat_eq conn q then Some (fresh_connection kind room) else old.connections q))
       → Ran is_after [] (event ∷ []) nothing_of between new
       → Starts is_after kind room conn event old new
 
 -- A connection that the server has not closed is read once; another is not.
 pub data Reads {W : Type 0} (is_after : W → List Call → Type 0) (conn : ℕ) (old new : Moment W) : Type 0 where
-  not_open : is_open_at (old.seats conn) ≡ false → RanOn is_after old new → Reads is_after conn old new
-  read_once : (room : ℕ) (answer : Result Got IoFault) (bytes : List ℕ) → is_open_at (old.seats conn) ≡ true → room ≡ old.read_room
+  not_open : is_open_at (old.connections conn) ≡ false → RanOn is_after old new → Reads is_after conn old new
+  read_once : (room : ℕ) (answer : Result Got IoFault) (bytes : List ℕ) → is_open_at (old.connections conn) ≡ true → room ≡ old.read_room
       → Ran is_after (reads conn room answer bytes ∷ []) [] (only_of conn bytes) old new → Reads is_after conn old new
 
 -- What is ready is done.
@@ -160,7 +160,7 @@ Answers is_after rooms (Writable conn) old new = RanOn is_after old new
 pub record Flushes {W : Type 0} (is_after : W → List Call → Type 0) (old new : Moment W) : Type 0 where
   pub exchanges : List Call
   pub ran : Ran is_after exchanges [] nothing_of old new
-  pub each : IsInOrder old → WritesEach old.seats exchanges new.seats
+  pub each : IsInOrder old → WritesEach old.connections exchanges new.connections
 
 -- What is ready is done, and then outboxes are written.
 pub record Does {W : Type 0} (is_after : W → List Call → Type 0) (rooms : Rooms) (report : Ready) (old new : Moment W) : Type 0 where

@@ -5,23 +5,27 @@ use Rattle.irc_outbox.specs.declared.wire.Ready.{Ready}
 use Rattle.irc_outbox.specs.declared.wire.Ready.TheVariants.{Idle, Writable}
 use Rattle.irc_outbox.specs.Calls.{Call, asks, Adds}
 use Rattle.irc_stage.specs.View.{View}
-use Rattle.irc_engine.specs.declared.engine.Engine.{Engine}
 use Rattle.irc_engine.specs.declared.engine.Rooms.{Rooms}
 use Rattle.irc_engine.specs.declared.engine.EngineFault.{EngineFault}
 use Rattle.irc_engine.specs.declared.engine.EngineFault.TheVariants.{Memory, Failed, Device}
 use Rattle.irc_engine.specs.Carrying.{has_some_at}
 use Rattle.irc_engine.specs.Running.{Moment, IsInOrder, Does, Turn}
-use Rattle.irc_engine.specs.Loops.Desks.{moment_of}
+
+-- An engine, as those who have one see it: whether memory ran out for it, how many bytes its outboxes have room for, and how it is now.
+pub record EngineView (W : Type 0) : Type 0 where
+  pub failed : Bool
+  pub rooms : Rooms
+  pub now : Moment W
 
 -- an engine that has served nobody
-pub record IsNew {W : Type 0} (server : Option View) (wire : W) (client_room link_room : ℕ) (engine : Engine W) : Type 0 where
+pub record IsNew {W : Type 0} (server : Option View) (wire : W) (client_room link_room : ℕ) (engine : EngineView W) : Type 0 where
   pub serves : engine.failed ≡ false
-  pub server_is : engine.desk.server ≡ server
-  pub wire_is : engine.desk.board.wire ≡ wire
+  pub server_is : engine.now.server ≡ server
+  pub wire_is : engine.now.wire ≡ wire
   pub rooms_are : engine.rooms ≡ record { client = client_room; link = link_room }
-  pub no_seats : (conn : ℕ) → (moment_of engine.desk).seats conn ≡ None
-  pub in_order : IsInOrder (moment_of engine.desk)
-  pub reads_at_most : (moment_of engine.desk).read_room ≡ 4096
+  pub no_connections : (conn : ℕ) → engine.now.connections conn ≡ None
+  pub in_order : IsInOrder engine.now
+  pub reads_at_most : engine.now.read_room ≡ 4096
 
 -- whether nothing is ready, or no more than that a connection takes bytes again
 abbrev pub brings_nothing : Ready → Bool
@@ -32,33 +36,32 @@ brings_nothing report = false
 -- nothing is ready, and nothing is left to write
 pub record IsNothingToDo {W : Type 0} (report : Ready) (now : Moment W) : Type 0 where
   pub nothing_ready : brings_nothing report ≡ true
-  pub nothing_left : (conn : ℕ) → has_some_at (now.seats conn) ≡ false
+  pub nothing_left : (conn : ℕ) → has_some_at (now.connections conn) ≡ false
 
 -- What is ready is done, and then outboxes are written; or memory ran out, which it does not where there is nothing to do.
-pub data Taken {W : Type 0} (is_after : W → List Call → Type 0) (rooms : Rooms) (report : Ready) (old : Moment W) (new : Engine W)
-    : Result (Unit {0}) EngineFault → Type 0 where
-  takes_it : new.failed ≡ false → new.rooms ≡ rooms → Does is_after rooms report old (moment_of new.desk) → Taken is_after rooms report old new (Ok tt)
-  runs_out : new.failed ≡ true → (IsInOrder old → ¬ (IsNothingToDo report old)) → Taken is_after rooms report old new (Err Memory)
+pub data Taken {W : Type 0} (is_after : W → List Call → Type 0) (report : Ready) (old new : EngineView W) : Result (Unit {0}) EngineFault → Type 0 where
+  takes_it : new.failed ≡ false → new.rooms ≡ old.rooms → Does is_after old.rooms report old.now new.now → Taken is_after report old new (Ok tt)
+  runs_out : new.failed ≡ true → (IsInOrder old.now → ¬ (IsNothingToDo report old.now)) → Taken is_after report old new (Err Memory)
 
 -- A turn is taken; or the wire could not tell what is ready, and nothing else has happened; or memory ran out, where there was something to do; or it ran out
 -- before. The rooms of outboxes stay what they were.
-pub data Turned {W : Type 0} (is_after : W → List Call → Type 0) (old : Engine W) (new : Engine W) : Result (Unit {0}) EngineFault → Type 0 where
+pub data Turned {W : Type 0} (is_after : W → List Call → Type 0) (old new : EngineView W) : Result (Unit {0}) EngineFault → Type 0 where
   takes_turn : old.failed ≡ false → new.failed ≡ false → new.rooms ≡ old.rooms
-      → Turn is_after old.rooms (moment_of old.desk) (moment_of new.desk) → Turned is_after old new (Ok tt)
+      → Turn is_after old.rooms old.now new.now → Turned is_after old new (Ok tt)
   device_failed : (fault : IoFault) → old.failed ≡ false → new.failed ≡ false → new.rooms ≡ old.rooms
-      → Adds is_after old.desk.board.wire (asks (Err fault)) new.desk.board.wire
-      → moment_of new.desk ≡ record (moment_of old.desk) { wire = new.desk.board.wire } → Turned is_after old new (Err Device)
-  wants_memory : (report : Ready) (wire : W) → old.failed ≡ false → new.failed ≡ true → Adds is_after old.desk.board.wire (asks (Ok report)) wire
-      → (IsInOrder (moment_of old.desk) → ¬ (IsNothingToDo report (moment_of old.desk))) → Turned is_after old new (Err Memory)
+      → Adds is_after old.now.wire (asks (Err fault)) new.now.wire
+      → new.now ≡ record old.now { wire = new.now.wire } → Turned is_after old new (Err Device)
+  wants_memory : (report : Ready) (wire : W) → old.failed ≡ false → new.failed ≡ true → Adds is_after old.now.wire (asks (Ok report)) wire
+      → (IsInOrder old.now → ¬ (IsNothingToDo report old.now)) → Turned is_after old new (Err Memory)
   has_failed : old.failed ≡ true → new ≡ old → Turned is_after old new (Err Failed)
 
 -- so many turns, one after another
-pub data Turns {W : Type 0} (is_after : W → List Call → Type 0) (old : Engine W) : ℕ → Engine W → Type 0 where
+pub data Turns {W : Type 0} (is_after : W → List Call → Type 0) (old : EngineView W) : ℕ → EngineView W → Type 0 where
   no_turn : Turns is_after old 0 old
-  one_more : (n : ℕ) (between new : Engine W) → Turns is_after old n between → Turned is_after between new (Ok tt) → Turns is_after old (n + 1) new
+  one_more : (n : ℕ) (between new : EngineView W) → Turns is_after old n between → Turned is_after between new (Ok tt) → Turns is_after old (n + 1) new
 
 -- All of so many turns were taken; or the one behind some of them was not, and that is the last.
-pub data Runs {W : Type 0} (is_after : W → List Call → Type 0) (old : Engine W) (turns : ℕ) (new : Engine W) : Result (Unit {0}) EngineFault → Type 0 where
+pub data Runs {W : Type 0} (is_after : W → List Call → Type 0) (old : EngineView W) (turns : ℕ) (new : EngineView W) : Result (Unit {0}) EngineFault → Type 0 where
   all_taken : Turns is_after old turns new → Runs is_after old turns new (Ok tt)
-  stopped : (taken : ℕ) (between : Engine W) (fault : EngineFault) → taken < turns → Turns is_after old taken between → Turned is_after between new (Err fault)
+  stopped : (taken : ℕ) (between : EngineView W) (fault : EngineFault) → taken < turns → Turns is_after old taken between → Turned is_after between new (Err fault)
       → Runs is_after old turns new (Err fault)

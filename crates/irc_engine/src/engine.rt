@@ -1,15 +1,14 @@
 //! An engine: one server over a wire.
-ghost use Rattle.std.specs.Prelude.{◌≡◌, ◌≤◌, true, Ok, [], ◌∷◌, length, take, IfOk, OnOk};
+ghost use Rattle.std.specs.Prelude.{◌≡◌, ◌≤◌, true, Ok, [], ◌∷◌, length, IfOk, OnOk};
 ghost use Rattle.irc_engine.specs.Loops.Counts.{count_of};
-ghost use Rattle.irc_engine.specs.Loops.Desks.{came, moment_of, passed_on, IsNobodyNoted, KeepsOrder, KeepsTold};
-ghost use Rattle.irc_engine.specs.Loops.Boards.{KeepsMarks, KeepsNotes};
-ghost use Rattle.irc_engine.specs.Running.{AllTold, Answers, AsksOnce, Does, Flushes, PassesOn, Ran, RanOn, Reads, Starts, TellsLosses};
-ghost use Rattle.irc_engine.specs.Hearing.{nothing_of, only_of};
+ghost use Rattle.irc_engine.specs.Loops.Moments.{came, engine_view, moment_of, passed_on, AsksFor, HearsFrom, IsNobodyNoted, KeepsOrder, KeepsTold, Spans};
+ghost use Rattle.irc_engine.specs.Loops.Connections.{KeepsMarks, KeepsNotes};
+ghost use Rattle.irc_engine.specs.Running.{AllTold, Answers, AsksOnce, Does, Flushes, PassesOn, RanOn, Reads, Starts, TellsLosses};
 ghost use Rattle.irc_engine.specs.Turning.{brings_nothing, IsNew, Runs, Taken, Turned};
 
-use crate::board::{Board, take_lowest};
+use crate::connection_table::ConnectionTable;
+use crate::connections::{Connections, take_lowest};
 use crate::kind::Kind;
-use crate::seat::Seats;
 use irc_batch::Batch;
 use irc_line::Line;
 use irc_outbox::{Got, IoFault, Ready, Wire};
@@ -50,14 +49,14 @@ pub struct Rooms {
 pub struct Engine<W: Wire> {
     failed: bool,
     rooms: Rooms,
-    desk: Desk<W>,
+    core: Core<W>,
 }
 
 /// What an engine is made of.
 #[derive(Drop)]
-pub(crate) struct Desk<W: Wire> {
+pub(crate) struct Core<W: Wire> {
     pub server: Server,
-    pub board: Board<W>,
+    pub connections: Connections<W>,
     /// What the server has put out by the event at hand.
     pub out: Batch,
     /// Where bytes are read to.
@@ -78,7 +77,7 @@ impl<W: Wire + Drop> Engine<W> {
         client_room: usize,
         link_room: usize,
     ) -> Result<Self, AllocError>
-        ensures { IfOk result (λ engine. IsNew server wire client_room link_room engine) }
+        ensures { IfOk result (λ engine. IsNew server wire client_room link_room (engine_view engine)) }
     {
         let buffer = vec![in alloc; 0u8; READ_SIZE]?;
         Ok(Engine {
@@ -87,11 +86,11 @@ impl<W: Wire + Drop> Engine<W> {
                 client: client_room,
                 link: link_room,
             },
-            desk: Desk {
+            core: Core {
                 server,
-                board: Board {
+                connections: Connections {
                     wire,
-                    seats: Seats::new(alloc),
+                    table: ConnectionTable::new(alloc),
                     waiting: BTreeSet::new(alloc),
                     lost: BTreeMap::new(alloc),
                 },
@@ -110,12 +109,12 @@ impl<W: Wire> Engine<W> {
     /// [`EngineFault::Failed`] where memory ran out before; then [`EngineFault::Device`] where the wire could not tell what is ready:
     /// nothing has changed then; [`EngineFault::Memory`] where memory runs out.
     pub fn turn(&mut self) -> Result<(), EngineFault>
-        ensures { Turned W.is_after self.old self.new result }
+        ensures { Turned W.is_after (engine_view self.old) (engine_view self.new) result }
     {
         if self.failed {
             return Err(EngineFault::Failed);
         }
-        match self.desk.board.wire.ready() {
+        match self.core.connections.wire.ready() {
             Ok(ready) => self.take(ready),
             Err(_) => Err(EngineFault::Device),
         }
@@ -123,10 +122,10 @@ impl<W: Wire> Engine<W> {
 
     /// Does what is ready, and writes.
     fn take(&mut self, ready: Ready) -> Result<(), EngineFault>
-        ensures { Taken W.is_after self.old.rooms ready (moment_of self.old.desk) self.new result }
+        ensures { Taken W.is_after ready (engine_view self.old) (engine_view self.new) result }
     {
         self.failed = true;
-        match self.desk.turn(ready, self.rooms) {
+        match self.core.turn(ready, self.rooms) {
             Ok(()) => {
                 self.failed = false;
                 Ok(())
@@ -140,7 +139,7 @@ impl<W: Wire> Engine<W> {
     /// # Errors
     /// As [`Engine::turn`], for that turn.
     pub fn run(&mut self, turns: u64) -> Result<(), EngineFault>
-        ensures { Runs W.is_after self.old turns self.new result }
+        ensures { Runs W.is_after (engine_view self.old) turns (engine_view self.new) result }
     {
         for _turn in 0..turns {
             self.turn()?;
@@ -149,10 +148,10 @@ impl<W: Wire> Engine<W> {
     }
 }
 
-impl<W: Wire> Desk<W> {
+impl<W: Wire> Core<W> {
     /// Does what is ready, and writes.
     fn turn(&mut self, ready: Ready, rooms: Rooms) -> Result<(), AllocError>
-        ensures done { OnOk result (Does W.is_after rooms ready (moment_of self.old) (moment_of self.new)) }
+        ensures done { OnOk result (Spans (Does W.is_after rooms ready) self.old self.new) }
         ensures quiet { brings_nothing ready ≡ true → IsNobodyNoted self.old → result ≡ Ok tt }
     {
         self.answer(ready, rooms)?;
@@ -161,9 +160,9 @@ impl<W: Wire> Desk<W> {
 
     /// Does what is ready.
     fn answer(&mut self, ready: Ready, rooms: Rooms) -> Result<(), AllocError>
-        ensures done { OnOk result (Answers W.is_after rooms ready (moment_of self.old) (moment_of self.new)) }
+        ensures done { OnOk result (Spans (Answers W.is_after rooms ready) self.old self.new) }
         ensures told { OnOk result (KeepsTold self.old self.new) }
-        ensures notes { OnOk result (KeepsNotes self.old.board self.new.board) }
+        ensures notes { OnOk result (KeepsNotes self.old.connections self.new.connections) }
         ensures quiet { brings_nothing ready ≡ true → (result ≡ Ok tt) × (self.new ≡ self.old) }
     {
         match ready {
@@ -185,30 +184,30 @@ impl<W: Wire> Desk<W> {
 
     /// A client has connected, or a link is open, and the server is told. A number that is in use is passed over.
     fn start(&mut self, conn: u64, kind: Kind, room: usize, event: &Event) -> Result<(), AllocError>
-        ensures done { OnOk result (Starts W.is_after kind room conn event.now (moment_of self.old) (moment_of self.new)) }
+        ensures done { OnOk result (Spans (Starts W.is_after kind room conn event.now) self.old self.new) }
         ensures told { OnOk result (KeepsTold self.old self.new) }
-        ensures notes { OnOk result (KeepsNotes self.old.board self.new.board) }
+        ensures notes { OnOk result (KeepsNotes self.old.connections self.new.connections) }
     {
-        if self.board.seats.contains(conn) {
+        if self.connections.table.contains(conn) {
             return Ok(());
         }
-        self.board.seats.give_seat(self.alloc, conn, kind, room)?;
+        self.connections.table.insert(self.alloc, conn, kind, room)?;
         self.pass(event)
     }
 
     /// A connection has bytes, or has ended. One that the server has closed is read no more.
     fn read(&mut self, conn: u64) -> Result<(), AllocError>
-        ensures done { OnOk result (Reads W.is_after conn (moment_of self.old) (moment_of self.new)) }
+        ensures done { OnOk result (Spans (Reads W.is_after conn) self.old self.new) }
         ensures told { OnOk result (KeepsTold self.old self.new) }
-        ensures marks { OnOk result (KeepsMarks self.old.board self.new.board) }
+        ensures marks { OnOk result (KeepsMarks self.old.connections self.new.connections) }
     {
-        if !self.board.seats.is_open(conn) {
+        if !self.connections.table.is_open(conn) {
             return Ok(());
         }
-        match came(self.board.wire.read(conn, &mut self.buffer)) {
+        match came(self.connections.wire.read(conn, &mut self.buffer)) {
             Some(count) => self.take_lines(conn, count),
             None => {
-                self.board.lose(conn)?;
+                self.connections.lose(conn)?;
                 self.tell_losses()
             }
         }
@@ -217,13 +216,16 @@ impl<W: Wire> Desk<W> {
     /// Passes on each line that so many bytes at the front of the buffer complete, as long as the connection is open.
     fn take_lines(&mut self, conn: u64, count: usize) -> Result<(), AllocError>
         requires { count ≤ length self.old.buffer.items }
-        ensures ran { OnOk result (Ran W.is_after [] [] (only_of conn (take count self.old.buffer.items)) (moment_of self.old) (moment_of self.new)) }
+        ensures ran { OnOk result (HearsFrom W.is_after conn count self.old self.new) }
         ensures told { OnOk result (KeepsTold self.old self.new) }
-        ensures marks { OnOk result (KeepsMarks self.old.board self.new.board) }
+        ensures marks { OnOk result (KeepsMarks self.old.connections self.new.connections) }
     {
         let mut used = 0;
         while used < count {
-            let Some((more, kind, line)) = self.board.seats.take(conn, &self.buffer[used..count])
+            let Some((more, kind, line)) = self
+                .connections
+                .table
+                .take(conn, &self.buffer[used..count])
             else {
                 return Ok(());
             };
@@ -235,9 +237,9 @@ impl<W: Wire> Desk<W> {
 
     /// Passes on a line, if there is one.
     fn pass_line(&mut self, conn: u64, kind: Kind, line: Option<Line>) -> Result<(), AllocError>
-        ensures ran { OnOk result (Ran W.is_after [] (passed_on kind conn line) nothing_of (moment_of self.old) (moment_of self.new)) }
+        ensures ran { OnOk result (AsksFor W.is_after (passed_on kind conn line) self.old self.new) }
         ensures told { OnOk result (KeepsTold self.old self.new) }
-        ensures marks { OnOk result (KeepsMarks self.old.board self.new.board) }
+        ensures marks { OnOk result (KeepsMarks self.old.connections self.new.connections) }
         ensures same { self.new.buffer ≡ self.old.buffer }
     {
         match line {
@@ -248,10 +250,10 @@ impl<W: Wire> Desk<W> {
 
     /// Passes an event on to the server, and does what it puts out. Then it is told of each connection that was lost by this.
     fn pass(&mut self, event: &Event) -> Result<(), AllocError>
-        ensures ran { OnOk result (Ran W.is_after [] (event.now ∷ []) nothing_of (moment_of self.old) (moment_of self.new)) }
-        ensures in_order { OnOk result (PassesOn W.is_after event.now (moment_of self.old) (moment_of self.new)) }
+        ensures ran { OnOk result (AsksFor W.is_after (event.now ∷ []) self.old self.new) }
+        ensures in_order { OnOk result (Spans (PassesOn W.is_after event.now) self.old self.new) }
         ensures told { OnOk result (AllTold (moment_of self.new)) }
-        ensures marks { OnOk result (KeepsMarks self.old.board self.new.board) }
+        ensures marks { OnOk result (KeepsMarks self.old.connections self.new.connections) }
         ensures same { self.new.buffer ≡ self.old.buffer }
     {
         self.handle(event)?;
@@ -260,13 +262,13 @@ impl<W: Wire> Desk<W> {
 
     /// Tells the server of each connection that was lost, the lowest number first, until there is none.
     fn tell_losses(&mut self) -> Result<(), AllocError>
-        ensures ran { OnOk result (RanOn W.is_after (moment_of self.old) (moment_of self.new)) }
-        ensures in_order { OnOk result (TellsLosses W.is_after (moment_of self.old) (moment_of self.new)) }
+        ensures ran { OnOk result (Spans (RanOn W.is_after) self.old self.new) }
+        ensures in_order { OnOk result (Spans (TellsLosses W.is_after) self.old self.new) }
         ensures told { OnOk result (AllTold (moment_of self.new)) }
-        ensures marks { OnOk result (KeepsMarks self.old.board self.new.board) }
+        ensures marks { OnOk result (KeepsMarks self.old.connections self.new.connections) }
         ensures same { self.new.buffer ≡ self.old.buffer }
     {
-        while let Some((conn, kind)) = take_lowest(&mut self.board.lost) {
+        while let Some((conn, kind)) = take_lowest(&mut self.connections.lost) {
             self.handle(&kind.end_event(conn))?;
         }
         Ok(())
@@ -274,28 +276,28 @@ impl<W: Wire> Desk<W> {
 
     /// Passes an event on to the server, and does what it puts out.
     fn handle(&mut self, event: &Event) -> Result<(), AllocError>
-        ensures count { OnOk result (count_of self.new.board ≤ count_of self.old.board) }
-        ensures asks { OnOk result (AsksOnce W.is_after event.now (moment_of self.old) (moment_of self.new)) }
-        ensures marks { OnOk result (KeepsMarks self.old.board self.new.board) }
+        ensures count { OnOk result (count_of self.new.connections ≤ count_of self.old.connections) }
+        ensures asks { OnOk result (Spans (AsksOnce W.is_after event.now) self.old self.new) }
+        ensures marks { OnOk result (KeepsMarks self.old.connections self.new.connections) }
         ensures same { self.new.buffer ≡ self.old.buffer }
     {
         self.out.clear();
         match self.server.handle(event, &mut self.out) {
             Err(ServerFault::Memory | ServerFault::Failed) => Err(AllocError),
-            _ => self.board.deal(&self.out),
+            _ => self.connections.dispatch(&self.out),
         }
     }
 
     /// Writes once from each outbox that is not empty, in order of number.
     fn flush(&mut self) -> Result<(), AllocError>
-        ensures done { OnOk result (Flushes W.is_after (moment_of self.old) (moment_of self.new)) }
+        ensures done { OnOk result (Spans (Flushes W.is_after) self.old self.new) }
         ensures told { OnOk result (KeepsTold self.old self.new) }
         ensures in_order { OnOk result (KeepsOrder self.old self.new) }
         ensures quiet { IsNobodyNoted self.old → result ≡ Ok tt }
     {
-        let mut waiting = replace(&mut self.board.waiting, BTreeSet::new(self.alloc));
+        let mut waiting = replace(&mut self.connections.waiting, BTreeSet::new(self.alloc));
         while let Some(conn) = waiting.pop_first() {
-            self.board.write(conn)?;
+            self.connections.write(conn)?;
             self.tell_losses()?;
         }
         Ok(())

@@ -1,10 +1,10 @@
 //! An engine: it runs one server over a wire, as a program does over sockets.
 #![tactic(auto)]
 
-mod board;
 mod boxed_framer;
+mod connection_table;
+mod connections;
 mod engine;
 mod kind;
-mod seat;
 
 pub use engine::{Engine, EngineFault};

@@ -4,7 +4,7 @@ use Rattle.std.specs.Prelude.{⊤}
 use Rattle.std.specs.Io.KnownBytes.{Appends}
 use Rattle.irc_outbox.specs.Calls.{Call}
 use Rattle.irc_sockets.specs.declared.mio_wire.MioWire.{MioWire}
-use Rattle.irc_engine.specs.declared.engine.Engine.{Engine}
+use Rattle.irc_engine.specs.Turning.{EngineView}
 use Rattle.irc_endings.specs.declared.fault.Stop.{Stop}
 use Rattle.irc_endings.specs.declared.fault.Stop.TheVariants.{Usage, BadScript, BadConfiguration, Failed}
 use Rattle.ircd.specs.declared.setup.Setup.{Setup}
@@ -20,13 +20,13 @@ pub tells_nothing : (held : Option (List ℕ)) (text : List ℕ) → Tells held 
 tells_nothing held text = all_lost (sink held []) text
 
 -- `ready` is cut short
-pub ready_cut : {W : Type 0} (is_after : W → List Call → Type 0) (turns : ℕ) (old new : Engine W) (held after : Option (List ℕ)) (r : Result (Unit {0}) Stop)
+pub ready_cut : {W : Type 0} (is_after : W → List Call → Type 0) (turns : ℕ) (old new : EngineView W) (held after : Option (List ℕ)) (r : Result (Unit {0}) Stop)
     → Tells held after ready_text → IsErrAnd r (λ stop. stop ≡ Failed) → Serves is_after turns old new held after r
 ready_cut is_after turns old new held after (Ok _) tells failed = absurd failed
 ready_cut is_after turns old new held after (Err stop) tells failed = subst (λ s. Serves is_after turns old new held after (Err s)) (sym failed) tells
 
 -- it was printed, and turns were taken
-pub ready_said : {W : Type 0} (is_after : W → List Call → Type 0) (turns : ℕ) (old new : Engine W) (held after : Option (List ℕ)) (r : Result (Unit {0}) Stop)
+pub ready_said : {W : Type 0} (is_after : W → List Call → Type 0) (turns : ℕ) (old new : EngineView W) (held after : Option (List ℕ)) (r : Result (Unit {0}) Stop)
     → Appends held after ready_text → Tells held after ready_text → TakesTurns is_after old turns new r → Serves is_after turns old new held after r
 ready_said is_after turns old new held after (Ok _) appended tells gone = (appended, gone)
 ready_said is_after turns old new held after (Err stop) appended tells gone = ready_cut is_after turns old new held after (Err stop) tells gone
@@ -51,7 +51,7 @@ not_opened text turns (Err e) stop held is failed =
     subst (λ s. ServesText text turns (Err s) held held) (sym (failed ∙ is)) (unprinted refl)
 
 -- what it sets up is served
-pub text_served : (turns : ℕ) (first last : Engine MioWire) (text : List ℕ) (setup : Setup) (held after : Option (List ℕ)) (r : Result (Unit {0}) Stop)
+pub text_served : (turns : ℕ) (first last : EngineView MioWire) (text : List ℕ) (setup : Setup) (held after : Option (List ℕ)) (r : Result (Unit {0}) Stop)
     → IsTextOf text setup → IsOpened setup first → Serves (λ wire calls. ⊤) turns first last held after r → ServesText text turns r held after
 text_served turns first last text setup held after (Ok _) is opened serves = record {
   setup = setup;

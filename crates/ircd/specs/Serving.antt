@@ -11,8 +11,7 @@ use Rattle.irc_settings.specs.Configuration.{IsReadAs, is_configuration}
 use Rattle.irc_server.specs.declared.config.Config.{Config}
 use Rattle.irc_server.specs.Configuring.{config_fault, made_view}
 use Rattle.irc_stage.specs.View.{KnownPeer, known_peer}
-use Rattle.irc_engine.specs.declared.engine.Engine.{Engine}
-use Rattle.irc_engine.specs.Turning.{IsNew, Turns}
+use Rattle.irc_engine.specs.Turning.{EngineView, IsNew, Turns}
 use Rattle.irc_sockets.specs.declared.calls.Callee.{Callee}
 use Rattle.irc_sockets.specs.declared.mio_wire.MioWire.{MioWire}
 use Rattle.irc_sockets.specs.Listening.{ListensAt}
@@ -114,14 +113,14 @@ IsReadSetup text (Err (BadScript line)) = ⊥
 
 -- An engine is open: it has served nobody, its server is the one that was set up, an outbox has room for as much as was set up, and its wire listens where that
 -- was, and calls whom that was to call.
-pub record IsOpened (setup : Setup) (engine : Engine MioWire) : Type 0 where
+pub record IsOpened (setup : Setup) (engine : EngineView MioWire) : Type 0 where
   pub wire : MioWire
   pub listens : ListensAt setup.clients setup.links wire
   pub callees : wire.calls.asked ≡ setup.callees
   pub is_new : IsNew setup.server wire setup.client_room setup.link_room engine
 
 -- `ready` was printed, and all turns were taken; else a front of it was, and the program failed
-abbrev pub Serves : {W : Type 0} → (W → List Call → Type 0) → ℕ → Engine W → Engine W → Option (List ℕ) → Option (List ℕ) → Result (Unit {0}) Stop → Type 0
+abbrev pub Serves : {W : Type 0} → (W → List Call → Type 0) → ℕ → EngineView W → EngineView W → Option (List ℕ) → Option (List ℕ) → Result (Unit {0}) Stop → Type 0
 Serves is_after turns old new printed printed_after (Ok _) = Appends printed printed_after ready_text × Turns is_after old turns new
 Serves is_after turns old new printed printed_after (Err Failed) = Tells printed printed_after ready_text
 Serves is_after turns old new printed printed_after (Err BadConfiguration) = ⊥
@@ -137,8 +136,8 @@ pub data IsCutShort (text : List ℕ) (printed printed_after : Option (List ℕ)
 pub record IsServed (text : List ℕ) (turns : ℕ) (printed printed_after : Option (List ℕ)) : Type 0 where
   pub setup : Setup
   pub is_text_of : IsTextOf text setup
-  pub first : Engine MioWire
-  pub last : Engine MioWire
+  pub first : EngineView MioWire
+  pub last : EngineView MioWire
   pub is_opened : IsOpened setup first
   pub is_ready : Appends printed printed_after ready_text
   pub taken : Turns (λ wire calls. ⊤) first turns last

@@ -1,7 +1,8 @@
 //! `ircd serve`: a server on TCP sockets.
 ghost use Rattle.std.specs.Prelude.{IfErr};
-ghost use Rattle.ircd.specs.Loops.Turns.{IsOfFile, Opens, TakesTurns};
-ghost use Rattle.ircd.specs.Serving.{Serves, ServesFile, ServesText};
+ghost use Rattle.irc_engine.specs.Loops.Moments.{engine_view};
+ghost use Rattle.ircd.specs.Loops.Turns.{IsOfFile, IsRun, Opens, TakesTurns};
+ghost use Rattle.ircd.specs.Serving.{ServesFile, ServesText};
 
 use crate::setup::{Setup, read_setup};
 use irc_endings::{Stop, say_ready};
@@ -81,7 +82,7 @@ fn run_engine<W: Wire, O: Write>(
     turns: u64,
     output: &mut O,
 ) -> Result<(), Stop>
-    ensures { Serves W.is_after turns engine.old engine.new (O.contents output.old) (O.contents output.new) result }
+    ensures { IsRun W.is_after turns engine.old engine.new (O.contents output.old) (O.contents output.new) result }
 {
     say_ready(output)?;
     take_turns(engine, turns)
@@ -89,7 +90,7 @@ fn run_engine<W: Wire, O: Write>(
 
 /// Takes so many turns, up to the first that is not done: it is the last, and the program fails.
 fn take_turns<W: Wire>(engine: &mut Engine<W>, turns: u64) -> Result<(), Stop>
-    ensures { TakesTurns W.is_after engine.old turns engine.new result }
+    ensures { TakesTurns W.is_after (engine_view engine.old) turns (engine_view engine.new) result }
 {
     match engine.run(turns) {
         Ok(()) => Ok(()),

@@ -1,5 +1,6 @@
 use Rattle.std.proofs.Common.{subst, arith}
 use Rattle.irc_engine.specs.Turning.{Turned, Turns, no_turn, one_more, all_taken}
+use Rattle.irc_engine.specs.Loops.Moments.{engine_view}
 use Rattle.irc_engine.proofs.TurnLaws.{stops_by}
 use Rattle.irc_engine.proofs.engine.Engine.run.Goals as goal
 
@@ -7,7 +8,7 @@ pub loop-turn-init : goal.loop-turn-init
 loop-turn-init g c = no_turn
 
 pub loop-turn-preserved : goal.loop-turn-preserved
-loop-turn-preserved g c = one_more _ _ _ c.loop-turn.invariant (subst (λ r. Turned g.W.Wire.is_after c.loop-turn.self c.turn.new.self r) c.in_ok-turn.was c.turn.ensures)
+loop-turn-preserved g c = one_more _ _ _ c.loop-turn.invariant (subst (λ r. Turned g.W.Wire.is_after (engine_view c.loop-turn.self) (engine_view c.turn.new.self) r) c.in_ok-turn.was c.turn.ensures)
 
 pub returns-in_err-turn : goal.returns-in_err-turn
 returns-in_err-turn g c =
@@ -15,5 +16,5 @@ returns-in_err-turn g c =
     c.in_err-turn.ensures c.from_residual.ensures.1
 
 pub returns : goal.returns
-returns g c = all_taken (subst (λ n. Turns g.W.Wire.is_after c.args.self.now n c.loop-turn.self) (omega
+returns g c = all_taken (subst (λ n. Turns g.W.Wire.is_after (engine_view c.args.self.now) n (engine_view c.loop-turn.self)) (omega
     (arith, c.loop-turn-test.false, c.loop-turn.auto._turn-end)) c.loop-turn.invariant)

@@ -1,7 +1,0 @@
-use Rattle.std.proofs.Common.{false, ◌∙◌}
-use Rattle.irc_engine.specs.Loops.Boards.{has}
-use Rattle.irc_engine.proofs.SeatLaws.{set_at}
-use Rattle.irc_engine.proofs.board.forget.Goals as goal
-
-pub returns : goal.returns
-returns c = λ q. c.remove.ensures.updates.0 q ∙ set_at (has c.args.numbers.now) false c.args.conn q

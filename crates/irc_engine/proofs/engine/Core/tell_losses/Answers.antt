@@ -1,0 +1,38 @@
+use Rattle.std.proofs.Common.{ℕ, List, None, refl, sym, ◌∙◌, subst}
+use Rattle.std.specs.BTreeMap.{is_at}
+use Rattle.std.specs.Map.{lookup}
+use Rattle.std.specs.Ordering.{nat_cmp}
+use Rattle.std.proofs.lemmas.Map.Keys.{le_from_not_gt}
+use Rattle.irc_engine.specs.Loops.Connections.{lost_at}
+use Rattle.irc_engine.specs.declared.kind.Kind.{Kind}
+use Rattle.irc_engine.specs.Loops.Moments.{moment_of}
+use Rattle.irc_engine.specs.Running.{RanOn, TellsLosses, none_so_far, tells_lowest}
+use Rattle.irc_engine.proofs.TableLaws.{set_at}
+use Rattle.irc_engine.proofs.RunLaws.{asks_as, ran_none, ran_on, ran_gone}
+use Rattle.irc_engine.proofs.engine.Core.tell_losses.Goals as goal
+
+pub loop-conn-init : goal.loop-conn-init
+loop-conn-init g c = record { ran = ran_none _ _; in_order = none_so_far; marks = λ q pending is. is; same = refl }
+
+pub loop-conn-preserved : goal.loop-conn-preserved
+loop-conn-preserved g c =
+    let asks = asks_as _ _ _ _ _ c.end_event.ensures c.in_ok-handle.ensures.asks in
+    record {
+      ran = ran_on _ _ _ _ c.loop-conn.invariant.ran
+          (ran_gone _ _ _ _ _ c.loop-conn.self.connections (record c.loop-conn.self.connections { lost = c.take_lowest.new.lost }) _ refl refl c.in-Some.ensures.member
+          (λ q. c.in-Some.ensures.updates.0 q ∙ set_at (lost_at c.loop-conn.self.connections.lost) None _ q) asks.0);
+      in_order = tells_lowest _ _ _ _ _ c.loop-conn.invariant.in_order (record { is_lost = c.in-Some.ensures.member; is_lowest = λ q there. le_from_not_gt _ q (c.in-Some.ensures.least q there) }) refl
+          (λ q. c.in-Some.ensures.updates.0 q ∙ set_at (lost_at c.loop-conn.self.connections.lost) None _ q) asks;
+      marks = λ q pending is. c.in_ok-handle.ensures.marks q pending (c.loop-conn.invariant.marks q pending is);
+      same = c.handle.ensures.same ∙ c.loop-conn.invariant.same;
+    }
+
+pub returns-clause-ran : goal.returns-clause-ran
+returns-clause-ran g c =
+    subst (λ (es : List (ℕ × Kind)). RanOn g.W.Wire.is_after (moment_of c.args.self.now)
+    (record (moment_of c.loop-conn.self) { lost = λ q. lookup (is_at (nat_cmp q)) es })) (sym c.in_default.ensures.unchanged) c.loop-conn.invariant.ran
+
+pub returns-clause-in_order : goal.returns-clause-in_order
+returns-clause-in_order g c =
+    subst (λ (es : List (ℕ × Kind)). TellsLosses g.W.Wire.is_after (moment_of c.args.self.now)
+    (record (moment_of c.loop-conn.self) { lost = λ q. lookup (is_at (nat_cmp q)) es })) (sym c.in_default.ensures.unchanged) c.loop-conn.invariant.in_order

@@ -1,9 +1,0 @@
-use Rattle.std.proofs.Common.{ap}
-use Rattle.irc_batch.specs.Batches.{Batch}
-use Rattle.irc_engine.proofs.RunLaws.{on_ok, asked_once}
-use Rattle.irc_engine.proofs.engine.Desk.handle.Goals as goal
-
-pub returns-in_default-clause-asks : goal.returns-in_default-clause-asks
-returns-in_default-clause-asks g c =
-    on_ok c.deal.result _ _ (λ carries. asked_once _ _ _ _ c.args.self.now.board c.deal.new.self _ _ _ _ (ap (λ (b : Batch). b.outs) c.clear.ensures) c.handle.ensures
-    carries) c.deal.ensures.carries

@@ -1,0 +1,67 @@
+-- The engine's parts as one moment.
+use Rattle.std.specs.Prelude.{◌≡◌, ℕ, false, Option, Some, None, Result, Ok, Err, List, [], ◌∷◌, take}
+use Rattle.irc_outbox.specs.declared.wire.Got.{Got}
+use Rattle.irc_outbox.specs.declared.wire.Got.TheVariants.{Bytes, Later, End}
+use Rattle.irc_outbox.specs.declared.wire.IoFault.{IoFault}
+use Rattle.irc_outbox.specs.Calls.{Call}
+use Rattle.std.specs.Vec.{vec_len}
+use Rattle.arrayvec.specs.ArrayVec.{ArrayVec}
+use Rattle.irc_server.specs.declared.event.Event.{Event}
+use Rattle.irc_engine.specs.declared.engine.Core.{Core}
+use Rattle.irc_engine.specs.declared.engine.Engine.{Engine}
+use Rattle.irc_engine.specs.declared.kind.Kind.{Kind}
+use Rattle.irc_engine.specs.Hearing.{line_event_of, nothing_of, only_of}
+use Rattle.irc_engine.specs.Running.{Moment, AllTold, IsInOrder, Ran}
+use Rattle.irc_engine.specs.Turning.{EngineView}
+use Rattle.irc_engine.specs.Loops.Connections.{has, lost_at}
+use Rattle.irc_engine.specs.Loops.Tables.{connection_of}
+
+abbrev pub moment_of : {W : Type 0} → Core W → Moment W
+moment_of core = record {
+  server = core.server;
+  wire = core.connections.wire;
+  connections = connection_of core.connections.table;
+  lost = lost_at core.connections.lost;
+  waiting = has core.connections.waiting;
+  read_room = vec_len core.buffer;
+}
+
+-- from the engine's parts to what they are then, as from one moment to another
+abbrev pub Spans : {W : Type 0} → (Moment W → Moment W → Type 0) → Core W → Core W → Type 0
+Spans P old new = P (moment_of old) (moment_of new)
+
+-- The server is asked for these events, and then for others that follow from them.
+abbrev pub AsksFor : {W : Type 0} → (W → List Call → Type 0) → List Event → Core W → Core W → Type 0
+AsksFor is_after events old new = Ran is_after [] events nothing_of (moment_of old) (moment_of new)
+
+-- So many bytes at the front of the buffer are heard, as those of one connection.
+abbrev pub HearsFrom : {W : Type 0} → (W → List Call → Type 0) → ℕ → ℕ → Core W → Core W → Type 0
+HearsFrom is_after conn count old new = Ran is_after [] [] (only_of conn (take count old.buffer.items)) (moment_of old) (moment_of new)
+
+-- an engine, as those who have one see it
+abbrev pub engine_view : {W : Type 0} → Engine W → EngineView W
+engine_view engine = record { failed = engine.failed; rooms = engine.rooms; now = moment_of engine.core }
+
+-- how many bytes a read gave; none, where it ended or failed
+abbrev pub came : Result Got IoFault → Option ℕ
+came (Ok (Bytes n)) = Some n
+came (Ok Later) = Some 0
+came (Ok End) = None
+came (Err fault) = None
+
+-- the event by which a line is passed on, if there is one
+abbrev pub passed_on : Kind → ℕ → Option (ArrayVec ℕ) → List Event
+passed_on kind conn None = []
+passed_on kind conn (Some line) = line_event_of kind conn line ∷ []
+
+-- the server has been told of each connection that was lost, if it had been before
+abbrev pub KeepsTold : {W : Type 0} → Core W → Core W → Type 0
+KeepsTold old new = AllTold (moment_of old) → AllTold (moment_of new)
+
+-- it is in order, if it was before
+abbrev pub KeepsOrder : {W : Type 0} → Core W → Core W → Type 0
+KeepsOrder old new = IsInOrder (moment_of old) → IsInOrder (moment_of new)
+
+-- nobody is noted as one to be written to
+abbrev pub IsNobodyNoted : {W : Type 0} → Core W → Type 0
+IsNobodyNoted core = (conn : ℕ) → has core.connections.waiting conn ≡ false

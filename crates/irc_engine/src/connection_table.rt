@@ -1,0 +1,352 @@
+//! The connections that are there, by number: the outbox of each, and what has come of its next line.
+ghost use Rattle.std.specs.Prelude.{◌≡◌, ℕ, Some, None, is_some, length, option_copied, IfOk, OnOk};
+ghost use Rattle.std.specs.List.{slice_get};
+ghost use Rattle.irc_engine.specs.Loops.Tables.{fresh_connection, has_some_at, is_done_at, is_open_at, open_kind_at, connection_count, connection_of, CountsWithout, Sets, IsPushedTo, IsPushedAt, IsPushedIn, IsClosedAt, IsWrittenAt, IsWrittenIn, Frames, FramesAt, Within};
+
+use crate::boxed_framer::BoxedFramer;
+use crate::kind::Kind;
+use irc_line::Line;
+use irc_outbox::{IoFault, Outbox, Overflow, Wire};
+use std::alloc::{AllocError, Global};
+use std::cmp::max;
+use std::collections::HashMap;
+use std::hash::{BuildHasherDefault, FoldHasher};
+
+/// Memory for outboxes is asked of the system in pieces of so many bytes (our own choice).
+const PIECE: usize = 2_097_152;
+
+/// A connection.
+#[derive(Drop)]
+pub struct Connection {
+    /// Whether it is a client's or a link's.
+    pub kind: Kind,
+    /// What is still to be written to it.
+    pub outbox: Outbox,
+    /// What has come of its next line; none once the server has closed the connection.
+    pub framer: Option<BoxedFramer>,
+}
+
+/// What has come of bytes that were pushed to a connection.
+#[derive(Clone, Copy)]
+pub(crate) enum Pushed {
+    /// None are to be written.
+    Nothing,
+    /// They are the first that wait to be written.
+    First,
+    /// They wait behind others.
+    More,
+}
+
+impl Connection {
+    /// That of a connection that has just been made.
+    pub(crate) fn fresh(alloc: Global, kind: Kind, room: usize) -> Result<Self, AllocError>
+        ensures { IfOk result (λ connection. connection ≡ fresh_connection kind room) }
+    {
+        let outbox = Outbox::with_capacity(alloc, room)?;
+        let framer = BoxedFramer::new(alloc)?;
+        Ok(Connection {
+            kind,
+            outbox,
+            framer: Some(framer),
+        })
+    }
+
+    /// Whether the server has closed the connection, and nothing is left to write.
+    fn is_done(&self) -> bool
+        ensures { result ≡ is_done_at (Some self.now) }
+    {
+        self.framer.is_none() && self.outbox.len() == 0
+    }
+
+    /// The kind of the connection, unless the server has closed it.
+    fn open_kind(&self) -> Option<Kind>
+        ensures { result ≡ open_kind_at (Some self.now) }
+    {
+        if self.framer.is_some() {
+            Some(self.kind)
+        } else {
+            None
+        }
+    }
+
+    /// Takes bytes that are to be written, unless the server has closed the connection.
+    ///
+    /// # Errors
+    /// Where they do not fit.
+    fn push(&mut self, bytes: &[u8]) -> Result<Pushed, Overflow>
+        ensures { IsPushedTo self.old bytes.now result self.new }
+    {
+        if self.framer.is_none() || bytes.is_empty() {
+            return Ok(Pushed::Nothing);
+        }
+        let held = self.outbox.len();
+        self.outbox.push(bytes)?;
+        if held == 0 {
+            Ok(Pushed::First)
+        } else {
+            Ok(Pushed::More)
+        }
+    }
+
+    /// Takes bytes that have come, up to the end of the next line: how many, of which kind the connection is, and that line; nothing, where the server
+    /// has closed the connection.
+    fn take(&mut self, piece: &[u8]) -> Option<(usize, Kind, Option<Line>)>
+        ensures { Frames self.old piece.now result self.new }
+    {
+        match &mut self.framer {
+            Some(framer) => {
+                let (used, line) = framer.take(piece);
+                Some((used, self.kind, line))
+            }
+            None => None,
+        }
+    }
+}
+
+/// The connections, by their numbers. What goes to many is pushed at each of their numbers in turn: those that a wire gives first are
+/// found without a search.
+#[derive(Drop)]
+pub(crate) struct ConnectionTable {
+    /// Those of the numbers below its length, each at its number.
+    dense: Vec<Option<Connection>, Global>,
+    /// Those of other numbers.
+    sparse: HashMap<u64, Connection, BuildHasherDefault<FoldHasher>, Global>,
+}
+
+impl ConnectionTable {
+    /// No connections.
+    pub(crate) fn new(alloc: Global) -> Self
+        ensures { (conn : ℕ) → connection_of result conn ≡ None }
+    {
+        ConnectionTable {
+            dense: Vec::new(alloc),
+            sparse: HashMap::new(alloc),
+        }
+    }
+
+    /// The connection of a number, if there is one.
+    fn find(&self, conn: u64) -> Option<&Connection>
+        ensures { option_copied result ≡ connection_of self.now conn }
+    {
+        match self.dense.get(conn as usize) {
+            Some(slot) => slot.as_ref(),
+            None => self.sparse.get(&conn),
+        }
+    }
+
+    /// Whether a connection is there.
+    pub(crate) fn contains(&self, conn: u64) -> bool
+        ensures { result ≡ is_some (connection_of self.now conn) }
+    {
+        self.find(conn).is_some()
+    }
+
+    /// Whether a connection is there that the server has not closed.
+    pub(crate) fn is_open(&self, conn: u64) -> bool
+        ensures { result ≡ is_open_at (connection_of self.now conn) }
+    {
+        match self.find(conn) {
+            Some(connection) => connection.framer.is_some(),
+            None => false,
+        }
+    }
+
+    /// The kind of a connection that is there and that the server has not closed.
+    pub(crate) fn open_kind(&self, conn: u64) -> Option<Kind>
+        ensures { result ≡ open_kind_at (connection_of self.now conn) }
+    {
+        match self.find(conn) {
+            Some(connection) => connection.open_kind(),
+            None => None,
+        }
+    }
+
+    /// Whether a connection is one that the server has closed, with nothing left to write.
+    pub(crate) fn is_done(&self, conn: u64) -> bool
+        ensures { result ≡ is_done_at (connection_of self.now conn) }
+    {
+        match self.find(conn) {
+            Some(connection) => connection.is_done(),
+            None => false,
+        }
+    }
+
+    /// Whether a connection has bytes to write.
+    pub(crate) fn has_some(&self, conn: u64) -> bool
+        ensures { result ≡ has_some_at (connection_of self.now conn) }
+    {
+        match self.find(conn) {
+            Some(connection) => connection.outbox.len() > 0,
+            None => false,
+        }
+    }
+
+    /// A connection is there from now on, where none of its number was.
+    pub(crate) fn insert(
+        &mut self,
+        alloc: Global,
+        conn: u64,
+        kind: Kind,
+        room: usize,
+    ) -> Result<(), AllocError>
+        ensures { OnOk result (Sets self.old conn (Some (fresh_connection kind room)) self.new) }
+    {
+        ask_ahead(alloc, conn as usize, room);
+        let fresh = Connection::fresh(alloc, kind, room)?;
+        let next = self.dense.len();
+        match self.dense.get_mut(conn as usize) {
+            Some(slot) => {
+                *slot = Some(fresh);
+                Ok(())
+            }
+            None if conn as usize == next => self.insert_next(fresh),
+            None => self.insert_sparse(conn, fresh),
+        }
+    }
+
+    /// This connection is there from now on, at the first number behind those of the dense ones.
+    fn insert_next(&mut self, connection: Connection) -> Result<(), AllocError>
+        ensures { OnOk result (Sets self.old (length self.old.dense.items) (Some connection) self.new) }
+    {
+        match self.dense.push(Some(connection)) {
+            Ok(()) => Ok(()),
+            Err(_) => Err(AllocError),
+        }
+    }
+
+    /// This connection is there from now on, at a number behind those of the dense ones.
+    fn insert_sparse(&mut self, conn: u64, connection: Connection) -> Result<(), AllocError>
+        requires { slice_get self.old.dense.items conn ≡ None }
+        ensures { OnOk result (Sets self.old conn (Some connection) self.new) }
+    {
+        match self.sparse.insert(conn, connection) {
+            Ok(_) => Ok(()),
+            Err(_) => Err(AllocError),
+        }
+    }
+
+    /// A connection is there no more.
+    pub(crate) fn remove(&mut self, conn: u64)
+        ensures at { Sets self.old conn None self.new }
+        ensures len { CountsWithout conn self.old self.new }
+    {
+        match self.dense.get_mut(conn as usize) {
+            Some(slot) => *slot = None,
+            None => {
+                self.sparse.remove(&conn);
+            }
+        }
+    }
+
+    /// Pushes bytes to a connection.
+    ///
+    /// # Errors
+    /// Where they do not fit.
+    pub(crate) fn push(&mut self, conn: u64, bytes: &[u8]) -> Result<Pushed, Overflow>
+        ensures at { IsPushedAt conn bytes.now self.old result self.new }
+        ensures len { connection_count self.new ≡ connection_count self.old }
+    {
+        match self.dense.get_mut(conn as usize) {
+            Some(slot) => push(slot, bytes),
+            None => match self.sparse.get_mut(&conn) {
+                Some(connection) => connection.push(bytes),
+                None => Ok(Pushed::Nothing),
+            },
+        }
+    }
+
+    /// The server has closed a connection.
+    pub(crate) fn close_when_written(&mut self, conn: u64)
+        ensures at { IsClosedAt conn self.old self.new }
+        ensures len { connection_count self.new ≡ connection_count self.old }
+    {
+        match self.dense.get_mut(conn as usize) {
+            Some(slot) => close_when_written(slot),
+            None => {
+                if let Some(connection) = self.sparse.get_mut(&conn) {
+                    connection.framer = None;
+                }
+            }
+        }
+    }
+
+    /// Takes bytes that have come from a connection, up to the end of its next line: how many, of which kind it is, and that line; nothing, where it is
+    /// not open.
+    pub(crate) fn take(&mut self, conn: u64, piece: &[u8]) -> Option<(usize, Kind, Option<Line>)>
+        ensures at { FramesAt conn piece.now self.old result self.new }
+        ensures len { connection_count self.new ≡ connection_count self.old }
+    {
+        match self.dense.get_mut(conn as usize) {
+            Some(slot) => take(slot, piece),
+            None => match self.sparse.get_mut(&conn) {
+                Some(connection) => connection.take(piece),
+                None => None,
+            },
+        }
+    }
+
+    /// Writes once to a connection, if it is there.
+    ///
+    /// # Errors
+    /// Where the device failed.
+    pub(crate) fn write<W: Wire>(&mut self, wire: &mut W, conn: u64) -> Result<usize, IoFault>
+        ensures at { IsWrittenAt W.is_after conn self.old wire.old result self.new wire.new }
+        ensures len { connection_count self.new ≡ connection_count self.old }
+    {
+        match self.dense.get_mut(conn as usize) {
+            Some(slot) => write(slot, wire, conn),
+            None => match self.sparse.get_mut(&conn) {
+                Some(connection) => connection.outbox.write_some(wire, conn),
+                None => Ok(0),
+            },
+        }
+    }
+}
+
+/// Pushes bytes to the connection of this place, if there is one.
+fn push(slot: &mut Option<Connection>, bytes: &[u8]) -> Result<Pushed, Overflow>
+    ensures { IsPushedIn bytes.now slot.old result slot.new }
+{
+    match slot {
+        Some(connection) => connection.push(bytes),
+        None => Ok(Pushed::Nothing),
+    }
+}
+
+/// The server has closed the connection of this place, if there is one.
+fn close_when_written(slot: &mut Option<Connection>)
+    ensures { Within (λ s t. t ≡ record s { framer = None }) (Unit {0}) slot.old slot.new }
+{
+    if let Some(connection) = slot {
+        connection.framer = None;
+    }
+}
+
+/// Takes bytes that have come from the connection of this place, if there is one.
+fn take(slot: &mut Option<Connection>, piece: &[u8]) -> Option<(usize, Kind, Option<Line>)>
+    ensures { Within (λ s t. Frames s piece.now result t) (result ≡ None) slot.old slot.new }
+{
+    match slot {
+        Some(connection) => connection.take(piece),
+        None => None,
+    }
+}
+
+/// Writes once to the connection of this place, if there is one.
+fn write<W: Wire>(slot: &mut Option<Connection>, wire: &mut W, conn: u64) -> Result<usize, IoFault>
+    ensures { IsWrittenIn W.is_after conn slot.old wire.old result slot.new wire.new }
+{
+    match slot {
+        Some(connection) => connection.outbox.write_some(wire, conn),
+        None => Ok(0),
+    }
+}
+
+/// Asks for the memory of many outboxes at once, and gives it back, where the number is a multiple of how many these are. It stays with the process,
+/// and each of the next connections takes its own from it: else the system is asked for nearly every one. Where it is refused, nothing is lost.
+fn ask_ahead(alloc: Global, number: usize, room: usize) {
+    let outboxes = PIECE / max(room, 1);
+    if outboxes > 0 && number % outboxes == 0 {
+        let _given_back = Vec::<u8, Global>::with_capacity(alloc, PIECE);
+    }
+}
