@@ -32,7 +32,7 @@ abbrev pub is_raised : Option Flags → Bool
 is_raised None = false
 is_raised (Some flags) = flags.op || flags.voice
 
--- Whether a user may speak in a channel (RFC 2811 sections 4.2.2, 4.2.3 and 4.3.1): a member where outsiders are kept out; an operator or
+-- Whether a user may speak in a channel (RFC 2811 sections 4.2.3, 4.2.4 and 4.3.1): a member where outsiders are kept out; an operator or
 -- a voiced member where it is moderated; and one of these, or whom no ban matches.
 abbrev pub may_speak : User → Channel → Bool
 may_speak user channel =

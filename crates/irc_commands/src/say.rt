@@ -147,7 +147,7 @@ fn is_channel_target(name: &[u8]) -> bool
     }
 }
 
-/// Whether a user may speak in a channel (RFC 2811 sections 4.2.2, 4.2.3 and 4.3.1): no outsider where mode n keeps them out; an
+/// Whether a user may speak in a channel (RFC 2811 sections 4.2.3, 4.2.4 and 4.3.1): no outsider where mode n keeps them out; an
 /// operator or a voiced member alone where mode m moderates it; and whom a ban matches only as one of these.
 fn may_speak(user: &User, channel: &Channel) -> bool
     ensures { result ≡ may_speak user.now channel.now }

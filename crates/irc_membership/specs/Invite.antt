@@ -15,7 +15,7 @@ use Rattle.irc_acts.specs.Acts.{client_words}
 use Rattle.irc_acts.specs.Refusing.{Refusal, where_so, first_refusal, unless_refused}
 use Rattle.irc_acts.specs.Standing.{is_operator}
 
--- why a user may not invite another to a channel that is there: where mode i is set only an operator does (RFC 2811 section 4.2.1)
+-- why a user may not invite another to a channel that is there: where mode i is set only an operator does (RFC 2811 section 4.2.2)
 abbrev pub invite_refusals : User → User → Channel → List Refusal
 invite_refusals me other channel =
     let flags = row channel.members (key me.nick) in

@@ -55,7 +55,7 @@ abbrev pub is_full : Option ℕ → Channel → Bool
 is_full None channel = false
 is_full (Some limit) channel = nat_le limit (length (keys channel.members))
 
--- why a user is kept out of a channel, if it is (RFC 2811 sections 4.2.1, 4.2.9, 4.2.10 and 4.3.1)
+-- why a user is kept out of a channel, if it is (RFC 2811 sections 4.2.2, 4.2.9, 4.2.10 and 4.3.1)
 abbrev pub kept_out : User → List ℕ → Channel → Option Act
 kept_out me given channel =
     if channel.modes.invite_only && not (is_invited (key me.nick) channel) then Some (Answer (InviteOnlyChan channel.name))

@@ -71,7 +71,7 @@ fn invite_to(
     }
 }
 
-/// Why a user may not invite another to a channel. Where mode i is set only an operator does (RFC 2811 section 4.2.1).
+/// Why a user may not invite another to a channel. Where mode i is set only an operator does (RFC 2811 section 4.2.2).
 fn refusal(me: &User, other: &User, channel: &Channel) -> Option<Reply>
     ensures { result ≡ first_refusal (invite_refusals me.now other.now channel.now) }
 {
