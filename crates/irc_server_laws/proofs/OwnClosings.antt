@@ -1,5 +1,5 @@
 -- Whatever is served, just the link by which a line came is closed that has a reason to be, or one that is opened to nobody known.
-use Rattle.std.proofs.Common.{◌≡◌, ℕ, Bool, true, false, is_none, Option, Some, None, Result, Ok, Err, List, [], ◌∷◌, ◌++◌, append-nil, filter_map, refl, sym, ◌∙◌, ap, if◌then◌else◌}
+use Rattle.std.proofs.Common.{◌≡◌, ℕ, Bool, true, false, is_none, Option, Some, None, Result, Ok, Err, List, [], ◌∷◌, ◌++◌, append-nil, filter_map, refl, ◌∙◌, ap, if◌then◌else◌}
 use Rattle.std.proofs.lemmas.List.Elements.{filter_map-append}
 use Rattle.std.specs.FinMap.{entries, get}
 use Rattle.std.specs.List.{flat_map, list_all}
@@ -39,7 +39,7 @@ use Rattle.irc_stage.specs.ClientTold.{client_told, closed_told, message_told, q
 use Rattle.irc_deeds.specs.DeedTold.{all_told, arrival_of, deed_told, deeds_told, forgotten, gain_told, link_lost, lost_behind, told_by}
 use Rattle.irc_deeds.specs.Heard.{Heard, ignored, closes, password, meets, tells, heard}
 use Rattle.irc_deeds.specs.LinkServed.{after_heard, line_served, link_opened, on_link, opening_parts, owes}
-use Rattle.irc_server.specs.Served.{Occurrence, of_client, link_up, link_says, link_down, served}
+use Rattle.irc_server.specs.Served.{of_client, link_up, link_says, link_down, served}
 use Rattle.irc_server_laws.specs.Closings.{ServedClosesItsOwn, closing_by_line, closing_heard, closing_of, closing_opened, link_closings}
 use Rattle.irc_server_laws.proofs.AllOf.{all-append, all-each, all-flat, all-picked, all_entries}
 
