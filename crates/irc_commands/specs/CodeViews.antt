@@ -68,12 +68,14 @@ abbrev pub IsAsking : Query → Decision → Type 0
 IsAsking query d =
     (room : Room) (place : Place) (me : User) (params : List (List ℕ)) → IsDecidedAs room place (Some me) params (does (query_steps room place me params query)) d
 
+-- A command of the context's user, with these parameters, is decided so.
+abbrev pub IsDecidedIn : Context → List (List ℕ) → Decided → Decision → Type 0
+IsDecidedIn context params want = IsDecidedAs context.room.now.room (place_of context.routes.now) (Some context.me.now) params want
+
 -- The row of the command table that a user's line fits, and what a line of who has this nickname does.
 abbrev pub IsRowFor : Context → Parsed → Decision → Type 0
 IsRowFor context message =
-    let room = context.room.now.room in
-    let place = place_of context.routes.now in
-    IsDecidedAs room place (Some context.me.now) message.params (row_for room place context.me.now message)
+    IsDecidedIn context message.params (row_for context.room.now.room (place_of context.routes.now) context.me.now message)
 
 abbrev pub IsDecision : Room → Place → List ℕ → Parsed → Decision → Type 0
 IsDecision room place who message = IsDecidedAs room place (row room.users (key who)) message.params (decide room place who message)

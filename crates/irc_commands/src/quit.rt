@@ -1,6 +1,7 @@
 //! QUIT of a registered user.
+ghost use Rattle.std.specs.Prelude.{IfOk};
 ghost use Rattle.irc_line.specs.PartViews.{words_now};
-ghost use Rattle.irc_commands.specs.CodeViews.{GivesWithoutQuery};
+ghost use Rattle.irc_commands.specs.CodeViews.{IsDecidedIn};
 ghost use Rattle.irc_commands.specs.Quit.{quit_decided};
 
 use crate::closing::error;
@@ -13,7 +14,8 @@ use std::alloc::AllocError;
 /// What a QUIT does: others see it first, then the client is told and closed (RFC 2812 section 3.1.7).
 #[tactic(auto, unfolding(crate::specs::CodeViews::asked_steps))]
 pub(crate) fn decided(context: &Context<'_>, params: &[&[u8]]) -> Result<Decision, AllocError>
-    ensures { GivesWithoutQuery (quit_decided context.now.me.now (words_now params.now)) result }
+    ensures { IfOk result (IsDecidedIn context.now (words_now params.now)
+        (quit_decided context.now.me.now (words_now params.now))) }
 {
     let nick = context.me.nick.copy();
     let text = reason_given(params, nick.as_bytes());
