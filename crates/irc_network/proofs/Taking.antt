@@ -4,7 +4,7 @@ use Rattle.std.specs.List.{slice_get}
 use Rattle.std.specs.Option.{option_map_or}
 use Rattle.irc_server.specs.Served.{Occurrence}
 use Rattle.irc_stage.specs.View.{View}
-use Rattle.irc_sites.specs.Loops.Sites.{IsAnswered}
+use Rattle.irc_sites.specs.Site.{Replies}
 use Rattle.irc_network.specs.Network.{Course, Site, all_sent_out, asked, asked_at, reply, sent_out, with_reply, with_site}
 use Rattle.irc_network.specs.Loops.Courses.{sent_at}
 use Rattle.irc_batch.specs.Batches.{Sent}
@@ -39,7 +39,7 @@ abbrev pub put_site : ℕ → Site → Course → Course
 put_site place site course = record course { net = with_site place site course.net }
 
 pub asked_there : (place : ℕ) (occurrence : Occurrence) (course : Course) (site new : Site) (out : List Sent) → slice_get course.net.sites place ≡ Some site
-    → IsAnswered site occurrence new out → all_sent_out place out (put_site place new course) ≡ asked place occurrence course
+    → Replies site occurrence new out → all_sent_out place out (put_site place new course) ≡ asked place occurrence course
 unfolding asked
 asked_there place occurrence course site new out is answered =
     ap (λ (n : Site). all_sent_out place out (put_site place n course)) answered.new_is

@@ -1,5 +1,6 @@
 pub mod Network
 pub mod Refusing
 pub mod Views
+pub mod Calls
 pub mod Laws
 pub mod Loops

@@ -8,7 +8,7 @@ use Rattle.std.specs.Prelude.{◌≡◌, ℕ, zero, suc, ◌+◌, min, Bool, Opt
 use Rattle.std.specs.List.{filter_map, list_all, slice_get, slice_set}
 use Rattle.std.specs.Option.{option_and_then, option_map, option_map_or}
 use Rattle.irc_batch.specs.Batches.{Sent, line_to, end_of, line_on, end_of_link}
-use Rattle.irc_forest.specs.Forests.{place_in}
+use Rattle.irc_forest.specs.Forests.{Forest, place_in}
 use Rattle.irc_line.specs.Reading.{read_of}
 use Rattle.irc_relay.specs.Links.{Name, Link, links_without}
 use Rattle.irc_stage.specs.Handle.{connects, says, goes}
@@ -28,6 +28,11 @@ pub record Network : Type 0 where
   pub received : List (List (List ℕ))
   pub items : List Item
   pub taken : ℕ
+
+-- these servers as they begin: no client, and nothing given yet
+abbrev pub new_network : Forest → List Site → Network
+new_network forest sites =
+    record { names = forest.names; sites = sites; links = forest.links; homes = []; received = []; items = []; taken = 0 }
 
 -- a line that a client receives, whole
 pub record Receipt : Type 0 where

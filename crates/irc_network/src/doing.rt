@@ -1,12 +1,11 @@
 //! A server of a network is asked for something, and what it puts out goes its way.
 ghost use Rattle.std.specs.Prelude.{◌≡◌, ◌<◌, ◌≤◌, length, IfSome, OnOk};
-ghost use Rattle.std.specs.List.{slice_get};
 ghost use Rattle.std.specs.Option.{option_map};
 ghost use Rattle.irc_line.specs.Limits.{max_text};
-ghost use Rattle.irc_server.specs.Happening.{occurrence_of};
-ghost use Rattle.irc_network.specs.Loops.Courses.{course, direction_now, sent_at, IsFirstTaken, IsLineTaken};
+ghost use Rattle.irc_network.specs.Calls.{IsLineHeard};
+ghost use Rattle.irc_network.specs.Loops.Courses.{direction_now, AreSentOut, IsAsked, IsFirstTaken, IsLineTaken, IsReceived, IsSentAt};
 ghost use Rattle.irc_network.specs.Loops.Waiting.{lines_waiting};
-ghost use Rattle.irc_network.specs.Network.{all_sent_out, asked, changed_at, first_direction, has_received, heard, queued};
+ghost use Rattle.irc_network.specs.Network.{changed_at, first_direction, queued};
 
 use crate::desk::Desk;
 use crate::network::Network;
@@ -29,7 +28,7 @@ impl Network {
         event: &Event,
         desk: &mut Desk,
     ) -> Result<(), AllocError>
-        ensures { OnOk result (course self.new desk.new.lines.items ≡ asked place (occurrence_of event.now) (course self.old desk.old.lines.items)) }
+        ensures { OnOk result (IsAsked place event.now self.old desk.old self.new desk.new) }
     {
         desk.out.clear();
         let Some(site) = self.sites.get_mut(place) else {
@@ -41,7 +40,7 @@ impl Network {
 
     /// What a server has put out goes its way.
     fn send_out(&mut self, place: usize, desk: &mut Desk) -> Result<(), AllocError>
-        ensures { OnOk result (course self.new desk.new.lines.items ≡ all_sent_out place desk.old.out.outs (course self.old desk.old.lines.items)) }
+        ensures { OnOk result (AreSentOut place self.old desk.old self.new desk.new) }
     {
         for at in 0..desk.out.len() {
             self.send(place, at, desk)?;
@@ -51,7 +50,7 @@ impl Network {
 
     /// One thing that a server has put out goes its way.
     fn send(&mut self, place: usize, at: usize, desk: &mut Desk) -> Result<(), AllocError>
-        ensures sent { OnOk result (course self.new desk.new.lines.items ≡ sent_at place (slice_get desk.old.out.outs at) (course self.old desk.old.lines.items)) }
+        ensures sent { OnOk result (IsSentAt place at self.old desk.old self.new desk.new) }
         ensures out { desk.new.out ≡ desk.old.out }
     {
         match desk.out.get(at) {
@@ -69,7 +68,7 @@ impl Network {
         lines: &mut Vec<Receipt, Global>,
     ) -> Result<(), AllocError>
         requires fits { length text.now ≤ max_text }
-        ensures { OnOk result (course self.new lines.new.items ≡ has_received client text.now (course self.old lines.old.items)) }
+        ensures { OnOk result (IsReceived client text.now self.old lines.old self.new lines.new) }
     {
         let Some(earlier) = client.checked_sub(1) else {
             return Ok(());
@@ -107,7 +106,7 @@ impl Network {
         line: Line,
         desk: &mut Desk,
     ) -> Result<(), AllocError>
-        ensures { OnOk result (course self.new desk.new.lines.items ≡ heard from to (course self.old desk.old.lines.items) line.items) }
+        ensures { OnOk result (IsLineHeard from to line.items self.old desk.old self.new desk.new) }
     {
         self.taken = self.taken.saturating_add(1);
         self.ask(to, &Event::LinkLine(from as u64, line), desk)

@@ -1,10 +1,10 @@
 //! What is given to a network.
 ghost use Rattle.std.specs.Prelude.{◌≡◌, [], OnOk};
-ghost use Rattle.irc_server.specs.Happening.{occurrence_of};
-ghost use Rattle.irc_network.specs.Loops.Courses.{course};
-ghost use Rattle.irc_network.specs.Network.{asked_of, changed_at, done_by, given, home_place, with_way, without_way};
+ghost use Rattle.irc_network.specs.Calls.{course_at};
+ghost use Rattle.irc_network.specs.Loops.Courses.{IsDone, IsHomeAsked};
+ghost use Rattle.irc_network.specs.Network.{changed_at, given, with_way, without_way};
 ghost use Rattle.irc_network.specs.Views.{item_of};
-ghost use Rattle.irc_world.specs.Stepping.{connect, cut, line as says_line, link};
+ghost use Rattle.irc_world.specs.Stepping.{connect, cut, line as line_by, link};
 
 use crate::desk::Desk;
 use crate::item::Item;
@@ -22,7 +22,7 @@ impl Network {
     /// Where memory runs out: nothing is promised of the network then, and nothing more is to be asked of it.
     pub fn give(&mut self, item: Item, desk: &mut Desk) -> Result<(), AllocError>
         requires begins { desk.old.lines.items ≡ [] }
-        ensures { OnOk result (course self.new desk.new.lines.items ≡ given (item_of item) self.old) }
+        ensures { OnOk result (course_at self.new desk.new ≡ given (item_of item) self.old) }
     {
         self.items.reserve(1)?;
         self.do_item(&item, desk)?;
@@ -34,7 +34,7 @@ impl Network {
     /// What an item does.
     fn do_item(&mut self, item: &Item, desk: &mut Desk) -> Result<(), AllocError>
         requires begins { desk.old.lines.items ≡ [] }
-        ensures { OnOk result (course self.new desk.new.lines.items ≡ done_by (item_of item.now) self.old) }
+        ensures { OnOk result (IsDone (item_of item.now) self.old self.new desk.new) }
     {
         match item {
             Item::Connect(server, host) => self.connect(server, host, desk),
@@ -48,7 +48,7 @@ impl Network {
     /// A client says a line.
     fn say(&mut self, client: u64, line: &Line, desk: &mut Desk) -> Result<(), AllocError>
         requires begins { desk.old.lines.items ≡ [] }
-        ensures { OnOk result (course self.new desk.new.lines.items ≡ done_by (says_line client line.now.items) self.old) }
+        ensures { OnOk result (IsDone (line_by client line.now.items) self.old self.new desk.new) }
     {
         let event = Event::Line(client, copied(line.as_slice()));
         self.ask_home(client, &event, desk)
@@ -62,7 +62,7 @@ impl Network {
         desk: &mut Desk,
     ) -> Result<(), AllocError>
         requires begins { desk.old.lines.items ≡ [] }
-        ensures { OnOk result (course self.new desk.new.lines.items ≡ done_by (connect server.now host.now) self.old) }
+        ensures { OnOk result (IsDone (connect server.now host.now) self.old self.new desk.new) }
     {
         let client = self.next_client();
         self.received.reserve(1)?;
@@ -76,7 +76,7 @@ impl Network {
 
     /// The server that a client has connected to is asked for an event.
     fn ask_home(&mut self, client: u64, event: &Event, desk: &mut Desk) -> Result<(), AllocError>
-        ensures { OnOk result (course self.new desk.new.lines.items ≡ asked_of (home_place self.old client) (occurrence_of event.now) (course self.old desk.old.lines.items)) }
+        ensures { OnOk result (IsHomeAsked client event.now self.old desk.old self.new desk.new) }
     {
         match self.home_place(client) {
             Some(place) => self.ask(place, event, desk),
@@ -92,7 +92,7 @@ impl Network {
         desk: &mut Desk,
     ) -> Result<(), AllocError>
         requires begins { desk.old.lines.items ≡ [] }
-        ensures { OnOk result (course self.new desk.new.lines.items ≡ done_by (link near.now far.now) self.old) }
+        ensures { OnOk result (IsDone (link near.now far.now) self.old self.new desk.new) }
     {
         let Some(ends) = self.ends_of(near, far) else {
             return Ok(());
@@ -113,7 +113,7 @@ impl Network {
         desk: &mut Desk,
     ) -> Result<(), AllocError>
         requires begins { desk.old.lines.items ≡ [] }
-        ensures { OnOk result (course self.new desk.new.lines.items ≡ done_by (cut near.now far.now) self.old) }
+        ensures { OnOk result (IsDone (cut near.now far.now) self.old self.new desk.new) }
     {
         let Some(ends) = self.ends_of(near, far) else {
             return Ok(());

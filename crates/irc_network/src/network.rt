@@ -1,10 +1,10 @@
 //! A network: its servers, what is done to it, and what is refused.
-ghost use Rattle.std.specs.Prelude.{◌≡◌, ◌<◌, [], length, map, IfSome};
+ghost use Rattle.std.specs.Prelude.{◌≡◌, ◌<◌, length, map, IfSome};
 ghost use Rattle.std.specs.Option.{option_copied, option_map};
 ghost use Rattle.irc_forest.specs.Forests.{name_at};
 ghost use Rattle.irc_network.specs.Loops.Courses.{AreNamed, AreWithin, ends_now, inbox_of};
 ghost use Rattle.irc_sites.specs.Loops.Queues.{bytes_of};
-ghost use Rattle.irc_network.specs.Network.{ends_of, home_place, next_client, number_given, place_of, received_by, site_at};
+ghost use Rattle.irc_network.specs.Network.{ends_of, home_place, new_network, next_client, number_given, place_of, received_by, site_at};
 ghost use Rattle.irc_network.specs.Views.{item_of, items_of};
 ghost use Rattle.irc_world.specs.World.{home_in};
 
@@ -57,7 +57,7 @@ impl Model for Network {
 impl Network {
     /// Servers that are not linked, and no client. The sites are in turn those of the forest's names, in the order of the names.
     pub fn new(alloc: Global, forest: Forest, sites: Vec<Site, Global>) -> Self
-        ensures { result ≡ record { names = forest.names; sites = sites.items; links = forest.links; homes = []; received = []; items = []; taken = 0 } }
+        ensures { result ≡ new_network forest sites.items }
     {
         Network {
             alloc,

@@ -1,11 +1,9 @@
 //! What a network refuses.
 ghost use Rattle.std.specs.Prelude.{◌≡◌};
-ghost use Rattle.std.specs.Option.{option_and_then, option_copied, option_map};
-ghost use Rattle.irc_world.specs.Refused.{are_equal};
-ghost use Rattle.irc_world.specs.World.{home_in};
-ghost use Rattle.irc_network.specs.Refusing.{are_agreed, client_fault, fault_at_rest, is_there, link_fault, server_fault, way_fault};
-ghost use Rattle.irc_network.specs.Loops.Parties.{kept_for, IsParty, IsPartyOf};
-ghost use Rattle.irc_network.specs.Network.{site_of, view_of};
+ghost use Rattle.std.specs.Option.{option_copied, option_map};
+ghost use Rattle.irc_network.specs.Refusing.{are_agreed, client_fault, fault_at_rest, is_there, server_fault, way_fault};
+ghost use Rattle.irc_network.specs.Loops.Parties.{home_site, linking_fault, parties_fault, have_one_password, IsParty, IsPartyOf};
+ghost use Rattle.irc_network.specs.Network.{view_of};
 ghost use Rattle.irc_network.specs.Views.{item_of, refusal_of};
 
 use crate::item::Item;
@@ -71,7 +69,7 @@ impl Network {
 
     /// The server that a client has connected to.
     fn home_site(&self, client: u64) -> Option<&Site>
-        ensures { option_copied result ≡ option_and_then (site_of self.now) (home_in self.now.homes client) }
+        ensures { option_copied result ≡ home_site self.now client }
     {
         self.sites.get(self.home_place(client)?)
     }
@@ -89,7 +87,7 @@ impl Network {
 
     /// Two servers are not there, are not to be linked, or disagree.
     fn link_fault(&self, near: &ServerName, far: &ServerName) -> Option<Refusal>
-        ensures { option_map refusal_of result ≡ link_fault self.now near.now far.now (view_of self.now near.now) (view_of self.now far.now) }
+        ensures { option_map refusal_of result ≡ linking_fault self.now near.now far.now }
     {
         match self.party(near) {
             Some(one) => match self.party(far) {
@@ -104,7 +102,7 @@ impl Network {
     fn meeting_fault(&self, one: Party<'_>, other: Party<'_>) -> Option<Refusal>
         requires one { IsPartyOf self.now one.name.now one }
         requires other { IsPartyOf self.now other.name.now other }
-        ensures { option_map refusal_of result ≡ link_fault self.now one.entry.name.now other.entry.name.now (view_of self.now one.entry.name.now) (view_of self.now other.entry.name.now) }
+        ensures { option_map refusal_of result ≡ parties_fault self.now one.entry other.entry }
     {
         if self.forest.are_joined(one.place, other.place) || !are_peers(one, other) {
             Some(Refusal::LinkRefused)
@@ -146,7 +144,7 @@ impl Network {
 
 /// Whether two servers keep one password for each other.
 fn are_peers(one: Party<'_>, other: Party<'_>) -> bool
-    ensures { result ≡ are_equal (kept_for one.entry.site.now other.entry.name.now) (kept_for other.entry.site.now one.entry.name.now) }
+    ensures { result ≡ have_one_password one.entry other.entry }
 {
     match one.site.password_for(other.name.as_bytes()) {
         Some(password) => other.site.password_for(one.name.as_bytes()) == Some(password),

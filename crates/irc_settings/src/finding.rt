@@ -1,13 +1,11 @@
 //! What a table has at its keys.
-ghost use Rattle.std.specs.Prelude.{◌≡◌, Some, pos, option_map, string_bytes, is_some};
+ghost use Rattle.std.specs.Prelude.{◌≡◌, option_map};
 ghost use Rattle.std.specs.List.{list_all, list_any};
 ghost use Rattle.std.specs.Str.{bytes_eq};
 ghost use Rattle.std.specs.BTreeMap.{keys};
-ghost use Rattle.toml.specs.Data.{get_member, as_str, as_integer};
+ghost use Rattle.toml.specs.Data.{get_member};
 ghost use Rattle.toml.specs.View.{view, table_view};
-ghost use Rattle.irc_settings.specs.Configuration.{text_at, integer_at};
-ghost use Rattle.irc_settings.specs.Keys.{is_kept, is_of, needed, optional, text, integer};
-ghost use Rattle.irc_settings.specs.Loops.Finding.{Finds};
+ghost use Rattle.irc_settings.specs.Loops.Finding.{FindsOptionalText, FindsRoom, FindsText, ReadsAsRoom, ReadsAsText, is_allowed, view_now};
 
 use crate::{LEAST_ROOM, SettingsFault};
 use std::alloc::Global;
@@ -15,7 +13,7 @@ use toml::{Table, Value};
 
 /// Whether a table has no other keys than these.
 pub(crate) fn has_only(table: &Table, names: &[&str]) -> bool
-    ensures { result ≡ list_all (λ name. list_any (λ key. bytes_eq (string_bytes name) key.now) names.now) (keys table.now) }
+    ensures { result ≡ list_all (is_allowed names.now) (keys table.now) }
 {
     table.keys().all(|name| is_among(name.as_str(), names))
 }
@@ -29,7 +27,7 @@ fn is_among(name: &str, keys: &[&str]) -> bool
 
 /// The value at a key.
 pub(crate) fn value_at<'a>(table: &'a Table, key: &str) -> Option<&'a Value>
-    ensures { option_map (λ value. view value.now) result ≡ get_member key.now (table_view table.now) }
+    ensures { option_map view_now result ≡ get_member key.now (table_view table.now) }
 {
     table.get(key)
 }
@@ -39,7 +37,7 @@ pub(crate) fn value_at<'a>(table: &'a Table, key: &str) -> Option<&'a Value>
 /// # Errors
 /// Where there is none; where memory runs out.
 pub(crate) fn text(alloc: Global, table: &Table, key: &str) -> Result<String, SettingsFault>
-    ensures { Finds (is_kept (table_view table.now) (needed key.now text)) (λ found. text_at key.now (table_view table.now) ≡ Some (string_bytes found)) result }
+    ensures { FindsText key.now (table_view table.now) result }
 {
     match value_at(table, key) {
         Some(value) => copied(alloc, value),
@@ -56,7 +54,7 @@ pub(crate) fn optional_text(
     table: &Table,
     key: &str,
 ) -> Result<Option<String>, SettingsFault>
-    ensures { Finds (is_kept (table_view table.now) (optional key.now text)) (λ found. text_at key.now (table_view table.now) ≡ option_map string_bytes found) result }
+    ensures { FindsOptionalText key.now (table_view table.now) result }
 {
     match value_at(table, key) {
         Some(value) => copied(alloc, value).map(Some),
@@ -66,7 +64,7 @@ pub(crate) fn optional_text(
 
 /// A copy of a value that is a text.
 fn copied(alloc: Global, value: &Value) -> Result<String, SettingsFault>
-    ensures { Finds (is_some (as_str (view value.now))) (λ found. as_str (view value.now) ≡ Some (string_bytes found)) result }
+    ensures { ReadsAsText (view value.now) result }
 {
     match value.as_str() {
         Some(text) => Ok(String::from_str(alloc, text)?),
@@ -79,7 +77,7 @@ fn copied(alloc: Global, value: &Value) -> Result<String, SettingsFault>
 /// # Errors
 /// Where there is none.
 pub(crate) fn room(table: &Table, key: &str, most: usize) -> Result<usize, SettingsFault>
-    ensures { Finds (is_kept (table_view table.now) (needed key.now (integer 512 most))) (λ found. integer_at key.now (table_view table.now) ≡ Some (pos found)) result }
+    ensures { FindsRoom key.now most (table_view table.now) result }
 {
     match value_at(table, key) {
         Some(value) => room_in(value, most),
@@ -89,7 +87,7 @@ pub(crate) fn room(table: &Table, key: &str, most: usize) -> Result<usize, Setti
 
 /// The number of bytes that a value is.
 fn room_in(value: &Value, most: usize) -> Result<usize, SettingsFault>
-    ensures { Finds (is_of (integer 512 most) (view value.now)) (λ found. as_integer (view value.now) ≡ Some (pos found)) result }
+    ensures { ReadsAsRoom most (view value.now) result }
 {
     let Some(number) = value.as_integer() else {
         return Err(SettingsFault::BadConfiguration);

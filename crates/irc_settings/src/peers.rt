@@ -1,11 +1,7 @@
 //! The servers that may be linked to.
-ghost use Rattle.std.specs.Prelude.{◌≡◌, ◌++◌, ◌∷◌, [], Some, OnOk, map, codes, option_map};
-ghost use Rattle.std.specs.List.{list_all, filter_map};
-ghost use Rattle.toml.specs.Data.{as_table};
+ghost use Rattle.std.specs.Prelude.{◌≡◌, ◌++◌, ◌∷◌, [], OnOk, map};
 ghost use Rattle.toml.specs.View.{view, table_view};
-ghost use Rattle.irc_settings.specs.Configuration.{peer_at, peer_told, tables_at, tables_in};
-ghost use Rattle.irc_settings.specs.Keys.{is_kept, is_of, is_in_form, is_table, peer_keys, tables, optional};
-ghost use Rattle.irc_settings.specs.Loops.Finding.{Finds};
+ghost use Rattle.irc_settings.specs.Loops.Finding.{FindsPeers, ReadsAsPeer, ReadsAsPeers, ReadsEachPeer, ReadsPeer};
 
 use crate::finding::{has_only, optional_text, text, value_at};
 use crate::{PeerSettings, SettingsFault};
@@ -23,7 +19,7 @@ pub(crate) fn peers(
     alloc: Global,
     table: &Table,
 ) -> Result<Vec<PeerSettings, Global>, SettingsFault>
-    ensures { Finds (is_kept (table_view table.now) (optional (codes "peer") (tables (is_in_form peer_keys)))) (λ found. map peer_at (tables_at (codes "peer") (table_view table.now)) ≡ map peer_told found.items) result }
+    ensures { FindsPeers (table_view table.now) result }
 {
     match value_at(table, "peer") {
         Some(value) => listed_peers(alloc, value),
@@ -33,7 +29,7 @@ pub(crate) fn peers(
 
 /// What the tables in an array tell.
 fn listed_peers(alloc: Global, value: &Value) -> Result<Vec<PeerSettings, Global>, SettingsFault>
-    ensures { Finds (is_of (tables (is_in_form peer_keys)) (view value.now)) (λ found. map peer_at (tables_in (view value.now)) ≡ map peer_told found.items) result }
+    ensures { ReadsAsPeers (view value.now) result }
 {
     match value.as_array() {
         Some(values) => all_peers(alloc, values),
@@ -43,7 +39,7 @@ fn listed_peers(alloc: Global, value: &Value) -> Result<Vec<PeerSettings, Global
 
 /// What each of these values tells, which have to be tables.
 fn all_peers(alloc: Global, values: &[Value]) -> Result<Vec<PeerSettings, Global>, SettingsFault>
-    ensures { Finds (list_all (is_table (is_in_form peer_keys)) (map view values.now)) (λ found. map peer_at (filter_map as_table (map view values.now)) ≡ map peer_told found.items) result }
+    ensures { ReadsEachPeer (map view values.now) result }
 {
     let mut found = Vec::new(alloc);
     for value in values {
@@ -62,7 +58,7 @@ fn add(found: &mut Vec<PeerSettings, Global>, peer: PeerSettings) -> Result<(), 
 
 /// What a value tells, which has to be a table.
 fn peer_in(alloc: Global, value: &Value) -> Result<PeerSettings, SettingsFault>
-    ensures { Finds (is_table (is_in_form peer_keys) (view value.now)) (λ found. option_map peer_at (as_table (view value.now)) ≡ Some (peer_told found)) result }
+    ensures { ReadsAsPeer (view value.now) result }
 {
     match value.as_table() {
         Some(table) => peer_of(alloc, table),
@@ -72,7 +68,7 @@ fn peer_in(alloc: Global, value: &Value) -> Result<PeerSettings, SettingsFault>
 
 /// What a table tells of a peer.
 fn peer_of(alloc: Global, table: &Table) -> Result<PeerSettings, SettingsFault>
-    ensures { Finds (is_in_form peer_keys (table_view table.now)) (λ found. peer_at (table_view table.now) ≡ peer_told found) result }
+    ensures { ReadsPeer (table_view table.now) result }
 {
     if !has_only(table, &PEER_KEYS) {
         return Err(SettingsFault::BadConfiguration);

@@ -1,10 +1,7 @@
 //! What stands in the configuration file of the daemon.
-ghost use Rattle.std.specs.Prelude.{◌≡◌};
-ghost use Rattle.toml.specs.Parse.{parse_document};
 ghost use Rattle.toml.specs.View.{table_view};
-ghost use Rattle.irc_settings.specs.Configuration.{IsReadAs, Tells};
-ghost use Rattle.irc_settings.specs.Keys.{is_in_form, server_keys};
-ghost use Rattle.irc_settings.specs.Loops.Finding.{Finds, IsParsedAs};
+ghost use Rattle.irc_settings.specs.Configuration.{IsReadAs};
+ghost use Rattle.irc_settings.specs.Loops.Finding.{IsParsedAs, ReadsSettings};
 
 use crate::finding::{has_only, optional_text, room, text};
 use crate::peers::peers;
@@ -81,7 +78,7 @@ fn document(alloc: Global, text: &str) -> Result<Table, SettingsFault>
 
 /// What a document tells.
 fn settings_in(alloc: Global, document: &Table) -> Result<Settings, SettingsFault>
-    ensures { Finds (is_in_form server_keys (table_view document.now)) (Tells (table_view document.now)) result }
+    ensures { ReadsSettings (table_view document.now) result }
 {
     if !has_only(document, &SERVER_KEYS) {
         return Err(SettingsFault::BadConfiguration);

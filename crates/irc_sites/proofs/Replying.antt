@@ -9,8 +9,8 @@ use Rattle.irc_server.specs.declared.event.Event.TheVariants.{Connect, Line, Gon
 use Rattle.irc_server.specs.declared.event.ServerFault.{ServerFault}
 use Rattle.irc_stage.specs.declared.clients.Client.{Client}
 use Rattle.irc_stage.specs.View.{End, View}
-use Rattle.irc_sites.specs.Site.{Reply, Site, is_taken, reply}
-use Rattle.irc_sites.specs.Loops.Sites.{IsAnswered, is_want}
+use Rattle.irc_sites.specs.Site.{Replies, Reply, Site, is_taken, reply}
+use Rattle.irc_sites.specs.Loops.Sites.{is_want}
 
 -- ---- what is refused is not taken, and what is not refused is
 
@@ -82,7 +82,7 @@ still_reply view event f e =
 
 pub answered : {old new : Option View} {event : Event} {out : List Sent} {result : Result (Unit {0}) ServerFault}
     (site : Site) → site.server ≡ old → IsHandled old event [] result new out → is_want result ≡ false
-    → IsAnswered site (occurrence_of event) (record site { server = new }) out
+    → Replies site (occurrence_of event) (record site { server = new }) out
 answered site at (takes_it {old = view} {event = event} none does) want = record {
   view = view;
   is_view = at;

@@ -1,12 +1,12 @@
 -- A server of a network, and the lines that are on their way from it.
-use Rattle.std.specs.Prelude.{ℕ, ◌-◌, Bool, true, false, not, Option, is_some, is_none, List, [], ◌∷◌, ◌++◌, length, take, unwrap_or, if◌then◌else◌}
+use Rattle.std.specs.Prelude.{◌≡◌, ℕ, ◌-◌, Bool, true, false, not, Option, Some, is_some, is_none, List, [], ◌∷◌, ◌++◌, length, take, unwrap_or, if◌then◌else◌}
 use Rattle.std.specs.FinMap.{FinMap, get, insert, keys, remove}
 use Rattle.std.specs.List.{find, list_any}
-use Rattle.std.specs.Option.{option_map_or}
+use Rattle.std.specs.Option.{option_and_then, option_map_or}
 use Rattle.std.specs.Ordering.{nat_cmp}
 use Rattle.irc_batch.specs.Batches.{Sent}
 use Rattle.irc_stage.specs.Handle.{connects, says, goes}
-use Rattle.irc_stage.specs.View.{View}
+use Rattle.irc_stage.specs.View.{View, password_for}
 use Rattle.irc_server.specs.Served.{Occurrence, of_client, link_up, link_says, link_down, served}
 
 -- A server, none once memory ran out for it; and the lines that it has put out on each of its links and that nobody has taken yet, the oldest first, without
@@ -14,6 +14,16 @@ use Rattle.irc_server.specs.Served.{Occurrence, of_client, link_up, link_says, l
 pub record Site : Type 0 where
   pub server : Option View
   pub queues : FinMap nat_cmp (List (List ℕ))
+
+-- ---- whom it knows
+
+-- the password that it keeps for a peer
+abbrev pub kept_for : Site → List ℕ → Option (List ℕ)
+kept_for site name = option_and_then (λ (view : View). password_for view name) site.server
+
+-- whether a client is connected to it
+abbrev pub is_connected : Site → ℕ → Bool
+is_connected site client = option_map_or (λ (view : View). is_some (get view.clients client)) site.server false
 
 -- ---- lines on their way
 
@@ -73,3 +83,10 @@ abbrev pub reply : View → Occurrence → Reply
 reply view occurrence =
     if is_taken view occurrence then record { view = (served view occurrence).view; out = (served view occurrence).out }
     else record { view = view; out = [] }
+
+-- the server was there, and replied
+pub record Replies (old : Site) (occurrence : Occurrence) (new : Site) (out : List Sent) : Type 0 where
+  pub view : View
+  pub is_view : old.server ≡ Some view
+  pub new_is : new ≡ record old { server = Some (reply view occurrence).view }
+  pub out_is : out ≡ (reply view occurrence).out

@@ -1,14 +1,13 @@
 //! A server of a network, and the lines that are on their way from it.
-ghost use Rattle.std.specs.Prelude.{◌≡◌, ◌≤◌, false, is_some, [], length, OnOk};
-ghost use Rattle.std.specs.FinMap.{empty, get};
-ghost use Rattle.std.specs.Option.{option_and_then, option_copied, option_map, option_map_or};
+ghost use Rattle.std.specs.Prelude.{◌≡◌, ◌≤◌, [], length, OnOk};
+ghost use Rattle.std.specs.FinMap.{empty};
+ghost use Rattle.std.specs.Option.{option_copied, option_map};
 ghost use Rattle.irc_line.specs.Limits.{max_text};
 ghost use Rattle.irc_server.specs.Happening.{occurrence_of};
 ghost use Rattle.irc_server.specs.Loops.Acting.{room_kept, room_of};
-ghost use Rattle.irc_stage.specs.View.{password_for, View};
-ghost use Rattle.irc_sites.specs.Site.{body, first_way, queued, waits, with_way, without_way};
+ghost use Rattle.irc_sites.specs.Site.{body, first_way, is_connected, kept_for, queued, waits, with_way, without_way, Replies};
 ghost use Rattle.irc_sites.specs.Loops.Queues.{bytes_of};
-ghost use Rattle.irc_sites.specs.Loops.Sites.{is_want, IsAnswered, IsTaken};
+ghost use Rattle.irc_sites.specs.Loops.Sites.{is_want, IsTaken};
 
 use crate::link_queue::LinkQueue;
 use irc_batch::Batch;
@@ -64,14 +63,14 @@ impl Site {
 
     /// The password that the server and the peer of a name give each other.
     pub fn password_for(&self, name: &[u8]) -> Option<&[u8]>
-        ensures { option_copied result ≡ option_and_then (λ (view : View). password_for view name.now) self.now.server }
+        ensures { option_copied result ≡ kept_for self.now name.now }
     {
         self.server.password_for(name)
     }
 
     /// Whether a client is connected to the server.
     pub fn has_client(&self, client: u64) -> bool
-        ensures { result ≡ option_map_or (λ (view : View). is_some (get view.clients client)) self.now.server false }
+        ensures { result ≡ is_connected self.now client }
     {
         self.server.has_client(client)
     }
@@ -82,7 +81,7 @@ impl Site {
     /// Where memory runs out, or ran out for this server before.
     pub fn serve(&mut self, event: &Event, out: &mut Batch) -> Result<(), AllocError>
         requires none { out.old.outs ≡ [] }
-        ensures { OnOk result (IsAnswered self.old (occurrence_of event.now) self.new out.new.outs) }
+        ensures { OnOk result (Replies self.old (occurrence_of event.now) self.new out.new.outs) }
     {
         let handled = self.server.handle(event, out);
         if is_want_of_memory(handled) {

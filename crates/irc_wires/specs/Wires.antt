@@ -3,12 +3,15 @@
 -- a.net has written `PING x` and CR LF to b.net, of which `PI` has come there:
 --   begun    `PI`, which is no line yet
 --   bytes    `NG x` and CR LF; once the CR has come, b.net has the line `PING x`
-use Rattle.std.specs.Prelude.{◌≡◌, ℕ, suc, ◌+◌, Bool, true, false, not, ◌&&◌, ◌==◌, Option, Some, None, List, [], ◌∷◌, ◌++◌, drop, take, length, unwrap_or, if◌then◌else◌}
+use Rattle.std.specs.Prelude.{◌≡◌, ℕ, suc, ◌+◌, min, Bool, true, false, not, ◌&&◌, ◌==◌, Option, Some, None, List, [], ◌∷◌, ◌++◌, drop, take, length, unwrap_or, if◌then◌else◌, Vec}
 use Rattle.std.specs.FinMap.{FinMap, get, insert, keys, remove}
 use Rattle.std.specs.List.{AllByRecursion, find, list_all, slice_get, slice_set}
 use Rattle.std.specs.Option.{option_map_or}
 use Rattle.std.specs.Ordering.{nat_cmp}
+use Rattle.std.specs.declared.alloc.Global.{Global}
+use Rattle.arrayvec.specs.ArrayVec.{ArrayVec}
 use Rattle.irc_line.specs.Bytes.{crlf, line_feed}
+use Rattle.irc_line.specs.Framed.{bytes_of}
 use Rattle.irc_line.specs.Lines.{Begun, begun_behind, completed, has_nothing, nothing_begun}
 
 -- ---- one direction of a link
@@ -28,9 +31,17 @@ written line wire = record wire { bytes = wire.bytes ++ (line ++ crlf) }
 abbrev pub advanced : ℕ → Wire → Wire
 advanced count wire = record { begun = begun_behind wire.begun (take count wire.bytes); bytes = drop count wire.bytes }
 
+-- how many these are
+abbrev pub come_by : ℕ → Wire → ℕ
+come_by count wire = min count (length wire.bytes)
+
 -- the lines that they complete there
 abbrev pub lines_by : ℕ → Wire → List (List ℕ)
 lines_by count wire = completed wire.begun (take count wire.bytes)
+
+-- these lines stand behind those that were there before
+abbrev pub Yields : ℕ → Wire → Vec (ArrayVec ℕ) Global → Vec (ArrayVec ℕ) Global → Type 0
+Yields count wire before after = bytes_of after.items ≡ bytes_of before.items ++ lines_by count wire
 
 -- the lines that all that is on its way will complete
 abbrev pub lines_to_come : Wire → List (List ℕ)
@@ -77,6 +88,14 @@ put_in to wire row = if is_still wire then remove row to else insert row to wire
 abbrev pub with_wire : ℕ → ℕ → Wire → Wires → Wires
 with_wire from to wire wires =
     option_map_or (λ row. slice_set wires from (put_in to wire row)) (from_at wires from) wires
+
+-- a line is written in a direction
+abbrev pub written_at : ℕ → ℕ → List ℕ → Wires → Wires
+written_at from to line wires = with_wire from to (written line (wire_at wires from to)) wires
+
+-- so many bytes have come in a direction
+abbrev pub advanced_at : ℕ → ℕ → ℕ → Wires → Wires
+advanced_at from to count wires = with_wire from to (advanced count (wire_at wires from to)) wires
 
 -- nothing is on its way any more in a direction, and its framer begins anew
 abbrev pub without_wire : ℕ → ℕ → Wires → Wires

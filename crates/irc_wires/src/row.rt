@@ -1,10 +1,10 @@
 //! The wires from one server.
-ghost use Rattle.std.specs.Prelude.{◌≡◌, ◌≤◌, ◌++◌, min, length, IfOk, OnOk};
+ghost use Rattle.std.specs.Prelude.{◌≡◌, ◌≤◌, length, IfOk, OnOk};
 ghost use Rattle.std.specs.FinMap.{empty, remove};
-ghost use Rattle.irc_line.specs.Framed.{bytes_of};
 ghost use Rattle.irc_line.specs.Limits.{max_line};
 ghost use Rattle.irc_links.specs.Loops.Numbered.{numbered};
-ghost use Rattle.irc_wires.specs.Wires.{IsLean, advanced, are_still_in, first_in, has_byte, is_still, lines_by, new_wire, put_in, through_line_feed, wire_in, written};
+ghost use Rattle.irc_wires.specs.Wires.{IsLean, Yields, are_still_in, come_by, first_in, has_byte, is_still, new_wire, put_in, through_line_feed, wire_in, written};
+ghost use Rattle.irc_wires.specs.Loops.Rows.{advanced_in, without_still, written_in};
 
 use crate::wire::Wire;
 use irc_line::Line;
@@ -59,7 +59,7 @@ impl Row {
     /// Where memory runs out.
     pub(crate) fn write(&mut self, alloc: Global, to: u64, line: &[u8]) -> Result<(), AllocError>
         requires fits { length line.now ≤ max_line }
-        ensures { OnOk result (self.new ≡ put_in to (written line.now (wire_in to self.old)) self.old) }
+        ensures { OnOk result (self.new ≡ written_in to line.now self.old) }
     {
         match self.wires.get_mut(&to) {
             Some(wire) => wire.write(line),
@@ -91,9 +91,9 @@ impl Row {
         count: usize,
         lines: &mut Vec<Line, Global>,
     ) -> Result<usize, AllocError>
-        ensures taken { IfOk result (λ taken. taken ≡ min count (length (wire_in to self.old).bytes)) }
-        ensures lines { OnOk result (bytes_of lines.new.items ≡ bytes_of lines.old.items ++ lines_by count (wire_in to self.old)) }
-        ensures row { OnOk result (self.new ≡ put_in to (advanced count (wire_in to self.old)) self.old) }
+        ensures taken { IfOk result (λ taken. taken ≡ come_by count (wire_in to self.old)) }
+        ensures lines { OnOk result (Yields count (wire_in to self.old) lines.old lines.new) }
+        ensures row { OnOk result (self.new ≡ advanced_in to count self.old) }
     {
         let Some(wire) = self.wires.get_mut(&to) else {
             return Ok(0);
@@ -152,7 +152,7 @@ impl Row {
 
 /// The wire to this place goes where it is still.
 fn without_still(wires: &mut BTreeMap<u64, Wire, Global>, to: u64)
-    ensures { numbered wires.new ≡ put_in to (wire_in to (numbered wires.old)) (numbered wires.old) }
+    ensures { numbered wires.new ≡ without_still to (numbered wires.old) }
 {
     if is_still_to(wires, to) {
         wires.remove(&to);

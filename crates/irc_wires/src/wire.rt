@@ -1,10 +1,10 @@
 //! One direction of a link: bytes on their way, and what becomes of them at the far end.
-ghost use Rattle.std.specs.Prelude.{◌≡◌, ◌<◌, ◌≤◌, ◌+◌, true, ◌++◌, min, drop, length, IfOk, OnErr, OnOk};
+ghost use Rattle.std.specs.Prelude.{◌≡◌, ◌<◌, ◌≤◌, ◌+◌, true, ◌++◌, drop, length, IfOk, OnErr, OnOk};
 ghost use Rattle.irc_line.specs.Bytes.{crlf};
 ghost use Rattle.irc_line.specs.Limits.{max_line, max_text};
 ghost use Rattle.irc_line.specs.Lines.{HasTaken, stream_for};
 ghost use Rattle.irc_line.specs.Framed.{bytes_of, found_in};
-ghost use Rattle.irc_wires.specs.Wires.{advanced, has_byte, is_still, lines_by, new_wire, through_line_feed, written};
+ghost use Rattle.irc_wires.specs.Wires.{Yields, advanced, come_by, has_byte, is_still, lines_by, new_wire, through_line_feed, written};
 ghost use Rattle.irc_wires.specs.Loops.Parts.{IsPartOfOldest, IsWithinOldest, all_end_in_feed, joined, rest_of_oldest};
 
 use irc_line::laws::pieces_complete_the_same;
@@ -95,9 +95,9 @@ impl Wire {
     /// # Errors
     /// Where memory runs out.
     pub fn take(&mut self, count: usize, lines: &mut Vec<Line, Global>) -> Result<usize, AllocError>
-        ensures taken { IfOk result (λ taken. taken ≡ min count (length self.old.bytes)) }
+        ensures taken { IfOk result (λ taken. taken ≡ come_by count self.old) }
         ensures wire { OnOk result (self.new ≡ advanced count self.old) }
-        ensures lines { OnOk result (bytes_of lines.new.items ≡ bytes_of lines.old.items ++ lines_by count self.old) }
+        ensures lines { OnOk result (Yields count self.old lines.old lines.new) }
     {
         let mut taken = 0;
         self.is_of_some_stream();

@@ -1,10 +1,9 @@
 //! What is on its way along all links of a network.
-ghost use Rattle.std.specs.Prelude.{◌≡◌, ◌≤◌, ◌++◌, min, length, replicate, IfOk, OnOk};
+ghost use Rattle.std.specs.Prelude.{◌≡◌, ◌≤◌, length, replicate, IfOk, OnOk};
 ghost use Rattle.std.specs.FinMap.{empty};
 ghost use Rattle.std.specs.Option.{option_map};
-ghost use Rattle.irc_line.specs.Framed.{bytes_of};
 ghost use Rattle.irc_line.specs.Limits.{max_line};
-ghost use Rattle.irc_wires.specs.Wires.{AreLean, advanced, are_still, first_direction, lines_by, through_line_feed, wire_at, with_wire, without_wire, written};
+ghost use Rattle.irc_wires.specs.Wires.{AreLean, Yields, advanced_at, are_still, come_by, first_direction, through_line_feed, wire_at, without_wire, written_at};
 ghost use Rattle.irc_wires.specs.Loops.Rows.{direction_of};
 
 use crate::row::Row;
@@ -63,7 +62,7 @@ impl Wires {
     /// Where memory runs out.
     pub fn write(&mut self, from: usize, to: u64, line: &[u8]) -> Result<(), AllocError>
         requires fits { length line.now ≤ max_line }
-        ensures { OnOk result (self.new ≡ with_wire from to (written line.now (wire_at self.old from to)) self.old) }
+        ensures { OnOk result (self.new ≡ written_at from to line.now self.old) }
     {
         let alloc = self.alloc;
         let Some(row) = self.rows.get_mut(from) else {
@@ -86,9 +85,9 @@ impl Wires {
         count: usize,
         lines: &mut Vec<Line, Global>,
     ) -> Result<usize, AllocError>
-        ensures taken { IfOk result (λ taken. taken ≡ min count (length (wire_at self.old from to).bytes)) }
-        ensures lines { OnOk result (bytes_of lines.new.items ≡ bytes_of lines.old.items ++ lines_by count (wire_at self.old from to)) }
-        ensures wires { OnOk result (self.new ≡ with_wire from to (advanced count (wire_at self.old from to)) self.old) }
+        ensures taken { IfOk result (λ taken. taken ≡ come_by count (wire_at self.old from to)) }
+        ensures lines { OnOk result (Yields count (wire_at self.old from to) lines.old lines.new) }
+        ensures wires { OnOk result (self.new ≡ advanced_at from to count self.old) }
     {
         let Some(row) = self.rows.get_mut(from) else {
             return Ok(0);

@@ -1,15 +1,30 @@
 -- A server that is to be an end of a link, as the code has it.
-use Rattle.std.specs.Prelude.{◌≡◌, ◌<◌, ℕ, Option, Some, None, List, length}
+use Rattle.std.specs.Prelude.{◌≡◌, ◌<◌, ℕ, Bool, Option, Some, None, length}
 use Rattle.std.specs.Option.{option_and_then}
 use Rattle.irc_forest.specs.Forests.{name_at}
 use Rattle.irc_relay.specs.Links.{Name}
-use Rattle.irc_stage.specs.View.{View, password_for}
+use Rattle.irc_sites.specs.Site.{kept_for}
+use Rattle.irc_stage.specs.View.{View}
 use Rattle.irc_network.specs.declared.refusing.Party.{Party}
-use Rattle.irc_network.specs.Network.{Network, Site, view_of}
+use Rattle.irc_world.specs.Refused.{Refusal, are_equal}
+use Rattle.irc_world.specs.World.{home_in}
+use Rattle.irc_network.specs.Network.{Network, Site, site_of, view_of}
+use Rattle.irc_network.specs.Refusing.{link_fault}
 
--- the password that a server keeps for a peer
-abbrev pub kept_for : Site → Name → Option (List ℕ)
-kept_for site name = option_and_then (λ (view : View). password_for view name) site.server
+-- the server that a client has connected to
+abbrev pub home_site : Network → ℕ → Option Site
+home_site net client = option_and_then (site_of net) (home_in net.homes client)
+
+-- why the servers of two names are not linked
+abbrev pub linking_fault : Network → Name → Name → Option Refusal
+linking_fault net near far = link_fault net near far (view_of net near) (view_of net far)
+
+abbrev pub parties_fault : Network → Party → Party → Option Refusal
+parties_fault net one other = linking_fault net one.name.now other.name.now
+
+-- whether two servers keep one password for each other
+abbrev pub have_one_password : Party → Party → Bool
+have_one_password one other = are_equal (kept_for one.site.now other.name.now) (kept_for other.site.now one.name.now)
 
 -- it is the server of this name, and this is its room
 pub record IsPartyOf (net : Network) (name : Name) (party : Party) : Type 0 where

@@ -1,10 +1,18 @@
--- What the code finds at one key of a table.
-use Rattle.std.specs.Prelude.{◌≡◌, ℕ, Bool, true, false, Some, None, Result, Ok, Err, List, String}
+-- What the code finds at one key of a table, and what it reads a value as.
+use Rattle.std.specs.Prelude.{◌≡◌, ℕ, pos, Bool, true, false, Option, Some, None, Result, Ok, Err, is_some, option_map, List, map, codes, String, Vec, string_bytes}
+use Rattle.std.specs.List.{filter_map, list_all, list_any}
+use Rattle.std.specs.Str.{bytes_eq}
+use Rattle.toml.specs.Data.{Data, Members, as_integer, as_str, as_table}
 use Rattle.toml.specs.Parse.{parse_document}
-use Rattle.toml.specs.View.{table_view}
+use Rattle.toml.specs.View.{table_view, view}
 use Rattle.toml.specs.declared.value.Value.{Value}
 use Rattle.std.specs.BTreeMap.{BTreeMap}
 use Rattle.std.specs.declared.alloc.Global.{Global}
+use Rattle.irc_settings.specs.Configuration.{Tells, integer_at, peer_at, peer_told, tables_at, tables_in, text_at}
+use Rattle.irc_settings.specs.Keys.{integer, is_in_form, is_kept, is_of, is_table, needed, optional, peer_keys, server_keys, tables, text}
+use Rattle.irc_settings.specs.declared.settings.PeerSettings.{PeerSettings}
+use Rattle.irc_settings.specs.declared.settings.Settings.{Settings}
+use denote.Ref.{Bor}
 use Rattle.irc_settings.specs.declared.fault.SettingsFault.{SettingsFault}
 use Rattle.irc_settings.specs.declared.fault.SettingsFault.TheVariants.{BadConfiguration, Memory}
 
@@ -16,6 +24,68 @@ Finds passes Is (Err Memory) = Unit {0}
 
 -- the document that a text is
 abbrev pub IsParsedAs : List ℕ → Result (BTreeMap (String Global) Value) SettingsFault → Type 0
-IsParsedAs text (Ok document) = parse_document text ≡ Some (table_view document)
-IsParsedAs text (Err BadConfiguration) = parse_document text ≡ None
-IsParsedAs text (Err Memory) = Unit {0}
+IsParsedAs bytes (Ok document) = parse_document bytes ≡ Some (table_view document)
+IsParsedAs bytes (Err BadConfiguration) = parse_document bytes ≡ None
+IsParsedAs bytes (Err Memory) = Unit {0}
+
+-- the data of a value that is lent
+abbrev pub view_now : Bor Value → Data
+view_now value = view value.now
+
+-- whether a key is one of these names
+abbrev pub is_allowed : List (Bor (List ℕ)) → String Global → Bool
+is_allowed names key = list_any (λ name. bytes_eq (string_bytes key) name.now) names
+
+-- ---- one value
+
+-- a text
+abbrev pub ReadsAsText : Data → Result (String Global) SettingsFault → Type 0
+ReadsAsText value = Finds (is_some (as_str value)) (λ found. as_str value ≡ Some (string_bytes found))
+
+-- a number of bytes, of so many at most
+abbrev pub ReadsAsRoom : ℕ → Data → Result ℕ SettingsFault → Type 0
+ReadsAsRoom most value = Finds (is_of (integer 512 most) value) (λ found. as_integer value ≡ Some (pos found))
+
+-- ---- what stands at a key
+
+-- a text that has to be there
+abbrev pub FindsText : List ℕ → Members → Result (String Global) SettingsFault → Type 0
+FindsText key table = Finds (is_kept table (needed key text)) (λ found. text_at key table ≡ Some (string_bytes found))
+
+-- a text that may be left out
+abbrev pub FindsOptionalText : List ℕ → Members → Result (Option (String Global)) SettingsFault → Type 0
+FindsOptionalText key table = Finds (is_kept table (optional key text)) (λ found. text_at key table ≡ option_map string_bytes found)
+
+-- a number of bytes that has to be there, of so many at most
+abbrev pub FindsRoom : List ℕ → ℕ → Members → Result ℕ SettingsFault → Type 0
+FindsRoom key most table = Finds (is_kept table (needed key (integer 512 most))) (λ found. integer_at key table ≡ Some (pos found))
+
+-- ---- peers
+
+-- a table tells of a peer, and so does a value that is such a table
+abbrev pub ReadsPeer : Members → Result PeerSettings SettingsFault → Type 0
+ReadsPeer table = Finds (is_in_form peer_keys table) (λ found. peer_at table ≡ peer_told found)
+
+abbrev pub ReadsAsPeer : Data → Result PeerSettings SettingsFault → Type 0
+ReadsAsPeer value = Finds (is_table (is_in_form peer_keys) value) (λ found. option_map peer_at (as_table value) ≡ Some (peer_told found))
+
+-- each of these values is such a table
+abbrev pub ReadsEachPeer : List Data → Result (Vec PeerSettings Global) SettingsFault → Type 0
+ReadsEachPeer values =
+    Finds (list_all (is_table (is_in_form peer_keys)) values) (λ found. map peer_at (filter_map as_table values) ≡ map peer_told found.items)
+
+-- a value is an array of such tables
+abbrev pub ReadsAsPeers : Data → Result (Vec PeerSettings Global) SettingsFault → Type 0
+ReadsAsPeers value = Finds (is_of (tables (is_in_form peer_keys)) value) (λ found. map peer_at (tables_in value) ≡ map peer_told found.items)
+
+-- the array of such tables at the key `peer`, which may be left out
+abbrev pub FindsPeers : Members → Result (Vec PeerSettings Global) SettingsFault → Type 0
+FindsPeers table =
+    Finds (is_kept table (optional (codes "peer") (tables (is_in_form peer_keys))))
+    (λ found. map peer_at (tables_at (codes "peer") table) ≡ map peer_told found.items)
+
+-- ---- the document
+
+-- what a document tells, where it is in form
+abbrev pub ReadsSettings : Members → Result Settings SettingsFault → Type 0
+ReadsSettings document = Finds (is_in_form server_keys document) (Tells document)

@@ -1,12 +1,9 @@
--- A server of a network as it is asked for something, and as a line of its is taken.
+-- A server of a network as memory runs out for it, and as a line of its is taken.
 use Rattle.std.specs.Prelude.{◌≡◌, ℕ, Bool, true, false, Option, Some, None, Result, Ok, Err, List, [], ◌∷◌}
 use Rattle.arrayvec.specs.ArrayVec.{ArrayVec}
-use Rattle.irc_batch.specs.Batches.{Sent}
-use Rattle.irc_server.specs.Served.{Occurrence}
 use Rattle.irc_server.specs.declared.event.ServerFault.{ServerFault}
 use Rattle.irc_server.specs.declared.event.ServerFault.TheVariants.{Memory, Failed}
-use Rattle.irc_stage.specs.View.{View}
-use Rattle.irc_sites.specs.Site.{Site, left, reply, waiting}
+use Rattle.irc_sites.specs.Site.{Site, left, waiting}
 
 -- memory ran out for a server, now or before
 abbrev pub is_want : Result (Unit {0}) ServerFault → Bool
@@ -14,13 +11,6 @@ is_want (Ok _) = false
 is_want (Err Memory) = true
 is_want (Err Failed) = true
 is_want (Err fault) = false
-
--- the server was there, and replied
-pub record IsAnswered (old : Site) (occurrence : Occurrence) (new : Site) (out : List Sent) : Type 0 where
-  pub view : View
-  pub is_view : old.server ≡ Some view
-  pub new_is : new ≡ record old { server = Some (reply view occurrence).view }
-  pub out_is : out ≡ (reply view occurrence).out
 
 -- the oldest line on a way is taken, and the others are left
 pub record IsTakenFrom (to : ℕ) (line : List ℕ) (old new : Site) : Type 0 where

@@ -1,11 +1,23 @@
 -- The wires from one server, as the code changes and reads them.
-use Rattle.std.specs.Prelude.{ℕ}
+use Rattle.std.specs.Prelude.{ℕ, List}
 use Rattle.std.specs.FinMap.{FinMap}
 use Rattle.std.specs.Ordering.{nat_cmp}
-use Rattle.irc_wires.specs.Wires.{Direction, Wire}
+use Rattle.irc_wires.specs.Wires.{Direction, Wire, advanced, put_in, wire_in, written}
 
 abbrev pub Row : Type 0
 Row = FinMap nat_cmp Wire
+
+-- a line is written to a place
+abbrev pub written_in : ℕ → List ℕ → Row → Row
+written_in to line row = put_in to (written line (wire_in to row)) row
+
+-- so many bytes have come to a place
+abbrev pub advanced_in : ℕ → ℕ → Row → Row
+advanced_in to count row = put_in to (advanced count (wire_in to row)) row
+
+-- the wire to a place goes where it is still
+abbrev pub without_still : ℕ → Row → Row
+without_still to row = put_in to (wire_in to row) row
 
 abbrev pub direction_of : (ℕ × ℕ) → Direction
 direction_of places = record { from = places.0; to = places.1 }
