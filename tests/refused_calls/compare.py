@@ -21,7 +21,7 @@ import re
 import subprocess
 import sys
 
-from rows import GROUPS
+from rows import GROUPS, WRITTEN
 
 SECONDS = 60
 # what no call answers that has ample memory
@@ -140,22 +140,21 @@ def is_told(_, got):
 
 
 def is_stopped(ample, got):
-    """An engine tells the want of memory once, and then that it has failed; what is written to each connection is a front."""
+    """An engine is not made, or tells the want of memory once, and then that it has failed; what is written to each connection is a front."""
     answers, = texts(got, "answer")
     words = answers.split(" ")
     if answers == "not made":
-        return True
+        return not any(connections(texts(got, "written")[0]))
     if "memory" not in words:
         return False
     place = words.index("memory")
     is_once = words[:place] == ["ok"] * place and all(word == "failed" for word in words[place + 1:])
-    written = zip(*(texts(each, "written")[0].split(" ") for each in (got, ample)))
-    return is_once and is_front_written(got, ample) and written is not None
+    return is_once and is_front_written(got, ample)
 
 
 def connections(text):
     """What is written to each connection."""
-    return [piece.partition(" ")[2] for piece in f" {text}".replace(" open ", "\0open ").replace(" closed ", "\0closed ").split("\0")[1:]]
+    return [written.rstrip() for written in re.split(r" ?(?:open|closed) ", f"{text} ")[1:]]
 
 
 def is_front_written(got, ample):
@@ -177,14 +176,27 @@ def is_ok(answer):
     return not any(f" {answer} ".startswith(f" {word}") for word in NOT_OK)
 
 
+def is_ample(row, ample):
+    """Whether all was done with ample memory: what is there before the call, the call, and what an engine writes."""
+    kind, _, setup, _ = row
+    if ample is None or not all(map(is_ok, texts(ample, "made"))) or is_ok(texts(ample, "answer")[0]) == (kind == "closes"):
+        return False
+    return kind != "engine" or all(connections(texts(ample, "written")[0]) == written for steps, written in WRITTEN if steps == setup)
+
+
+def shown(printed):
+    """What is printed, but for what was made before."""
+    return printed and [line for line in printed if line[0] != "made" or not is_ok(line[1])]
+
+
 def tried(built, row):
     """How many requests were refused in turn, and what was wrong."""
     kind, scene, setup, call = row
     script = "".join(f"{line}\n" for line in [scene, *setup, call]).encode("latin-1")
     holds = is_batch_grown if (kind, scene) == ("grew", "tables") else KINDS[kind]
     _, ample = run(built, script, 0, False)
-    if ample is None or not all(map(is_ok, texts(ample, "made"))) or is_ok(texts(ample, "answer")[0]) == (kind == "closes"):
-        return 0, [f"with ample memory: {ample}"]
+    if not is_ample(row, ample):
+        return 0, [f"with ample memory: {shown(ample)}"]
     wrong, most = [], 0
     for onward in (False, True):
         number = 1
@@ -193,7 +205,7 @@ def tried(built, row):
             if not is_refused:
                 break
             if got is None or (got != ample and not holds(ample, got)):
-                wrong.append(f"request {number}{' and each behind it' if onward else ''}: {got}\n    ample: {ample}")
+                wrong.append(f"request {number}{' and each behind it' if onward else ''}: {shown(got)}\n    ample: {shown(ample)}")
             number += 1
         if got != ample:
             wrong.append(f"nothing is refused, and yet {got}")
@@ -211,7 +223,7 @@ def compare(built, group):
             is_wrong = True
             print(f"WRONG {row[0]}: {row[1]}: {row[3]} behind {row[2]}: {each}")
     for (kind, scene, call), numbers in counts.items():
-        print(f"{scene}: {call.translate({7: '^G'})}: {kind}: {sum(numbers)} requests refused" + (f", at {len(numbers)} sizes" if len(numbers) > 1 else ""), flush=True)
+        print(f"{scene}: {call.translate({7: '^G'})}: {kind}: {sum(numbers)} requests refused" + (f", in {len(numbers)} rows" if len(numbers) > 1 else ""), flush=True)
         if (kind == "none") != (sum(numbers) == 0):
             is_wrong = True
             print(f"WRONG {kind}: {scene}: {call}: {sum(numbers)} requests")

@@ -109,7 +109,7 @@ def of_lines():
     rows += [("same", "hall", HALL, f"burst_line 1 :{line}") for line in LINK_LINES + BURST_LINES]
     out_of_place = (":ce MODE #c +b x!*@*", ":b.net NJOIN #c :@ce", "NICK ge 1 u h 1 + :Ge")
     rows += [("closes", "hall", HALL, f"handshake 1 :{line}") for line in out_of_place]
-    rows += [("none", "hall", HALL, f"handshake 1 :{line}") for line in ("PASS pw 0210010000 TREE|", "SERVER e.net 1 1 :E")]
+    rows += [("none", "hall", HALL, f"handshake 1 :{line}") for line in ("SERVER e.net 1 1 :E",)]
     rows += [("same", "hall", HALL, call) for call in ("burst 3", "burst 1", "read_changes +bo-nt x!*@* al")]
     return rows
 
@@ -146,12 +146,18 @@ STAGE = [
 
 def of_stages():
     calls = [f"hears 2 :{line}" for line in LINK_LINES[1:] + BURST_LINES]
-    calls += ["hears 2 :NICK ge 2 u h 1 + :Ge", "hears 2 ::b.net NJOIN #new :@ce", "loses 2", "loses 4", "opens 5 d.net", "opens 5", "waiting 7", "seat 7 zz"]
-    calls += ["hear 2 :NICK ge 2 u h 1 + :Ge", "hear 2 ::b.net NJOIN #c :@ce", "remove_user al", "tell_all 2 ::a.net SQUIT x.net :x", "open_link 6"]
-    calls += ["add_server 2 b.net g.net 2 7", "come 2 quit ce :x", "take 2 quit ce :x", "carry_out 1 quit al :bye"]
+    calls += ["hears 2 :NICK ge 1 u h 1 + :Ge", "hears 2 ::b.net NJOIN #new :@ce", "loses 2", "loses 4", "opens 5 d.net", "waiting 7"]
+    calls += ["hear 2 :NICK ge 1 u h 1 + :Ge", "hear 2 ::b.net NJOIN #c :@ce", "remove_user al", "tell_all 2 ::a.net SQUIT x.net :x"]
+    calls += ["come 2 quit ce :x", "take 2 quit ce :x", "carry_out 1 quit al :bye"]
     calls += [f"apply 1 {effect}" for effect in EFFECTS if "ee" not in effect and " de " not in effect]
     calls += ["apply 1 invite al ce #c", "apply 1 say al ce :hi"]
     rows = [("stage", "stage", STAGE + fresh, call) for call in calls for fresh in ([], ["fresh"])]
+    for size in range(13):
+        rows.append(("stage", "stage", [f"open_link {at}" for at in range(size)], "open_link 99"))
+        rows.append(("stage", "stage", [f"opens {at}" for at in range(size)], "opens 99"))
+        rows.append(("stage", "stage", [f"waiting {at}" for at in range(size)], "waiting 99"))
+        rows.append(("stage", "stage", [f"seat {at} n{LETTERS[at]}" for at in range(size)], "seat 99 new"))
+        rows.append(("stage", "stage", LINKED + [f"add_server 2 b.net s{at}.net 2 {at + 2}" for at in range(size)], "add_server 2 b.net z.net 2 99"))
     rows += [("stage", "stage", before + ["fresh"], LINKED[2]) for before in (LINKED[:2], STAGE[:8] + LINKED[:2])]
     return rows
 
@@ -172,12 +178,16 @@ SERVER = [
 
 def of_servers():
     said = [f"say 1 :{line}" for line in ASKED + DECIDED + ["LIST", "WHO #c", "PRIVMSG ce :hi", "INVITE ce #c"] if "ee" not in line and "PONG" not in line]
-    heard = [f"hear 2 :{line}" for line in LINK_LINES[1:] + BURST_LINES + ["NICK ge 2 u h 1 + :Ge", "XYZZY"]]
+    heard = [f"hear 2 :{line}" for line in LINK_LINES[1:] + BURST_LINES + ["NICK ge 1 u h 1 + :Ge", "XYZZY"]]
     calls = said + heard + ["connect 7", "gone 1", "down 2", "call 7 d.net"]
     rows = [("server", "server", SERVER + fresh, call) for call in calls for fresh in ([], ["fresh"])]
     rows += [("server", "server", SERVER + ["say 5 :NICK zz", *fresh], "say 5 :USER u 0 * :Z") for fresh in ([], ["fresh"])]
     rows += [("server", "server", ALONE + ["fresh"], "say 1 :PRIVMSG #c :hi"), ("server", "server", ALONE, "up 2")]
     rows += [("server", "server", before + UP[:2] + ["fresh"], UP[2]) for before in ([], ALONE)]
+    for size in range(13):
+        many = [line for at in range(size) for line in client(at + 1, f"n{LETTERS[at]}", "JOIN #c")]
+        rows += [("server", "server", many, "connect 99"), ("server", "server", many + ["connect 99", "say 99 :NICK new"], "say 99 :USER u 0 * :New")]
+        rows += [("server", "server", many, call) for call in ("say 1 :PRIVMSG #c :hi", "say 1 :NICK new", "gone 1") if size > 1]
     rows += [("server all", "server", [], "all"), ("none", "server", [], "new")]
     return rows
 
@@ -206,6 +216,8 @@ def of_nets():
 
 PIECES = ["client 1", "room 1 10", "bytes 1 :NICK al`", "bytes 1 :~USER u 0 * :Al`~"]
 
+CALLED = ["called 2 b.net", "room 2 57"]
+
 LOST = [
     "client 1", "bytes 1 :NICK al`~USER u 0 * :Al`~JOIN #c`~", "client 2", "room 2 65536", "bytes 2 :NICK bo`~USER u 0 * :Bo`~JOIN #c`~PRIVMSG #c :hi`~", "over 1",
 ]
@@ -224,7 +236,7 @@ def of_engines():
             ("engine", "engine", PIECES, f"{verb} 4096 4096 20"),
             ("engine", "engine", LOST, f"{verb} 4096 4096 20"),
             ("engine", "engine", LOST, f"{verb} 512 4096 20"),
-            ("engine", "engine", ["called 2 b.net", "room 2 57"], f"{verb} 4096 57 10"),
+            ("engine", "engine", CALLED, f"{verb} 4096 57 10"),
             ("engine", "engine", TREE, f"{verb} 4096 4096 20"),
             ("engine", "engine", TREE + ["over 2"], f"{verb} 4096 4096 20"),
             ("engine", "engine", TREE + ["over 1", "over 3"], f"{verb} 4096 4096 20"),
@@ -233,6 +245,9 @@ def of_engines():
     rows += [("making", "engine", [], f"outbox {room}") for room in (1, 4096)]
     return rows
 
+
+# what is written with ample memory to the connections of some engines: all that a client takes, and the greeting of a server that is called
+WRITTEN = [(PIECES, [":a.net 001", "", "", ""]), (CALLED, ["", "PASS pw 0210010000 TREE|^M^JSERVER a.net 1 1 :A^M^J", "", ""])]
 
 # the groups, by what each call is of
 GROUPS = {
