@@ -4,14 +4,22 @@
     python3 tests/refused_calls/compare.py --built FOLDER [--only GROUP]
 
 Not part of the gate. FOLDER is what build.py has filled; `run` here does both. rows.py has the calls. Each is made in a process of its own, and in it the
-request of number 1, 2 and so on is refused, until a call meets no refusal: that one request alone, and, in a second round, that and each behind it. What is done before
-the call, and once it has answered, is never refused. Then the call is made once more, with ample memory.
+request of number 1, 2 and so on is refused, until a call meets no refusal: that one request alone, and, in a second round, that and each behind it. What is
+done before the call, and once it has answered, is never refused. Then the call is made once more, with ample memory, but for `stage`.
 
-What holds of a refused call, by its kind: `same`, the value is as it was before, and once more it does what it does with ample memory; `grew`, so it is, but that
-a batch may have more behind what it had; `room`, want of memory is told once, and that the room has failed then; `server`, likewise, with nothing put out, and
-it tells neither its room nor its servers; `closes` is `same` for a line that closes its link; `net`, likewise, and each client has received a front; `stage`, a batch has what it had, and maybe more; `open`, the
-want of memory is told; `engine`, likewise once, then that the engine has failed in each turn, and what was written to each connection is a front;
-`none`, no memory is asked for. A call that can do without what it is refused does all that it does with ample memory.
+What holds of a refused call, by its kind:
+  same      the value is as it was before, and once more the call does what it does with ample memory
+  closes    likewise, for a line that closes its link
+  grew      likewise, but that a batch may have more behind what it had, of what it has with ample memory
+  open      want of memory is told
+  stage     want of memory is told, and a batch has what it had, and maybe more
+  room      want of memory is told once, and that the room has failed from then on; nobody is shown anything
+  server    likewise, nothing is put out, and the server tells neither its room nor its servers; `server all`: but what the events before put out stands
+  net       likewise, and what each client has received is a front; `net new` is `same`; `net play`: or only the answers were refused, and the net goes on
+  engine    want of memory is told once, that the engine has failed in each turn then, and what was written to each connection is a front
+  making    want of memory is told
+  none      no memory is asked for
+A call that can do without what it is refused does all that it does with ample memory.
 
 The exit status is 0 where all of this held each time.
 """
@@ -25,8 +33,9 @@ from rows import GROUPS, WRITTEN
 
 SECONDS = 60
 # what no call answers that has ample memory
-NOT_OK = ("memory", "failed", "unknown", "refused", "nobody", "no effect", "not free", "not made", "bad name", "known", "full", "taken", "no such", "not member", "no line",
-          "NotAtRest", "NoSuch", "NotLinked", "LinkRefused", "Disagree", "UnknownCommand", "Parameters", "BadToken", "WrongDirection", "BadName", "Order")
+NOT_OK = ("memory", "failed", "unknown", "refused", "nobody", "no effect", "not free", "not made", "bad name", "known", "full", "taken", "no such",
+          "not member", "no line", "NotAtRest", "NoSuch", "NotLinked", "LinkRefused", "Disagree", "UnknownCommand", "Parameters", "BadToken",
+          "WrongDirection", "BadName", "Order")
 
 
 def run(built, script, number, onward):
@@ -123,10 +132,10 @@ def is_front(ample, got):
 
 
 def is_played(ample, got):
-    """A play ends for want of memory: then the network has failed, or it was for the answers alone."""
+    """A play ends for want of memory: then the network has failed; or memory was refused to the answers alone, and the network goes on."""
     first, second = texts(got, "answer")
     pairs = zip(received(texts(got, "after")[0]), received(texts(ample, "after")[0]))
-    return first == "memory" and second not in ("memory",) and all(whole.startswith(some.rstrip()) for some, whole in pairs)
+    return first == "memory" and second in ("failed", *texts(ample, "answer")) and all(whole.startswith(some.rstrip()) for some, whole in pairs)
 
 
 def is_kept_out(_, got):
@@ -168,7 +177,8 @@ def is_not_made(_, got):
 
 KINDS = {
     "same": is_same, "grew": is_grown, "room": lambda _, got: has_failed(got), "server": is_closed, "server all": is_closed_in_part, "net": is_front,
-    "net new": is_same, "net play": is_played, "stage": is_kept_out, "open": is_told, "engine": is_stopped, "making": is_not_made, "none": is_told, "closes": is_same,
+    "net new": is_same, "net play": is_played, "stage": is_kept_out, "open": is_told, "engine": is_stopped, "making": is_not_made,
+    "none": is_told, "closes": is_same,
 }
 
 
@@ -223,7 +233,8 @@ def compare(built, group):
             is_wrong = True
             print(f"WRONG {row[0]}: {row[1]}: {row[3]} behind {row[2]}: {each}")
     for (kind, scene, call), numbers in counts.items():
-        print(f"{scene}: {call.translate({7: '^G'})}: {kind}: {sum(numbers)} requests refused" + (f", in {len(numbers)} rows" if len(numbers) > 1 else ""), flush=True)
+        rows = f", in {len(numbers)} rows" if len(numbers) > 1 else ""
+        print(f"{scene}: {call.translate({7: '^G'})}: {kind}: {sum(numbers)} requests refused{rows}", flush=True)
         if (kind == "none") != (sum(numbers) == 0):
             is_wrong = True
             print(f"WRONG {kind}: {scene}: {call}: {sum(numbers)} requests")

@@ -88,7 +88,8 @@ def of_rooms():
         rows.append(("same", "hall", HALL, call))
     rows += [("same", "hall", HALL, f"audience {effect}") for effect in EFFECTS[1:]]
     rows += [("same", "hall", HALL, f"write_line {effect}") for effect in EFFECTS if "mode" in effect and "umode" not in effect]
-    rows += [("open", "hall", HALL, f"ways {effect}") for effect in [*EFFECTS, "say al ce :hi", "invite al ce #c"] if "al bo" not in effect and "al ee" not in effect]
+    told = [effect for effect in EFFECTS if "al bo" not in effect and "al ee" not in effect]
+    rows += [("open", "hall", HALL, f"ways {effect}") for effect in [*told, "say al ce :hi", "invite al ce #c"]]
     rows.append(("open", "hall", HALL, "ways_met 1"))
     return rows
 
@@ -192,7 +193,9 @@ def of_servers():
     return rows
 
 
-PAIR = ["connect a.net", "say 1 :NICK al", "say 1 :USER u 0 * :Al", "say 1 :JOIN #c", "connect b.net", "say 2 :NICK bo", "say 2 :USER u 0 * :Bo", "say 2 :JOIN #d"]
+PAIR = [
+    "connect a.net", "say 1 :NICK al", "say 1 :USER u 0 * :Al", "say 1 :JOIN #c", "connect b.net", "say 2 :NICK bo", "say 2 :USER u 0 * :Bo", "say 2 :JOIN #d",
+]
 
 JOINED = PAIR + ["link a.net b.net", "settle"]
 
@@ -206,7 +209,8 @@ def of_nets():
     rows += [("net", "net", linking, call) for call in ("deliver a.net b.net", "bytes a.net b.net 40", "settle")]
     rows += [("net", "net", linking + ["deliver a.net b.net"] * 2, call) for call in ("bytes b.net a.net 40", "deliver b.net a.net")]
     rows += [("net", "net", linking + ["deliver a.net b.net"] * 2 + ["deliver b.net a.net"] * 2, call) for call in ("bytes a.net b.net 99", "settle")]
-    rows += [("net", "net", JOINED, call) for call in ("say 1 :JOIN #d", "say 2 :PRIVMSG al :hi", "gone 1", "cut a.net b.net", "say 1 :NICK ali", "connect b.net")]
+    given = ("say 1 :JOIN #d", "say 2 :PRIVMSG al :hi", "gone 1", "cut a.net b.net", "say 1 :NICK ali", "connect b.net")
+    rows += [("net", "net", JOINED, call) for call in given]
     for last in ("say 1 :JOIN #d", "gone 1", "cut a.net b.net"):
         rows.append(("net", "net", JOINED + [last], "settle"))
     rows.append(("none", "net", JOINED, "agrees a.net b.net"))
