@@ -223,7 +223,8 @@ PIECES = ["client 1", "room 1 10", "bytes 1 :NICK al`", "bytes 1 :~USER u 0 * :A
 CALLED = ["called 2 b.net", "room 2 57"]
 
 LOST = [
-    "client 1", "bytes 1 :NICK al`~USER u 0 * :Al`~JOIN #c`~", "client 2", "room 2 65536", "bytes 2 :NICK bo`~USER u 0 * :Bo`~JOIN #c`~PRIVMSG #c :hi`~", "over 1",
+    "client 1", "bytes 1 :NICK al`~USER u 0 * :Al`~JOIN #c`~", "client 2", "room 2 65536",
+    "bytes 2 :NICK bo`~USER u 0 * :Bo`~JOIN #c`~PRIVMSG #c :hi`~", "over 1",
 ]
 
 TREE = [
