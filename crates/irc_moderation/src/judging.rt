@@ -223,7 +223,7 @@ fn without_zeros(digits: &[u8]) -> &[u8]
 /// What comes of a ban in the channel as the changes so far have left it.
 fn mask_judged(channel: &Channel, kept: &KeptChanges, asked: &AskedChange<'_>) -> Verdict
     requires { Follows channel.now kept.now.changes.items kept.now.settings }
-    ensures { result ≡ mask_asked channel.now.name (channel_behind kept.now channel.now) asked.now }
+    ensures { result ≡ mask_asked channel.now (channel_behind kept.now channel.now) asked.now }
 {
     let Some(mask) = mask_in(asked.word) else {
         return Verdict::Nothing;

@@ -29,8 +29,8 @@ abbrev pub key_asked : List ℕ → Bool → Option (Bor (List ℕ)) → Option 
 key_asked name plus word before = key_judged name plus (option_copied word) (option_copied before)
 
 -- of one of a ban, by those of the channel as it is now
-abbrev pub mask_asked : List ℕ → Channel → AskedChange → Verdict
-mask_asked name now asked = mask_judged name asked.plus (mask_in (option_copied asked.word)) now.modes.bans
+abbrev pub mask_asked : Channel → Channel → AskedChange → Verdict
+mask_asked start now asked = mask_judged start.name asked.plus (mask_in (option_copied asked.word)) now.modes.bans
 
 -- of one of a member's flag
 abbrev pub word_asked : Kept → Channel → AskedChange → Verdict
