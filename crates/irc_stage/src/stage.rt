@@ -402,7 +402,8 @@ impl Stage {
 
     /// The user of a client's nickname, if it is one.
     fn user_of(&self, speaker: Speaker<'_>) -> Option<&User>
-        ensures { option_copied result ≡ user_under (view_of self.now).room (optional_now speaker.nick) }
+        ensures { option_copied result
+            ≡ user_under (view_of self.now).room (optional_now speaker.entry.nick) }
     {
         match speaker.nick {
             Some(nick) => self.room.user(nick.as_bytes()),
