@@ -6,8 +6,8 @@
 --   20 bytes  come to b.net: `:al PRIVMSG #c :hi` is begun there, and bo has received nothing
 --   1 byte    more, the CR: the line is complete, b.net is asked for it, and bo has received it
 --   1 byte    more, the LF: it completes nothing
-use Rattle.std.specs.Prelude.{◌≡◌, ℕ, Bool, Option, Some, None, List, [], ◌∷◌, length}
-use Rattle.std.specs.FinMap.{FinMap, entries}
+use Rattle.std.specs.Prelude.{◌≡◌, ℕ, Bool, Option, Some, None, List, [], ◌∷◌, length, replicate}
+use Rattle.std.specs.FinMap.{FinMap, empty, entries}
 use Rattle.std.specs.Option.{option_map_or}
 use Rattle.std.specs.Ordering.{nat_cmp}
 use Rattle.irc_world.specs.Stepping.{Item, cut}
@@ -27,6 +27,10 @@ pub record ByteCourse : Type 0 where
 
 abbrev pub byte_begun : ByteNetwork → ByteCourse
 byte_begun net = record { net = net; receipts = [] }
+
+-- nothing is on its way along the links of so many servers
+abbrev pub new_byte_network : Network → ℕ → ByteNetwork
+new_byte_network network servers = record { network = network; wires = replicate servers empty }
 
 -- each server has a row of wires
 abbrev pub HasRows : ByteNetwork → Type 0

@@ -1,5 +1,6 @@
 pub mod Behind
 pub mod ByteNetwork
+pub mod Calls
 pub mod Turns
 pub mod Whole
 pub mod Loops

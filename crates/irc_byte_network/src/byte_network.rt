@@ -1,12 +1,13 @@
 //! A network of servers whose links carry bytes.
-ghost use Rattle.std.specs.Prelude.{◌≡◌, [], length, min, replicate, IfOk, OnOk};
-ghost use Rattle.std.specs.FinMap.{empty};
+ghost use Rattle.std.specs.Prelude.{◌≡◌, [], length, min, IfOk, OnOk};
 ghost use Rattle.std.specs.Option.{option_map};
-ghost use Rattle.irc_network.specs.Loops.Courses.{course, ends_now};
+ghost use Rattle.irc_network.specs.Loops.Courses.{ends_now};
 ghost use Rattle.irc_network.specs.Views.{item_of};
 ghost use Rattle.irc_wires.specs.Wires.{first_direction, through_line_feed, wire_at};
-ghost use Rattle.irc_byte_network.specs.Loops.Coming.{GoesOn, HasHeard, HaveCome, IsTurn, byte_course, bytes_between, direction_between, lines_between};
-ghost use Rattle.irc_byte_network.specs.ByteNetwork.{cut_ends, is_byte_rest, item_given, lost_along, written_out, HasRows};
+ghost use Rattle.irc_byte_network.specs.Calls.{HaveCome, HaveComeToLine, IsItemGiven, IsTurn};
+ghost use Rattle.irc_byte_network.specs.Loops.Coming.{HasHeard, bytes_between, direction_between, lines_between};
+ghost use Rattle.irc_byte_network.specs.Loops.Writing.{IsWrittenOut};
+ghost use Rattle.irc_byte_network.specs.ByteNetwork.{cut_ends, is_byte_rest, lost_along, new_byte_network, HasRows};
 ghost use Rattle.irc_byte_network.specs.Whole.{IsTidy};
 
 use crate::came::Came;
@@ -44,7 +45,7 @@ impl ByteNetwork {
     /// # Errors
     /// Where memory runs out.
     pub fn new(alloc: Global, network: Network, servers: usize) -> Result<Self, AllocError>
-        ensures { IfOk result (λ net. net ≡ record { network = network; wires = replicate servers empty }) }
+        ensures { IfOk result (λ net. net ≡ new_byte_network network servers) }
     {
         Ok(ByteNetwork {
             alloc,
@@ -95,7 +96,7 @@ impl ByteNetwork {
     pub fn give(&mut self, item: Item, desk: &mut Desk) -> Result<(), AllocError>
         requires rows { HasRows self.old }
         requires begins { desk.old.lines.items ≡ [] }
-        ensures { OnOk result (byte_course self.new desk.new.lines.items ≡ item_given (item_of item) self.old) }
+        ensures { OnOk result (IsItemGiven (item_of item) self.old self.new desk.new) }
     {
         let ends = self.cut_ends(&item);
         self.network.give(item, desk)?;
@@ -122,7 +123,7 @@ impl ByteNetwork {
         requires rows { HasRows self.old }
         ensures bytes { IfOk result (λ came. came.bytes ≡ min count (bytes_between self.old ends)) }
         ensures lines { IfOk result (λ came. came.lines ≡ lines_between self.old ends count) }
-        ensures come { OnOk result (HaveCome ends count self.old desk.old.lines.items self.new desk.new.lines.items) }
+        ensures come { OnOk result (HaveCome ends count self.old desk.old self.new desk.new) }
     {
         let mut lines = Vec::new(self.alloc);
         let bytes = self
@@ -144,7 +145,7 @@ impl ByteNetwork {
     /// Where memory runs out: nothing is promised of the network then, and nothing more is to be asked of it.
     pub fn come_in_turn(&mut self, desk: &mut Desk) -> Result<Option<usize>, AllocError>
         requires rows { HasRows self.old }
-        ensures { IfOk result (λ lines. IsTurn lines self.old desk.old.lines.items self.new desk.new.lines.items) }
+        ensures { IfOk result (λ lines. IsTurn lines self.old desk.old self.new desk.new) }
     {
         let Some(ends) = self.first_direction() else {
             return Ok(None);
@@ -160,7 +161,7 @@ impl ByteNetwork {
     /// Where memory runs out: nothing is promised of the network then, and nothing more is to be asked of it.
     pub fn come_to_line(&mut self, desk: &mut Desk) -> Result<Option<usize>, AllocError>
         requires tidy { IsTidy self.old }
-        ensures { IfOk result (λ lines. GoesOn lines self.old desk.old.lines.items self.new desk.new.lines.items) }
+        ensures { IfOk result (λ lines. HaveComeToLine lines self.old desk.old self.new desk.new) }
     {
         while let Some(lines) = self.come_in_turn(desk)? {
             if lines > 0 {
@@ -184,7 +185,7 @@ fn lose(ends: Option<Ends>, wires: &mut Wires)
 /// What servers have put out is written on its way.
 fn write_out(network: &mut Network, wires: &mut Wires) -> Result<(), AllocError>
     requires rows { length wires.old ≡ length network.old.sites }
-    ensures { OnOk result (record { network = network.new; wires = wires.new } ≡ written_out network.old wires.old) }
+    ensures { OnOk result (IsWrittenOut network.old wires.old network.new wires.new) }
 {
     irc_network::laws::rest_stays();
     irc_wires::laws::same_wires();
@@ -203,7 +204,7 @@ fn hear_all(
     lines: Vec<Line, Global>,
     desk: &mut Desk,
 ) -> Result<(), AllocError>
-    ensures { OnOk result (HasHeard ends lines.items (course network.old desk.old.lines.items) (course network.new desk.new.lines.items)) }
+    ensures { OnOk result (HasHeard ends lines.items network.old desk.old network.new desk.new) }
 {
     let mut rest = lines.into_iter();
     while let Some(line) = rest.next() {
