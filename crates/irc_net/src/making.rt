@@ -1,11 +1,11 @@
 //! Of which configurations a network is made.
-ghost use Rattle.std.specs.Prelude.{◌≡◌, ◌≤◌, [], length, map, IfOk};
+ghost use Rattle.std.specs.Prelude.{◌≡◌, ◌≤◌, length, map, IfOk};
 ghost use Rattle.std.specs.List.{AllByRecursion, list_any};
 ghost use Rattle.std.specs.List.Sorted.{IsPermutation, IsSortedByKey};
 ghost use Rattle.std.specs.Cmp.Lexicographic.{slice_cmp};
 ghost use Rattle.std.specs.Ordering.{nat_cmp};
 ghost use Rattle.irc_net.specs.Making.{configs_fault, has_name_twice, is_bad, is_double, is_named, name_of, new_site};
-ghost use Rattle.irc_net.specs.Loops.Ordering.{IsNamed};
+ghost use Rattle.irc_net.specs.Loops.Ordering.{IsNamed, new_forest};
 
 use irc_forest::{Forest, MAX_SERVERS};
 use irc_names::ServerName;
@@ -124,7 +124,7 @@ pub(crate) fn in_order(configs: Vec<Config, Global>) -> Vec<Config, Global>
 pub(crate) fn forest_of(alloc: Global, configs: &[Config]) -> Result<Forest, AllocError>
     requires named { AllByRecursion IsNamed configs.now }
     requires few { length configs.now ≤ 256 }
-    ensures { IfOk result (λ forest. forest ≡ record { names = map name_of configs.now; links = [] }) }
+    ensures { IfOk result (λ forest. forest ≡ new_forest configs.now) }
 {
     let mut names = Vec::new(alloc);
     for config in configs {

@@ -7,7 +7,7 @@ ghost use Rattle.irc_net.specs.Calls.{step_refused, ArePlayable, ArePlayed, AreT
 ghost use Rattle.irc_net.specs.Faults.{deliver_fault, do_agree, fault_by, item_fault};
 ghost use Rattle.irc_net.specs.Making.{IsMade};
 ghost use Rattle.irc_net.specs.Loops.Coming.{AreLinkedEnds, HaveComeTo};
-ghost use Rattle.irc_net.specs.Loops.Settling.{HasSettled};
+ghost use Rattle.irc_net.specs.Loops.Settling.{HasComeToRest};
 ghost use Rattle.irc_net.specs.OneRoom.{IsKeptSound, IsOneRoomNet, IsOwed, RefusesAsTheWorld, TakesFew};
 ghost use Rattle.irc_net.specs.Views.{answers_now, counted_now, delivered_now};
 ghost use Rattle.irc_network.specs.Network.{received_by};
@@ -339,7 +339,7 @@ impl Net {
 /// leaves fewer.
 fn take_all(network: &mut ByteNetwork, desk: &mut Desk) -> Result<u64, AllocError>
     requires sound { IsKeptSound network.old }
-    ensures { IfOk result (λ count. HasSettled count network.old desk.old.lines.items network.new desk.new.lines.items) }
+    ensures { IfOk result (λ count. HasComeToRest count network.old desk.old network.new desk.new) }
 {
     laws::delivery_keeps_sound();
     laws::turn_leaves_fewer();

@@ -1,4 +1,6 @@
 -- Configurations as the code puts them in order.
+use Rattle.std.specs.Prelude.{List, [], map}
+use Rattle.irc_forest.specs.Forests.{Forest}
 use Rattle.irc_names.specs.Names.{IsServer}
 use Rattle.irc_server.specs.declared.config.Config.{Config}
 use Rattle.irc_net.specs.Making.{name_of}
@@ -6,3 +8,7 @@ use Rattle.irc_net.specs.Making.{name_of}
 -- its name is one of a server
 abbrev pub IsNamed : Config → Type 0
 IsNamed config = IsServer (name_of config)
+
+-- servers in this order, and no link
+abbrev pub new_forest : List Config → Forest
+new_forest configs = record { names = map name_of configs; links = [] }

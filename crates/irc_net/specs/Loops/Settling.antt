@@ -1,9 +1,9 @@
 -- Bytes that come in turn, as the code counts the lines that they complete.
-use Rattle.std.specs.Prelude.{◌≡◌, ℕ, List, min, true}
+use Rattle.std.specs.Prelude.{◌≡◌, ℕ, min, true}
 use Rattle.irc_network.specs.Network.{max_count}
-use Rattle.irc_network.specs.declared.receipt.Receipt.{Receipt}
+use Rattle.irc_network.specs.declared.desk.Desk.{Desk}
 use Rattle.irc_byte_network.specs.ByteNetwork.{ByteCourse, ByteNetwork, is_byte_rest}
-use Rattle.irc_byte_network.specs.Loops.Coming.{byte_course}
+use Rattle.irc_byte_network.specs.Calls.{byte_course_at}
 use Rattle.irc_byte_network.specs.Turns.{TurnsGo}
 
 -- some lines were completed, and counted up to 2^64 - 1
@@ -17,6 +17,6 @@ pub record SettlesAt (counted : ℕ) (old new : ByteCourse) : Type 0 where
   pub turns : GoesCounted counted old new
   pub rest : is_byte_rest new.net ≡ true
 
--- by what a network is before and after, each with what clients have received by then
-abbrev pub HasSettled : ℕ → ByteNetwork → List Receipt → ByteNetwork → List Receipt → Type 0
-HasSettled counted old before new after = SettlesAt counted (byte_course old before) (byte_course new after)
+-- a network came to rest, and what clients received until then is on the desk
+abbrev pub HasComeToRest : ℕ → ByteNetwork → Desk → ByteNetwork → Desk → Type 0
+HasComeToRest counted old before new after = SettlesAt counted (byte_course_at old before) (byte_course_at new after)
