@@ -250,7 +250,7 @@ pub play_stops : (old new : NetView) (steps : List Step) (fault : NetFault) (r :
 play_stops old new steps fault (Ok answers) is stops = absurd is
 play_stops old new steps fault (Err e) is stops = subst (λ f. ArePlayed old steps (Err f) new) (sym is) (calls.stops_at stops)
 
-pub play_wants : (old new : NetView) (steps : List Step) (r : Result (Vec StepAnswer) NetFault) → IsErrAnd r (λ e. e ≡ Memory)
-    → ArePlayed old steps (answers_now r) new
-play_wants old new steps (Ok answers) is = absurd is
-play_wants old new steps (Err e) is = subst (λ f. ArePlayed old steps (Err f) new) (sym is) calls.answers_want_memory
+pub play_wants : (old new : NetView) (steps : List Step) (fault : NetFault) (r : Result (Vec StepAnswer) NetFault) → IsErrAnd r (λ e. e ≡ fault) → fault ≡ Memory
+    → new.failed ≡ true → ArePlayed old steps (answers_now r) new
+play_wants old new steps fault (Ok answers) is memory failed = absurd is
+play_wants old new steps fault (Err e) is memory failed = subst (λ f. ArePlayed old steps (Err f) new) (sym (is ∙ memory)) (calls.answers_want_memory failed)

@@ -183,8 +183,8 @@ pub record StopsAt (first : NetView) (steps : List Step) (fault : NetFault) (las
   pub breaks : Breaks between step fault last
   pub is_want : is_refusal fault ≡ false
 
--- all steps are done, one broke, or there was no memory for the answers
+-- all steps are done, one broke, or there was no memory for the answers, and the network has failed
 pub data ArePlayed : NetView → List Step → Result (List StepAnswer) NetFault → NetView → Type 0 where
   plays_them : {old new : NetView} {steps : List Step} {answers : List StepAnswer} → Plays old steps answers new → ArePlayed old steps (Ok answers) new
   stops_at : {old new : NetView} {steps : List Step} {fault : NetFault} → StopsAt old steps fault new → ArePlayed old steps (Err fault) new
-  answers_want_memory : {old new : NetView} {steps : List Step} → ArePlayed old steps (Err Memory) new
+  answers_want_memory : {old new : NetView} {steps : List Step} → new.failed ≡ true → ArePlayed old steps (Err Memory) new

@@ -6,6 +6,7 @@ ghost use Rattle.irc_net.specs.declared.step.Step.TheVariants.{Bytes, Deliver, G
 ghost use Rattle.irc_net.specs.Calls.{step_refused, ArePlayable, ArePlayed, AreTaken, IsDelivered, IsGivable, IsGiven, IsPlayable, IsSettled, IsStepDone};
 ghost use Rattle.irc_net.specs.Faults.{deliver_fault, do_agree, fault_by, item_fault};
 ghost use Rattle.irc_net.specs.Making.{IsMade};
+ghost use Rattle.irc_net.specs.Loops.Answering.{KeepsAnswer};
 ghost use Rattle.irc_net.specs.Loops.Coming.{AreLinkedEnds, HaveComeTo};
 ghost use Rattle.irc_net.specs.Loops.Settling.{HasComeToRest};
 ghost use Rattle.irc_net.specs.OneRoom.{IsKeptSound, IsOneRoomNet, IsOwed, RefusesAsTheWorld, TakesFew};
@@ -259,16 +260,35 @@ impl Net {
     /// Does steps one after another. A refusal 1 to 6 is that step's answer.
     ///
     /// # Errors
-    /// [`NetFault::Memory`], [`NetFault::Failed`]: those before it are done, and those behind it are not.
+    /// [`NetFault::Memory`], [`NetFault::Failed`]: those before it are done, and those behind it are not. Where it is the answers that memory is wanting
+    /// for, that step is done too.
     pub fn play(&mut self, steps: &[Step]) -> Result<Vec<StepAnswer, Global>, NetFault>
         requires lines { ArePlayable steps.now }
         ensures { ArePlayed self.old steps.now (answers_now result) self.new }
     {
         let mut answers = Vec::new(self.alloc);
         for step in steps {
-            push_answer(&mut answers, self.do_step(step)?)?;
+            let answer = self.do_step(step)?;
+            self.keep_answer(answer, &mut answers)?;
         }
         Ok(answers)
+    }
+
+    /// Keeps a step's answer behind those before it. Where memory runs out the step is done all the same, and the network has failed.
+    fn keep_answer(
+        &mut self,
+        answer: StepAnswer,
+        answers: &mut Vec<StepAnswer, Global>,
+    ) -> Result<(), NetFault>
+        ensures { KeepsAnswer self.old answer answers.old answers.new result self.new }
+    {
+        match push_answer(answers, answer) {
+            Ok(()) => Ok(()),
+            Err(_) => {
+                self.failed = true;
+                Err(NetFault::Memory)
+            }
+        }
     }
 
     /// Does one step.
