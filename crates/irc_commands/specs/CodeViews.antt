@@ -25,9 +25,6 @@ use Rattle.irc_commands.specs.Topic.{topic_steps}
 abbrev pub registered_of : Registration → Registered
 registered_of r = record { pending = r.pending; steps = r.steps.items; registered = r.registered; close = r.close }
 
-abbrev pub IsRegistration : Registered → Registration → Type 0
-IsRegistration want r = registered_of r ≡ want
-
 -- These are the steps.
 abbrev pub AreDecided : List Act → Vec Act → Type 0
 AreDecided want steps = steps.items ≡ want

@@ -4,7 +4,7 @@ ghost use Rattle.irc_line.specs.MessageViews.{parsed};
 ghost use Rattle.irc_line.specs.PartViews.{words_now};
 ghost use Rattle.irc_routes.specs.Known.{place_of};
 ghost use Rattle.irc_acts.specs.declared.act.Act.{Act};
-ghost use Rattle.irc_commands.specs.CodeViews.{AreDecided, IsRegistration, registered_of};
+ghost use Rattle.irc_commands.specs.CodeViews.{AreDecided, registered_of};
 ghost use Rattle.irc_commands.specs.Register.{
   complete,
   nick_chosen,
@@ -43,7 +43,7 @@ fn replied(
     steps: Result<Vec<Act, Global>, AllocError>,
 ) -> Result<Registration, AllocError>
     ensures { (want : List Act)
-        → IfOk steps (AreDecided want) → IfOk result (IsRegistration (replies pending want)) }
+        → IfOk steps (AreDecided want) → IfOk result (λ r. registered_of r ≡ replies pending want) }
 {
     let steps = steps?;
     Ok(Registration {
@@ -117,7 +117,8 @@ fn complete(
     routes: &Routes,
     pending: Pending,
 ) -> Result<Registration, AllocError>
-    ensures { IfOk result (IsRegistration (complete room.now.room (place_of routes.now) pending)) }
+    ensures { IfOk result (λ r. registered_of r
+        ≡ complete room.now.room (place_of routes.now) pending) }
 {
     let (Some(nick), Some(user)) = (&pending.nick, &pending.user) else {
         return Ok(ignored(alloc, pending));
@@ -155,8 +156,8 @@ fn choose_nick(
     pending: Pending,
     given: &[u8],
 ) -> Result<Registration, AllocError>
-    ensures { IfOk result (IsRegistration
-        (nick_chosen room.now.room (place_of routes.now) pending given.now)) }
+    ensures { IfOk result (λ r. registered_of r
+        ≡ nick_chosen room.now.room (place_of routes.now) pending given.now) }
 {
     let Some(nick) = Nick::read(given) else {
         let nick = client_words(given);
@@ -182,8 +183,8 @@ fn take_nick(
     pending: Pending,
     params: &[&[u8]],
 ) -> Result<Registration, AllocError>
-    ensures { IfOk result (IsRegistration
-        (nick_row room.now.room (place_of routes.now) pending (words_now params.now))) }
+    ensures { IfOk result (λ r. registered_of r
+        ≡ nick_row room.now.room (place_of routes.now) pending (words_now params.now)) }
 {
     match params.first() {
         Some(given) if !given.is_empty() => choose_nick(alloc, room, routes, pending, given),
@@ -199,8 +200,8 @@ fn take_user(
     pending: Pending,
     params: &[&[u8]],
 ) -> Result<Registration, AllocError>
-    ensures { IfOk result (IsRegistration
-        (user_row room.now.room (place_of routes.now) pending (words_now params.now))) }
+    ensures { IfOk result (λ r. registered_of r
+        ≡ user_row room.now.room (place_of routes.now) pending (words_now params.now)) }
 {
     if params.len() < USER_PARAMETERS {
         return answered(alloc, pending, need_more_params(b"USER"));
@@ -215,7 +216,7 @@ fn take_user(
 
 /// QUIT before registration: nobody sees it.
 fn give_up(alloc: Global, pending: Pending, params: &[&[u8]]) -> Result<Registration, AllocError>
-    ensures { IfOk result (IsRegistration (quit_row pending (words_now params.now))) }
+    ensures { IfOk result (λ r. registered_of r ≡ quit_row pending (words_now params.now)) }
 {
     let name = match &pending.nick {
         Some(nick) => nick.as_bytes(),
@@ -243,8 +244,8 @@ pub fn register(
     pending: &Pending,
     message: &Message<'_>,
 ) -> Result<Registration, AllocError>
-    ensures { IfOk result (IsRegistration
-        (register room.now.room (place_of routes.now) pending.now (parsed message.now))) }
+    ensures { IfOk result (λ r. registered_of r
+        ≡ register room.now.room (place_of routes.now) pending.now (parsed message.now)) }
 {
     let now = pending.copy();
     if is_own(message.prefix, pending.nick.as_ref()) {
@@ -262,8 +263,8 @@ fn register_for(
     now: Pending,
     message: &Message<'_>,
 ) -> Result<Registration, AllocError>
-    ensures { IfOk result (IsRegistration
-        (pending_row room.now.room (place_of routes.now) now (parsed message.now))) }
+    ensures { IfOk result (λ r. registered_of r
+        ≡ pending_row room.now.room (place_of routes.now) now (parsed message.now)) }
 {
     let params = message.params.as_slice();
     match Command::read(message.command) {
