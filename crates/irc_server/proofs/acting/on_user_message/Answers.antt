@@ -1,5 +1,6 @@
 use Rattle.std.proofs.Common.{Some, List, ◌++◌, ap, ◌∙◌, sym}
 use Rattle.irc_line.specs.MessageViews.{parsed}
+use Rattle.irc_line.specs.PartViews.{words_now}
 use Rattle.irc_names.specs.Fold.{key}
 use Rattle.irc_names.specs.Tables.{row}
 use Rattle.irc_acts.specs.declared.act.Act.{Act}
