@@ -1,8 +1,8 @@
 //! Why the program ends before its work is done, what it says then, and its exit status.
 ghost use Rattle.std.specs.Prelude.{◌≡◌, OnOk};
-ghost use Rattle.std.specs.Io.KnownBytes.{Appends};
 ghost use Rattle.irc_endings.specs.declared.fault.Stop.TheVariants.{BadScript};
 ghost use Rattle.irc_script.specs.Sinks.{Tells};
+ghost use Rattle.irc_endings.specs.Saying.{Utters};
 ghost use Rattle.irc_endings.specs.Statuses.{status_of, told, stop_of, stopped, stop_of_settings, stop_of_config};
 
 use arrayvec::ArrayVec;
@@ -101,7 +101,7 @@ impl Stop {
     /// # Errors
     /// Where the write fails. What was written then is a front of the line.
     pub fn tell<E: Write>(self, errors: &mut E) -> Result<(), Trouble>
-        ensures whole { OnOk result (Appends (E.contents errors.old) (E.contents errors.new) (told self)) }
+        ensures whole { OnOk result (Utters E.contents (told self) errors.old errors.new) }
         ensures front { Tells (E.contents errors.old) (E.contents errors.new) (told self) }
     {
         match self {
@@ -117,7 +117,7 @@ impl Stop {
 }
 
 fn tell_bad_script<E: Write>(line: u64, errors: &mut E) -> Result<(), Trouble>
-    ensures whole { OnOk result (Appends (E.contents errors.old) (E.contents errors.new) (told (BadScript line))) }
+    ensures whole { OnOk result (Utters E.contents (told (BadScript line)) errors.old errors.new) }
     ensures front { Tells (E.contents errors.old) (E.contents errors.new) (told (BadScript line)) }
 {
     let text = bad_script(line);

@@ -1,8 +1,8 @@
 //! What the program says before it serves.
 ghost use Rattle.std.specs.Prelude.{OnOk};
-ghost use Rattle.std.specs.Io.KnownBytes.{Appends};
 ghost use Rattle.irc_script.specs.Sinks.{Tells};
 ghost use Rattle.irc_endings.specs.Ready.{ready_text};
+ghost use Rattle.irc_endings.specs.Saying.{Utters};
 
 use irc_script::{Trouble, flush, write_whole};
 use std::io::Write;
@@ -15,7 +15,7 @@ const READY: &[u8] = b"ready\n";
 /// # Errors
 /// Where that fails. What was written then is a front of the line.
 pub fn say_ready<O: Write>(output: &mut O) -> Result<(), Trouble>
-    ensures whole { OnOk result (Appends (O.contents output.old) (O.contents output.new) ready_text) }
+    ensures whole { OnOk result (Utters O.contents ready_text output.old output.new) }
     ensures front { Tells (O.contents output.old) (O.contents output.new) ready_text }
 {
     write_whole(READY, output)?;

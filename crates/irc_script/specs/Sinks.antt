@@ -1,6 +1,7 @@
 -- What is printed: a front of it is written, and the rest waits to be.
 use Rattle.std.specs.Prelude.{◌≡◌, ℕ, Option, Result, Ok, Err, List, [], ◌++◌}
 use Rattle.std.specs.Io.KnownBytes.{Appends}
+use Rattle.arrayvec.specs.ArrayVec.{ArrayVec}
 use Rattle.irc_script.specs.declared.fault.Trouble.{Trouble}
 
 -- what a writer holds, where that is known, and what waits to be written to it
@@ -10,6 +11,10 @@ pub record Sink : Type 0 where
 
 abbrev pub sink : Option (List ℕ) → List ℕ → Sink
 sink held waiting = record { held = held; waiting = waiting }
+
+-- of a writer that holds this, and of what waits for it
+abbrev pub sink_of : {W : Type 0} → (W → Option (List ℕ)) → W → ArrayVec ℕ → Sink
+sink_of held output waiting = sink (held output) waiting.items
 
 -- A text is printed: of what waited and the text a front was written, and just the rest waits.
 pub record Prints (old new : Sink) (text : List ℕ) : Type 0 where

@@ -2,8 +2,9 @@
 ghost use Rattle.std.specs.Prelude.{◌≡◌, position};
 ghost use Rattle.std.specs.Option.{option_map};
 ghost use Rattle.irc_line.specs.Bytes.{is_space};
-ghost use Rattle.irc_script.specs.Scripts.{is_word, cut_at_space, request_of, request_in, connect_of, say_of, gone_of, pair_of, link_of, cut_of, deliver_of, bytes_asked};
+ghost use Rattle.irc_script.specs.Scripts.{is_word, cut_at_space, request_of, connect_of, say_of, gone_of, pair_of, link_of, cut_of, deliver_of, bytes_asked};
 ghost use Rattle.irc_script.specs.ScriptViews.{cut_now, pair_now, request};
+ghost use Rattle.irc_script.specs.Loops.Commands.{request_by};
 
 use crate::number::read_number;
 use irc_names::{Host, ServerName};
@@ -46,7 +47,7 @@ pub fn read_command(line: &[u8]) -> Option<Command<'_>>
 
 /// The command of a word with words behind it.
 fn read_words<'a>(word: &[u8], rest: &'a [u8]) -> Option<Command<'a>>
-    ensures { option_map request result ≡ request_in (record { before = word.now; behind = rest.now }) }
+    ensures { option_map request result ≡ request_by word.now rest.now }
 {
     if is_word(word, b"connect") {
         read_connect(rest)

@@ -1,8 +1,8 @@
 //! How the servers of a script are configured.
-ghost use Rattle.std.specs.Prelude.{◌≡◌, ◌++◌, codes, map, option_to_list, IfOk, OnOk};
+ghost use Rattle.std.specs.Prelude.{◌≡◌, map, IfOk, OnOk};
 ghost use Rattle.irc_stage.specs.View.{known_peer};
-ghost use Rattle.irc_script.specs.Networks.{peer_of, peers_of};
-ghost use Rattle.irc_script.specs.Loops.Configs.{AreConfigured, IsConfigured};
+ghost use Rattle.irc_script.specs.Networks.{peers_of};
+ghost use Rattle.irc_script.specs.Loops.Configs.{AddsOther, AreConfigured, IsConfigured};
 
 use irc_names::ServerName;
 use irc_routes::Own;
@@ -69,7 +69,7 @@ fn push_other(
     other: &ServerName,
     peers: &mut Vec<Peer, Global>,
 ) -> Result<(), AllocError>
-    ensures { OnOk result (map known_peer peers.new.items ≡ map known_peer peers.old.items ++ option_to_list (peer_of server.now other.now)) }
+    ensures { OnOk result (AddsOther server.now other.now peers.old peers.new) }
 {
     if other.as_bytes() == server.as_bytes() {
         return Ok(());

@@ -1,10 +1,7 @@
 //! What is printed.
-ghost use Rattle.std.specs.Prelude.{◌≡◌, ◌++◌};
-ghost use Rattle.std.specs.List.{flat_map};
-ghost use Rattle.irc_network.specs.Views.{receipt_of, receipts_of};
-ghost use Rattle.irc_script.specs.Loops.Steps.{IsFaultPrinted};
-ghost use Rattle.irc_script.specs.Printing.{body_of, count_line, printed, printed_line, refusal_line, refusal_number, taken_text};
-ghost use Rattle.irc_script.specs.Sinks.{IsPrinted, sink};
+ghost use Rattle.std.specs.Prelude.{◌≡◌};
+ghost use Rattle.irc_script.specs.Loops.Steps.{PrintsFault, PrintsText, came_text, receipt_text, receipts_text};
+ghost use Rattle.irc_script.specs.Printing.{body_of, count_line, refusal_line, refusal_number};
 
 use crate::fault::Trouble;
 use crate::sink::{Waiting, print_pieces};
@@ -36,7 +33,7 @@ pub fn print_fault<W: Write>(
     waiting: &mut Waiting,
     output: &mut W,
 ) -> Result<(), Trouble>
-    ensures { IsFaultPrinted (refusal_number fault) result (sink (W.contents output.old) waiting.old.items) (sink (W.contents output.new) waiting.new.items) }
+    ensures { PrintsFault W.contents result fault output.old waiting.old output.new waiting.new }
 {
     match refusal_number(fault) {
         Some(number) => print_refusal(number, waiting, output),
@@ -49,7 +46,8 @@ fn print_refusal<W: Write>(
     waiting: &mut Waiting,
     output: &mut W,
 ) -> Result<(), Trouble>
-    ensures { IsPrinted result (sink (W.contents output.old) waiting.old.items) (sink (W.contents output.new) waiting.new.items) (refusal_line number) }
+    ensures { PrintsText W.contents result (refusal_line number)
+        output.old waiting.old output.new waiting.new }
 {
     let mut digits = Buffer::new();
     let number = digits.format(number).as_bytes();
@@ -63,14 +61,16 @@ pub fn print_taken<W: Write>(
     waiting: &mut Waiting,
     output: &mut W,
 ) -> Result<(), Trouble>
-    ensures { IsPrinted result (sink (W.contents output.old) waiting.old.items) (sink (W.contents output.new) waiting.new.items) (taken_text count (receipts_of lines.now)) }
+    ensures { PrintsText W.contents result (came_text count lines.now)
+        output.old waiting.old output.new waiting.new }
 {
     print_receipts(lines, waiting, output)?;
     print_count(count, waiting, output)
 }
 
 fn print_count<W: Write>(count: u64, waiting: &mut Waiting, output: &mut W) -> Result<(), Trouble>
-    ensures { IsPrinted result (sink (W.contents output.old) waiting.old.items) (sink (W.contents output.new) waiting.new.items) (count_line count) }
+    ensures { PrintsText W.contents result (count_line count)
+        output.old waiting.old output.new waiting.new }
 {
     let mut digits = Buffer::new();
     let number = digits.format(count).as_bytes();
@@ -83,7 +83,8 @@ pub fn print_receipts<W: Write>(
     waiting: &mut Waiting,
     output: &mut W,
 ) -> Result<(), Trouble>
-    ensures { IsPrinted result (sink (W.contents output.old) waiting.old.items) (sink (W.contents output.new) waiting.new.items) (flat_map printed (receipts_of lines.now)) }
+    ensures { PrintsText W.contents result (receipts_text lines.now)
+        output.old waiting.old output.new waiting.new }
 {
     for line in lines {
         print_receipt(line, waiting, output)?;
@@ -97,7 +98,8 @@ fn print_receipt<W: Write>(
     waiting: &mut Waiting,
     output: &mut W,
 ) -> Result<(), Trouble>
-    ensures { IsPrinted result (sink (W.contents output.old) waiting.old.items) (sink (W.contents output.new) waiting.new.items) (printed (receipt_of line.now)) }
+    ensures { PrintsText W.contents result (receipt_text line.now)
+        output.old waiting.old output.new waiting.new }
 {
     let mut digits = Buffer::new();
     let number = digits.format(line.client).as_bytes();

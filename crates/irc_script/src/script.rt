@@ -4,7 +4,8 @@ ghost use Rattle.std.specs.List.{filter_map, list_any, slice_split};
 ghost use Rattle.std.specs.Option.{option_map};
 ghost use Rattle.std.specs.Str.{bytes_eq};
 ghost use Rattle.irc_script.specs.Scripts.{is_line_feed, ended, is_bad, server_named, may_be_named, another_server, servers_of, request_of};
-ghost use Rattle.irc_script.specs.ScriptViews.{lines_now, request, requests, IsReadAs};
+ghost use Rattle.irc_script.specs.Loops.Commands.{AddsCommand, requests_in};
+ghost use Rattle.irc_script.specs.ScriptViews.{lines_now, requests, IsReadAs};
 
 use crate::commands::{Command, cut_at_space, is_word, read_command};
 use crate::fault::SimFault;
@@ -136,7 +137,7 @@ fn commands_of<'a>(
     alloc: Global,
     lines: &[&'a [u8]],
 ) -> Result<Vec<Command<'a>, Global>, AllocError>
-    ensures { IfOk result (λ commands. requests commands.items ≡ filter_map request_of (lines_now lines.now)) }
+    ensures { IfOk result (λ commands. requests commands.items ≡ requests_in lines.now) }
 {
     let mut commands = Vec::new(alloc);
     for line in lines {
@@ -150,7 +151,7 @@ fn push_found<'a>(
     commands: &mut Vec<Command<'a>, Global>,
     command: Option<Command<'a>>,
 ) -> Result<(), AllocError>
-    ensures { OnOk result (requests commands.new.items ≡ requests commands.old.items ++ option_to_list (option_map request command.entry)) }
+    ensures { OnOk result (AddsCommand command.entry commands.old commands.new) }
 {
     if let Some(command) = command {
         commands.push(command)?;

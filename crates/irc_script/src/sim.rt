@@ -1,12 +1,10 @@
 //! `ircd sim`: a script is read to its end, and run.
-ghost use Rattle.std.specs.Prelude.{◌≡◌, ◌≤◌, [], length, take, IfOk};
-ghost use Rattle.std.specs.Io.KnownBytes.{Consumes, IsAtEnd};
+ghost use Rattle.std.specs.Prelude.{◌≡◌, ◌≤◌, [], length, IfOk};
+ghost use Rattle.std.specs.Io.KnownBytes.{IsAtEnd};
 ghost use Rattle.irc_script.specs.Limits.{read_size};
-ghost use Rattle.irc_script.specs.Loops.Reading.{IsReadTo};
-ghost use Rattle.irc_script.specs.Loops.Steps.{HasRun};
+ghost use Rattle.irc_script.specs.Loops.Reading.{Draws, IsReadTo};
+ghost use Rattle.irc_script.specs.Loops.Steps.{PerformsAll, RunsAll};
 ghost use Rattle.irc_script.specs.Runs.{Ran, IsTextOf};
-ghost use Rattle.irc_script.specs.ScriptViews.{requests};
-ghost use Rattle.irc_script.specs.Sinks.{sink};
 
 use crate::commands::Command;
 use crate::fault::{SimFault, Trouble};
@@ -82,7 +80,7 @@ fn reads_to_end<R: Read>(input: &mut R, text: &mut Vec<u8, Global>) -> Result<bo
 fn read_some<R: Read>(input: &mut R, piece: &mut [u8]) -> Result<usize, Trouble>
     requires { length piece.old ≡ read_size }
     ensures within { IfOk result (λ count. count ≤ length piece.new) }
-    ensures bytes { IfOk result (λ count. Consumes (R.remaining input.old) (R.remaining input.new) (take count piece.new)) }
+    ensures bytes { IfOk result (λ count. Draws R.remaining count piece.new input.old input.new) }
     ensures end { IfOk result (λ count. count ≡ 0 → IsAtEnd (R.remaining input.new)) }
 {
     input.read(piece).map_err(|_| Trouble::Device)
@@ -94,7 +92,7 @@ fn run_all<W: Write>(
     commands: &[Command<'_>],
     output: &mut W,
 ) -> Result<(), Trouble>
-    ensures { HasRun result stage.old.net.network (requests commands.now) stage.new.net.network (sink (W.contents output.old) []) (sink (W.contents output.new) []) }
+    ensures { RunsAll W.contents result commands.now stage.old output.old stage.new output.new }
 {
     let mut waiting = Waiting::new();
     let performed = perform_all(stage, commands, &mut waiting, output);
@@ -110,7 +108,8 @@ fn perform_all<W: Write>(
     waiting: &mut Waiting,
     output: &mut W,
 ) -> Result<(), Trouble>
-    ensures { HasRun result stage.old.net.network (requests commands.now) stage.new.net.network (sink (W.contents output.old) waiting.old.items) (sink (W.contents output.new) waiting.new.items) }
+    ensures { PerformsAll W.contents result commands.now
+        stage.old output.old waiting.old stage.new output.new waiting.new }
 {
     for command in commands {
         stage.perform(command, waiting, output)?;

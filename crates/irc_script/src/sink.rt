@@ -1,9 +1,9 @@
 //! How text goes out: it waits until there is much of it, and then goes out in one write.
 ghost use Rattle.std.specs.Prelude.{◌≡◌, [], IfOk, OnOk, OnErr};
-ghost use Rattle.std.specs.List.{flat_map};
 ghost use Rattle.std.specs.Io.KnownBytes.{Appends, Keeps};
 ghost use Rattle.arrayvec.specs.ArrayVec.{array_vec_len};
-ghost use Rattle.irc_script.specs.Sinks.{IsPrinted, Prints, Tells, sink};
+ghost use Rattle.irc_script.specs.Loops.Steps.{IsRest, PrintsText, pieces_text};
+ghost use Rattle.irc_script.specs.Sinks.{Tells};
 
 use crate::fault::Trouble;
 use arrayvec::ArrayVec;
@@ -27,7 +27,8 @@ pub fn print_pieces<W: Write>(
     waiting: &mut Waiting,
     output: &mut W,
 ) -> Result<(), Trouble>
-    ensures { IsPrinted result (sink (W.contents output.old) waiting.old.items) (sink (W.contents output.new) waiting.new.items) (flat_map (λ piece. piece.now) pieces.now) }
+    ensures { PrintsText W.contents result (pieces_text pieces.now)
+        output.old waiting.old output.new waiting.new }
 {
     for piece in pieces {
         print_bytes(piece, waiting, output)?;
@@ -37,7 +38,7 @@ pub fn print_pieces<W: Write>(
 
 /// Prints bytes: they wait where there is room for them; else all that waits is written, and then they are.
 fn print_bytes<W: Write>(bytes: &[u8], waiting: &mut Waiting, output: &mut W) -> Result<(), Trouble>
-    ensures { IsPrinted result (sink (W.contents output.old) waiting.old.items) (sink (W.contents output.new) waiting.new.items) bytes.now }
+    ensures { PrintsText W.contents result bytes.now output.old waiting.old output.new waiting.new }
 {
     match waiting.try_extend_from_slice(bytes) {
         Ok(()) => Ok(()),
@@ -53,7 +54,7 @@ fn print_bytes<W: Write>(bytes: &[u8], waiting: &mut Waiting, output: &mut W) ->
 /// # Errors
 /// Where the write fails. Then nothing waits either.
 pub fn write_waiting<W: Write>(waiting: &mut Waiting, output: &mut W) -> Result<(), Trouble>
-    ensures prints { IsPrinted result (sink (W.contents output.old) waiting.old.items) (sink (W.contents output.new) waiting.new.items) [] }
+    ensures prints { PrintsText W.contents result [] output.old waiting.old output.new waiting.new }
     ensures none { waiting.new.items ≡ [] }
     ensures len { array_vec_len waiting.new ≡ 0 }
 {
@@ -82,7 +83,7 @@ pub fn write_whole<W: Write>(text: &[u8], output: &mut W) -> Result<(), Trouble>
 
 /// One write: what is left of the text then. An interrupted one leaves it whole.
 fn write_some<'a, W: Write>(text: &'a [u8], output: &mut W) -> Result<&'a [u8], Trouble>
-    ensures some { IfOk result (λ rest. Prints (sink (W.contents output.old) text.now) (sink (W.contents output.new) rest.now) []) }
+    ensures some { IfOk result (λ rest. IsRest W.contents output.old text.now output.new rest.now) }
     ensures none { OnErr result (Keeps (W.contents output.old) (W.contents output.new)) }
 {
     match output.write(text) {

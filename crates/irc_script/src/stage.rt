@@ -2,11 +2,10 @@
 ghost use Rattle.std.specs.Prelude.{◌≡◌, [], ◌∷◌, IfOk};
 ghost use Rattle.irc_net.specs.Calls.{IsGivable};
 ghost use Rattle.irc_network.specs.Views.{item_of};
-ghost use Rattle.irc_script.specs.Loops.Steps.{IsPlayed, taken_count};
+ghost use Rattle.irc_script.specs.Loops.Steps.{PlaysMoves, taken_count};
 ghost use Rattle.irc_script.specs.Moves.{delivers_line, gives, lines_said, moves_of, settles_all, takes_bytes};
 ghost use Rattle.irc_script.specs.Networks.{first_net};
 ghost use Rattle.irc_script.specs.ScriptViews.{request};
-ghost use Rattle.irc_script.specs.Sinks.{sink};
 
 use crate::commands::Command;
 use crate::configs::configs_of;
@@ -51,7 +50,8 @@ impl Stage {
         waiting: &mut Waiting,
         output: &mut W,
     ) -> Result<(), Trouble>
-        ensures { IsPlayed result self.old.net.network (moves_of (request command.now)) self.new.net.network (sink (W.contents output.old) waiting.old.items) (sink (W.contents output.new) waiting.new.items) }
+        ensures { PlaysMoves W.contents result (moves_of (request command.now))
+            self.old output.old waiting.old self.new output.new waiting.new }
     {
         match command {
             Command::Connect(server, host) => {
@@ -81,7 +81,8 @@ impl Stage {
         waiting: &mut Waiting,
         output: &mut W,
     ) -> Result<(), Trouble>
-        ensures { IsPlayed result self.old.net.network (lines_said client rest.now) self.new.net.network (sink (W.contents output.old) waiting.old.items) (sink (W.contents output.new) waiting.new.items) }
+        ensures { PlaysMoves W.contents result (lines_said client rest.now)
+            self.old output.old waiting.old self.new output.new waiting.new }
     {
         let lines = lines_said(self.alloc, rest)?;
         let mut left = lines.into_iter();
@@ -99,7 +100,8 @@ impl Stage {
         output: &mut W,
     ) -> Result<(), Trouble>
         requires { IsGivable (item_of item) }
-        ensures { IsPlayed result self.old.net.network (gives (item_of item) ∷ []) self.new.net.network (sink (W.contents output.old) waiting.old.items) (sink (W.contents output.new) waiting.new.items) }
+        ensures { PlaysMoves W.contents result (gives (item_of item) ∷ [])
+            self.old output.old waiting.old self.new output.new waiting.new }
     {
         match self.net.item(item) {
             Ok(answer) => print_receipts(&answer.lines, waiting, output),
@@ -116,7 +118,8 @@ impl Stage {
         waiting: &mut Waiting,
         output: &mut W,
     ) -> Result<(), Trouble>
-        ensures { IsPlayed result self.old.net.network (delivers_line from.now to.now ∷ []) self.new.net.network (sink (W.contents output.old) waiting.old.items) (sink (W.contents output.new) waiting.new.items) }
+        ensures { PlaysMoves W.contents result (delivers_line from.now to.now ∷ [])
+            self.old output.old waiting.old self.new output.new waiting.new }
     {
         match self.net.deliver(from, to) {
             Ok((was_taken, lines)) => print_taken(count_taken(was_taken), &lines, waiting, output),
@@ -134,7 +137,8 @@ impl Stage {
         waiting: &mut Waiting,
         output: &mut W,
     ) -> Result<(), Trouble>
-        ensures { IsPlayed result self.old.net.network (takes_bytes from.now to.now count ∷ []) self.new.net.network (sink (W.contents output.old) waiting.old.items) (sink (W.contents output.new) waiting.new.items) }
+        ensures { PlaysMoves W.contents result (takes_bytes from.now to.now count ∷ [])
+            self.old output.old waiting.old self.new output.new waiting.new }
     {
         match self.net.deliver_bytes(from, to, count as usize) {
             Ok((came, lines)) => print_taken(came as u64, &lines, waiting, output),
@@ -145,7 +149,8 @@ impl Stage {
     /// Lets bytes come in turn until nothing is on its way, and prints the lines that clients receive by them and how many lines they completed, at most
     /// 2^64 - 1.
     fn settle<W: Write>(&mut self, waiting: &mut Waiting, output: &mut W) -> Result<(), Trouble>
-        ensures { IsPlayed result self.old.net.network (settles_all ∷ []) self.new.net.network (sink (W.contents output.old) waiting.old.items) (sink (W.contents output.new) waiting.new.items) }
+        ensures { PlaysMoves W.contents result (settles_all ∷ [])
+            self.old output.old waiting.old self.new output.new waiting.new }
     {
         match self.net.settle() {
             Ok((count, lines)) => print_taken(count, &lines, waiting, output),

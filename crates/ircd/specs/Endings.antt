@@ -1,10 +1,14 @@
 -- How the program ends a run.
-use Rattle.std.specs.Prelude.{◌≡◌, ℕ, Option, Result, List}
+use Rattle.std.specs.Prelude.{◌≡◌, ℕ, Option, Some, None, Result, List, String}
+use Rattle.std.specs.declared.alloc.Global.{Global}
 use Rattle.irc_script.specs.declared.fault.SimFault.{SimFault}
 use Rattle.irc_script.specs.Runs.{Ran}
 use Rattle.irc_script.specs.Sinks.{Tells}
 use Rattle.irc_endings.specs.declared.fault.Stop.{Stop}
-use Rattle.irc_endings.specs.Statuses.{ending_of, exit_status, told_of}
+use Rattle.irc_endings.specs.declared.fault.Stop.TheVariants.{Usage}
+use Rattle.irc_endings.specs.Statuses.{ending_of, exit_status, told, told_of}
+use Rattle.irc_endings.specs.Words.{runs_script, serves, task_of, texts_of}
+use Rattle.ircd.specs.Serving.{EndsServing}
 
 -- a status that some ending of the program has
 abbrev pub IsStatus : ℕ → Type 0
@@ -16,3 +20,29 @@ pub record EndsRun (status : ℕ) (remaining old new errors errors_after : Optio
   pub ran : Ran remaining ending old new
   pub status_is : status ≡ exit_status (ending_of ending)
   pub tells : Tells errors errors_after (told_of (ending_of ending))
+
+-- ---- what the words behind the program's name ask for
+
+abbrev pub AsksNothing : List (String Global) → Type 0
+AsksNothing words = task_of (texts_of words) ≡ None
+
+abbrev pub AsksForRun : List (String Global) → Type 0
+AsksForRun words = task_of (texts_of words) ≡ Some runs_script
+
+-- wherever they ask for serving as a file says, for so many turns
+abbrev pub WhereServing : List (String Global) → (List ℕ → ℕ → Type 0) → Type 0
+WhereServing words Is = (file : List ℕ) (turns : ℕ) → task_of (texts_of words) ≡ Some (serves file turns) → Is file turns
+
+-- ---- readers and writers, by what they have and what they hold
+
+abbrev pub TellsUsage : {E : Type 0} → (E → Option (List ℕ)) → E → E → Type 0
+TellsUsage told_to errors errors_after = Tells (told_to errors) (told_to errors_after) (told Usage)
+
+abbrev pub EndsRunOn : {R W E : Type 0} → (R → Option (List ℕ)) → (W → Option (List ℕ)) → (E → Option (List ℕ))
+    → ℕ → R → W → W → E → E → Type 0
+EndsRunOn remaining printed told_to status input output output_after errors errors_after =
+    EndsRun status (remaining input) (printed output) (printed output_after) (told_to errors) (told_to errors_after)
+
+abbrev pub EndsServingOn : {W E : Type 0} → (W → Option (List ℕ)) → (E → Option (List ℕ)) → ℕ → ℕ → W → W → E → E → Type 0
+EndsServingOn printed told_to turns status output output_after errors errors_after =
+    EndsServing turns status (printed output) (printed output_after) (told_to errors) (told_to errors_after)

@@ -1,11 +1,8 @@
 //! The program, on whatever streams it is given.
-ghost use Rattle.std.specs.Prelude.{◌≡◌, ℕ, List, Some, None};
+ghost use Rattle.std.specs.Prelude.{◌≡◌};
 ghost use Rattle.irc_endings.specs.declared.fault.Stop.TheVariants.{Usage};
-ghost use Rattle.ircd.specs.Endings.{EndsRun, IsStatus};
-ghost use Rattle.ircd.specs.Serving.{EndsServing};
-ghost use Rattle.irc_script.specs.Sinks.{Tells};
-ghost use Rattle.irc_endings.specs.Statuses.{ending_of, status_of, told};
-ghost use Rattle.irc_endings.specs.Words.{runs_script, serves, task_of, texts_of};
+ghost use Rattle.ircd.specs.Endings.{AsksForRun, AsksNothing, EndsRunOn, EndsServingOn, IsStatus, TellsUsage, WhereServing};
+ghost use Rattle.irc_endings.specs.Statuses.{ending_of, status_of};
 
 use crate::serve::serve;
 use irc_endings::{Stop, Task, end_with, stop_with};
@@ -25,13 +22,15 @@ pub fn run<T: AllocGlobal + Files + Net, R: Read, W: Write, E: Write>(
     errors: &mut E,
 ) -> u8
     ensures status { IsStatus result }
-    ensures usage { task_of (texts_of words.now) ≡ None → result ≡ status_of Usage }
-    ensures usage_told { task_of (texts_of words.now) ≡ None → Tells (E.contents errors.old) (E.contents errors.new) (told Usage) }
-    ensures unread { task_of (texts_of words.now) ≡ None → input.new ≡ input.old }
-    ensures unwritten { task_of (texts_of words.now) ≡ None → output.new ≡ output.old }
-    ensures sim { task_of (texts_of words.now) ≡ Some runs_script → EndsRun result (R.remaining input.old) (W.contents output.old) (W.contents output.new) (E.contents errors.old) (E.contents errors.new) }
-    ensures serve { (file : List ℕ) (turns : ℕ) → task_of (texts_of words.now) ≡ Some (serves file turns) → EndsServing turns result (W.contents output.old) (W.contents output.new) (E.contents errors.old) (E.contents errors.new) }
-    ensures serve_unread { (file : List ℕ) (turns : ℕ) → task_of (texts_of words.now) ≡ Some (serves file turns) → input.new ≡ input.old }
+    ensures usage { AsksNothing words.now → result ≡ status_of Usage }
+    ensures usage_told { AsksNothing words.now → TellsUsage E.contents errors.old errors.new }
+    ensures unread { AsksNothing words.now → input.new ≡ input.old }
+    ensures unwritten { AsksNothing words.now → output.new ≡ output.old }
+    ensures sim { AsksForRun words.now → EndsRunOn R.remaining W.contents E.contents
+        result input.old output.old output.new errors.old errors.new }
+    ensures serve { WhereServing words.now (λ file turns. EndsServingOn W.contents E.contents turns
+        result output.old output.new errors.old errors.new) }
+    ensures serve_unread { WhereServing words.now (λ file turns. input.new ≡ input.old) }
 {
     match Task::read(words) {
         Some(Task::Sim) => run_script(rt.alloc(), input, output, errors),
@@ -46,7 +45,8 @@ fn run_script<R: Read, W: Write, E: Write>(
     output: &mut W,
     errors: &mut E,
 ) -> u8
-    ensures { EndsRun result (R.remaining input.old) (W.contents output.old) (W.contents output.new) (E.contents errors.old) (E.contents errors.new) }
+    ensures { EndsRunOn R.remaining W.contents E.contents
+        result input.old output.old output.new errors.old errors.new }
 {
     let ended = run_sim(alloc, input, output);
     end_with(stopped(ended), errors)
@@ -69,7 +69,8 @@ fn run_server<T: AllocGlobal + Files + Net, W: Write, E: Write>(
     output: &mut W,
     errors: &mut E,
 ) -> u8
-    ensures { EndsServing turns result (W.contents output.old) (W.contents output.new) (E.contents errors.old) (E.contents errors.new) }
+    ensures { EndsServingOn W.contents E.contents turns
+        result output.old output.new errors.old errors.new }
 {
     let ended = serve(rt, file, turns, output);
     end_with(ended, errors)

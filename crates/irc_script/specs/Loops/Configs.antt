@@ -1,11 +1,13 @@
 -- The configurations of a script's servers, as the code has them.
-use Rattle.std.specs.Prelude.{◌≡◌, List, codes, map}
+use Rattle.std.specs.Prelude.{◌≡◌, List, ◌++◌, codes, map, option_to_list, Vec}
 use Rattle.std.specs.List.{AllByRecursion}
+use Rattle.std.specs.declared.alloc.Global.{Global}
 use Rattle.irc_net.specs.Making.{name_of}
 use Rattle.irc_relay.specs.Links.{Name}
 use Rattle.irc_server.specs.declared.config.Config.{Config}
+use Rattle.irc_stage.specs.declared.peer.Peer.{Peer}
 use Rattle.irc_stage.specs.View.{known_peer}
-use Rattle.irc_script.specs.Networks.{peers_of}
+use Rattle.irc_script.specs.Networks.{peer_of, peers_of}
 
 -- a configuration is that of one of these servers
 pub record IsConfigured (names : List Name) (server : Name) (config : Config) : Type 0 where
@@ -13,6 +15,10 @@ pub record IsConfigured (names : List Name) (server : Name) (config : Config) : 
   pub info : config.own.info.items ≡ codes "Test server"
   pub created : config.own.created.items ≡ codes "2024-01-01"
   pub peers : map known_peer config.peers.items ≡ peers_of server names
+
+-- a server is among the peers of another one, behind those that were, if the two are not the same
+abbrev pub AddsOther : Name → Name → Vec Peer Global → Vec Peer Global → Type 0
+AddsOther server other old new = map known_peer new.items ≡ map known_peer old.items ++ option_to_list (peer_of server other)
 
 abbrev pub IsOwnConfig : List Name → Config → Type 0
 IsOwnConfig names config = IsConfigured names (name_of config) config

@@ -1,13 +1,22 @@
 -- What the steps of a run are at: what was played so far, and what of it is printed.
 use Rattle.std.specs.Prelude.{◌≡◌, ℕ, Bool, if◌then◌else◌, Option, Some, None, Result, Ok, Err, IsErr, List, [], ◌∷◌, ◌++◌}
+use Rattle.std.specs.List.{flat_map}
+use Rattle.arrayvec.specs.ArrayVec.{ArrayVec}
+use denote.Ref.{Bor}
 use Rattle.irc_byte_network.specs.ByteNetwork.{ByteNetwork}
+use Rattle.irc_net.specs.declared.fault.NetFault.{NetFault}
+use Rattle.irc_network.specs.declared.receipt.Receipt.{Receipt}
+use Rattle.irc_network.specs.Views.{receipt_of, receipts_of}
+use Rattle.irc_script.specs.declared.commands.Command.{Command}
+use Rattle.irc_script.specs.declared.stage.Stage.{Stage}
 use Rattle.irc_script.specs.declared.fault.Trouble.{Trouble}
 use Rattle.irc_script.specs.Moves.{Move, moves_of}
 use Rattle.irc_script.specs.Networks.{first_net}
-use Rattle.irc_script.specs.Printing.{refusal_line}
+use Rattle.irc_script.specs.Printing.{printed, refusal_line, refusal_number, taken_text}
+use Rattle.irc_script.specs.ScriptViews.{requests}
 use Rattle.irc_script.specs.Runs.{Plays, Runs, IsFront}
 use Rattle.irc_script.specs.Scripts.{Asked, Request, script_read}
-use Rattle.irc_script.specs.Sinks.{IsPrinted, Sink, Prints, Loses}
+use Rattle.irc_script.specs.Sinks.{IsPrinted, Sink, Prints, Loses, sink, sink_of}
 
 -- whether bytes came by a delivery, as a number
 abbrev pub taken_count : Bool → ℕ
@@ -17,6 +26,40 @@ taken_count was_taken = if was_taken then 1 else 0
 abbrev pub IsFaultPrinted : Option ℕ → Result (Unit {0}) Trouble → Sink → Sink → Type 0
 IsFaultPrinted (Some number) result old new = IsPrinted result old new (refusal_line number)
 IsFaultPrinted None result old new = IsErr result × (new ≡ old)
+
+-- ---- what is printed, of the code's own texts
+
+abbrev pub pieces_text : List (Bor (List ℕ)) → List ℕ
+pieces_text pieces = flat_map (λ piece. piece.now) pieces
+
+abbrev pub receipt_text : Receipt → List ℕ
+receipt_text line = printed (receipt_of line)
+
+abbrev pub receipts_text : List Receipt → List ℕ
+receipts_text lines = flat_map printed (receipts_of lines)
+
+-- and how many lines or bytes came
+abbrev pub came_text : ℕ → List Receipt → List ℕ
+came_text count lines = taken_text count (receipts_of lines)
+
+-- ---- a writer, and what waits for it, before and after
+
+-- one write leaves the rest of a text
+abbrev pub IsRest : {W : Type 0} → (W → Option (List ℕ)) → W → List ℕ → W → List ℕ → Type 0
+IsRest held old text new rest = Prints (sink (held old) text) (sink (held new) rest) []
+
+-- a text is printed, or its end is lost
+abbrev pub PrintsText : {W : Type 0} → (W → Option (List ℕ)) → Result (Unit {0}) Trouble → List ℕ
+    → W → ArrayVec ℕ → W → ArrayVec ℕ → Type 0
+PrintsText held result text old before new after = IsPrinted result (sink_of held old before) (sink_of held new after) text
+
+-- the number of a refusal is, or nothing where memory was wanting
+abbrev pub PrintsFault : {W : Type 0} → (W → Option (List ℕ)) → Result (Unit {0}) Trouble → NetFault
+    → W → ArrayVec ℕ → W → ArrayVec ℕ → Type 0
+PrintsFault held result fault old before new after =
+    IsFaultPrinted (refusal_number fault) result (sink_of held old before) (sink_of held new after)
+
+-- ---- moves, and requests
 
 -- what was played, and printed
 pub record Played (first : ByteNetwork) (moves : List Move) (last : ByteNetwork) (old new : Sink) : Type 0 where
@@ -72,3 +115,23 @@ pub record RunInto (first : ByteNetwork) (requests : List Request) (old new : Si
 abbrev pub HasRun : Result (Unit {0}) Trouble → ByteNetwork → List Request → ByteNetwork → Sink → Sink → Type 0
 HasRun (Ok _) first requests last old new = RunWhole first requests last old new
 HasRun (Err trouble) first requests last old new = RunInto first requests old new
+
+-- ---- a script's network with a writer, and what waits for it, before and after
+
+-- these moves are made
+abbrev pub PlaysMoves : {W : Type 0} → (W → Option (List ℕ)) → Result (Unit {0}) Trouble → List Move
+    → Stage → W → ArrayVec ℕ → Stage → W → ArrayVec ℕ → Type 0
+PlaysMoves held result moves first old before last new after =
+    IsPlayed result first.net.network moves last.net.network (sink_of held old before) (sink_of held new after)
+
+-- these commands are run
+abbrev pub PerformsAll : {W : Type 0} → (W → Option (List ℕ)) → Result (Unit {0}) Trouble → List Command
+    → Stage → W → ArrayVec ℕ → Stage → W → ArrayVec ℕ → Type 0
+PerformsAll held result commands first old before last new after =
+    HasRun result first.net.network (requests commands) last.net.network (sink_of held old before) (sink_of held new after)
+
+-- and nothing waits before and after
+abbrev pub RunsAll : {W : Type 0} → (W → Option (List ℕ)) → Result (Unit {0}) Trouble → List Command
+    → Stage → W → Stage → W → Type 0
+RunsAll held result commands first old last new =
+    HasRun result first.net.network (requests commands) last.net.network (sink (held old) []) (sink (held new) [])
