@@ -6,7 +6,7 @@ ghost use Rattle.irc_endings.specs.Saying.{Utters};
 ghost use Rattle.irc_endings.specs.Statuses.{status_of, told, stop_of, stopped, stop_of_settings, stop_of_config};
 
 use arrayvec::ArrayVec;
-use irc_script::{SimFault, Trouble, write_whole};
+use irc_script::{SimFault, Unwritten, write_whole};
 use irc_server::ConfigFault;
 use irc_settings::SettingsFault;
 use itoa::Buffer;
@@ -45,10 +45,10 @@ impl From<AllocError> for Stop {
     }
 }
 
-impl From<Trouble> for Stop {
+impl From<Unwritten> for Stop {
     ghost from_gives = { λ _ stop. stop ≡ stopped };
 
-    fn from(_trouble: Trouble) -> Self {
+    fn from(_fault: Unwritten) -> Self {
         Stop::Failed
     }
 }
@@ -100,7 +100,7 @@ impl Stop {
     ///
     /// # Errors
     /// Where the write fails. What was written then is a front of the line.
-    pub fn tell<E: Write>(self, errors: &mut E) -> Result<(), Trouble>
+    pub fn tell<E: Write>(self, errors: &mut E) -> Result<(), Unwritten>
         ensures whole { OnOk result (Utters E.contents (told self) errors.old errors.new) }
         ensures front { Tells (E.contents errors.old) (E.contents errors.new) (told self) }
     {
@@ -116,7 +116,7 @@ impl Stop {
     }
 }
 
-fn tell_bad_script<E: Write>(line: u64, errors: &mut E) -> Result<(), Trouble>
+fn tell_bad_script<E: Write>(line: u64, errors: &mut E) -> Result<(), Unwritten>
     ensures whole { OnOk result (Utters E.contents (told (BadScript line)) errors.old errors.new) }
     ensures front { Tells (E.contents errors.old) (E.contents errors.new) (told (BadScript line)) }
 {

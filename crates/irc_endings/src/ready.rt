@@ -4,7 +4,7 @@ ghost use Rattle.irc_script.specs.Sinks.{Tells};
 ghost use Rattle.irc_endings.specs.Ready.{ready_text};
 ghost use Rattle.irc_endings.specs.Saying.{Utters};
 
-use irc_script::{Trouble, flush, write_whole};
+use irc_script::{Unwritten, flush, write_whole};
 use std::io::Write;
 
 /// What is printed once clients can connect.
@@ -14,7 +14,7 @@ const READY: &[u8] = b"ready\n";
 ///
 /// # Errors
 /// Where that fails. What was written then is a front of the line.
-pub fn say_ready<O: Write>(output: &mut O) -> Result<(), Trouble>
+pub fn say_ready<O: Write>(output: &mut O) -> Result<(), Unwritten>
     ensures whole { OnOk result (Utters O.contents ready_text output.old output.new) }
     ensures front { Tells (O.contents output.old) (O.contents output.new) ready_text }
 {

@@ -1,5 +1,5 @@
 -- What a move comes to, by what the network answered.
-use Rattle.std.proofs.Common.{◌≡◌, ℕ, Bool, true, false, cond, Option, Some, None, Result, Ok, Err, IsErr, List, [], ◌∷◌, ap, sym, subst, refl, ◌∙◌}
+use Rattle.std.proofs.Common.{◌≡◌, ℕ, Bool, true, false, cond, Option, Some, None, Result, Ok, Err, List, [], ◌∷◌, ap, sym, subst, refl, ◌∙◌}
 use Rattle.std.specs.List.{flat_map}
 use Rattle.irc_byte_network.specs.ByteNetwork.{ByteCourse, ByteNetwork, item_given}
 use Rattle.irc_net.specs.declared.answer.Answer.{Answer}
@@ -12,25 +12,26 @@ use Rattle.irc_network.specs.Views.{receipts_of}
 use Rattle.irc_relay.specs.Links.{Name}
 use Rattle.irc_world.specs.Stepping.{Item}
 use Rattle.irc_script.specs.declared.fault.Trouble.{Trouble}
-use Rattle.irc_script.specs.Loops.Steps.{Breaks, IsFaultPrinted, IsPlayed, taken_count}
+use Rattle.irc_script.specs.declared.fault.Trouble.TheVariants.{Memory}
+use Rattle.irc_script.specs.Loops.Steps.{Breaks, IsFaultPrinted, IsPlayed, IsPut, taken_count}
 use Rattle.irc_script.specs.Moves.{Move, gives, delivers_line, takes_bytes, settles_all}
 use Rattle.irc_script.specs.Printing.{fault_number, printed, refusal_number, taken_text}
 use Rattle.irc_script.specs.Runs.{Comes, Outcome, delivered_by, delivered_or, given_or, lines_received, refused, taken_or}
-use Rattle.irc_script.specs.Sinks.{Sink, IsPrinted}
-use Rattle.irc_script.proofs.Playing.{breaks_first, played_one, playing_failed}
+use Rattle.irc_script.specs.Sinks.{Sink}
+use Rattle.irc_script.proofs.Playing.{breaks_first, played_one}
 
 -- a move by what it comes to, in other words
 played_as : (r : Result (Unit {0}) Trouble) (first : ByteNetwork) (m : Move) (outcome : Outcome) (text : List ℕ) (last : ByteNetwork) (old new : Sink)
     → Comes first m outcome
-    → text ≡ outcome.text → last ≡ outcome.network → IsPrinted r old new text → IsPlayed r first (m ∷ []) last old new
+    → text ≡ outcome.text → last ≡ outcome.network → IsPut r old new text → IsPlayed r first (m ∷ []) last old new
 played_as r first m outcome text last old new comes text_is last_is p =
-    subst (λ n. IsPlayed r first (m ∷ []) n old new) (sym last_is) (played_one r first m outcome old new comes (subst (λ t. IsPrinted r old new t) text_is p))
+    subst (λ n. IsPlayed r first (m ∷ []) n old new) (sym last_is) (played_one r first m outcome old new comes (subst (λ t. IsPut r old new t) text_is p))
 
 -- nothing came of a move
-pub none_played : (r : Result (Unit {0}) Trouble) (first last : ByteNetwork) (moves : List Move) (old new : Sink) → IsErr r → new ≡ old
+pub none_played : (r : Result (Unit {0}) Trouble) (first last : ByteNetwork) (moves : List Move) (old new : Sink) → r ≡ Err Memory → new ≡ old
     → IsPlayed r first moves last old new
 none_played r first last moves old new failed same =
-    playing_failed r first moves last old new failed (subst (λ s. Breaks first moves old s) (sym same) (breaks_first first moves old))
+    subst (λ x. IsPlayed x first moves last old new) (sym failed) (subst (λ s. Breaks Memory first moves old s) (sym same) (breaks_first Memory first moves old))
 
 -- the number of a refusal is printed
 fault_played : (r : Result (Unit {0}) Trouble) (first : ByteNetwork) (m : Move) (fault : NetFault) (old new : Sink) → Comes first m (refused fault first)
@@ -44,7 +45,7 @@ fault_played r first m fault old new comes p = by (is_refusal fault) p
 -- ---- an item
 
 pub given_played : (r : Result (Unit {0}) Trouble) (first last : NetView) (item : Item) (answer : Answer) (lines : List KeptReceipt) (old new : Sink)
-    → IsGiven first item (Ok answer) last → lines ≡ answer.lines.items → IsPrinted r old new (flat_map printed (receipts_of lines))
+    → IsGiven first item (Ok answer) last → lines ≡ answer.lines.items → IsPut r old new (flat_map printed (receipts_of lines))
     → IsPlayed r first.network (gives item ∷ []) last.network old new
 given_played r first last item answer lines old new (given_it alive g) same p =
     played_as r first.network (gives item) (lines_received (item_given item first.network)) (flat_map printed (receipts_of lines)) last.network old new
@@ -64,7 +65,7 @@ refusal_played r first last item fault old new (given_to_failed failed) p = none
 
 taken_so : (r : Result (Unit {0}) Trouble) (first last : NetView) (from to : Name) (was_taken : Bool) (receipts : List Receipt) (old new : Sink)
     → deliver_fault first.network from to ≡ None → (o : Option ByteCourse) → delivery first.network from to ≡ o
-    → Delivers o first.network was_taken receipts last → IsPrinted r old new (taken_text (taken_count was_taken) receipts)
+    → Delivers o first.network was_taken receipts last → IsPut r old new (taken_text (taken_count was_taken) receipts)
     → IsPlayed r first.network (delivers_line from to ∷ []) last.network old new
 taken_so r first last from to was_taken receipts old new none o is so p = by o is so
   where
@@ -85,11 +86,11 @@ taken_so r first last from to was_taken receipts old new none o is so p = by o i
 pub delivered_played : (r : Result (Unit {0}) Trouble) (first last : NetView) (from to : Name) (was_taken : Bool) (count : ℕ) (kept lines : List KeptReceipt)
     (old new : Sink)
     → IsDelivered first from to (Ok (was_taken, receipts_of kept)) last → count ≡ taken_count was_taken → lines ≡ kept
-    → IsPrinted r old new (taken_text count (receipts_of lines)) → IsPlayed r first.network (delivers_line from to ∷ []) last.network old new
+    → IsPut r old new (taken_text count (receipts_of lines)) → IsPlayed r first.network (delivers_line from to ∷ []) last.network old new
 delivered_played r first last from to was_taken count kept lines old new (delivers_it alive none so) count_is same p =
     taken_so r first last from to was_taken (receipts_of kept) old new none (delivery first.network from to) refl so
-    (subst (λ ls. IsPrinted r old new (taken_text (taken_count was_taken) (receipts_of ls))) same
-    (subst (λ n. IsPrinted r old new (taken_text n (receipts_of lines))) count_is p))
+    (subst (λ ls. IsPut r old new (taken_text (taken_count was_taken) (receipts_of ls))) same
+    (subst (λ n. IsPut r old new (taken_text n (receipts_of lines))) count_is p))
 
 pub undelivered_played : (r : Result (Unit {0}) Trouble) (first last : NetView) (from to : Name) (fault : NetFault) (old new : Sink)
     → IsDelivered first from to (Err fault) last
@@ -108,7 +109,7 @@ taken_as count net from to =
     record { text = taken_text (piece_count count net from to) (piece count net from to).receipts; network = (piece count net from to).net }
 
 pub bytes_played : (r : Result (Unit {0}) Trouble) (first last : NetView) (from to : Name) (count came : ℕ) (kept lines : List KeptReceipt) (old new : Sink)
-    → AreTaken first from to count (Ok (came, receipts_of kept)) last → lines ≡ kept → IsPrinted r old new (taken_text came (receipts_of lines))
+    → AreTaken first from to count (Ok (came, receipts_of kept)) last → lines ≡ kept → IsPut r old new (taken_text came (receipts_of lines))
     → IsPlayed r first.network (takes_bytes from to count ∷ []) last.network old new
 bytes_played r first last from to count came kept lines old new (takes_them alive t) same p =
     played_as r first.network (takes_bytes from to count) (taken_as count first.network from to) (taken_text came (receipts_of lines)) last.network old new
@@ -133,7 +134,7 @@ abbrev settled_as : ℕ → List Receipt → ByteNetwork → Outcome
 settled_as count receipts last = record { text = taken_text count receipts; network = last }
 
 pub settled_played : (r : Result (Unit {0}) Trouble) (first last : NetView) (count : ℕ) (kept lines : List KeptReceipt) (old new : Sink)
-    → IsSettled first (Ok (count, receipts_of kept)) last → lines ≡ kept → IsPrinted r old new (taken_text count (receipts_of lines))
+    → IsSettled first (Ok (count, receipts_of kept)) last → lines ≡ kept → IsPut r old new (taken_text count (receipts_of lines))
     → IsPlayed r first.network (settles_all ∷ []) last.network old new
 settled_played r first last count kept lines old new (settles_it alive s) same p =
     played_as r first.network settles_all (settled_as count (receipts_of kept) s.last.net) (taken_text count (receipts_of lines)) last.network old new

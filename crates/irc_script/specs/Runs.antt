@@ -115,13 +115,29 @@ pub record CutShort (remaining old new : Option (List ℕ)) : Type 0 where
   pub appended : Appends old new printed
   pub front : IsFront printed whole
 
--- a run that memory or a device ended: nothing was printed yet, or a front of what would have been
+-- The first of these requests were run, and of the next one some moves: this is printed of them. What is behind them is not done.
+pub data StopsIn : ByteNetwork → List Request → List ℕ → Type 0 where
+  in_first : {first last : ByteNetwork} {r : Request} {requests : List Request} {text : List ℕ} (moves left : List Move)
+      → moves_of r ≡ moves ++ left → Plays first moves last text → StopsIn first (r ∷ requests) text
+  in_later : {first middle : ByteNetwork} {r : Request} {requests : List Request} {start more text : List ℕ}
+      → text ≡ start ++ more → Plays first (moves_of r) middle start → StopsIn middle requests more → StopsIn first (r ∷ requests) text
+
+-- Memory was wanting for a move: all that the moves before it print was printed, and nothing of it.
+pub record OutOfMemory (remaining old new : Option (List ℕ)) : Type 0 where
+  pub cut : CutShort remaining old new
+  pub stops : StopsIn (first_net cut.asked.servers) cut.asked.requests cut.printed
+
+-- a run that a device ended: nothing was printed yet, or a front of what would have been
 abbrev pub EndsEarly : Option (List ℕ) → Option (List ℕ) → Option (List ℕ) → Type 0
 EndsEarly remaining old new = (new ≡ old) ⊎ CutShort remaining old new
+
+-- a run that ends for want of memory: nothing was printed yet, or just what the moves print that were made
+abbrev pub RunsOut : Option (List ℕ) → Option (List ℕ) → Option (List ℕ) → Type 0
+RunsOut remaining old new = (new ≡ old) ⊎ OutOfMemory remaining old new
 
 -- how a run ends, by what the reader had and by what the writer held before and holds now
 abbrev pub Ran : Option (List ℕ) → Result (Unit {0}) SimFault → Option (List ℕ) → Option (List ℕ) → Type 0
 Ran remaining (Ok _) old new = Finished remaining old new
 Ran remaining (Err (BadScript line)) old new = Refused line remaining old new
-Ran remaining (Err Failed) old new = EndsEarly remaining old new
+Ran remaining (Err Failed) old new = RunsOut remaining old new
 Ran remaining (Err Device) old new = EndsEarly remaining old new

@@ -2,7 +2,7 @@
 use Rattle.std.specs.Prelude.{◌≡◌, ℕ, Option, Result, Ok, Err, List, [], ◌++◌}
 use Rattle.std.specs.Io.KnownBytes.{Appends}
 use Rattle.arrayvec.specs.ArrayVec.{ArrayVec}
-use Rattle.irc_script.specs.declared.fault.Trouble.{Trouble}
+use Rattle.irc_script.specs.declared.fault.Unwritten.{Unwritten}
 
 -- what a writer holds, where that is known, and what waits to be written to it
 pub record Sink : Type 0 where
@@ -27,9 +27,9 @@ pub record Loses (old new : Sink) (text : List ℕ) : Type 0 where
   pub lost : List ℕ
   pub prints : Prints old (sink new.held (new.waiting ++ lost)) text
 
-abbrev pub IsPrinted : Result (Unit {0}) Trouble → Sink → Sink → List ℕ → Type 0
+abbrev pub IsPrinted : Result (Unit {0}) Unwritten → Sink → Sink → List ℕ → Type 0
 IsPrinted (Ok _) old new text = Prints old new text
-IsPrinted (Err trouble) old new text = Loses old new text
+IsPrinted (Err fault) old new text = Loses old new text
 
 -- A text is written: all of it, or a front of it where the writer fails.
 abbrev pub Tells : Option (List ℕ) → Option (List ℕ) → List ℕ → Type 0

@@ -1,7 +1,7 @@
 //! What ends a script's run before its end.
 ghost use Rattle.std.specs.Prelude.{◌≡◌};
 ghost use Rattle.irc_script.specs.declared.fault.SimFault.TheVariants.{Failed};
-ghost use Rattle.irc_script.specs.declared.fault.Trouble.TheVariants.{Memory};
+ghost use Rattle.irc_script.specs.declared.fault.Trouble.TheVariants.{Device, Memory};
 ghost use Rattle.irc_script.specs.Faults.{fault_of};
 
 use std::alloc::AllocError;
@@ -21,6 +21,18 @@ impl From<AllocError> for Trouble {
 
     fn from(_error: AllocError) -> Self {
         Trouble::Memory
+    }
+}
+
+/// What was printed could not be written. Printing takes no memory, so there is no other cause.
+#[derive(Clone, Copy, Drop, PartialEq, Eq)]
+pub struct Unwritten;
+
+impl From<Unwritten> for Trouble {
+    ghost from_gives = { λ _ trouble. trouble ≡ Device };
+
+    fn from(_fault: Unwritten) -> Self {
+        Trouble::Device
     }
 }
 

@@ -15,7 +15,7 @@ mod stage;
 #[cfg(test)]
 mod tests;
 
-pub use fault::{SimFault, Trouble};
+pub use fault::{SimFault, Trouble, Unwritten};
 pub use number::read_number;
 pub use sim::{MAX_READS, run_sim};
 pub use sink::{MAX_WRITES, flush, write_whole};

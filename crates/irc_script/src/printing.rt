@@ -1,9 +1,10 @@
 //! What is printed.
 ghost use Rattle.std.specs.Prelude.{◌≡◌};
+ghost use Rattle.irc_script.specs.Faults.{of_writing};
 ghost use Rattle.irc_script.specs.Loops.Steps.{PrintsFault, PrintsText, came_text, receipt_text, receipts_text};
 ghost use Rattle.irc_script.specs.Printing.{body_of, count_line, refusal_line, refusal_number};
 
-use crate::fault::Trouble;
+use crate::fault::{Trouble, Unwritten};
 use crate::sink::{Waiting, print_pieces};
 use irc_net::{NetFault, Receipt};
 use itoa::Buffer;
@@ -36,8 +37,18 @@ pub fn print_fault<W: Write>(
     ensures { PrintsFault W.contents result fault output.old waiting.old output.new waiting.new }
 {
     match refusal_number(fault) {
-        Some(number) => print_refusal(number, waiting, output),
+        Some(number) => written(print_refusal(number, waiting, output)),
         None => Err(Trouble::Memory),
+    }
+}
+
+/// What could not be written ends the run.
+pub fn written(printed: Result<(), Unwritten>) -> Result<(), Trouble>
+    ensures { result ≡ of_writing printed }
+{
+    match printed {
+        Ok(()) => Ok(()),
+        Err(Unwritten) => Err(Trouble::Device),
     }
 }
 
@@ -45,7 +56,7 @@ fn print_refusal<W: Write>(
     number: u64,
     waiting: &mut Waiting,
     output: &mut W,
-) -> Result<(), Trouble>
+) -> Result<(), Unwritten>
     ensures { PrintsText W.contents result (refusal_line number)
         output.old waiting.old output.new waiting.new }
 {
@@ -60,7 +71,7 @@ pub fn print_taken<W: Write>(
     lines: &[Receipt],
     waiting: &mut Waiting,
     output: &mut W,
-) -> Result<(), Trouble>
+) -> Result<(), Unwritten>
     ensures { PrintsText W.contents result (came_text count lines.now)
         output.old waiting.old output.new waiting.new }
 {
@@ -68,7 +79,7 @@ pub fn print_taken<W: Write>(
     print_count(count, waiting, output)
 }
 
-fn print_count<W: Write>(count: u64, waiting: &mut Waiting, output: &mut W) -> Result<(), Trouble>
+fn print_count<W: Write>(count: u64, waiting: &mut Waiting, output: &mut W) -> Result<(), Unwritten>
     ensures { PrintsText W.contents result (count_line count)
         output.old waiting.old output.new waiting.new }
 {
@@ -82,7 +93,7 @@ pub fn print_receipts<W: Write>(
     lines: &[Receipt],
     waiting: &mut Waiting,
     output: &mut W,
-) -> Result<(), Trouble>
+) -> Result<(), Unwritten>
     ensures { PrintsText W.contents result (receipts_text lines.now)
         output.old waiting.old output.new waiting.new }
 {
@@ -97,7 +108,7 @@ fn print_receipt<W: Write>(
     line: &Receipt,
     waiting: &mut Waiting,
     output: &mut W,
-) -> Result<(), Trouble>
+) -> Result<(), Unwritten>
     ensures { PrintsText W.contents result (receipt_text line.now)
         output.old waiting.old output.new waiting.new }
 {

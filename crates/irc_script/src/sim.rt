@@ -9,6 +9,7 @@ ghost use Rattle.irc_script.specs.Runs.{Ran, IsTextOf};
 use crate::commands::Command;
 use crate::fault::{SimFault, Trouble};
 use crate::laws;
+use crate::printing::written;
 use crate::script::read_script;
 use crate::sink::{Waiting, flush, write_waiting};
 use crate::stage::Stage;
@@ -96,10 +97,9 @@ fn run_all<W: Write>(
 {
     let mut waiting = Waiting::new();
     let performed = perform_all(stage, commands, &mut waiting, output);
-    let written = write_waiting(&mut waiting, output);
+    write_waiting(&mut waiting, output)?;
     performed?;
-    written?;
-    flush(output)
+    written(flush(output))
 }
 
 fn perform_all<W: Write>(

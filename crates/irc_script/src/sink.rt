@@ -5,7 +5,7 @@ ghost use Rattle.arrayvec.specs.ArrayVec.{array_vec_len};
 ghost use Rattle.irc_script.specs.Loops.Steps.{IsRest, PrintsText, pieces_text};
 ghost use Rattle.irc_script.specs.Sinks.{Tells};
 
-use crate::fault::Trouble;
+use crate::fault::Unwritten;
 use arrayvec::ArrayVec;
 use std::io::{ErrorKind, Write};
 
@@ -26,7 +26,7 @@ pub fn print_pieces<W: Write>(
     pieces: &[&[u8]],
     waiting: &mut Waiting,
     output: &mut W,
-) -> Result<(), Trouble>
+) -> Result<(), Unwritten>
     ensures { PrintsText W.contents result (pieces_text pieces.now)
         output.old waiting.old output.new waiting.new }
 {
@@ -37,7 +37,11 @@ pub fn print_pieces<W: Write>(
 }
 
 /// Prints bytes: they wait where there is room for them; else all that waits is written, and then they are.
-fn print_bytes<W: Write>(bytes: &[u8], waiting: &mut Waiting, output: &mut W) -> Result<(), Trouble>
+fn print_bytes<W: Write>(
+    bytes: &[u8],
+    waiting: &mut Waiting,
+    output: &mut W,
+) -> Result<(), Unwritten>
     ensures { PrintsText W.contents result bytes.now output.old waiting.old output.new waiting.new }
 {
     match waiting.try_extend_from_slice(bytes) {
@@ -53,7 +57,7 @@ fn print_bytes<W: Write>(bytes: &[u8], waiting: &mut Waiting, output: &mut W) ->
 ///
 /// # Errors
 /// Where the write fails. Then nothing waits either.
-pub fn write_waiting<W: Write>(waiting: &mut Waiting, output: &mut W) -> Result<(), Trouble>
+pub fn write_waiting<W: Write>(waiting: &mut Waiting, output: &mut W) -> Result<(), Unwritten>
     ensures prints { PrintsText W.contents result [] output.old waiting.old output.new waiting.new }
     ensures none { waiting.new.items ≡ [] }
     ensures len { array_vec_len waiting.new ≡ 0 }
@@ -67,7 +71,7 @@ pub fn write_waiting<W: Write>(waiting: &mut Waiting, output: &mut W) -> Result<
 ///
 /// # Errors
 /// Where a write fails, or [`MAX_WRITES`] do not end it. What was written then is a front of the text.
-pub fn write_whole<W: Write>(text: &[u8], output: &mut W) -> Result<(), Trouble>
+pub fn write_whole<W: Write>(text: &[u8], output: &mut W) -> Result<(), Unwritten>
     ensures whole { OnOk result (Appends (W.contents output.old) (W.contents output.new) text.now) }
     ensures front { Tells (W.contents output.old) (W.contents output.new) text.now }
 {
@@ -78,19 +82,19 @@ pub fn write_whole<W: Write>(text: &[u8], output: &mut W) -> Result<(), Trouble>
         }
         rest = write_some(rest, output)?;
     }
-    Err(Trouble::Device)
+    Err(Unwritten)
 }
 
 /// One write: what is left of the text then. An interrupted one leaves it whole.
-fn write_some<'a, W: Write>(text: &'a [u8], output: &mut W) -> Result<&'a [u8], Trouble>
+fn write_some<'a, W: Write>(text: &'a [u8], output: &mut W) -> Result<&'a [u8], Unwritten>
     ensures some { IfOk result (λ rest. IsRest W.contents output.old text.now output.new rest.now) }
     ensures none { OnErr result (Keeps (W.contents output.old) (W.contents output.new)) }
 {
     match output.write(text) {
-        Ok(0) => Err(Trouble::Device),
+        Ok(0) => Err(Unwritten),
         Ok(count) => Ok(&text[count..]),
         Err(error) if error.kind() == ErrorKind::Interrupted => Ok(text),
-        Err(_) => Err(Trouble::Device),
+        Err(_) => Err(Unwritten),
     }
 }
 
@@ -98,8 +102,8 @@ fn write_some<'a, W: Write>(text: &'a [u8], output: &mut W) -> Result<&'a [u8], 
 ///
 /// # Errors
 /// Where that fails.
-pub fn flush<W: Write>(output: &mut W) -> Result<(), Trouble>
+pub fn flush<W: Write>(output: &mut W) -> Result<(), Unwritten>
     ensures { Keeps (W.contents output.old) (W.contents output.new) }
 {
-    output.flush().map_err(|_| Trouble::Device)
+    output.flush().map_err(|_| Unwritten)
 }

@@ -11,7 +11,7 @@ use crate::commands::Command;
 use crate::configs::configs_of;
 use crate::fault::Trouble;
 use crate::lines::lines_said;
-use crate::printing::{print_fault, print_receipts, print_taken};
+use crate::printing::{print_fault, print_receipts, print_taken, written};
 use crate::sink::Waiting;
 use irc_names::ServerName;
 use irc_net::{Item, Net};
@@ -104,7 +104,7 @@ impl Stage {
             self.old output.old waiting.old self.new output.new waiting.new }
     {
         match self.net.item(item) {
-            Ok(answer) => print_receipts(&answer.lines, waiting, output),
+            Ok(answer) => written(print_receipts(&answer.lines, waiting, output)),
             Err(fault) => print_fault(fault, waiting, output),
         }
     }
@@ -122,7 +122,10 @@ impl Stage {
             self.old output.old waiting.old self.new output.new waiting.new }
     {
         match self.net.deliver(from, to) {
-            Ok((was_taken, lines)) => print_taken(count_taken(was_taken), &lines, waiting, output),
+            Ok((was_taken, lines)) => {
+                let count = count_taken(was_taken);
+                written(print_taken(count, &lines, waiting, output))
+            }
             Err(fault) => print_fault(fault, waiting, output),
         }
     }
@@ -141,7 +144,7 @@ impl Stage {
             self.old output.old waiting.old self.new output.new waiting.new }
     {
         match self.net.deliver_bytes(from, to, count as usize) {
-            Ok((came, lines)) => print_taken(came as u64, &lines, waiting, output),
+            Ok((came, lines)) => written(print_taken(came as u64, &lines, waiting, output)),
             Err(fault) => print_fault(fault, waiting, output),
         }
     }
@@ -153,7 +156,7 @@ impl Stage {
             self.old output.old waiting.old self.new output.new waiting.new }
     {
         match self.net.settle() {
-            Ok((count, lines)) => print_taken(count, &lines, waiting, output),
+            Ok((count, lines)) => written(print_taken(count, &lines, waiting, output)),
             Err(_) => Err(Trouble::Memory),
         }
     }

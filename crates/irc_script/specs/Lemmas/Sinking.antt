@@ -1,7 +1,7 @@
 -- What is printed in turn, and what is lost.
 use Rattle.std.proofs.Common.{◌≡◌, ℕ, true, false, Option, Result, Ok, Err, IsErr, OnOk, List, [], ◌++◌, ap, sym, subst, refl, ◌∙◌, append_assoc, append-nil}
 use Rattle.std.specs.Io.KnownBytes.{Appends, Keeps}
-use Rattle.irc_script.specs.declared.fault.Trouble.{Trouble}
+use Rattle.irc_script.specs.declared.fault.Unwritten.{Unwritten}
 use Rattle.irc_script.specs.Sinks.{Sink, sink, Prints, Loses, IsPrinted, Tells}
 use Rattle.irc_script.specs.Lemmas.Printed.{appends_nothing, appends_both, keeps_appended}
 
@@ -20,7 +20,7 @@ prints_both {a = a} {b = b} {c = c} {s = s} {t = t} p q = record {
   whole = two_whole a.waiting s t p.written b.waiting q.written c.waiting p.whole q.whole;
 }
 
-pub no_loss : {a b : Sink} {s : List ℕ} → Prints a b s → Loses a b s
+abbrev pub no_loss : {a b : Sink} {s : List ℕ} → Prints a b s → Loses a b s
 no_loss {b = b} p =
     record {
       lost = [];
@@ -33,7 +33,7 @@ no_loss {b = b} p =
     }
 
 -- nothing is printed, and the whole text is lost
-pub all_lost : (s : Sink) (text : List ℕ) → Loses s s text
+abbrev pub all_lost : (s : Sink) (text : List ℕ) → Loses s s text
 all_lost s text = record { lost = text; prints = record { written = []; appended = appends_nothing s.held; whole = refl } }
 
 -- what would have come behind is lost too
@@ -48,16 +48,16 @@ loses_more {a = a} {b = b} {s = s} t p = record {
   };
 }
 
-pub prints_loses : {a b c : Sink} {s t : List ℕ} → Prints a b s → Loses b c t → Loses a c (s ++ t)
+abbrev pub prints_loses : {a b c : Sink} {s t : List ℕ} → Prints a b s → Loses b c t → Loses a c (s ++ t)
 prints_loses p q = record { lost = q.lost; prints = prints_both p q.prints }
 
-lost_twice : (w s a v l b z m : List ℕ) → w ++ s ≡ a ++ (v ++ l) → v ++ [] ≡ b ++ (z ++ m) → w ++ s ≡ (a ++ b) ++ (z ++ (m ++ l))
+pub lost_twice : (w s a v l b z m : List ℕ) → w ++ s ≡ a ++ (v ++ l) → v ++ [] ≡ b ++ (z ++ m) → w ++ s ≡ (a ++ b) ++ (z ++ (m ++ l))
 lost_twice w s a v l b z m e f =
     e ∙ ap (λ x. a ++ (x ++ l)) (sym (append-nil v) ∙ f) ∙ ap (λ x. a ++ x) (append_assoc b (z ++ m) l ∙ ap (λ x. b ++ x) (append_assoc z m l))
     ∙ sym (append_assoc a b (z ++ (m ++ l)))
 
 -- what waits is written, or lost
-pub loses_on : {a b c : Sink} {s : List ℕ} → Loses a b s → Loses b c [] → Loses a c s
+abbrev pub loses_on : {a b c : Sink} {s : List ℕ} → Loses a b s → Loses b c [] → Loses a c s
 loses_on {a = a} {b = b} {c = c} {s = s} p q = record {
   lost = q.lost ++ p.lost;
   prints = record {
@@ -67,9 +67,9 @@ loses_on {a = a} {b = b} {c = c} {s = s} p q = record {
   };
 }
 
-pub loses_when : (r : Result (Unit {0}) Trouble) (a b : Sink) (s : List ℕ) → IsPrinted r a b s → Loses a b s
+pub loses_when : (r : Result (Unit {0}) Unwritten) (a b : Sink) (s : List ℕ) → IsPrinted r a b s → Loses a b s
 loses_when (Ok _) a b s p = no_loss p
-loses_when (Err trouble) a b s p = p
+loses_when (Err fault) a b s p = p
 
 pub prints_kept : {a b : Sink} {s : List ℕ} (held : Option (List ℕ)) → Prints a b s → Keeps b.held held → Prints a (sink held b.waiting) s
 prints_kept {a = a} {b = b} held p k = record { written = p.written; appended = keeps_appended a.held b.held held p.written p.appended k; whole = p.whole }
@@ -77,21 +77,21 @@ prints_kept {a = a} {b = b} held p k = record { written = p.written; appended = 
 pub loses_kept : {a b : Sink} {s : List ℕ} (held : Option (List ℕ)) → Loses a b s → Keeps b.held held → Loses a (sink held b.waiting) s
 loses_kept held p k = record { lost = p.lost; prints = prints_kept held p.prints k }
 
-pub printing_failed : (r : Result (Unit {0}) Trouble) (a b : Sink) (s : List ℕ) → IsErr r → Loses a b s → IsPrinted r a b s
+pub printing_failed : (r : Result (Unit {0}) Unwritten) (a b : Sink) (s : List ℕ) → IsErr r → Loses a b s → IsPrinted r a b s
 printing_failed (Ok _) a b s failed p = let never : false ≡ true = failed in cc never
-printing_failed (Err trouble) a b s failed p = p
+printing_failed (Err fault) a b s failed p = p
 
 -- nothing waits in front, and nothing is left to wait
 pub whole_appended : (old new : Option (List ℕ)) (text : List ℕ) → Prints (sink old []) (sink new []) text → Appends old new text
 whole_appended old new text p = subst (λ bytes. Appends old new bytes) (sym (p.whole ∙ append-nil p.written)) p.appended
 
 -- all that waited was written, or is lost
-pub written_off : (r : Result (Unit {0}) Trouble) (old new : Option (List ℕ)) (text waiting after : List ℕ) → text ≡ waiting → after ≡ []
+pub written_off : (r : Result (Unit {0}) Unwritten) (old new : Option (List ℕ)) (text waiting after : List ℕ) → text ≡ waiting → after ≡ []
     → OnOk r (Appends old new text)
     → Tells old new text → IsPrinted r (sink old waiting) (sink new after) []
 written_off (Ok _) old new text waiting after e f p q =
     record { written = text; appended = p; whole = append-nil waiting ∙ sym e ∙ sym (append-nil text) ∙ ap (λ a. text ++ a) (sym f) }
-written_off (Err trouble) old new text waiting after e f p q = record {
+written_off (Err fault) old new text waiting after e f p q = record {
   lost = q.lost;
   prints = record {
     written = q.prints.written;
@@ -101,13 +101,13 @@ written_off (Err trouble) old new text waiting after e f p q = record {
 }
 
 -- what comes of a text behind one that is printed
-pub printed_behind : (r : Result (Unit {0}) Trouble) (a b c : Sink) (s t : List ℕ) → Prints a b s → IsPrinted r b c t → IsPrinted r a c (s ++ t)
+pub printed_behind : (r : Result (Unit {0}) Unwritten) (a b c : Sink) (s t : List ℕ) → Prints a b s → IsPrinted r b c t → IsPrinted r a c (s ++ t)
 printed_behind (Ok _) a b c s t p q = prints_both p q
-printed_behind (Err trouble) a b c s t p q = prints_loses p q
+printed_behind (Err fault) a b c s t p q = prints_loses p q
 
 -- bytes that are written where nothing waits
-pub written_out : (r : Result (Unit {0}) Trouble) (old new : Option (List ℕ)) (bytes after : List ℕ) → after ≡ [] → OnOk r (Appends old new bytes)
+pub written_out : (r : Result (Unit {0}) Unwritten) (old new : Option (List ℕ)) (bytes after : List ℕ) → after ≡ [] → OnOk r (Appends old new bytes)
     → Tells old new bytes → IsPrinted r (sink old []) (sink new after) bytes
 written_out (Ok _) old new bytes after none whole front =
     record { written = bytes; appended = whole; whole = sym (append-nil bytes) ∙ ap (λ a. bytes ++ a) (sym none) }
-written_out (Err trouble) old new bytes after none whole front = subst (λ a. Loses (sink old []) (sink new a) bytes) (sym none) front
+written_out (Err fault) old new bytes after none whole front = subst (λ a. Loses (sink old []) (sink new a) bytes) (sym none) front

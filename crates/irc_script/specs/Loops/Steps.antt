@@ -1,5 +1,5 @@
 -- What the steps of a run are at: what was played so far, and what of it is printed.
-use Rattle.std.specs.Prelude.{◌≡◌, ℕ, Bool, if◌then◌else◌, Option, Some, None, Result, Ok, Err, IsErr, List, [], ◌∷◌, ◌++◌}
+use Rattle.std.specs.Prelude.{◌≡◌, ℕ, Bool, if◌then◌else◌, Option, Some, None, Result, Ok, Err, List, [], ◌∷◌, ◌++◌}
 use Rattle.std.specs.List.{flat_map}
 use Rattle.arrayvec.specs.ArrayVec.{ArrayVec}
 use denote.Ref.{Bor}
@@ -10,11 +10,13 @@ use Rattle.irc_network.specs.Views.{receipt_of, receipts_of}
 use Rattle.irc_script.specs.declared.commands.Command.{Command}
 use Rattle.irc_script.specs.declared.stage.Stage.{Stage}
 use Rattle.irc_script.specs.declared.fault.Trouble.{Trouble}
+use Rattle.irc_script.specs.declared.fault.Trouble.TheVariants.{Memory, Device}
+use Rattle.irc_script.specs.declared.fault.Unwritten.{Unwritten}
 use Rattle.irc_script.specs.Moves.{Move, moves_of}
 use Rattle.irc_script.specs.Networks.{first_net}
 use Rattle.irc_script.specs.Printing.{printed, refusal_line, refusal_number, taken_text}
 use Rattle.irc_script.specs.ScriptViews.{requests}
-use Rattle.irc_script.specs.Runs.{Plays, Runs, IsFront}
+use Rattle.irc_script.specs.Runs.{Plays, Runs, IsFront, StopsIn}
 use Rattle.irc_script.specs.Scripts.{Asked, Request, script_read}
 use Rattle.irc_script.specs.Sinks.{IsPrinted, Sink, Prints, Loses, sink, sink_of}
 
@@ -22,10 +24,16 @@ use Rattle.irc_script.specs.Sinks.{IsPrinted, Sink, Prints, Loses, sink, sink_of
 abbrev pub taken_count : Bool → ℕ
 taken_count was_taken = if was_taken then 1 else 0
 
+-- a text is printed within a run: no memory is wanting for it
+abbrev pub IsPut : Result (Unit {0}) Trouble → Sink → Sink → List ℕ → Type 0
+IsPut (Ok _) old new text = Prints old new text
+IsPut (Err Memory) old new text = ⊥
+IsPut (Err Device) old new text = Loses old new text
+
 -- the number of a refusal is printed, or nothing where memory was wanting
 abbrev pub IsFaultPrinted : Option ℕ → Result (Unit {0}) Trouble → Sink → Sink → Type 0
-IsFaultPrinted (Some number) result old new = IsPrinted result old new (refusal_line number)
-IsFaultPrinted None result old new = IsErr result × (new ≡ old)
+IsFaultPrinted (Some number) result old new = IsPut result old new (refusal_line number)
+IsFaultPrinted None result old new = (result ≡ Err Memory) × (new ≡ old)
 
 -- ---- what is printed, of the code's own texts
 
@@ -49,7 +57,7 @@ abbrev pub IsRest : {W : Type 0} → (W → Option (List ℕ)) → W → List �
 IsRest held old text new rest = Prints (sink (held old) text) (sink (held new) rest) []
 
 -- a text is printed, or its end is lost
-abbrev pub PrintsText : {W : Type 0} → (W → Option (List ℕ)) → Result (Unit {0}) Trouble → List ℕ
+abbrev pub PrintsText : {W : Type 0} → (W → Option (List ℕ)) → Result (Unit {0}) Unwritten → List ℕ
     → W → ArrayVec ℕ → W → ArrayVec ℕ → Type 0
 PrintsText held result text old before new after = IsPrinted result (sink_of held old before) (sink_of held new after) text
 
@@ -67,8 +75,8 @@ pub record Played (first : ByteNetwork) (moves : List Move) (last : ByteNetwork)
   pub plays : Plays first moves last text
   pub prints : Prints old new text
 
--- The first of these moves were played, and of what came of them the end may be lost.
-pub record Breaks (first : ByteNetwork) (all : List Move) (old new : Sink) : Type 0 where
+-- The first of these moves were played, and of what came of them the end may be lost; nothing of it where memory was wanting.
+pub record Breaks (trouble : Trouble) (first : ByteNetwork) (all : List Move) (old new : Sink) : Type 0 where
   pub moves : List Move
   pub left : List Move
   pub parts : all ≡ moves ++ left
@@ -76,10 +84,11 @@ pub record Breaks (first : ByteNetwork) (all : List Move) (old new : Sink) : Typ
   pub text : List ℕ
   pub plays : Plays first moves last text
   pub loses : Loses old new text
+  pub kept : trouble ≡ Memory → loses.lost ≡ []
 
 abbrev pub IsPlayed : Result (Unit {0}) Trouble → ByteNetwork → List Move → ByteNetwork → Sink → Sink → Type 0
 IsPlayed (Ok _) first moves last old new = Played first moves last old new
-IsPlayed (Err trouble) first moves last old new = Breaks first moves old new
+IsPlayed (Err trouble) first moves last old new = Breaks trouble first moves old new
 
 -- What is asked for is begun, and this is printed: some of it is done, and of the next request some moves. All of it may be done.
 pub data Begins : ByteNetwork → List Request → List ℕ → Type 0 where
@@ -107,14 +116,20 @@ pub record RunWhole (first : ByteNetwork) (requests : List Request) (last : Byte
   pub runs : Runs first requests last text
   pub prints : Prints old new text
 
-pub record RunInto (first : ByteNetwork) (requests : List Request) (old new : Sink) : Type 0 where
+-- Nothing of what came of them is lost where memory was wanting, and then not all of them were run.
+pub record StopsWhole (first : ByteNetwork) (requests : List Request) (text lost : List ℕ) : Type 0 where
+  pub stops : StopsIn first requests text
+  pub kept : lost ≡ []
+
+pub record RunInto (trouble : Trouble) (first : ByteNetwork) (requests : List Request) (old new : Sink) : Type 0 where
   pub text : List ℕ
   pub begins : Begins first requests text
   pub loses : Loses old new text
+  pub whole : trouble ≡ Memory → StopsWhole first requests text loses.lost
 
 abbrev pub HasRun : Result (Unit {0}) Trouble → ByteNetwork → List Request → ByteNetwork → Sink → Sink → Type 0
 HasRun (Ok _) first requests last old new = RunWhole first requests last old new
-HasRun (Err trouble) first requests last old new = RunInto first requests old new
+HasRun (Err trouble) first requests last old new = RunInto trouble first requests old new
 
 -- ---- a script's network with a writer, and what waits for it, before and after
 

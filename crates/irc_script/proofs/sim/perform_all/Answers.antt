@@ -20,8 +20,8 @@ pub returns-in_err-perform : goal.returns-in_err-perform
 returns-in_err-perform g c =
     let old = sink (g.W.Write.contents c.args.output.now) c.args.waiting.now.items in
     let new = sink (g.W.Write.contents c.perform.new.output) c.perform.new.waiting.items in
-    running_failed _ _ _ _ _ _ c.from_residual.ensures.0
-    (subst (λ asked. RunInto c.args.stage.now.net.network asked old new)
+    running_failed _ c.in_err-perform.field-0.0 _ _ _ _ _ c.from_residual.ensures.1
+    (subst (λ asked. RunInto c.in_err-perform.field-0.0 c.args.stage.now.net.network asked old new)
     (sym (requests_around c.args.commands.now c.loop-command.command-index c.command-item.result c.loop-command-test.true c.command-item.is))
     (run_into (request c.command-item.result)
     (requests (drop (c.loop-command.command-index + 1) c.args.commands.now)) c.loop-command.invariant c.in_err-perform.ensures))

@@ -1,10 +1,11 @@
 use Rattle.irc_network.specs.Views.{item_of}
 use Rattle.irc_script.proofs.Moving.{given_played, refusal_played}
+use Rattle.irc_script.proofs.Playing.{put_as}
 use Rattle.irc_script.proofs.stage.Stage.give.Goals as goal
 
 pub returns-in-Ok : goal.returns-in-Ok
 returns-in-Ok g c =
-    given_played _ _ _ (item_of c.args.item) c.in-Ok.answer c.deref.result.now _ _ c.in-Ok.ensures.given c.deref.ensures.value c.print_receipts.ensures
+    given_played c.written.result _ _ (item_of c.args.item) c.in-Ok.answer c.deref.result.now _ _ c.in-Ok.ensures.given c.deref.ensures.value (put_as c.written.result c.print_receipts.result _ _ _ c.written.ensures c.print_receipts.ensures)
 
 pub returns-in-Err : goal.returns-in-Err
 returns-in-Err g c =
