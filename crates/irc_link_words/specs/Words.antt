@@ -99,6 +99,10 @@ made (unknown byte) = None
 abbrev pub changes_of : List (List ℕ) → List ModeChange
 changes_of words = filter_map made (modes_read words)
 
+-- the parameters of changes, in order
+abbrev pub parameters : List ModeChange → List (List ℕ)
+parameters changes = filter_map (λ (c : ModeChange). c.word) changes
+
 -- whether a word can stand behind the letters, and be read as one word wherever it stands
 abbrev pub is_mode_word : List ℕ → Bool
 is_mode_word word = starts_without_colon word && list_all (λ b. not (is_space b)) word && fits max_mode_word word

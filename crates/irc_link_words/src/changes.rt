@@ -1,15 +1,14 @@
 //! Changes of modes, as the words of a MODE tell of them (RFC 2812 section 3.2.3).
-ghost use Rattle.std.specs.Prelude.{◌≡◌, ◌≤◌, drop, length, ◌++◌, ◌∷◌, true, IfOk, OnOk, Some, option_to_list};
-ghost use Rattle.std.specs.List.{filter_map, list_all};
-ghost use Rattle.std.specs.Option.{IfSome, option_map};
+ghost use Rattle.std.specs.Prelude.{◌≡◌, ◌≤◌, drop, length, true, IfOk, OnOk, Some};
+ghost use Rattle.std.specs.List.{list_all};
+ghost use Rattle.std.specs.Option.{IfSome};
 ghost use Rattle.std.specs.Cmp.Lexicographic.{pointwise};
 ghost use Rattle.std.specs.Str.{bytes_eq};
 ghost use Rattle.irc_line.specs.PartViews.{words_now};
 ghost use Rattle.irc_modes.specs.ModeViews.{asked};
-ghost use Rattle.irc_modes.specs.ModeWritten.{letters_text};
-ghost use Rattle.irc_modes.specs.declared.modes.ModeChange.{ModeChange};
-ghost use Rattle.irc_link_words.specs.Loops.Changes.{IsKeptWord, behind_word, if_written};
-ghost use Rattle.irc_link_words.specs.Words.{changes_of, is_mode_word, made, sign_between, told_changes};
+ghost use Rattle.irc_modes.specs.ModeWritten.{changes_written, letters_text};
+ghost use Rattle.irc_link_words.specs.Loops.Changes.{Grew, IsKeptWord, behind_bytes, behind_word, bytes_left, if_written, letter_after, words_left};
+ghost use Rattle.irc_link_words.specs.Words.{changes_of, is_mode_word, made, parameters, sign_between, told_changes};
 
 use crate::mode_parameters::keep_words;
 use crate::words::is_mode_word;
@@ -26,34 +25,26 @@ pub fn read_changes(alloc: Global, words: &[&[u8]]) -> Result<Option<ModeChanges
         return Ok(None);
     }
     let changes = read_kept(alloc, words)?;
-    written_so(alloc, words, changes)
+    Ok(written_so(words, changes))
 }
 
 /// The changes, where their words keep their rules and they are written as these words.
-fn written_so(
-    alloc: Global,
-    words: &[&[u8]],
-    changes: Vec<ModeChange, Global>,
-) -> Result<Option<ModeChanges>, AllocError>
-    ensures { IfOk result (λ given. given ≡ if_written changes.items (words_now words.now)) }
+fn written_so(words: &[&[u8]], changes: Vec<ModeChange, Global>) -> Option<ModeChanges>
+    ensures { result ≡ if_written changes.items (words_now words.now) }
 {
-    if !keep_words(changes.as_slice()) {
-        return Ok(None);
-    }
-    let text = letters_text(alloc, changes.as_slice())?;
-    if are_written(text.as_slice(), changes.as_slice(), words) {
-        Ok(Some(ModeChanges::new(changes)))
+    if keep_words(changes.as_slice()) && are_written(changes.as_slice(), words) {
+        Some(ModeChanges::new(changes))
     } else {
-        Ok(None)
+        None
     }
 }
 
-/// Whether words are these letters and the parameters of changes.
-fn are_written(letters: &[u8], changes: &[ModeChange], words: &[&[u8]]) -> bool
-    ensures { result ≡ pointwise bytes_eq (letters.now ∷ filter_map (λ (c : ModeChange). c.word) changes.now) (words_now words.now) }
+/// Whether words are the letters of changes, and behind them their parameters.
+fn are_written(changes: &[ModeChange], words: &[&[u8]]) -> bool
+    ensures { result ≡ pointwise bytes_eq (changes_written changes.now) (words_now words.now) }
 {
     match words.split_first() {
-        Some((first, more)) => letters == *first && are_words_of(changes, more),
+        Some((first, more)) => are_letters_of(changes, first) && are_words_of(changes, more),
         None => false,
     }
 }
@@ -88,7 +79,7 @@ fn read_kept(alloc: Global, words: &[&[u8]]) -> Result<Vec<ModeChange, Global>, 
 /// Appends the change that is asked for, if it is one.
 fn push_made(changes: &mut Vec<ModeChange, Global>, item: ModeItem<'_>) -> Result<(), AllocError>
     requires { IsKeptWord (asked item) }
-    ensures { OnOk result (changes.new.items ≡ changes.old.items ++ option_to_list (made (asked item.entry))) }
+    ensures { OnOk result (Grew changes.old.items (made (asked item.entry)) changes.new.items) }
 {
     if let ModeItem::Change(asked) = item {
         if let Some(change) = asked.kept() {
@@ -98,18 +89,48 @@ fn push_made(changes: &mut Vec<ModeChange, Global>, item: ModeItem<'_>) -> Resul
     Ok(())
 }
 
-/// The letters of changes in order, with a sign before the first and wherever it differs from the one before.
-fn letters_text(alloc: Global, changes: &[ModeChange]) -> Result<Vec<u8, Global>, AllocError>
-    ensures { IfOk result (λ letters. letters.items ≡ letters_text changes.now) }
+/// Whether a word is the letters of changes in order, with a sign before the first and wherever it differs from the one before.
+fn are_letters_of(changes: &[ModeChange], word: &[u8]) -> bool
+    ensures { result ≡ bytes_eq (letters_text changes.now) word.now }
 {
-    let mut letters = Vec::new(alloc);
     let mut sign = None;
+    let mut used = 0;
     for change in changes {
-        letters.extend_from_slice(sign_text(sign, change.plus))?;
-        letters.push(change.letter.byte())?;
+        let Some(more) = used_by_letter(sign, change, word, used) else {
+            return false;
+        };
+        used = more;
         sign = Some(change.plus);
     }
-    Ok(letters)
+    used == word.len()
+}
+
+/// How many bytes of a word are used once a change has taken its sign and its letter, where these are the next of them.
+fn used_by_letter(
+    sign: Option<bool>,
+    change: &ModeChange,
+    word: &[u8],
+    used: usize,
+) -> Option<usize>
+    requires { used ≤ length word.now }
+    ensures bytes { bytes_left word.now result ≡ behind_bytes (letter_after sign change.now) (drop used word.now) }
+    ensures within { IfSome result (λ n. n ≤ length word.now) }
+{
+    let signed = used_by_bytes(sign_text(sign, change.plus), word, used)?;
+    used_by_bytes(&[change.letter.byte()], word, signed)
+}
+
+/// How many bytes of a word are used once these are taken, where they are the next of them.
+fn used_by_bytes(bytes: &[u8], word: &[u8], used: usize) -> Option<usize>
+    requires { used ≤ length word.now }
+    ensures bytes { bytes_left word.now result ≡ behind_bytes bytes.now (drop used word.now) }
+    ensures within { IfSome result (λ n. n ≤ length word.now) }
+{
+    if word[used..].starts_with(bytes) {
+        Some(used + bytes.len())
+    } else {
+        None
+    }
 }
 
 /// The sign in front of a letter, if it has one there.
@@ -124,7 +145,7 @@ pub fn sign_text(before: Option<bool>, plus: bool) -> &'static [u8]
 
 /// Whether words are the parameters of changes, in order.
 fn are_words_of(changes: &[ModeChange], words: &[&[u8]]) -> bool
-    ensures { result ≡ pointwise bytes_eq (filter_map (λ (c : ModeChange). c.word) changes.now) (words_now words.now) }
+    ensures { result ≡ pointwise bytes_eq (parameters changes.now) (words_now words.now) }
 {
     let mut used = 0;
     for change in changes {
@@ -139,7 +160,7 @@ fn are_words_of(changes: &[ModeChange], words: &[&[u8]]) -> bool
 /// How many words are used once a change has taken its parameter, where that is the next of them.
 fn used_by(change: &ModeChange, words: &[&[u8]], used: usize) -> Option<usize>
     requires { used ≤ length words.now }
-    ensures words { option_map (λ n. words_now (drop n words.now)) result ≡ behind_word change.now.word (words_now (drop used words.now)) }
+    ensures words { words_left words.now result ≡ behind_word change.now.word (words_now (drop used words.now)) }
     ensures within { IfSome result (λ n. n ≤ length words.now) }
 {
     match &change.word {
@@ -148,10 +169,10 @@ fn used_by(change: &ModeChange, words: &[&[u8]], used: usize) -> Option<usize>
     }
 }
 
-/// The same for a parameter.
+/// How many words are used once a parameter is taken, where that is the next of them.
 fn used_by_word(word: &[u8], words: &[&[u8]], used: usize) -> Option<usize>
     requires { used ≤ length words.now }
-    ensures words { option_map (λ n. words_now (drop n words.now)) result ≡ behind_word (Some word.now) (words_now (drop used words.now)) }
+    ensures words { words_left words.now result ≡ behind_word (Some word.now) (words_now (drop used words.now)) }
     ensures within { IfSome result (λ n. n ≤ length words.now) }
 {
     if used == words.len() {

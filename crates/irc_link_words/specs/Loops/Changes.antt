@@ -1,13 +1,17 @@
 -- What the code that reads the changes of a MODE gives on its way.
-use Rattle.std.specs.Prelude.{ℕ, Bool, ⊤, ◌&&◌, Option, Some, None, List, [], ◌∷◌, if◌then◌else◌}
-use Rattle.std.specs.List.{list_all}
+use Rattle.std.specs.Prelude.{◌≡◌, ℕ, Bool, ⊤, ◌&&◌, Option, Some, None, List, [], ◌∷◌, ◌++◌, drop, length, nat_eq, option_to_list, if◌then◌else◌}
+use Rattle.std.specs.Borrow.{Bor}
+use Rattle.std.specs.List.{list_all, starts_with}
 use Rattle.std.specs.Cmp.Lexicographic.{pointwise}
+use Rattle.std.specs.Option.{option_map}
 use Rattle.std.specs.Str.{bytes_eq}
+use Rattle.irc_line.specs.PartViews.{words_now}
 use Rattle.irc_modes.specs.declared.modes.ModeChange.{ModeChange}
+use Rattle.irc_modes.specs.Letters.{letter_byte}
 use Rattle.irc_modes.specs.ModeWords.{Asked, change}
 use Rattle.irc_modes.specs.ModeWritten.{changes_written, letters_behind, letters_text}
 use Rattle.irc_modes.specs.Texts.{IsKept}
-use Rattle.irc_link_words.specs.Words.{keeps_word}
+use Rattle.irc_link_words.specs.Words.{keeps_word, sign_between}
 
 -- changes, where their words keep the rules of their letters and these are the words that they are written as
 abbrev pub if_written : List ModeChange → List (List ℕ) → Option (List ModeChange)
@@ -18,11 +22,35 @@ abbrev pub IsKeptWord : Asked → Type 0
 IsKeptWord (change plus letter word) = IsKept word
 IsKeptWord other = ⊤
 
+-- a list with one thing more, if there is one
+abbrev pub Grew : List ModeChange → Option ModeChange → List ModeChange → Type 0
+Grew changes one more = more ≡ changes ++ option_to_list one
+
+-- ---- the parameters
+
+-- the words behind the first so many
+abbrev pub words_left : List (Bor (List ℕ)) → Option ℕ → Option (List (List ℕ))
+words_left words used = option_map (λ n. words_now (drop n words)) used
+
 -- the words behind the parameter of a change, where it is the first one
 abbrev pub behind_word : Option (List ℕ) → List (List ℕ) → Option (List (List ℕ))
 behind_word None words = Some words
 behind_word (Some word) [] = None
 behind_word (Some word) (first ∷ words) = if bytes_eq word first then Some words else None
+
+-- ---- the letters
+
+-- the bytes of a word behind the first so many
+abbrev pub bytes_left : List ℕ → Option ℕ → Option (List ℕ)
+bytes_left word used = option_map (λ n. drop n word) used
+
+-- what of a text is behind these bytes, where it begins with them
+abbrev pub behind_bytes : List ℕ → List ℕ → Option (List ℕ)
+behind_bytes bytes text = if starts_with nat_eq text bytes then Some (drop (length bytes) text) else None
+
+-- the letter of a change, and in front of it its sign, where it has one there
+abbrev pub letter_after : Option Bool → ModeChange → List ℕ
+letter_after sign c = sign_between sign c.plus ++ letter_byte c.letter ∷ []
 
 -- the letters of changes behind one with this sign, or where none is before them
 abbrev pub letters_from : Option Bool → List ModeChange → List ℕ
