@@ -228,3 +228,7 @@ abbrev pub IsMeant : Parsed → Result (List Effect) WireFault → Result (Vec E
 IsMeant message meant (Ok effects) = meant ≡ Ok (effects.items)
 IsMeant message meant (Err Memory) = (is_mode_line message ≡ true) ⊎ IsOk meant
 IsMeant message meant (Err fault) = meant ≡ Err fault
+
+-- the same of a line that came by a link, in a room and by routes
+abbrev pub IsMeantIn : Room → Known → ℕ → Parsed → Result (Vec Effect) WireFault → Type 0
+IsMeantIn room known link message result = IsMeant message (means room known link message) result

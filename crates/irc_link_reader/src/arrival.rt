@@ -1,12 +1,12 @@
 //! What is asked where a line is read that came by a link.
 ghost use Rattle.std.specs.Prelude.{◌≡◌, ◌∷◌, [], Ok, Err, false, is_some, if◌then◌else◌, option_to_list};
 ghost use Rattle.std.specs.List.{list_all};
-ghost use Rattle.std.specs.Option.{option_copied, option_map_or};
+ghost use Rattle.std.specs.Option.{option_copied};
 ghost use Rattle.irc_names.specs.Fold.{key};
 ghost use Rattle.irc_room.specs.Readers.{channel_at};
 ghost use Rattle.irc_room.specs.Effects.{by_nick, needs_users, target_users};
 ghost use Rattle.irc_link_words.specs.declared.fault.WireFault.TheVariants.{WrongDirection};
-ghost use Rattle.irc_link_reader.specs.Loops.Readings.{is_member_far, reader};
+ghost use Rattle.irc_link_reader.specs.Loops.Readings.{are_there, is_far_user, is_member_far, reader};
 ghost use Rattle.irc_link_reader.specs.Means.{if_there, is_distance_of};
 ghost use Rattle.irc_link_reader.specs.Reader.{may_come};
 
@@ -115,7 +115,7 @@ pub(crate) fn if_there(at: Arrival<'_>, effect: Effect) -> Option<Effect>
 
 /// Whether all users are there that an effect names.
 fn are_there(at: Arrival<'_>, effect: &Effect) -> bool
-    ensures { result ≡ list_all (λ nick. is_some ((reader at.entry).home nick)) (needs_users effect.now) }
+    ensures { result ≡ are_there at.entry (needs_users effect.now) }
 {
     match effect {
         Effect::AddUser(_) => true,
@@ -131,13 +131,13 @@ fn are_there(at: Arrival<'_>, effect: &Effect) -> bool
 }
 
 fn are_known(at: Arrival<'_>, one: &Nick, other: &Nick) -> bool
-    ensures { result ≡ list_all (λ nick. is_some ((reader at.entry).home nick)) (one.now ∷ other.now ∷ []) }
+    ensures { result ≡ are_there at.entry (one.now ∷ other.now ∷ []) }
 {
     is_known(at, one.as_bytes()) && is_known(at, other.as_bytes())
 }
 
 fn is_doer_known(at: Arrival<'_>, by: &By) -> bool
-    ensures { result ≡ list_all (λ nick. is_some ((reader at.entry).home nick)) (option_to_list (by_nick by.now)) }
+    ensures { result ≡ are_there at.entry (option_to_list (by_nick by.now)) }
 {
     match by {
         By::User(nick) => is_known(at, nick.as_bytes()),
@@ -146,7 +146,7 @@ fn is_doer_known(at: Arrival<'_>, by: &By) -> bool
 }
 
 fn are_talkers_known(at: Arrival<'_>, by: &Nick, target: &Target) -> bool
-    ensures { result ≡ list_all (λ nick. is_some ((reader at.entry).home nick)) (by.now ∷ target_users target.now) }
+    ensures { result ≡ are_there at.entry (by.now ∷ target_users target.now) }
 {
     match target {
         Target::User(nick) => are_known(at, by, nick),
@@ -178,7 +178,7 @@ fn are_members_far(at: Arrival<'_>, members: &[Row<Flags>]) -> bool
 
 /// Whether the user under a fold is behind the link.
 fn is_member_far(at: Arrival<'_>, fold: &[u8]) -> bool
-    ensures { result ≡ option_map_or (reader at.entry).is_far ((reader at.entry).home fold.now) false }
+    ensures { result ≡ is_far_user (reader at.entry) fold.now }
 {
     match home(at, fold) {
         Some(home) => is_far(at, home.as_bytes()),

@@ -1,10 +1,8 @@
 //! The commands of the lines of a link.
 ghost use Rattle.std.specs.Prelude.{◌≡◌};
-ghost use Rattle.std.specs.List.{find};
 ghost use Rattle.std.specs.Option.{option_map};
-ghost use Rattle.irc_link_reader.specs.Loops.Readings.{row, telling_table};
-ghost use Rattle.irc_link_reader.specs.Means.{Row, row_of};
-ghost use Rattle.irc_link_words.specs.Words.{is_command};
+ghost use Rattle.irc_link_reader.specs.Loops.Readings.{row, telling_row};
+ghost use Rattle.irc_link_reader.specs.Means.{row_of};
 
 use irc_link_words::is_command;
 
@@ -54,7 +52,7 @@ pub(crate) fn command_of(word: &[u8]) -> Option<Command>
 
 /// The command that a word is, of those that only tell.
 fn other_command(word: &[u8]) -> Option<Command>
-    ensures { option_map row result ≡ find (λ (r : Row). is_command r.command word.now) telling_table }
+    ensures { option_map row result ≡ telling_row word.now }
 {
     if is_command(b"TOPIC", word) {
         Some(Command::Topic)

@@ -1,8 +1,8 @@
 //! Lines of a link read as effects (RFC 2813 section 4).
 ghost use Rattle.std.specs.Prelude.{Some};
 ghost use Rattle.irc_line.specs.MessageViews.{parsed};
-ghost use Rattle.irc_link_reader.specs.Loops.Readings.{IsFound, IsListed, reader, row, takes_memory};
-ghost use Rattle.irc_link_reader.specs.Means.{IsMeant, first_fault, means};
+ghost use Rattle.irc_link_reader.specs.Loops.Readings.{IsListed, IsRead};
+ghost use Rattle.irc_link_reader.specs.Means.{IsMeantIn};
 
 use crate::arrival::Arrival;
 use crate::commands::{Command, command_of};
@@ -30,7 +30,7 @@ pub fn read_effect(
     routes: &Routes,
     link: u64,
 ) -> Result<Vec<Effect, Global>, WireFault>
-    ensures { IsMeant (parsed message.now) (means room.now.room routes.now link (parsed message.now)) result }
+    ensures { IsMeantIn room.now.room routes.now link (parsed message.now) result }
 {
     let at = Arrival { room, routes, link };
     match command_of(message.command) {
@@ -63,8 +63,7 @@ fn read_command(
     command: Command,
     message: &Message<'_>,
 ) -> Result<Option<Effect>, WireFault>
-    ensures { IsFound (takes_memory command)
-        (first_fault ((row command).check (reader at.entry) (parsed message.now).prefix (parsed message.now).params)) result }
+    ensures { IsRead command at.entry (parsed message.now).prefix (parsed message.now).params result }
 {
     let params = Params::new(message.params.as_slice());
     if let Command::Nick = command {
@@ -85,7 +84,7 @@ fn named_line(
     name: &[u8],
     params: Params<'_>,
 ) -> Result<Option<Effect>, WireFault>
-    ensures { IsFound (takes_memory command) (first_fault ((row command).check (reader at.entry) (Some name.now) params.entry)) result }
+    ensures { IsRead command at.entry (Some name.now) params.entry result }
 {
     match command {
         Command::Nick => nick_line(at, Some(name), params),

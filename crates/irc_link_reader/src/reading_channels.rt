@@ -1,8 +1,7 @@
 //! Lines about a channel (RFC 2813 section 4).
-ghost use Rattle.std.specs.Prelude.{◌≡◌, Some, true, not, option_to_list};
-ghost use Rattle.std.specs.Option.{option_map_or};
-ghost use Rattle.irc_link_reader.specs.Loops.Readings.{IsChange, counted, doer_or_fault, found, home_channel, reader};
-ghost use Rattle.irc_link_reader.specs.Means.{first_fault, join_line, kick_line, part_line, topic_line};
+ghost use Rattle.std.specs.Prelude.{◌≡◌, Some, option_to_list};
+ghost use Rattle.irc_link_reader.specs.Loops.Readings.{IsChange, Reads, counted, doer_or_fault, is_left_alone, reader};
+ghost use Rattle.irc_link_reader.specs.Means.{join_line, kick_line, part_line, topic_line};
 
 use crate::arrival::{Arrival, expect_from, if_there, is_far_channel};
 use irc_link_words::{Params, WireFault, is_marked, read_channel, read_nick, read_words, unmarked};
@@ -15,7 +14,7 @@ pub(crate) fn join_line(
     nick: &[u8],
     mut params: Params<'_>,
 ) -> Result<Option<Effect>, WireFault>
-    ensures { found result ≡ first_fault (join_line (reader at.entry) (Some nick.now) params.entry) }
+    ensures { Reads join_line at.entry (Some nick.now) params.entry result }
 {
     let word = params.next()?;
     params.end()?;
@@ -38,7 +37,7 @@ pub(crate) fn part_line(
     nick: &[u8],
     mut params: Params<'_>,
 ) -> Result<Option<Effect>, WireFault>
-    ensures { found result ≡ first_fault (part_line (reader at.entry) (Some nick.now) params.entry) }
+    ensures { Reads part_line at.entry (Some nick.now) params.entry result }
 {
     let channel = params.next()?;
     let text = params.next()?;
@@ -63,7 +62,7 @@ pub(crate) fn kick_line(
     by: &[u8],
     mut params: Params<'_>,
 ) -> Result<Option<Effect>, WireFault>
-    ensures { found result ≡ first_fault (kick_line (reader at.entry) (Some by.now) params.entry) }
+    ensures { Reads kick_line at.entry (Some by.now) params.entry result }
 {
     let channel = params.next()?;
     let nick = params.next()?;
@@ -91,7 +90,7 @@ pub(crate) fn topic_line(
     name: &[u8],
     mut params: Params<'_>,
 ) -> Result<Option<Effect>, WireFault>
-    ensures { found result ≡ first_fault (topic_line (reader at.entry) (Some name.now) params.entry) }
+    ensures { Reads topic_line at.entry (Some name.now) params.entry result }
 {
     let channel = params.next()?;
     let text = params.next()?;
@@ -128,7 +127,7 @@ pub(crate) fn if_counts(at: Arrival<'_>, effect: Effect) -> Option<Effect>
 
 /// Whether a server changes a channel of which not all members are behind the link.
 fn is_near_change(at: Arrival<'_>, effect: &Effect) -> bool
-    ensures { result ≡ not (option_map_or (reader at.entry).is_far_channel (home_channel effect.now) true) }
+    ensures { result ≡ is_left_alone (reader at.entry) effect.now }
 {
     match effect {
         Effect::SetTopic {

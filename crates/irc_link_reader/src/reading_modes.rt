@@ -1,7 +1,7 @@
 //! Changes of modes, of a channel or of a user (RFC 2813 section 4).
 ghost use Rattle.std.specs.Prelude.{◌≡◌, ◌∷◌, Some, true};
-ghost use Rattle.irc_link_reader.specs.Loops.Readings.{IsFound, channel_change, found, reader};
-ghost use Rattle.irc_link_reader.specs.Means.{first_fault, mode_line};
+ghost use Rattle.irc_link_reader.specs.Loops.Readings.{IsFoundIn, changes_channel, found};
+ghost use Rattle.irc_link_reader.specs.Means.{mode_line};
 ghost use Rattle.irc_link_words.specs.Words.{is_for_channel};
 
 use crate::arrival::{Arrival, expect_from};
@@ -21,7 +21,7 @@ pub(crate) fn mode_line(
     name: &[u8],
     mut params: Params<'_>,
 ) -> Result<Option<Effect>, WireFault>
-    ensures { IsFound true (first_fault (mode_line (reader at.entry) (Some name.now) params.entry)) result }
+    ensures { IsFoundIn true mode_line at.entry (Some name.now) params.entry result }
 {
     let target = params.next()?;
     if is_for_channel(target) {
@@ -40,7 +40,7 @@ fn channel_mode(
     params: Params<'_>,
 ) -> Result<Option<Effect>, WireFault>
     requires { is_for_channel target.now ≡ true }
-    ensures { IsFound true (first_fault (mode_line (reader at.entry) (Some name.now) (target.now ∷ params.entry))) result }
+    ensures { IsFoundIn true mode_line at.entry (Some name.now) (target.now ∷ params.entry) result }
 {
     match read_changes(alloc, params.rest()) {
         Ok(Some(changes)) => change_modes(at, name, target, changes),
@@ -56,7 +56,7 @@ fn change_modes(
     target: &[u8],
     changes: ModeChanges,
 ) -> Result<Option<Effect>, WireFault>
-    ensures { found result ≡ first_fault (channel_change (reader at.entry) name.now target.now changes) }
+    ensures { found result ≡ changes_channel at.entry name.now target.now changes }
 {
     expect_from(at, name)?;
     let by = read_doer(name)?;

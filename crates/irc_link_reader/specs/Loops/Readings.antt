@@ -1,7 +1,8 @@
 -- What the code that reads a line of a link gives.
-use Rattle.std.specs.Prelude.{◌≡◌, ℕ, Bool, true, false, not, ◌&&◌, ⊤, Option, Some, None, Result, Ok, Err, List, [], ◌∷◌, codes, option_to_list, if◌then◌else◌}
+use Rattle.std.specs.Prelude.{◌≡◌, ℕ, Bool, true, false, not, ◌&&◌, ⊤, Option, Some, None, Result, Ok, Err, List, [], ◌∷◌, codes, is_some, option_to_list, if◌then◌else◌}
 use Rattle.std.specs.Borrow.{Bor}
 use Rattle.std.specs.Global.{Vec}
+use Rattle.std.specs.List.{find, list_all}
 use Rattle.std.specs.Option.{option_map_or}
 use Rattle.irc_names.specs.Limits.{max_real_name}
 use Rattle.irc_names.specs.Names.{fits, is_channel, is_nick, is_server}
@@ -19,8 +20,8 @@ use Rattle.irc_link_reader.specs.declared.commands.Command.TheVariants as comman
 use Rattle.irc_link_words.specs.declared.fault.WireFault.{WireFault}
 use Rattle.irc_link_words.specs.declared.fault.WireFault.TheVariants.{BadName, BadToken, Memory, Parameters}
 use Rattle.irc_link_reader.specs.Reader.{Reader, reader_of}
-use Rattle.irc_link_reader.specs.Means.{Checked, Row, first_fault, line, if_there, home_of, introduction_line, nick_line, of_either, quit_line, join_line, part_line, kick_line, mode_line, topic_line, say_line, invite_line}
-use Rattle.irc_link_words.specs.Words.{are_members_named, is_come_mode, is_user_name}
+use Rattle.irc_link_reader.specs.Means.{Checked, Row, first_fault, line, if_there, home_of, introduction_line, nick_line, of_either, quit_line, join_line, part_line, kick_line, mode_line, topic_line, say_line, invite_line, user_mode_line}
+use Rattle.irc_link_words.specs.Words.{are_members_named, is_come_mode, is_command, is_user_name}
 
 -- what is looked at where a line came
 abbrev pub reader : Arrival → Reader
@@ -30,6 +31,19 @@ reader at = reader_of at.room.now.room at.routes.now at.link
 abbrev pub found : Result (Option Effect) WireFault → Result (List Effect) WireFault
 found (Ok effect) = Ok (option_to_list effect)
 found (Err fault) = Err fault
+
+-- what is found is the effect of a line of these words, or the first fault of it
+abbrev pub Reads : (Reader → Option (List ℕ) → List (List ℕ) → Checked) → Arrival → Option (List ℕ) → List (List ℕ) → Result (Option Effect) WireFault
+    → Type 0
+Reads line at name words result = found result ≡ first_fault (line (reader at) name words)
+
+-- whether the users of all these nicknames are there
+abbrev pub are_there : Arrival → List (List ℕ) → Bool
+are_there at nicks = list_all (λ nick. is_some ((reader at).home nick)) nicks
+
+-- the same of a MODE of a user
+abbrev pub IsUserMode : Arrival → List ℕ → List ℕ → List (List ℕ) → Result (Option Effect) WireFault → Type 0
+IsUserMode at nick target words result = found result ≡ first_fault (user_mode_line (reader at) nick target words)
 
 -- what is looked at in a line of each command
 abbrev pub row : Command → Row
@@ -50,6 +64,9 @@ telling_table =
     line (codes "TOPIC") topic_line ∷ line (codes "PRIVMSG") (say_line false) ∷ line (codes "NOTICE") (say_line true)
     ∷ line (codes "INVITE") invite_line ∷ []
 
+abbrev pub telling_row : List ℕ → Option Row
+telling_row word = find (λ (r : Row). is_command r.command word) telling_table
+
 -- who changes a channel, or that no name is read
 abbrev pub doer_or_fault : List ℕ → Result By WireFault
 doer_or_fault name = if is_server name then Ok by.Home else (if is_nick name then Ok (by.User name) else Err BadName)
@@ -66,9 +83,17 @@ home_channel (SetTopic by.Home channel text) = Some channel
 home_channel (ChangeModes by.Home channel changes) = Some channel
 home_channel other = None
 
+-- whether an effect is a server's change of a channel of which a member is not behind the link
+abbrev pub is_left_alone : Reader → Effect → Bool
+is_left_alone reader effect = not (option_map_or reader.is_far_channel (home_channel effect) true)
+
 -- the effect, where it counts
 abbrev pub counted : Reader → Effect → List Effect
 counted reader effect = if option_map_or reader.is_far_channel (home_channel effect) true then if_there reader effect else []
+
+-- whether the user of this nickname is behind the link
+abbrev pub is_far_user : Reader → List ℕ → Bool
+is_far_user reader nick = option_map_or reader.is_far (reader.home nick) false
 
 -- the words of an introduction
 abbrev pub introduction_of : Reader → Newcomer → Checked
@@ -98,6 +123,9 @@ abbrev pub channel_change : Reader → List ℕ → List ℕ → List ModeChange
 channel_change reader name channel changes =
     of_either reader name true (is_channel channel && are_members_named changes) channel (λ doer. ChangeModes doer channel changes)
 
+abbrev pub changes_channel : Arrival → List ℕ → List ℕ → List ModeChange → Result (List Effect) WireFault
+changes_channel at name channel changes = first_fault (channel_change (reader at) name channel changes)
+
 -- whether a member is behind the link
 abbrev pub is_member_far : Reader → TableRow Flags → Bool
 is_member_far reader member = option_map_or reader.is_far (reader.home member.name.items) false
@@ -114,6 +142,15 @@ abbrev pub IsFound : Bool → Result (List Effect) WireFault → Result (Option 
 IsFound takes meant (Ok effect) = meant ≡ Ok (option_to_list effect)
 IsFound takes meant (Err Memory) = takes ≡ true
 IsFound takes meant (Err fault) = meant ≡ Err fault
+
+-- the same of a line of these words, by what is looked at in it
+abbrev pub IsFoundIn : Bool → (Reader → Option (List ℕ) → List (List ℕ) → Checked) → Arrival → Option (List ℕ) → List (List ℕ)
+    → Result (Option Effect) WireFault → Type 0
+IsFoundIn takes line at name words result = IsFound takes (first_fault (line (reader at) name words)) result
+
+-- the same of a line of this command
+abbrev pub IsRead : Command → Arrival → Option (List ℕ) → List (List ℕ) → Result (Option Effect) WireFault → Type 0
+IsRead command at name words result = IsFoundIn (takes_memory command) (row command).check at name words result
 
 -- the list of what is found, for which memory may run out
 abbrev pub IsListed : Result (Option Effect) WireFault → Result (Vec Effect) WireFault → Type 0
