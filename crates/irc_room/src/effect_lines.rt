@@ -1,5 +1,5 @@
 //! The line that an effect shows at a server: one, for all its viewers (RFC 2812 section 3).
-ghost use Rattle.std.specs.Prelude.{◌≡◌, is_some, IfOk};
+ghost use Rattle.std.specs.Prelude.{◌≡◌, is_some};
 ghost use Rattle.irc_users.specs.declared.user.User.{User};
 ghost use Rattle.irc_room.specs.Loops.LineViews.{line_if};
 ghost use Rattle.irc_room.specs.Loops.RoomParts.{room_of, IsByUser, IsOfUsers, ShowsAll, ShowsAt};
@@ -12,18 +12,16 @@ use crate::lines::{
 };
 use crate::room_parts::{RoomParts, from_by, from_nick, stored_channel, stored_nick, target_name};
 use irc_line::Text;
-use std::alloc::{AllocError, Global};
 
 /// Writes the line that an effect on a room shows at the server of this name to those who see it, where it shows one. Here and below: tells
 /// whether it did.
 pub(crate) fn effect_line(
-    alloc: Global,
     own: &[u8],
     parts: RoomParts<'_>,
     effect: &Effect,
     line: &mut Text,
-) -> Result<bool, AllocError>
-    ensures { IfOk result (λ there. ShowsAt (room_of parts.entry) effect.now own.now (line_if there line.new)) }
+) -> bool
+    ensures { ShowsAt (room_of parts.entry) effect.now own.now (line_if result line.new) }
 {
     match effect {
         Effect::ChangeModes {
@@ -31,20 +29,19 @@ pub(crate) fn effect_line(
             channel,
             changes,
         } => mode_line(
-            alloc,
             parts,
             from_by(own, parts, by),
             stored_channel(parts, channel),
             changes.as_slice(),
             line,
         ),
-        Effect::SetTopic { by, channel, text } => Ok(topic_line(
+        Effect::SetTopic { by, channel, text } => topic_line(
             from_by(own, parts, by),
             stored_channel(parts, channel),
             text.as_bytes(),
             line,
-        )),
-        _ => Ok(member_line(parts, effect, line)),
+        ),
+        _ => member_line(parts, effect, line),
     }
 }
 
