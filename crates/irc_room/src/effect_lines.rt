@@ -3,9 +3,9 @@ ghost use Rattle.std.specs.Prelude.{◌≡◌, is_some};
 ghost use Rattle.irc_users.specs.declared.user.User.{User};
 ghost use Rattle.irc_room.specs.Loops.LineViews.{line_if};
 ghost use Rattle.irc_room.specs.Loops.RoomParts.{room_of, IsByUser, IsOfUsers, ShowsAll, ShowsAt};
-ghost use Rattle.irc_room.specs.Seen.{from_by, shown_line};
+ghost use Rattle.irc_room.specs.Seen.{shown_line};
 
-use crate::effect::{By, Effect};
+use crate::effect::Effect;
 use crate::lines::{
     invite_line, join_line, kick_line, mode_line, nick_line, part_line, quit_line, say_line,
     topic_line, user_mode_line,
@@ -49,27 +49,10 @@ pub(crate) fn effect_line(
 pub(crate) fn has_line(parts: RoomParts<'_>, effect: &Effect) -> bool
     ensures { (viewer : User) → is_some (shown_line (room_of parts.entry) effect.now viewer) ≡ result }
 {
-    match effect {
-        Effect::AddUser(_) => false,
-        Effect::Rename { nick, .. }
-        | Effect::Quit { nick, .. }
-        | Effect::Join { nick, .. }
-        | Effect::Part { nick, .. }
-        | Effect::UserMode { nick, .. } => from_nick(parts, nick).is_some(),
-        Effect::Kick { by, .. } | Effect::Say { by, .. } | Effect::Invite { by, .. } => {
-            from_nick(parts, by).is_some()
-        }
-        Effect::ChangeModes { by, .. } | Effect::SetTopic { by, .. } => is_there(parts, by),
-    }
-}
-
-/// Whether whoever changes a channel is there; a server always is.
-fn is_there(parts: RoomParts<'_>, by: &By) -> bool
-    ensures { (viewer : User) → result ≡ is_some (from_by (room_of parts.entry) by.now viewer) }
-{
-    match by {
-        By::User(nick) => from_nick(parts, nick).is_some(),
-        By::Home => true,
+    match effect.doer() {
+        Some(nick) => from_nick(parts, nick).is_some(),
+        // A server always is there.
+        None => !matches!(effect, Effect::AddUser(_)),
     }
 }
 
