@@ -8,7 +8,7 @@ use Rattle.irc_relay.specs.Links.{Name, same, Link, joined, links_without, AreLi
 use Rattle.irc_relay.specs.Relay.{TakesFrom}
 use Rattle.irc_routes.specs.Limits.{max_servers}
 use Rattle.irc_routes.specs.declared.server_row.ServerRow.{ServerRow}
-use Rattle.irc_routes.specs.Known.{Known, behind, place_of, row_of, servers_told, token_out, IsNumbered}
+use Rattle.irc_routes.specs.Known.{Known, names_behind, place_of, row_of, servers_told, token_out, IsNumbered}
 use Rattle.irc_tables.specs.FoldedRows.{IsInFoldedOrder}
 use Rattle.irc_world.specs.Stepping.{servers_on_side}
 use Rattle.irc_world.specs.World.{Setting, World, place_at, setting_of}
@@ -59,7 +59,7 @@ PartAtRestIsSound = (s : Fixed) (world : World) (routes : Name → Known) (serve
 abbrev pub BehindIsThatSide : Type 0
 BehindIsThatSide = (s : Fixed) (links : List Link) (routes : Name → Known) (t u : Name) → IsFixed s → IsForest links → EndsAreAmong s.names links
     → AreRight s links routes → AreLinked links t u
-    → behind (routes t) (number s u) ≡ servers_on_side s.settings (links_without links t u) u
+    → names_behind (routes t) (number s u) ≡ servers_on_side s.settings (links_without links t u) u
 
 -- What a decision may know of a server's network is what the world has of it.
 abbrev pub PlaceIsWorlds : Type 0

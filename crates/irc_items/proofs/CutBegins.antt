@@ -14,7 +14,7 @@ use Rattle.irc_relay.specs.Relay.{under_way, from_near_end, GoesAway, TakesFrom}
 use Rattle.irc_relay.proofs.Flowing.{source_is_one}
 use Rattle.irc_relay.proofs.GoingToward.{linked_back, linked_joined, linked_other, next_hop, toward_linked}
 use Rattle.irc_relay.proofs.TakingOut.{tests_tell, without_turned}
-use Rattle.irc_routes.specs.Known.{Known, behind}
+use Rattle.irc_routes.specs.Known.{Known, names_behind}
 use Rattle.irc_stage.specs.Lemmas.Numbers.{one_number, same_number, same_number-is}
 use Rattle.irc_stage.specs.View.{View}
 use Rattle.irc_world.specs.Stepping.{parted, split_text}
@@ -47,7 +47,7 @@ use Rattle.irc_items.proofs.SourceFacts.{next_to}
 
 -- the lines by which an end tells its neighbours of what it has lost
 abbrev pub squits_told : Fixed → (Name → Known) → Name → Name → List (List ℕ)
-squits_told s routes a b = map (λ x. line_text (squit_parts a x (split_text a b))) (behind (routes a) (number s b))
+squits_told s routes a b = map (λ x. line_text (squit_parts a x (split_text a b))) (names_behind (routes a) (number s b))
 
 -- no line of a cut is answered
 abbrev pub terms_of_cut : Network → Name → Name → Terms View (List ℕ) Part Deed

@@ -13,7 +13,7 @@ use Rattle.irc_relay.specs.Distances.{EndsAreAmong, IsAmong}
 use Rattle.irc_relay.specs.Following.{all_done, all_seen}
 use Rattle.irc_relay.specs.Links.{Name, Link, part, joined, links_without, same, AreJoined, AreLinked, IsForest}
 use Rattle.irc_routes.specs.declared.server_row.ServerRow.{ServerRow}
-use Rattle.irc_routes.specs.Known.{Known, behind, row_of, token_out, IsNumbered}
+use Rattle.irc_routes.specs.Known.{Known, names_behind, row_of, token_out, IsNumbered}
 use Rattle.irc_routes.specs.Limits.{max_servers}
 use Rattle.irc_stage.specs.declared.clients.Client.{Client}
 use Rattle.irc_stage.specs.declared.clients.Client.TheVariants.{Registering, Registered}
@@ -91,7 +91,7 @@ module _ (known : IsKnownOfCuts) (s : Fixed) (world : World) (routes : Name → 
   abbrev gone : List Name
   gone = servers_on_side s.settings left b
 
-  gone_are : behind (routes a) (number s b) ≡ gone
+  gone_are : names_behind (routes a) (number s b) ≡ gone
   gone_are =
       known.behind s world.links routes a b so.fixed forest ends_are so.right so.linked
       ∙ ap (λ links. servers_on_side s.settings links b) so.is_left
@@ -110,7 +110,7 @@ module _ (known : IsKnownOfCuts) (s : Fixed) (world : World) (routes : Name → 
   lost_side : HasLost s a b gone (cut_side world routes left a) (cut_after s world routes left a b)
   lost_side =
       subst (λ names. HasLost s a b names (cut_side world routes left a) (cut_after s world routes left a b)) gone_are
-      (all_lost s 0 a b (behind (routes a) (number s b)) (cut_side world routes left a))
+      (all_lost s 0 a b (names_behind (routes a) (number s b)) (cut_side world routes left a))
 
   -- that side
   abbrev pub side_left : Part

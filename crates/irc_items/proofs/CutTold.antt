@@ -27,7 +27,7 @@ use Rattle.irc_relay.specs.Relay.{TakesFrom}
 use Rattle.irc_relay.specs.Lemmas.TellingNames.{same_unless}
 use Rattle.irc_relay.proofs.TakingOut.{tests_tell}
 use Rattle.irc_routes.specs.declared.server_row.ServerRow.{ServerRow}
-use Rattle.irc_routes.specs.Known.{Known, behind, is_itself, is_known, row_of}
+use Rattle.irc_routes.specs.Known.{Known, names_behind, is_itself, is_known, row_of}
 use Rattle.irc_routes.specs.Known as of_known
 use Rattle.irc_burst.specs.DeedsMeant.{a_deed, deeds_meant}
 use Rattle.irc_burst.specs.HandshakeMeant.{handshake_meant}
@@ -276,11 +276,11 @@ module _ (known : IsKnownOfLines) (s : Fixed) (world : World) (routes : Name →
     -- whoever fits the side that it is on is told of all of them
     pub said_to : (w : Part) (other : View) → IsOfCut world.links left a w → ((x : Name) → AreJoined world.links x a → w.tree.knows x ≡ true) → Fits s u w other
         → SaysInTurn s a u (IsLossOfCut world.links left a) w other (deeds_of_cut s routes a b)
-        (map (λ x. line_text (squit_parts a x text)) (behind (routes a) (number s b)))
+        (map (λ x. line_text (squit_parts a x text)) (names_behind (routes a) (number s b)))
     said_to w other side knows reader =
-        said_along (behind (routes a) (number s b)) w other side reader (knows a refl)
+        said_along (names_behind (routes a) (number s b)) w other side reader (knows a refl)
         (of_cut.all_so (λ x. AreJoined left x b) (λ x. w.tree.knows x ≡ true) (λ x on. knows x (of_cut.lost_joined s world routes left a b cut x on))
-        (behind (routes a) (number s b)) (lost_beyond s world routes left a b cut))
+        (names_behind (routes a) (number s b)) (lost_beyond s world routes left a b cut))
         (lost_beyond s world routes left a b cut) (lost_once s world routes left a b cut)
 
   -- ---- what they come to
@@ -301,7 +301,7 @@ module _ (known : IsKnownOfLines) (s : Fixed) (world : World) (routes : Name →
   pub side_without : DoneStaysSound → (w : Part) → IsOfCut world.links left a w → ((x : Name) → AreJoined world.links x a → w.tree.knows x ≡ true)
       → IsSoundPart s w → IsSoundPart s (all_done (play s 0) w (deeds_of_cut s routes a b))
   side_without law w side knows sound =
-      lost_along law (behind (routes a) (number s b)) w side sound (knows a refl)
+      lost_along law (names_behind (routes a) (number s b)) w side sound (knows a refl)
       (of_cut.all_so (λ x. AreJoined left x b) (λ x. w.tree.knows x ≡ true) (λ x on. knows x (of_cut.lost_joined s world routes left a b cut x on))
-      (behind (routes a) (number s b)) (lost_beyond s world routes left a b cut))
+      (names_behind (routes a) (number s b)) (lost_beyond s world routes left a b cut))
       (lost_beyond s world routes left a b cut) (lost_once s world routes left a b cut)

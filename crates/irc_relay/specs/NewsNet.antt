@@ -48,6 +48,17 @@ sent_over at from item e =
 abbrev pub sent_on : List Edge → ℕ → ℕ → ℕ → List Sent
 sent_on edges at from item = flat_map (sent_over at from item) edges
 
+-- an item is sent on in what is under way
+abbrev pub SendsOn : List Edge → ℕ → ℕ → ℕ → List Sent → List Sent → Type 0
+SendsOn edges at from item old new = new ≡ old ++ sent_on edges at from item
+
+-- a server shows an item, and sends it on as its own
+abbrev pub ShowsItem : ℕ → ℕ → News → News → Type 0
+ShowsItem at item old new = new.shown.items ≡ old.shown.items ++ record { at = at; item = item } ∷ []
+
+abbrev pub SendsItem : ℕ → ℕ → News → News → Type 0
+SendsItem at item old new = SendsOn old.edges.items at at item old.flying.items new.flying.items
+
 -- the machine: a server's state is the item that it showed last
 abbrev pub relaying : List Edge → Machine ℕ ℕ ℕ
 relaying edges = record {

@@ -5,7 +5,7 @@ use Rattle.std.specs.Option.{option_and_then}
 use Rattle.irc_batch.specs.Batches.{Batch, line_on}
 use Rattle.irc_line.specs.declared.reading.LineFault.{LineFault}
 use Rattle.irc_line.specs.Messages.{Parsed, Written}
-use Rattle.irc_routes.specs.Known.{behind as names_behind}
+use Rattle.irc_routes.specs.Known.{names_behind}
 use Rattle.irc_stage.specs.declared.stage.Stage.{Stage}
 use Rattle.irc_stage.specs.EffectTold.{Served}
 use Rattle.irc_stage.specs.View.{End, View}

@@ -2,8 +2,9 @@
 use Rattle.std.specs.Prelude.{◌≡◌, ℕ, true, Option, Some, List, [], ◌∷◌, map}
 use Rattle.irc_batch.specs.Batches.{Batch}
 use Rattle.irc_burst.specs.DeedsMeant.{Told, a_deed, a_server}
-use Rattle.irc_burst.specs.Loops.Acts.{members_told}
-use Rattle.irc_merge.specs.Deeds.{Deed, brings, flag_given, kills, loses, sets, tops}
+use Rattle.irc_burst.specs.declared.acts.NewMember.{NewMember}
+use Rattle.irc_burst.specs.Loops.Acts.{member_told, members_told}
+use Rattle.irc_merge.specs.Deeds.{Deed, brings, flag_given, kills, loses, member_comes, sets, tops}
 use Rattle.irc_modes.specs.declared.modes.ModeLetter.{ModeLetter}
 use Rattle.irc_room.specs.declared.effect.By.TheVariants as by
 use Rattle.irc_room.specs.declared.effect.Effect.{Effect}
@@ -39,6 +40,10 @@ flag_of letter channel nick = ChangeModes by.Home channel (record { plus = true;
 -- a flag that a member has, or has not
 abbrev pub given_by : Gift → List Effect
 given_by gift = flag_given gift.given gift.letter gift.channel.now gift.nick.now
+
+-- a user becomes a member, with what it may do
+abbrev pub coming_of : List ℕ → NewMember → List Effect
+coming_of channel member = member_comes channel (member_told member)
 
 -- the users of these nicknames quit with one text
 abbrev pub quits_by_nick : List ℕ → List (List ℕ) → List Effect
