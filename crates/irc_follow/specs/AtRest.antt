@@ -13,7 +13,7 @@ use Rattle.irc_tables.specs.FoldedRows.{IsInFoldedOrder}
 use Rattle.irc_world.specs.Stepping.{servers_on_side}
 use Rattle.irc_world.specs.World.{Setting, World, place_at, setting_of}
 use Rattle.irc_world.specs.WorldHolds.{IsWorld}
-use Rattle.irc_follow.specs.Tree.{place_in, shape, shape_in}
+use Rattle.irc_follow.specs.Tree.{index_in, shape, shape_in}
 use Rattle.irc_follow.specs.Part.{Fixed, Part, info_in, number, IsFixed, IsSoundPart}
 
 abbrev pub part_of : Fixed → World → (Name → Known) → Name → Part
@@ -42,7 +42,7 @@ pub record AreRight (s : Fixed) (links : List Link) (routes : Name → Known) : 
       ≡ (if joined links x t && not (same x t) then Some (shape_in s.names (info_in s.settings) links t x) else None)
   pub numbered : (t : Name) → IsAmong s.names t → IsNumbered (routes t)
   pub low : (t x : Name) (r : ServerRow) → IsAmong s.names t → row_of (routes t) x ≡ Some r → r.ours ≤ max_servers
-  pub tokens : (t u x : Name) (r : ServerRow) → IsAmong s.names u → AreLinked links t u → row_of (routes u) x ≡ Some r → r.link ≡ place_in s.names t
+  pub tokens : (t u x : Name) (r : ServerRow) → IsAmong s.names u → AreLinked links t u → row_of (routes u) x ≡ Some r → r.link ≡ index_in s.names t
       → token_out (routes t) x ≡ Some r.token
 
 -- what stays is that of this network: the homes are its clients', and lines come along its links

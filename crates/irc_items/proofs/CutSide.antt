@@ -27,7 +27,7 @@ use Rattle.irc_follow.specs.Fits.{Fits}
 use Rattle.irc_follow.specs.Part.{Fixed, Part, info_in, number, is_home_of, IsFixed, IsSoundPart}
 use Rattle.irc_follow.specs.Relinked.{with_links, TreeAfterCut}
 use Rattle.irc_follow.specs.Says.{play}
-use Rattle.irc_follow.specs.Tree.{place_in, shape, shape_in, IsSoundTree}
+use Rattle.irc_follow.specs.Tree.{index_in, shape, shape_in, IsSoundTree}
 use Rattle.irc_follow.proofs.AtRest.{ends_there, joined_alike, joined_among, joined_so}
 use Rattle.irc_follow.proofs.BehindLinks.{joined_test}
 use Rattle.irc_items.proofs.CutEnds.{AreCutEnds, cut_ends, not_beyond, side_joined}
@@ -157,7 +157,7 @@ module _ (known : IsKnownOfCuts) (s : Fixed) (world : World) (routes : Name → 
 
   -- one number at both ends of a link
   pub side_tokens : (t u x : Name) (r : ServerRow) → AreJoined left u a → AreLinked left t u → row_of (routes_now u) x ≡ Some r
-      → r.link ≡ place_in s.names t → token_out (routes_now t) x ≡ Some r.token
+      → r.link ≡ index_in s.names t → token_out (routes_now t) x ≡ Some r.token
   side_tokens t u x r here linked is link = side_tree.tokens t u x r (joined_test left u a here) linked is link
 
   -- each server of the side meets the loss with the same side

@@ -29,7 +29,7 @@ use Rattle.irc_follow.specs.AtRest.{part_of, AreRight, BehindIsThatSide}
 use Rattle.irc_follow.specs.Fits.{Fits}
 use Rattle.irc_follow.specs.Part.{Fixed, is_home_of, number}
 use Rattle.irc_follow.specs.Says.{lines_on, machine, play}
-use Rattle.irc_follow.specs.Tree.{place_in}
+use Rattle.irc_follow.specs.Tree.{index_in}
 use Rattle.irc_follow.proofs.Followed.{IsKnownOfLine}
 use Rattle.irc_follow.proofs.Places.{one_place}
 use Rattle.irc_follow.proofs.SaidShows.{append_nil}
@@ -426,8 +426,8 @@ module _ (laws : AreCutLaws) (net new : Network) (near far : Name) (given : IsCu
 
   -- ---- ways
 
-  same_place : (y : Name) → place_in new.names y ≡ number s y
-  same_place y = ap (λ names. place_in names y) given.cut_so.names
+  same_place : (y : Name) → index_in new.names y ≡ number s y
+  same_place y = ap (λ names. index_in names y) given.cut_so.names
 
   still_there : (x y : Name) → is_some (way_at net x (number s y)) ≡ linked world.links x y
   still_there x y = given.sound.ways x y ∙ ap (λ links. linked links x y) given.sound.links
@@ -530,7 +530,7 @@ module _ (laws : AreCutLaws) (net new : Network) (near far : Name) (given : IsCu
       by p = record {
         server = p.server;
         among = subst (λ names. IsAmong names p.server) (sym given.cut_so.names) p.among;
-        is = ap (λ names. place_in names p.server) given.cut_so.names ∙ p.is;
+        is = ap (λ names. index_in names p.server) given.cut_so.names ∙ p.is;
       }
 
   nobody_now : (client : ℕ) → home_in new.homes client ≡ None → owed_now new client ≡ []

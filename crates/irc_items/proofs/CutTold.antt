@@ -44,7 +44,7 @@ use Rattle.irc_follow.specs.Tree.{shape_in}
 use Rattle.irc_follow.specs.Fits.{Fits}
 use Rattle.irc_follow.specs.Laws.{DoneStaysSound}
 use Rattle.irc_follow.specs.Part.{Fixed, Part, done, info_in, number, IsFixed, IsSoundPart}
-use Rattle.irc_follow.specs.Says.{asked, machine, play, IsDoableLoss, IsFar, Says}
+use Rattle.irc_follow.specs.Says.{neighbour_served, machine, play, IsDoableLoss, IsFar, Says}
 use Rattle.irc_follow.proofs.CarriedLines.{squit_carried}
 use Rattle.irc_follow.proofs.Neighbours.{both, met_end, HasEnd, IsKnownOfLines}
 use Rattle.irc_follow.proofs.ServerLines.{all_so}
@@ -174,7 +174,7 @@ module _ (known : IsKnownOfLines) (s : Fixed) (fixed : IsFixed s) (t u : Name) (
 pub data SaysInTurn (s : Fixed) (p t : Name) (Q : Part → Deed → Type 0) : Part → View → List Deed → List (List ℕ) → Type 0 where
   says_none : {w : Part} {view : View} → SaysInTurn s p t Q w view [] []
   says_first : {w : Part} {view : View} {deed : Deed} {deeds : List Deed} {line : List ℕ} {lines : List (List ℕ)} → Q w deed → Says s p t w view deed line
-      → SaysInTurn s p t Q (done s w deed) (asked s p view line).view deeds lines → SaysInTurn s p t Q w view (deed ∷ deeds) (line ∷ lines)
+      → SaysInTurn s p t Q (done s w deed) (neighbour_served s p view line).view deeds lines → SaysInTurn s p t Q w view (deed ∷ deeds) (line ∷ lines)
 
 -- So they tell of the deeds, in whatever terms ask no more.
 pub tells_in_turn : (s : Fixed) (client : ℕ) (p t : Name) (Q : Part → Deed → Type 0) (x : Terms View (List ℕ) Part Deed)
@@ -185,7 +185,7 @@ tells_in_turn s client p t Q x so w view [] [] says_none = nothing
 tells_in_turn s client p t Q x so w view [] (line ∷ lines) never = elim never [ ]
 tells_in_turn s client p t Q x so w view (deed ∷ deeds) [] never = elim never [ ]
 tells_in_turn s client p t Q x so w view (deed ∷ deeds) (line ∷ lines) (says_first is said later) =
-    by_line (so w view deed line is said) (tells_in_turn s client p t Q x so (done s w deed) (asked s p view line).view deeds lines later)
+    by_line (so w view deed line is said) (tells_in_turn s client p t Q x so (done s w deed) (neighbour_served s p view line).view deeds lines later)
 
 -- ---- the servers of one side are lost one by one on the other
 
@@ -267,7 +267,7 @@ module _ (known : IsKnownOfLines) (s : Fixed) (world : World) (routes : Name →
         let doable = doable_loss w name side reader.sound knows_a knows.0 beyond.0 in
         let said = loss_said known s cut.fixed a u w other next reader name text doable in
         says_first (record { side = side; loss = tt }) said
-        (said_along names (done s w (loses a name text)) (asked s a other (line_text (squit_parts a name text))).view
+        (said_along names (done s w (loses a name text)) (neighbour_served s a other (line_text (squit_parts a name text))).view
         (record { forest = side.forest; here = side.here })
         (said_loses_fits s a u w other next reader a name text (line_text (squit_parts a name text)) said)
         (λ i. knows_a i && not (same_unless a name (λ e. (rest s world routes left a b cut).parted (subst (λ v. AreJoined left v b) (sym e) beyond.0)) i))
