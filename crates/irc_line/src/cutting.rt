@@ -7,7 +7,7 @@ use crate::limits::MAX_LINE;
 use arrayvec::ArrayVec;
 
 /// Appends bytes, and drops those past [`MAX_LINE`].
-pub(crate) fn push_cut<const N: usize>(line: &mut ArrayVec<u8, N>, bytes: &[u8])
+pub fn push_cut<const N: usize>(line: &mut ArrayVec<u8, N>, bytes: &[u8])
     requires room { MAX_LINE ≤ N }
     requires is_cut { array_vec_len line.old ≤ MAX_LINE }
     ensures appended { line.new.items ≡ cut (line.old.items ++ bytes.now) }

@@ -11,6 +11,7 @@ pub mod limits;
 mod reading;
 mod writing;
 
+pub use cutting::push_cut;
 pub use framing::{Framer, Line, lines_of_pieces};
 pub use reading::{LineFault, Message, parse};
-pub use writing::{Parts, Prefix, Text, body, write_message};
+pub use writing::{Parts, Prefix, Text, body, push_prefix, write_message};

@@ -59,7 +59,8 @@ pub fn write_message(parts: &Parts<'_>) -> Text
     line
 }
 
-fn push_prefix(line: &mut Text, prefix: &Prefix<'_>)
+/// Appends who sends a message as the front of a line: a colon, the name, a space (RFC 2812 section 2.3.1); nothing where nobody does.
+pub fn push_prefix(line: &mut Text, prefix: &Prefix<'_>)
     requires { array_vec_len line.old ≤ MAX_LINE }
     ensures pushed { line.new.items ≡ cut (line.old.items ++ prefix_text (prefix_of (sender prefix.now))) }
     ensures still_cut { array_vec_len line.new ≤ MAX_LINE }

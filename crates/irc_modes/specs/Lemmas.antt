@@ -5,4 +5,5 @@ pub mod FewRead
 pub mod LetterReading
 pub mod LimitText
 pub mod LimitsKept
+pub mod ModePieces
 pub mod SetAgain

@@ -1,2 +1,3 @@
 pub mod ManyChanges
 pub mod ModeLimits
+pub mod WrittenLetters

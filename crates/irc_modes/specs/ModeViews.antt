@@ -1,10 +1,16 @@
 -- What the items of a MODE say, without where the bytes of their words lie.
 use Rattle.std.specs.Prelude.{List, map}
 use Rattle.std.specs.Option.{option_copied}
+use Rattle.irc_modes.specs.declared.modes.AskedChange.{AskedChange}
+use Rattle.irc_modes.specs.declared.modes.ModeChange.{ModeChange}
 use Rattle.irc_modes.specs.declared.mode_words.ModeItem.{ModeItem}
 use Rattle.irc_modes.specs.declared.mode_words.ModeItem.TheVariants as item
 use Rattle.irc_modes.specs.declared.mode_words.Reading.{Reading as CodeReading}
 use Rattle.irc_modes.specs.ModeWords.{Asked, change, list, no_word, unknown, Reading}
+
+-- the change that is asked for, with a parameter of its own
+abbrev pub kept_change : AskedChange → ModeChange
+kept_change asked = record { plus = asked.plus; letter = asked.letter; word = option_copied asked.word }
 
 abbrev pub asked : ModeItem → Asked
 asked (item.Change c) = change c.plus c.letter (option_copied c.word)

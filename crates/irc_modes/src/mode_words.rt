@@ -1,6 +1,7 @@
 //! The words of a MODE of a channel (RFC 2811 section 4, RFC 2812 section 3.2.3).
-ghost use Rattle.std.specs.Prelude.{◌≡◌, ◌≤◌, [], ◌∷◌, ◌++◌, true, drop, length, map, IfOk, if◌then◌else◌};
+ghost use Rattle.std.specs.Prelude.{◌≡◌, ◌≤◌, [], ◌∷◌, ◌++◌, true, drop, length, IfOk, if◌then◌else◌};
 ghost use Rattle.std.specs.Option.{option_copied};
+ghost use Rattle.irc_line.specs.PartViews.{words_now};
 ghost use Rattle.irc_modes.specs.ModeWords.{answer, change, counted, is_sign, letter_asks, letters_read, mode_of, modes_read, needs, next_word, once, reading, takes, words_after};
 ghost use Rattle.irc_modes.specs.ModeViews.{all_asked, asked, letter_read};
 ghost use Rattle.irc_modes.specs.Loops.ModeLimits.{Judges};
@@ -66,7 +67,7 @@ struct Limits {
 /// # Errors
 /// Where memory runs out.
 pub fn read_modes<'a>(alloc: Global, params: &[&'a [u8]]) -> Result<Vec<ModeItem<'a>>, AllocError>
-    ensures { IfOk result (λ items. all_asked items.items ≡ modes_read (map (λ param. param.now) params.now)) }
+    ensures { IfOk result (λ items. all_asked items.items ≡ modes_read (words_now params.now)) }
 {
     match params.split_first() {
         Some((letters, words)) => read_letters(alloc, letters, words),
@@ -80,7 +81,7 @@ fn read_letters<'a>(
     letters: &[u8],
     words: &[&'a [u8]],
 ) -> Result<Vec<ModeItem<'a>>, AllocError>
-    ensures { IfOk result (λ items. all_asked items.items ≡ counted [] (letters_read true letters.now (map (λ word. word.now) words.now))) }
+    ensures { IfOk result (λ items. all_asked items.items ≡ counted [] (letters_read true letters.now (words_now words.now))) }
 {
     let mut plus = true;
     let mut used = 0;
@@ -163,7 +164,7 @@ fn read_letter(plus: bool, byte: u8, next: Option<&[u8]>) -> Reading<'_>
 /// The next parameter, if one is left after those that were used.
 #[tactic(auto, using(crate::proofs::ModeSteps::word_places))]
 fn next_word<'a>(words: &[&'a [u8]], used: usize) -> Option<&'a [u8]>
-    ensures { option_copied result ≡ next_word (drop used (map (λ word. word.now) words.now)) }
+    ensures { option_copied result ≡ next_word (drop used (words_now words.now)) }
 {
     if used < words.len() {
         Some(words[used])
@@ -176,7 +177,7 @@ fn next_word<'a>(words: &[&'a [u8]], used: usize) -> Option<&'a [u8]>
 #[tactic(auto, using(crate::proofs::ModeSteps::word_places))]
 fn used_after(plus: bool, byte: u8, used: usize, words: &[&[u8]]) -> usize
     requires { used ≤ length words.now }
-    ensures after { (let texts = map (λ word. word.now) words.now in drop result texts ≡ words_after plus byte (drop used texts)) }
+    ensures after { drop result (words_now words.now) ≡ words_after plus byte (drop used (words_now words.now)) }
     ensures within { result ≤ length words.now }
 {
     if !takes_next(plus, byte) {

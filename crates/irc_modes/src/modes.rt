@@ -2,6 +2,7 @@
 ghost use Rattle.std.specs.Prelude.{◌≡◌};
 ghost use Rattle.std.specs.Option.{option_copied, SomeIff};
 ghost use Rattle.irc_modes.specs.Letters.{letter_byte, names_member, sign_byte};
+ghost use Rattle.irc_modes.specs.ModeViews.{kept_change};
 ghost use Rattle.irc_modes.specs.Texts.{IsKept};
 
 use crate::bans::BanList;
@@ -116,7 +117,7 @@ pub struct AskedChange<'a> {
 impl<'a> AskedChange<'a> {
     /// The change with a parameter of its own; none where the parameter is longer than any mode takes. It takes no memory.
     pub fn kept(&self) -> Option<ModeChange>
-        ensures { SomeIff result (IsKept (option_copied self.now.word)) (record { plus = self.now.plus; letter = self.now.letter; word = option_copied self.now.word }) }
+        ensures { SomeIff result (IsKept (option_copied self.now.word)) (kept_change self.now) }
     {
         let word = match self.word {
             Some(bytes) => Some(ModeWord::read(bytes)?),

@@ -5,7 +5,7 @@ pub mod QuitLaw
 pub mod ExamplesProved
 pub mod Refusals
 pub mod CountedUsers
-pub mod WrittenChanges
+pub mod ModeLine
 pub mod RowValues
 pub mod Keeping
 pub mod ToldLaw

@@ -5,6 +5,7 @@ use Rattle.std.specs.Option.{option_map_or}
 use Rattle.arrayvec.specs.ArrayVec.{ArrayVec}
 use Rattle.irc_names.specs.Fold.{key}
 use Rattle.irc_names.specs.Tables.{row}
+use Rattle.irc_users.specs.declared.user.User.{User}
 use Rattle.irc_users.specs.UserTable.{is_home}
 use Rattle.irc_room.specs.declared.effect.Effect.{Effect}
 use Rattle.irc_room.specs.declared.shown_line.ShownLine.{ShownLine}
@@ -13,7 +14,7 @@ use Rattle.irc_room.specs.declared.fault.RoomFault.TheVariants.{NoSuchUser, NoSu
 use Rattle.irc_room.specs.Room.{Room}
 use Rattle.irc_room.specs.Effects.{has_user, has_channel, is_idle, needs_users, needs_channel}
 use Rattle.irc_room.specs.After.{after}
-use Rattle.irc_room.specs.Seen.{Showing, seen}
+use Rattle.irc_room.specs.Seen.{Showing, seen, shown_line}
 
 -- whose room it is, whether memory ran out, and the room
 pub record Kept : Type 0 where
@@ -47,6 +48,10 @@ handed showing = (showing.viewer, record { items = showing.line })
 -- what an effect shows to the server's own users, in folded order
 abbrev pub shown_here : Kept → Effect → List (List ℕ × ArrayVec ℕ)
 shown_here kept effect = map handed (filter (is_own kept) (seen kept.room effect))
+
+-- the line that an effect shows to each of the server's own users who sees it
+abbrev pub ShowsHere : Kept → Effect → Option (List ℕ) → Type 0
+ShowsHere kept effect line = (viewer : User) → viewer.home ≡ kept.own → shown_line kept.room effect viewer ≡ line
 
 -- what was shown: the line, to each viewer
 abbrev pub pairs_of : ShownLine → List (List ℕ × ArrayVec ℕ)

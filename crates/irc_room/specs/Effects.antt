@@ -3,7 +3,7 @@ use Rattle.std.specs.Prelude.{◌≡◌, ℕ, Bool, true, false, not, ◌&&◌, 
 use Rattle.std.specs.List.{list_all}
 use Rattle.std.specs.Option.{option_map_or}
 use Rattle.irc_names.specs.Fold.{key, same}
-use Rattle.irc_names.specs.Tables.{row}
+use Rattle.irc_names.specs.Tables.{Table, row}
 use Rattle.irc_channels.specs.Channels.{has_member}
 use Rattle.irc_room.specs.declared.effect.By.{By}
 use Rattle.irc_room.specs.declared.effect.By.TheVariants as by
@@ -13,12 +13,16 @@ use Rattle.irc_room.specs.declared.effect.Effect.{Effect}
 use Rattle.irc_room.specs.declared.effect.Effect.TheVariants.{AddUser, Rename, Quit, Join, Part, Kick, ChangeModes, SetTopic, Say, Invite, UserMode}
 use Rattle.irc_room.specs.Room.{Room}
 
+-- whether a table has a row under a name, as spelled
+abbrev pub is_named : {V : Type 0} → Table V → List ℕ → Bool
+is_named table name = is_some (row table (key name))
+
 -- the user of a nickname, and the channel of a name, as spelled
 abbrev pub has_user : Room → List ℕ → Bool
-has_user room nick = is_some (row room.users (key nick))
+has_user room nick = is_named room.users nick
 
 abbrev pub has_channel : Room → List ℕ → Bool
-has_channel room channel = is_some (row room.channels (key channel))
+has_channel room channel = is_named room.channels channel
 
 -- whether the user of a nickname is a member of the channel of a name
 abbrev pub is_member : Room → List ℕ → List ℕ → Bool
@@ -37,9 +41,34 @@ by_nick (by.User nick) = Some nick
 by_nick by.Home = None
 
 -- the nickname that a text is for, if it is for a user
+abbrev pub target_user : Target → Option (List ℕ)
+target_user (target.User nick) = Some nick
+target_user (target.Channel channel) = None
+
 abbrev pub target_users : Target → List (List ℕ)
 target_users (target.User nick) = nick ∷ []
 target_users (target.Channel channel) = []
+
+-- the nickname of the user that does an effect; a server has none, and who is only now a user has done nothing yet
+abbrev pub doer_of : Effect → Option (List ℕ)
+doer_of (AddUser user) = None
+doer_of (Rename nick new) = Some nick
+doer_of (Quit nick text) = Some nick
+doer_of (Join nick channel op) = Some nick
+doer_of (Part nick channel text) = Some nick
+doer_of (Kick by channel nick text) = Some by
+doer_of (ChangeModes by channel changes) = by_nick by
+doer_of (SetTopic by channel text) = by_nick by
+doer_of (Say by notice to text) = Some by
+doer_of (Invite by nick channel) = Some by
+doer_of (UserMode nick invisible) = Some nick
+
+-- the nickname of the user that must be there besides the doer
+abbrev pub needs_other : Effect → Option (List ℕ)
+needs_other (Kick by channel nick text) = Some nick
+needs_other (Say by notice to text) = target_user to
+needs_other (Invite by nick channel) = Some nick
+needs_other other = None
 
 -- the nicknames that must be there for the effect to be one
 abbrev pub needs_users : Effect → List (List ℕ)

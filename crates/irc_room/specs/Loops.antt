@@ -1,6 +1,5 @@
 pub mod HomeCount
 pub mod LineViews
 pub mod RoomParts
-pub mod Signs
 pub mod Telling
 pub mod Viewing

@@ -1,11 +1,11 @@
 -- Who is shown which line by an effect (RFC 2812 section 3). Viewers are the users before the effect, each at most once, in folded order.
-use Rattle.std.specs.Prelude.{ℕ, Bool, false, not, ◌&&◌, ◌||◌, Option, Some, None, List, [], ◌∷◌, codes, if◌then◌else◌}
+use Rattle.std.specs.Prelude.{ℕ, Bool, false, not, ◌&&◌, ◌||◌, Option, Some, None, List, [], ◌∷◌, ◌++◌, codes, if◌then◌else◌}
 use Rattle.std.specs.List.{list_any, filter_map}
 use Rattle.std.specs.Option.{option_map, option_map_or}
 use Rattle.std.specs.FinMap.{values}
 use Rattle.irc_names.specs.Fold.{key, same}
 use Rattle.irc_names.specs.Tables.{row}
-use Rattle.irc_line.specs.Messages.{Sender, Written, named, full, text}
+use Rattle.irc_line.specs.Messages.{Sender, Written, named, full, text, middle_text}
 use Rattle.irc_users.specs.declared.user.User.{User}
 use Rattle.irc_modes.specs.declared.modes.ModeChange.{ModeChange}
 use Rattle.irc_channels.specs.declared.channel.Channel.{Channel}
@@ -54,6 +54,10 @@ written_word room c = if names_member c.letter then option_map (stored_nick room
 -- The words that changes are written as: the letters, then the parameters in order (RFC 2812 section 3.2.3).
 abbrev pub changes_words : Room → List ModeChange → List (List ℕ)
 changes_words room changes = letters_text changes ∷ filter_map (written_word room) changes
+
+-- the same words in a line, behind a space: each parameter has a space in front of it
+abbrev pub changes_text : Room → List ModeChange → List ℕ
+changes_text room changes = letters_text changes ++ middle_text (filter_map (written_word room) changes)
 
 -- the user that does it, as it is before the effect
 abbrev pub full_sender : User → Sender

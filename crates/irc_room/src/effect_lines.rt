@@ -1,29 +1,27 @@
 //! The line that an effect shows at a server: one, for all its viewers (RFC 2812 section 3).
-ghost use Rattle.std.specs.Prelude.{◌≡◌, is_some, IfOk};
+ghost use Rattle.std.specs.Prelude.{◌≡◌, is_some};
 ghost use Rattle.irc_users.specs.declared.user.User.{User};
 ghost use Rattle.irc_room.specs.Loops.LineViews.{line_if};
 ghost use Rattle.irc_room.specs.Loops.RoomParts.{room_of, IsByUser, IsOfUsers, ShowsAll, ShowsAt};
-ghost use Rattle.irc_room.specs.Seen.{from_by, shown_line};
+ghost use Rattle.irc_room.specs.Seen.{shown_line};
 
-use crate::effect::{By, Effect};
+use crate::effect::Effect;
 use crate::lines::{
     invite_line, join_line, kick_line, mode_line, nick_line, part_line, quit_line, say_line,
     topic_line, user_mode_line,
 };
 use crate::room_parts::{RoomParts, from_by, from_nick, stored_channel, stored_nick, target_name};
 use irc_line::Text;
-use std::alloc::{AllocError, Global};
 
 /// Writes the line that an effect on a room shows at the server of this name to those who see it, where it shows one. Here and below: tells
 /// whether it did.
 pub(crate) fn effect_line(
-    alloc: Global,
     own: &[u8],
     parts: RoomParts<'_>,
     effect: &Effect,
     line: &mut Text,
-) -> Result<bool, AllocError>
-    ensures { IfOk result (λ there. ShowsAt (room_of parts.entry) effect.now own.now (line_if there line.new)) }
+) -> bool
+    ensures { ShowsAt (room_of parts.entry) effect.now own.now (line_if result line.new) }
 {
     match effect {
         Effect::ChangeModes {
@@ -31,20 +29,19 @@ pub(crate) fn effect_line(
             channel,
             changes,
         } => mode_line(
-            alloc,
             parts,
             from_by(own, parts, by),
             stored_channel(parts, channel),
             changes.as_slice(),
             line,
         ),
-        Effect::SetTopic { by, channel, text } => Ok(topic_line(
+        Effect::SetTopic { by, channel, text } => topic_line(
             from_by(own, parts, by),
             stored_channel(parts, channel),
             text.as_bytes(),
             line,
-        )),
-        _ => Ok(member_line(parts, effect, line)),
+        ),
+        _ => member_line(parts, effect, line),
     }
 }
 
@@ -52,27 +49,10 @@ pub(crate) fn effect_line(
 pub(crate) fn has_line(parts: RoomParts<'_>, effect: &Effect) -> bool
     ensures { (viewer : User) → is_some (shown_line (room_of parts.entry) effect.now viewer) ≡ result }
 {
-    match effect {
-        Effect::AddUser(_) => false,
-        Effect::Rename { nick, .. }
-        | Effect::Quit { nick, .. }
-        | Effect::Join { nick, .. }
-        | Effect::Part { nick, .. }
-        | Effect::UserMode { nick, .. } => from_nick(parts, nick).is_some(),
-        Effect::Kick { by, .. } | Effect::Say { by, .. } | Effect::Invite { by, .. } => {
-            from_nick(parts, by).is_some()
-        }
-        Effect::ChangeModes { by, .. } | Effect::SetTopic { by, .. } => is_there(parts, by),
-    }
-}
-
-/// Whether whoever changes a channel is there; a server always is.
-fn is_there(parts: RoomParts<'_>, by: &By) -> bool
-    ensures { (viewer : User) → result ≡ is_some (from_by (room_of parts.entry) by.now viewer) }
-{
-    match by {
-        By::User(nick) => from_nick(parts, nick).is_some(),
-        By::Home => true,
+    match effect.doer() {
+        Some(nick) => from_nick(parts, nick).is_some(),
+        // A server always is there.
+        None => !matches!(effect, Effect::AddUser(_)),
     }
 }
 

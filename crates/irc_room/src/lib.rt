@@ -5,6 +5,7 @@ mod audience;
 mod changing;
 mod effect;
 mod effect_lines;
+mod effect_names;
 pub mod examples;
 mod fault;
 mod home_count;

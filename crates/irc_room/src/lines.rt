@@ -1,18 +1,18 @@
 //! The line that each kind of effect shows (RFC 2812 section 3). Where the doer is not there, there is none.
-ghost use Rattle.std.specs.Prelude.{◌≡◌, None, Some, [], ◌∷◌, IfOk, codes, if◌then◌else◌};
+ghost use Rattle.std.specs.Prelude.{◌≡◌, None, Some, [], ◌∷◌, codes, if◌then◌else◌};
 ghost use Rattle.std.specs.Option.{option_map};
+ghost use Rattle.irc_line.specs.Messages.{text};
 ghost use Rattle.irc_line.specs.MessageViews.{optional_now};
 ghost use Rattle.irc_line.specs.PartViews.{sender, words_now};
 ghost use Rattle.irc_room.specs.Seen.{changes_words, full_sender, line_of};
-ghost use Rattle.irc_room.specs.Loops.LineViews.{line_if};
+ghost use Rattle.irc_room.specs.Loops.LineViews.{line_if, mode_parts};
 ghost use Rattle.irc_room.specs.Loops.RoomParts.{room_of};
 
-use crate::mode_letters::{letters_text, words_behind};
+use crate::mode_letters::push_changes;
 use crate::room_parts::RoomParts;
-use irc_line::{Parts, Prefix, Text, write_message};
+use irc_line::{Parts, Prefix, Text, push_cut, push_prefix, write_message};
 use irc_modes::ModeChange;
 use irc_users::User;
-use std::alloc::{AllocError, Global};
 
 /// The prefix of a line that a user causes: `nick!user@host` (RFC 2812 section 2.3.1).
 pub(crate) fn full_prefix(user: &User) -> Prefix<'_>
@@ -97,18 +97,35 @@ pub(crate) fn kick_line<'a>(
 
 /// A channel's modes change (RFC 2812 section 3.2.3).
 pub(crate) fn mode_line(
-    alloc: Global,
     parts: RoomParts<'_>,
     doer: Option<Prefix<'_>>,
     channel: &[u8],
     changes: &[ModeChange],
     line: &mut Text,
-) -> Result<bool, AllocError>
-    ensures { IfOk result (λ there. line_if there line.new ≡ line_of (codes "MODE") (channel.now ∷ changes_words (room_of parts.entry) changes.now) None (option_map sender doer.entry)) }
+) -> bool
+    ensures { line_if result line.new ≡ line_of (codes "MODE") (channel.now ∷ changes_words (room_of parts.entry) changes.now) None (option_map sender doer.entry) }
 {
-    let letters = letters_text(alloc, changes)?;
-    let words = words_behind(alloc, parts, channel, &letters, changes)?;
-    Ok(write_line(doer, b"MODE", &words, None, line))
+    match doer {
+        None => false,
+        Some(prefix) => {
+            *line = mode_text(parts, prefix, channel, changes);
+            true
+        }
+    }
+}
+
+/// The same line, from somebody who is there.
+fn mode_text(parts: RoomParts<'_>, doer: Prefix<'_>, channel: &[u8], changes: &[ModeChange]) -> Text
+    ensures { result.items ≡ text (mode_parts (room_of parts.entry) (sender doer.entry) channel.now changes.now) }
+{
+    let mut line = Text::new();
+    push_prefix(&mut line, &doer);
+    push_cut(&mut line, b"MODE ");
+    push_cut(&mut line, channel);
+    push_cut(&mut line, b" ");
+    push_changes(parts, &mut line, changes);
+    let _ = line.try_extend_from_slice(b"\r\n");
+    line
 }
 
 /// A channel's topic changes (RFC 2812 section 3.2.4).

@@ -1,8 +1,12 @@
 //! One room.
-ghost use Rattle.std.specs.Prelude.{◌≡◌, ◌++◌, false, true, not, Some, None, filter, length, map, option_to_list, IfOk, OnOk, if◌then◌else◌};
+ghost use Rattle.std.specs.Prelude.{◌≡◌, ◌≤◌, ◌++◌, false, true, not, Some, None, filter, length, map, option_to_list, IfOk, OnOk, if◌then◌else◌};
 ghost use Rattle.std.specs.Option.{option_copied, option_map};
 ghost use Rattle.std.specs.FinMap.{empty, entries, values};
+ghost use Rattle.arrayvec.specs.ArrayVec.{array_vec_len};
+ghost use Rattle.irc_line.specs.Bytes.{cut};
+ghost use Rattle.irc_line.specs.Limits.{max_line};
 ghost use Rattle.irc_names.specs.Fold.{key};
+ghost use Rattle.irc_names.specs.Limits.{max_channel};
 ghost use Rattle.irc_names.specs.Tables.{row};
 ghost use Rattle.irc_tables.specs.RowViews.{row_entry};
 ghost use Rattle.irc_users.specs.declared.user.User.{User};
@@ -10,27 +14,30 @@ ghost use Rattle.irc_users.specs.Rosters.{boxed};
 ghost use Rattle.irc_users.specs.UserTable.{is_home};
 ghost use Rattle.irc_channels.specs.Channels.{has_member};
 ghost use Rattle.irc_channels.specs.ChannelTable.{members_in};
-ghost use Rattle.irc_room.specs.Applying.{Kept, Applied, IdleStays, does};
+ghost use Rattle.irc_room.specs.Applying.{Kept, Applied, IdleStays, ShowsHere, does};
 ghost use Rattle.irc_room.specs.Effects.{brings_free};
 ghost use Rattle.irc_room.specs.Indexes.{entries_under};
 ghost use Rattle.irc_room.specs.Laws.{no_room};
+ghost use Rattle.irc_room.specs.Loops.RoomParts.{room_of};
 ghost use Rattle.irc_room.specs.Readers.{user_at, channel_at, flags_at, is_invited_at, nicks_in};
 ghost use Rattle.irc_room.specs.Room.{IsWellFormed};
-ghost use Rattle.irc_room.specs.Seen.{seen, shown_line};
+ghost use Rattle.irc_room.specs.Seen.{changes_text, seen, stored_channel, stored_nick, target_name};
 
 use crate::audience::{audience, member_nicks};
 use crate::changing::perform;
-use crate::effect::Effect;
+use crate::effect::{Effect, Target};
 use crate::effect_lines::effect_line;
 use crate::fault::RoomFault;
 use crate::home_count::{homed, staying, with_newcomer};
 use crate::idle::is_idle;
 use crate::indexed_channels::IndexedChannels;
+use crate::mode_letters::push_changes;
 use crate::refusing::{missing, refusal};
-use crate::room_parts::RoomParts;
+use crate::room_parts::{RoomParts, stored_channel, stored_nick, target_name};
 use crate::shown_line::ShownLine;
 use irc_channels::{Channel, Flags};
 use irc_line::Text;
+use irc_modes::ModeChange;
 use irc_names::{ChannelName, Nick, ServerName};
 use irc_tables::Row;
 use irc_users::{User, Users};
@@ -251,18 +258,57 @@ impl Room {
     }
 
     /// Writes the line that an effect shows to each user of the room's own server who sees it, with its CR LF (RFC 2812 section 2.3), and
-    /// tells whether it shows one at all. Where it does not, the line is any.
-    ///
-    /// # Errors
-    /// Where memory runs out.
-    pub fn write_line(&self, effect: &Effect, line: &mut Text) -> Result<bool, AllocError>
-        ensures { IfOk result (λ there. (viewer : User) → viewer.home ≡ self.now.own → shown_line self.now.room effect.now viewer ≡ (if there then Some line.new.items else None)) }
+    /// tells whether it shows one at all. Where it does not, the line is any. It takes no memory.
+    pub fn write_line(&self, effect: &Effect, line: &mut Text) -> bool
+        ensures { ShowsHere self.now effect.now (if result then Some line.new.items else None) }
     {
         let parts = RoomParts {
             users: &self.users,
             channels: &self.channels,
         };
-        effect_line(self.alloc, self.own.as_bytes(), parts, effect, line)
+        effect_line(self.own.as_bytes(), parts, effect, line)
+    }
+
+    /// The nickname that these bytes are under the fold, as it is stored, or the bytes as given where there is no such user.
+    pub fn stored_nick<'a>(&'a self, nick: &'a [u8]) -> &'a [u8]
+        ensures { result.now ≡ stored_nick self.now.room nick.now }
+    {
+        stored_nick(self.parts(), nick)
+    }
+
+    /// A channel's name as it is stored, or as it was given where there is no such channel.
+    pub fn stored_channel<'a>(&'a self, channel: &'a ChannelName) -> &'a [u8]
+        ensures name { result.now ≡ stored_channel self.now.room channel.now }
+        ensures fits { length result.now ≤ max_channel }
+    {
+        stored_channel(self.parts(), channel)
+    }
+
+    /// The name of whom a text is for, as it is stored.
+    pub fn target_name<'a>(&'a self, target: &'a Target) -> &'a [u8]
+        ensures { result.now ≡ target_name self.now.room target.now }
+    {
+        target_name(self.parts(), target)
+    }
+
+    /// Appends changes of modes as this room writes them (RFC 2812 section 3.2.3): the letters, and then each parameter behind a space, a
+    /// member's nickname as it is stored. It takes no memory.
+    pub fn push_changes(&self, line: &mut Text, changes: &[ModeChange])
+        requires { array_vec_len line.old ≤ max_line }
+        ensures pushed { line.new.items ≡ cut (line.old.items ++ changes_text self.now.room changes.now) }
+        ensures still_cut { array_vec_len line.new ≤ max_line }
+    {
+        push_changes(self.parts(), line, changes);
+    }
+
+    /// The two tables.
+    fn parts(&self) -> RoomParts<'_>
+        ensures { room_of result ≡ self.now.room }
+    {
+        RoomParts {
+            users: &self.users,
+            channels: &self.channels,
+        }
     }
 
     /// Applies an effect: the room is the one after it, and `shown` is what it shows to the server's own users.

@@ -1,8 +1,9 @@
 //! What a line or a viewer asks of a room.
-ghost use Rattle.std.specs.Prelude.{◌≡◌};
+ghost use Rattle.std.specs.Prelude.{◌≡◌, ◌≤◌, length};
 ghost use Rattle.std.specs.Option.{option_map};
 ghost use Rattle.irc_line.specs.PartViews.{sender};
 ghost use Rattle.irc_names.specs.Fold.{key};
+ghost use Rattle.irc_names.specs.Limits.{max_channel};
 ghost use Rattle.irc_users.specs.declared.user.User.{User};
 ghost use Rattle.irc_channels.specs.Channels.{has_member};
 ghost use Rattle.irc_room.specs.Effects.{has_channel, is_member};
@@ -58,7 +59,8 @@ pub(crate) fn stored_nick<'a>(parts: RoomParts<'a>, nick: &'a [u8]) -> &'a [u8]
 
 /// A channel's name as it is stored, or as it was given where there is no such channel.
 pub(crate) fn stored_channel<'a>(parts: RoomParts<'a>, channel: &'a ChannelName) -> &'a [u8]
-    ensures { result.now ≡ stored_channel (room_of parts.entry) channel.now }
+    ensures name { result.now ≡ stored_channel (room_of parts.entry) channel.now }
+    ensures fits { length result.now ≤ max_channel }
 {
     match parts.channels.find(channel.as_bytes()) {
         Some(found) => found.name.as_bytes(),

@@ -29,7 +29,7 @@ pub(crate) fn show(
     requires none { shown.old.viewers.items ≡ [] }
     ensures { OnOk result (pairs_of shown.new ≡ shown_at own.now (room_of parts.entry) effect.now) }
 {
-    if effect_line(alloc, own, parts, effect, &mut shown.line)? {
+    if effect_line(own, parts, effect, &mut shown.line) {
         add_viewers(alloc, own, parts, effect, &mut shown.viewers)?;
     }
     Ok(())

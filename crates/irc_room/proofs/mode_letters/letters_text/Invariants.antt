@@ -1,7 +1,0 @@
-use Rattle.std.proofs.Common.{◌≡◌, ◌++◌, drop}
-use Rattle.irc_modes.specs.ModeWritten.{letters_text}
-use Rattle.irc_room.proofs.WrittenChanges.{letters_from}
-use Rattle.irc_room.proofs.mode_letters.letters_text.Given as goal
-
-abbrev pub invariant-loop-change : goal.invariant-loop-change
-invariant-loop-change l = l.letters.items ++ letters_from l.sign (drop l.change-index l.changes) ≡ letters_text l.changes
