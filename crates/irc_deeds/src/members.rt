@@ -7,7 +7,7 @@ ghost use Rattle.irc_burst_lines.specs.Loops.Telling.{told_members};
 ghost use Rattle.irc_merge.specs.Deeds.{member_comes};
 ghost use Rattle.irc_stage.specs.Loops.Linking.{IsMetAt};
 ghost use Rattle.irc_stage.specs.Loops.Stage.{IsServing, Keeps};
-ghost use Rattle.irc_deeds.specs.Loops.Telling.{brings_of, flag_of, given_by, ChangesAll, DoesDeed};
+ghost use Rattle.irc_deeds.specs.Loops.Telling.{brings_of, coming_of, flag_of, given_by, ChangesAll, DoesDeed};
 
 use irc_batch::Batch;
 use irc_burst::NewMember;
@@ -98,7 +98,7 @@ fn come(
     out: &mut Batch,
 ) -> Result<(), AllocError>
     requires serving { IsServing stage.old }
-    ensures ok { OnOk result (ChangesAll (member_comes channel.now (member_told member.now)) stage.old out.old stage.new out.new) }
+    ensures ok { OnOk result (ChangesAll (coming_of channel.now member.now) stage.old out.old stage.new out.new) }
     ensures serving { OnOk result (IsServing stage.new) }
     ensures keeps { Keeps stage.old stage.new }
     ensures grew { Grew out.old.outs out.new.outs }

@@ -9,7 +9,7 @@ use Rattle.irc_engine.specs.declared.kind.Kind.{Kind}
 use Rattle.irc_engine.specs.declared.connection_table.Connection.{Connection}
 use Rattle.irc_engine.specs.Hearing.{begun_at}
 use Rattle.irc_engine.proofs.HearingLaws.{hears_on, hears_kept}
-use Rattle.irc_engine.specs.Carrying.{answers, is_closing, is_closed_by, owed, ends_at, is_cut_off, Silent, Stays, Why, finished, cut_off, overflowed, Leaves, Fate, is_lost_after, Passage}
+use Rattle.irc_engine.specs.Carrying.{answers, is_closing, is_closed_by, bytes_owed, ends_at, is_cut_off, Silent, Stays, Why, finished, cut_off, overflowed, Leaves, Fate, is_lost_after, Passage}
 
 pub written-append : (conn : ℕ) (a b : List Call) → written conn (a ++ b) ≡ written conn a ++ written conn b
 written-append conn a b = flat_map-append (written_by conn) a b
@@ -23,29 +23,29 @@ is_cut_off-append conn a b = list_any-append (ends_at conn) a b
 pub is_closed_by-append : (conn : ℕ) (a b : List Sent) → is_closed_by conn (a ++ b) ≡ (is_closed_by conn a || is_closed_by conn b)
 is_closed_by-append conn a b = list_any-append (is_closing conn) a b
 
-answers-append : (conn : ℕ) (a b : List Sent) → answers conn (a ++ b) ≡ answers conn a ++ owed (not (is_closed_by conn a)) conn b
+answers-append : (conn : ℕ) (a b : List Sent) → answers conn (a ++ b) ≡ answers conn a ++ bytes_owed (not (is_closed_by conn a)) conn b
 answers-append conn [] b = refl
 answers-append conn (line_to to text ∷ a) b =
     let first : List ℕ = cond (nat_eq to conn) text [] in
-    ap (λ xs. first ++ xs) (answers-append conn a b) ∙ sym (append_assoc first (answers conn a) (owed (not (is_closed_by conn a)) conn b))
+    ap (λ xs. first ++ xs) (answers-append conn a b) ∙ sym (append_assoc first (answers conn a) (bytes_owed (not (is_closed_by conn a)) conn b))
 answers-append conn (end_of which ∷ a) b = by (nat_eq which conn) (answers-append conn a b)
   where
-    by : (t : Bool) → answers conn (a ++ b) ≡ answers conn a ++ owed (not (is_closed_by conn a)) conn b
-        → cond t [] (answers conn (a ++ b)) ≡ cond t [] (answers conn a) ++ owed (not (t || is_closed_by conn a)) conn b
+    by : (t : Bool) → answers conn (a ++ b) ≡ answers conn a ++ bytes_owed (not (is_closed_by conn a)) conn b
+        → cond t [] (answers conn (a ++ b)) ≡ cond t [] (answers conn a) ++ bytes_owed (not (t || is_closed_by conn a)) conn b
     by true rest = refl
     by false rest = rest
 answers-append conn (line_on link text ∷ a) b =
     let first : List ℕ = cond (nat_eq link conn) text [] in
-    ap (λ xs. first ++ xs) (answers-append conn a b) ∙ sym (append_assoc first (answers conn a) (owed (not (is_closed_by conn a)) conn b))
+    ap (λ xs. first ++ xs) (answers-append conn a b) ∙ sym (append_assoc first (answers conn a) (bytes_owed (not (is_closed_by conn a)) conn b))
 answers-append conn (end_of_link which reason ∷ a) b = by (nat_eq which conn) (answers-append conn a b)
   where
-    by : (t : Bool) → answers conn (a ++ b) ≡ answers conn a ++ owed (not (is_closed_by conn a)) conn b
-        → cond t [] (answers conn (a ++ b)) ≡ cond t [] (answers conn a) ++ owed (not (t || is_closed_by conn a)) conn b
+    by : (t : Bool) → answers conn (a ++ b) ≡ answers conn a ++ bytes_owed (not (is_closed_by conn a)) conn b
+        → cond t [] (answers conn (a ++ b)) ≡ cond t [] (answers conn a) ++ bytes_owed (not (t || is_closed_by conn a)) conn b
     by true rest = refl
     by false rest = rest
 
 -- what is owed by two stretches, where the first may close the connection
-pub owed-append : (is_open : Bool) (conn : ℕ) (a b : List Sent) → owed is_open conn (a ++ b) ≡ owed is_open conn a ++ owed (is_open && not (is_closed_by conn a)) conn b
+pub owed-append : (is_open : Bool) (conn : ℕ) (a b : List Sent) → bytes_owed is_open conn (a ++ b) ≡ bytes_owed is_open conn a ++ bytes_owed (is_open && not (is_closed_by conn a)) conn b
 owed-append true conn a b = answers-append conn a b
 owed-append false conn a b = refl
 
@@ -63,11 +63,11 @@ module _ (conn : ℕ) (a b : List Call) (x y : List Sent) where
     never = times_closed-append conn a b ∙ ap (λ n. n + times_closed conn b) one.never ∙ ap (λ n. 0 + n) other.never;
   }
 
-  carried_on : (is_open still : Bool) (held mid end : List ℕ) → still ≡ (is_open && not (is_closed_by conn x)) → held ++ owed is_open conn x ≡ written conn a ++ mid
-      → mid ++ owed still conn y ≡ written conn b ++ end → held ++ owed is_open conn (x ++ y) ≡ written conn (a ++ b) ++ end
+  carried_on : (is_open still : Bool) (held mid end : List ℕ) → still ≡ (is_open && not (is_closed_by conn x)) → held ++ bytes_owed is_open conn x ≡ written conn a ++ mid
+      → mid ++ bytes_owed still conn y ≡ written conn b ++ end → held ++ bytes_owed is_open conn (x ++ y) ≡ written conn (a ++ b) ++ end
   carried_on is_open still held mid end is one other =
-      ap (λ xs. held ++ xs) (owed-append is_open conn x y ∙ ap (λ t. owed is_open conn x ++ owed t conn y) (sym is))
-      ∙ one_after_other held (owed is_open conn x) (owed still conn y) (written conn a) (written conn b) mid end one other
+      ap (λ xs. held ++ xs) (owed-append is_open conn x y ∙ ap (λ t. bytes_owed is_open conn x ++ bytes_owed t conn y) (sym is))
+      ∙ one_after_other held (bytes_owed is_open conn x) (bytes_owed still conn y) (written conn a) (written conn b) mid end one other
       ∙ ap (λ xs. xs ++ end) (sym (written-append conn a b))
 
   open_on : (is_open still now : Bool) → still ≡ (is_open && not (is_closed_by conn x)) → now ≡ (still && not (is_closed_by conn y))
@@ -117,23 +117,23 @@ module _ (conn : ℕ) (a b : List Call) (x y : List Sent) where
   closed_still false c d is = refl
 
   why_still : (old : Connection) (left : List ℕ) → Why conn old a x left
-      → Why conn old (a ++ b) (x ++ y) (left ++ owed (is_some old.framer && not (is_closed_by conn x)) conn y)
+      → Why conn old (a ++ b) (x ++ y) (left ++ bytes_owed (is_some old.framer && not (is_closed_by conn x)) conn y)
   why_still old left (finished closed none) =
       finished
       (ap (λ t. is_some old.framer && not t) (is_closed_by-append conn x y) ∙ closed_still (is_some old.framer) (is_closed_by conn x) (is_closed_by conn y) closed)
-      (ap (λ t. left ++ owed t conn y) closed ∙ append-nil left ∙ none)
+      (ap (λ t. left ++ bytes_owed t conn y) closed ∙ append-nil left ∙ none)
   why_still old left (cut_off cut) = cut_off (is_cut_off-append conn a b ∙ either (is_cut_off conn a) (is_cut_off conn b) cut)
   why_still old left (overflowed more) =
-      let rest = owed (is_some old.framer && not (is_closed_by conn x)) conn y in
+      let rest = bytes_owed (is_some old.framer && not (is_closed_by conn x)) conn y in
       overflowed (omega (arith, more, length-append {A = ℕ} left rest))
 
   left_already : (old : Connection) → Leaves conn old a x → Silent conn b → Leaves conn old (a ++ b) (x ++ y)
   left_already old one other = record {
-    left = one.left ++ owed (is_some old.framer && not (is_closed_by conn x)) conn y;
+    left = one.left ++ bytes_owed (is_some old.framer && not (is_closed_by conn x)) conn y;
     carried =
         carried_on (is_some old.framer) (is_some old.framer && not (is_closed_by conn x)) old.outbox.bytes one.left
-        (one.left ++ owed (is_some old.framer && not (is_closed_by conn x)) conn y) refl one.carried
-        (ap (λ xs. xs ++ (one.left ++ owed (is_some old.framer && not (is_closed_by conn x)) conn y)) (sym other.nothing));
+        (one.left ++ bytes_owed (is_some old.framer && not (is_closed_by conn x)) conn y) refl one.carried
+        (ap (λ xs. xs ++ (one.left ++ bytes_owed (is_some old.framer && not (is_closed_by conn x)) conn y)) (sym other.nothing));
     once = times_closed-append conn a b ∙ ap (λ m. m + times_closed conn b) one.once ∙ ap (λ m. 1 + m) other.never;
     why = why_still old one.left one.why;
   }
@@ -210,12 +210,12 @@ pub elsewhere_both : (conn : ℕ) (a b : List Call) (x y : List Sent) → IsElse
 elsewhere_both conn a b x y one other = record {
   silent = silent_on conn a b x y one.silent other.silent;
   never_cut = is_cut_off-append conn a b ∙ ap (λ t. t || is_cut_off conn b) one.never_cut ∙ other.never_cut;
-  nothing = answers-append conn x y ∙ ap (λ xs. xs ++ owed (not (is_closed_by conn x)) conn y) one.nothing
-      ∙ ap (λ t. owed (not t) conn y) one.never_closed ∙ other.nothing;
+  nothing = answers-append conn x y ∙ ap (λ xs. xs ++ bytes_owed (not (is_closed_by conn x)) conn y) one.nothing
+      ∙ ap (λ t. bytes_owed (not t) conn y) one.never_closed ∙ other.nothing;
   never_closed = is_closed_by-append conn x y ∙ ap (λ t. t || is_closed_by conn y) one.never_closed ∙ other.never_closed;
 }
 
-pub nothing_owed : (is_open : Bool) (conn : ℕ) (outs : List Sent) → answers conn outs ≡ [] → owed is_open conn outs ≡ []
+pub nothing_owed : (is_open : Bool) (conn : ℕ) (outs : List Sent) → answers conn outs ≡ [] → bytes_owed is_open conn outs ≡ []
 nothing_owed true conn outs none = none
 nothing_owed false conn outs none = refl
 
@@ -263,7 +263,7 @@ pub same_fate : (conn : ℕ) (connection : Option Connection) → Fate conn conn
 same_fate conn connection = untouched_fate conn [] [] (record { silent = record { nothing = refl; never = refl }; never_cut = refl; nothing = refl; never_closed = refl }) connection
 
 -- What is put out matters to a connection by what is owed to it and by whether it is closed.
-module _ (conn : ℕ) (calls : List Call) (outs outs' : List Sent) (owes : (is_open : Bool) → owed is_open conn outs ≡ owed is_open conn outs')
+module _ (conn : ℕ) (calls : List Call) (outs outs' : List Sent) (owes : (is_open : Bool) → bytes_owed is_open conn outs ≡ bytes_owed is_open conn outs')
     (closes : is_closed_by conn outs ≡ is_closed_by conn outs') where
   why_as : (old : Connection) (left : List ℕ) → Why conn old calls outs left → Why conn old calls outs' left
   why_as old left (finished is none) = finished (ap (λ b. is_some old.framer && not b) (sym closes) ∙ is) none

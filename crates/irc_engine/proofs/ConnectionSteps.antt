@@ -15,7 +15,7 @@ use Rattle.irc_engine.specs.declared.connection_table.Connection.{Connection}
 use Rattle.irc_line.specs.Lines.{Begun}
 use Rattle.irc_engine.specs.Hearing.{Hears}
 use Rattle.irc_engine.proofs.HearingLaws.{hears_gone, hears_same}
-use Rattle.irc_engine.specs.Carrying.{owed, is_closed_by, is_exchange, AddsAll, Passage, finished}
+use Rattle.irc_engine.specs.Carrying.{bytes_owed, is_closed_by, is_exchange, AddsAll, Passage, finished}
 use Rattle.irc_engine.specs.Loops.Counts.{count_of}
 use Rattle.irc_engine.specs.Loops.Tables.{connection_count, connection_of, is_done_at, AreSame, at_connection, no_connection, IsPushedAt, IsClosedAt}
 use Rattle.irc_engine.specs.Loops.Connections.{lost_at, lost_by, IsLostAs, Ends, Loses, EndsOrWaits, ended, stayed, Carries}
@@ -73,8 +73,8 @@ module _ {W : Type 0} (is_after : W → List Call → Type 0) where
       line_taken (no_connection none same never) = absurd never
       line_taken (at_connection connection now was set queued) =
           let outs : List Sent = line_to conn text ∷ [] in
-          let owes : owed (is_some connection.framer) conn outs ≡ text =
-          ap (λ t. owed t conn outs) queued.is_open ∙ ap (λ xs. xs ++ []) (at_once conn text []) ∙ append-nil text in
+          let owes : bytes_owed (is_some connection.framer) conn outs ≡ text =
+          ap (λ t. bytes_owed t conn outs) queued.is_open ∙ ap (λ xs. xs ++ []) (at_once conn text []) ∙ append-nil text in
           record {
             calls = [];
             account = adds_none is_after old.wire new.wire wire;
@@ -96,7 +96,7 @@ module _ {W : Type 0} (is_after : W → List Call → Type 0) where
             count = count;
           }
 
-      none_owed : (is_open : Bool) → (is_open ≡ true → text ≡ []) → owed is_open conn (line_to conn text ∷ []) ≡ []
+      none_owed : (is_open : Bool) → (is_open ≡ true → text ≡ []) → bytes_owed is_open conn (line_to conn text ∷ []) ≡ []
       none_owed true never = ap (λ xs. xs ++ []) (at_once conn text []) ∙ append-nil text ∙ never refl
       none_owed false never = refl
 
@@ -219,7 +219,7 @@ module _ {W : Type 0} (is_after : W → List Call → Type 0) where
                   (record {
                     fate = record {
                       left = [];
-                      carried = ap (λ xs. xs ++ owed (is_some connection.framer) conn []) parts.1 ∙ nothing_owed (is_some connection.framer) conn [] refl;
+                      carried = ap (λ xs. xs ++ bytes_owed (is_some connection.framer) conn []) parts.1 ∙ nothing_owed (is_some connection.framer) conn [] refl;
                       once = last_close conn;
                       why = finished (ap (λ o. o && true) parts.0) refl;
                     };
@@ -262,7 +262,7 @@ module _ {W : Type 0} (is_after : W → List Call → Type 0) where
 
 -- a link is a connection of the wire: what is put out on it goes there as to a client
 pub carries_as : {W : Type 0} (is_after : W → List Call → Type 0) (exchanges : List Call) (old : Connections W) (outs outs' : List Sent) (new : Connections W)
-    → ((conn : ℕ) (is_open : Bool) → owed is_open conn outs ≡ owed is_open conn outs') → ((conn : ℕ) → is_closed_by conn outs ≡ is_closed_by conn outs')
+    → ((conn : ℕ) (is_open : Bool) → bytes_owed is_open conn outs ≡ bytes_owed is_open conn outs') → ((conn : ℕ) → is_closed_by conn outs ≡ is_closed_by conn outs')
     → Carries is_after exchanges old outs new → Carries is_after exchanges old outs' new
 carries_as is_after exchanges old outs outs' new owes ends carries = record {
   calls = carries.calls;
@@ -277,7 +277,7 @@ pub on_link : {W : Type 0} (is_after : W → List Call → Type 0) (old : Connec
 on_link is_after old link text new carries =
     carries_as is_after [] old (line_to link text ∷ []) (line_on link text ∷ []) new by (λ conn. refl) carries
   where
-    by : (conn : ℕ) (is_open : Bool) → owed is_open conn (line_to link text ∷ []) ≡ owed is_open conn (line_on link text ∷ [])
+    by : (conn : ℕ) (is_open : Bool) → bytes_owed is_open conn (line_to link text ∷ []) ≡ bytes_owed is_open conn (line_on link text ∷ [])
     by conn true = refl
     by conn false = refl
 
@@ -286,6 +286,6 @@ pub of_link : {W : Type 0} (is_after : W → List Call → Type 0) (old : Connec
 of_link is_after old link reason new carries =
     carries_as is_after [] old (end_of link ∷ []) (end_of_link link reason ∷ []) new by (λ conn. refl) carries
   where
-    by : (conn : ℕ) (is_open : Bool) → owed is_open conn (end_of link ∷ []) ≡ owed is_open conn (end_of_link link reason ∷ [])
+    by : (conn : ℕ) (is_open : Bool) → bytes_owed is_open conn (end_of link ∷ []) ≡ bytes_owed is_open conn (end_of_link link reason ∷ [])
     by conn true = refl
     by conn false = refl

@@ -7,7 +7,7 @@ use Rattle.irc_batch.specs.Batches.{Sent, end_of, line_to}
 use Rattle.irc_engine.specs.declared.connections.Connections.{Connections}
 use Rattle.irc_engine.specs.declared.kind.Kind.{Kind}
 use Rattle.irc_engine.specs.declared.connection_table.Connection.{Connection}
-use Rattle.irc_engine.specs.Carrying.{owed, open_kind_at, AddsAll, cut_off, overflowed, Passage}
+use Rattle.irc_engine.specs.Carrying.{bytes_owed, open_kind_at, AddsAll, cut_off, overflowed, Passage}
 use Rattle.irc_engine.specs.Loops.Counts.{count_of}
 use Rattle.irc_engine.specs.Loops.Tables.{connection_count, connection_of, IsSet}
 use Rattle.irc_engine.specs.Loops.Connections.{lost_at, lost_by, IsLostAs, Ends, Loses, Carries}
@@ -155,8 +155,8 @@ module _ {W : Type 0} (is_after : W → List Call → Type 0) (conn : ℕ) (old 
       → Drops is_after conn connection [] old new → Carries is_after [] old (line_to conn text ∷ []) new
   line_drops text is_open more drops =
       let outs : List Sent = line_to conn text ∷ [] in
-      let owes : owed (is_some connection.framer) conn outs ≡ text =
-      ap (λ t. owed t conn outs) is_open ∙ ap (λ xs. xs ++ []) (at_once conn text []) ∙ append-nil text in
+      let owes : bytes_owed (is_some connection.framer) conn outs ≡ text =
+      ap (λ t. bytes_owed t conn outs) is_open ∙ ap (λ xs. xs ++ []) (at_once conn text []) ∙ append-nil text in
       record {
         calls = closes conn ∷ [];
         account = drops.account;
@@ -168,14 +168,14 @@ module _ {W : Type 0} (is_after : W → List Call → Type 0) (conn : ℕ) (old 
             (subst (λ (s : Option Connection). Passage conn (Some connection) (lost_at old.lost conn) (closes conn ∷ []) outs s (lost_at new.lost conn))
             (sym (set_here (connection_of old.table) (connection_of new.table) conn None drops.table)) (record {
               fate = record {
-                left = connection.outbox.bytes ++ owed (is_some connection.framer) conn outs;
+                left = connection.outbox.bytes ++ bytes_owed (is_some connection.framer) conn outs;
                 carried = refl;
                 once = last_close conn;
                 why = overflowed (omega (
                   arith,
                   more,
                   ap length owes,
-                  length-append {A = ℕ} connection.outbox.bytes (owed (is_some connection.framer) conn outs),
+                  length-append {A = ℕ} connection.outbox.bytes (bytes_owed (is_some connection.framer) conn outs),
                 ));
               };
               lost_is = dropped_lost drops.lost;
@@ -202,8 +202,8 @@ module _ {W : Type 0} (is_after : W → List Call → Type 0) (conn : ℕ) (old 
             (subst (λ (s : Option Connection). Passage conn (Some connection) (lost_at old.lost conn) calls [] s (lost_at new.lost conn))
             (sym (set_here (connection_of old.table) (connection_of new.table) conn None drops.table)) (record {
               fate = record {
-                left = connection.outbox.bytes ++ owed (is_some connection.framer) conn [];
-                carried = ap (λ xs. (xs ++ []) ++ (connection.outbox.bytes ++ owed (is_some connection.framer) conn [])) (sym (at_once conn [] []));
+                left = connection.outbox.bytes ++ bytes_owed (is_some connection.framer) conn [];
+                carried = ap (λ xs. (xs ++ []) ++ (connection.outbox.bytes ++ bytes_owed (is_some connection.framer) conn [])) (sym (at_once conn [] []));
                 once = last_close conn;
                 why = cut_off (ap (λ t. t || false) (nat_eq-refl conn));
               };

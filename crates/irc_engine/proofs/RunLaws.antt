@@ -20,11 +20,11 @@ use Rattle.irc_engine.specs.declared.kind.Kind.{Kind}
 use Rattle.irc_engine.specs.declared.kind.Kind.TheVariants as kinds
 use Rattle.irc_engine.specs.declared.connection_table.Connection.{Connection}
 use Rattle.irc_engine.specs.declared.connection_table.ConnectionTable.{ConnectionTable}
-use Rattle.irc_engine.specs.Carrying.{is_exchange, owed, is_open_at, is_cut_off, is_closed_by, kind_at, AddsAll, Fate, IsOfKind, kind_of_connection, kind_of_loss, KeepsKind, Passage, cut_off}
+use Rattle.irc_engine.specs.Carrying.{is_exchange, bytes_owed, is_open_at, is_cut_off, is_closed_by, kind_at, AddsAll, Fate, IsOfKind, kind_of_connection, kind_of_loss, KeepsKind, Passage, cut_off}
 use Rattle.irc_line.specs.Lines.{Begun}
 use Rattle.irc_line.specs.Framed.{found_in}
 use Rattle.irc_engine.specs.Hearing.{begun_at, end_event_of, line_event_of, lines_by, times_gone, nothing_of, only_of, Hears}
-use Rattle.irc_engine.specs.Running.{Moment, AreAsked, AsksOnce, IsNews, a_line, an_end, Ran, RanOn, Standing, standing_of, Tells}
+use Rattle.irc_engine.specs.Running.{Moment, AreAsked, AsksOnce, IsNews, a_line, an_end, Ran, RanOn, Standing, standing_of, TellsServer}
 use Rattle.irc_engine.specs.Writing.{one_if}
 use Rattle.irc_engine.proofs.HearingLaws.{lines_by-append, times_gone-append, hears_on, hears_kept, hears_same, hears_gone, hears_deaf}
 use Rattle.irc_engine.specs.Loops.Tables.{connection_of, at_connection, no_connection, FramesAt}
@@ -66,7 +66,7 @@ either_false true b is = cc is
 either_false false b is = (refl, is)
 
 -- what the server is told of one connection, in two stretches
-tells_on : (conn : ℕ) (was mid now : Standing) (a b : List Event) (x y : List Sent) → Tells conn was a x mid → Tells conn mid b y now → Tells conn was (a ++ b) (x ++ y) now
+tells_on : (conn : ℕ) (was mid now : Standing) (a b : List Event) (x y : List Sent) → TellsServer conn was a x mid → TellsServer conn mid b y now → TellsServer conn was (a ++ b) (x ++ y) now
 tells_on conn was mid now a b x y one other = λ apart.
     let first = one apart in
     let then = other first.apart in
@@ -78,13 +78,13 @@ tells_on conn was mid now a b x y one other = λ apart.
       apart = then.apart;
     }
 
-tells_still : (conn : ℕ) (now : Standing) → Tells conn now [] [] now
+tells_still : (conn : ℕ) (now : Standing) → TellsServer conn now [] [] now
 tells_still conn now = λ apart. record { at_most = omega arith; unless_closed = λ is_open. omega arith; apart = apart }
 
-tells_as : (conn : ℕ) (was now : Standing) → now.lost ≡ was.lost → now.is_open ≡ was.is_open → Tells conn was [] [] now
+tells_as : (conn : ℕ) (was now : Standing) → now.lost ≡ was.lost → now.is_open ≡ was.is_open → TellsServer conn was [] [] now
 tells_as conn was now lost is_open =
-    subst (λ (l : Bool). Tells conn was [] [] (record { lost = l; is_open = now.is_open })) (sym lost)
-    (subst (λ (o : Bool). Tells conn was [] [] (record { lost = was.lost; is_open = o })) (sym is_open) (tells_still conn was))
+    subst (λ (l : Bool). TellsServer conn was [] [] (record { lost = l; is_open = now.is_open })) (sym lost)
+    (subst (λ (o : Bool). TellsServer conn was [] [] (record { lost = was.lost; is_open = o })) (sym is_open) (tells_still conn was))
 
 fewer : (b c : Bool) → 0 + one_if (b && not c) ≤ one_if b
 fewer true true = omega arith
@@ -153,7 +153,7 @@ apart_after conn (Some old) was calls outs (Some new) now passed apart =
 -- something is done of itself: the server is told nothing
 tells_passage : (conn : ℕ) (old : Option Connection) (was : Option Kind) (calls : List Call) (outs : List Sent) (new : Option Connection) (now : Option Kind)
     → Passage conn old was calls outs new now
-    → Tells conn (record { lost = is_some was; is_open = is_open_at old }) [] outs (record { lost = is_some now; is_open = is_open_at new })
+    → TellsServer conn (record { lost = is_some was; is_open = is_open_at old }) [] outs (record { lost = is_some now; is_open = is_open_at new })
 tells_passage conn old was calls outs new now passed = λ apart. record {
   at_most = subst (λ (b : Bool). 0 + one_if b ≤ one_if (is_some was || is_open_at old)) (sym known) (fewer (is_some was || is_open_at old) (is_closed_by conn outs));
   unless_closed = λ is_open.
@@ -172,7 +172,7 @@ or_false false = refl
 
 -- an open connection is lost
 lost_now : (q : ℕ) (l o t p : Bool) (s : Option Connection) → t ≡ true → o ≡ true → p ≡ true
-    → Tells q (record { lost = l; is_open = o }) [] [] (record { lost = l || (t && p); is_open = is_open_at (cond t None s) })
+    → TellsServer q (record { lost = l; is_open = o }) [] [] (record { lost = l || (t && p); is_open = is_open_at (cond t None s) })
 lost_now q l o false p s one here is_open = cc one
 lost_now q l false t p s one here is_open = cc here
 lost_now q l o t false s one here is_open = cc is_open
@@ -196,10 +196,10 @@ no_end_told kinds.Client conn q line = refl
 no_end_told kinds.Link conn q line = refl
 
 told_by_no_line : (q : ℕ) (kind : Kind) (conn : ℕ) (line : Option (ArrayVec ℕ)) (was now : Standing) (events : List Event) (outs : List Sent)
-    → Tells q was events outs now → Tells q was (passed_on kind conn line ++ events) outs now
+    → TellsServer q was events outs now → TellsServer q was (passed_on kind conn line ++ events) outs now
 told_by_no_line q kind conn line was now events outs tells = tells_on q was was now (passed_on kind conn line) events [] outs (alone line) tells
   where
-    alone : (line : Option (ArrayVec ℕ)) → Tells q was (passed_on kind conn line) [] was
+    alone : (line : Option (ArrayVec ℕ)) → TellsServer q was (passed_on kind conn line) [] was
     alone None = tells_still q was
     alone (Some l) = λ apart. let none = no_end_told kind conn q l in
         record { at_most = omega (arith, none); unless_closed = λ never. omega (arith, none); apart = apart }
@@ -421,8 +421,8 @@ module _ {W : Type 0} (is_after : W → List Call → Type 0) where
   gone_once kinds.Link conn q t is = ap (λ u. 0 + cond u 1 0) is
 
   gone_of : (kind : Kind) (conn q : ℕ) (t l o : Bool) (events : List Event) (outs : List Sent) (now : Standing) → nat_eq conn q ≡ t → (t ≡ true → l ≡ true)
-      → Tells q (record { lost = cond t false l; is_open = o }) events outs now
-      → Tells q (record { lost = l; is_open = o }) (end_event_of kind conn ∷ events) outs now
+      → TellsServer q (record { lost = cond t false l; is_open = o }) events outs now
+      → TellsServer q (record { lost = l; is_open = o }) (end_event_of kind conn ∷ events) outs now
   gone_of kind conn q true true true events outs now is lost tells = λ apart. cc apart
   gone_of kind conn q true true false events outs now is lost tells = λ apart.
       let told = tells refl in
@@ -471,9 +471,9 @@ module _ {W : Type 0} (is_after : W → List Call → Type 0) where
         (subst (λ (s : Option Connection). Hears (begun_at s) [] (lines_by q ran.events) (begun_at (new.connections q))) (at q) (ran.hears q));
     tells = λ q. gone_of kind conn q (nat_eq conn q) (is_some (lost_at old.lost q)) (is_open_at (connection_of old.table q)) ran.events ran.outs (standing_of q new) refl
         (λ one. ap (λ p. is_some (lost_at old.lost p)) (sym (one_number conn q one)) ∙ ap is_some as_lost)
-        (subst (λ (l : Bool). Tells q (record { lost = l; is_open = is_open_at (connection_of old.table q) }) ran.events ran.outs (standing_of q new))
+        (subst (λ (l : Bool). TellsServer q (record { lost = l; is_open = is_open_at (connection_of old.table q) }) ran.events ran.outs (standing_of q new))
         (ap is_some (popped q) ∙ still_lost (nat_eq conn q) (lost_at old.lost q))
-        (subst (λ (s : Option Connection). Tells q (record { lost = is_some (lost_at mid.lost q); is_open = is_open_at s }) ran.events ran.outs (standing_of q new)) (at q) (ran.tells q)));
+        (subst (λ (s : Option Connection). TellsServer q (record { lost = is_some (lost_at mid.lost q); is_open = is_open_at s }) ran.events ran.outs (standing_of q new)) (at q) (ran.tells q)));
     same_room = ran.same_room;
   }
     where
@@ -595,10 +595,10 @@ module _ {W : Type 0} (is_after : W → List Call → Type 0) where
           (ap kind_at (set q) ∙ ap (λ t. kind_at (cond t None (connection_of old.table q))) two)
           (lost_as q ∙ ap (λ t. lost_by t (connection_of old.table conn) (lost_at old.lost q)) two)
 
-      tells_cut : (q : ℕ) (t : Bool) → nat_eq conn q ≡ t → Tells q (standing_of q (at_connections server size old)) [] [] (standing_of q (at_connections server later new))
+      tells_cut : (q : ℕ) (t : Bool) → nat_eq conn q ≡ t → TellsServer q (standing_of q (at_connections server size old)) [] [] (standing_of q (at_connections server later new))
       tells_cut q true one =
-          subst (λ (l : Bool). Tells q (standing_of q (at_connections server size old)) [] [] (record { lost = l; is_open = is_open_at (connection_of new.table q) })) (sym (lost_is q))
-          (subst (λ (s : Option Connection). Tells q (standing_of q (at_connections server size old)) [] []
+          subst (λ (l : Bool). TellsServer q (standing_of q (at_connections server size old)) [] [] (record { lost = l; is_open = is_open_at (connection_of new.table q) })) (sym (lost_is q))
+          (subst (λ (s : Option Connection). TellsServer q (standing_of q (at_connections server size old)) [] []
           (record { lost = is_some (lost_at old.lost q) || (nat_eq conn q && is_open_at (connection_of old.table conn)); is_open = is_open_at s })) (sym (set q))
           (lost_now q (is_some (lost_at old.lost q)) (is_open_at (connection_of old.table q)) (nat_eq conn q) (is_open_at (connection_of old.table conn)) (connection_of old.table q) one
           (ap (λ p. is_open_at (connection_of old.table p)) (sym (one_number conn q one)) ∙ is_open) is_open))
@@ -610,7 +610,7 @@ module _ {W : Type 0} (is_after : W → List Call → Type 0) where
       here : (s : Option Connection) → is_open_at s ≡ true → Fate conn s (reads conn room answer bytes ∷ closes conn ∷ []) [] None
       here None never = cc never
       here (Some connection) is_open = record {
-        left = connection.outbox.bytes ++ owed (is_some connection.framer) conn [];
+        left = connection.outbox.bytes ++ bytes_owed (is_some connection.framer) conn [];
         carried = refl;
         once = last_close conn;
         why = cut_off (cut_here conn room answer bytes is);
@@ -656,7 +656,7 @@ module _ {W : Type 0} (is_after : W → List Call → Type 0) where
             (append-nil (only_of conn (take used piece) q))
             (hears_on (begun_at (connection_of old.table q)) (begun_at (connection_of mid.table q)) (begun_at (new.connections q)) (only_of conn (take used piece) q) []
             (lines_by q (passed_on kind conn line)) (lines_by q ran.events) (framed q (nat_eq conn q) refl) (ran.hears q)));
-        tells = λ q. subst (λ (s : Standing). Tells q s (passed_on kind conn line ++ ran.events) ran.outs (standing_of q new)) (same_standing q)
+        tells = λ q. subst (λ (s : Standing). TellsServer q s (passed_on kind conn line ++ ran.events) ran.outs (standing_of q new)) (same_standing q)
             (told_by_no_line q kind conn line (standing_of q (at_connections server size mid)) (standing_of q new) ran.events ran.outs (ran.tells q));
         same_room = ran.same_room;
       }

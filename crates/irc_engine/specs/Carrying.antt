@@ -34,9 +34,9 @@ abbrev pub is_closed_by : ℕ → List Sent → Bool
 is_closed_by conn outs = list_any (is_closing conn) outs
 
 -- what is owed to a connection: nothing, once the server has closed it
-abbrev pub owed : Bool → ℕ → List Sent → List ℕ
-owed true conn outs = answers conn outs
-owed false conn outs = []
+abbrev pub bytes_owed : Bool → ℕ → List Sent → List ℕ
+bytes_owed true conn outs = answers conn outs
+bytes_owed false conn outs = []
 
 -- whether a connection is there that the server has not closed
 abbrev pub is_open_at : Option Connection → Bool
@@ -97,7 +97,7 @@ pub record Silent (conn : ℕ) (calls : List Call) : Type 0 where
 
 -- A connection stays: what its outbox held, with what the server put out to it behind, is what was written, with what the outbox holds now behind.
 pub record Stays (conn : ℕ) (old : Connection) (calls : List Call) (outs : List Sent) (new : Connection) : Type 0 where
-  pub carried : old.outbox.bytes ++ owed (is_some old.framer) conn outs ≡ written conn calls ++ new.outbox.bytes
+  pub carried : old.outbox.bytes ++ bytes_owed (is_some old.framer) conn outs ≡ written conn calls ++ new.outbox.bytes
   pub same_room : new.outbox.room ≡ old.outbox.room
   pub still_open : is_some new.framer ≡ (is_some old.framer && not (is_closed_by conn outs))
   pub never : times_closed conn calls ≡ 0
@@ -113,7 +113,7 @@ pub data Why (conn : ℕ) (old : Connection) (calls : List Call) (outs : List Se
 -- A connection is closed, once: what was written is a front of what its outbox held, with what the server put out to it behind.
 pub record Leaves (conn : ℕ) (old : Connection) (calls : List Call) (outs : List Sent) : Type 0 where
   pub left : List ℕ
-  pub carried : old.outbox.bytes ++ owed (is_some old.framer) conn outs ≡ written conn calls ++ left
+  pub carried : old.outbox.bytes ++ bytes_owed (is_some old.framer) conn outs ≡ written conn calls ++ left
   pub once : times_closed conn calls ≡ 1
   pub why : Why conn old calls outs left
 

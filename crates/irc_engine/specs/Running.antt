@@ -40,8 +40,8 @@ abbrev pub standing_of : {W : Type 0} → ℕ → Moment W → Standing
 standing_of conn now = record { lost = is_some (now.lost conn); is_open = is_open_at (now.connections conn) }
 
 -- whether the server knows of it
-abbrev pub is_known : Standing → Bool
-is_known now = now.lost || now.is_open
+abbrev pub server_knows : Standing → Bool
+server_knows now = now.lost || now.is_open
 
 -- it is not lost and open at once
 abbrev pub IsApart : Standing → Type 0
@@ -76,12 +76,12 @@ AreAsked old (event ∷ events) outs new = AskedFirst old event outs (λ between
 -- How often the server is told that one connection is gone: once where it was open or lost before and is neither any more, and else never; nor where
 -- the server has closed it before.
 pub record IsTold (conn : ℕ) (was : Standing) (events : List Event) (outs : List Sent) (now : Standing) : Type 0 where
-  pub at_most : times_gone conn events + one_if (is_known now) ≤ one_if (is_known was)
-  pub unless_closed : is_closed_by conn outs ≡ false → times_gone conn events + one_if (is_known now) ≡ one_if (is_known was)
+  pub at_most : times_gone conn events + one_if (server_knows now) ≤ one_if (server_knows was)
+  pub unless_closed : is_closed_by conn outs ≡ false → times_gone conn events + one_if (server_knows now) ≡ one_if (server_knows was)
   pub apart : IsApart now
 
-abbrev pub Tells : ℕ → Standing → List Event → List Sent → Standing → Type 0
-Tells conn was events outs now = IsApart was → IsTold conn was events outs now
+abbrev pub TellsServer : ℕ → Standing → List Event → List Sent → Standing → Type 0
+TellsServer conn was events outs now = IsApart was → IsTold conn was events outs now
 
 -- An event tells a line of a connection, or that it is gone, by the kind that it is of.
 pub data IsNews {W : Type 0} (now : Moment W) (event : Event) : Type 0 where
@@ -103,7 +103,7 @@ pub record Ran {W : Type 0} (is_after : W → List Call → Type 0) (exchanges :
   pub are_news : AllByRecursion (IsNews old) events
   pub keep_kinds : (conn : ℕ) → KeepsKind (old.connections conn) (old.lost conn) (new.connections conn) (new.lost conn)
   pub hears : (conn : ℕ) → Hears (begun_at (old.connections conn)) (came conn) (lines_by conn events) (begun_at (new.connections conn))
-  pub tells : (conn : ℕ) → Tells conn (standing_of conn old) events outs (standing_of conn new)
+  pub tells : (conn : ℕ) → TellsServer conn (standing_of conn old) events outs (standing_of conn new)
   pub same_room : new.read_room ≡ old.read_room
 
 -- This and no more: nothing is asked, read or written, and the server is told of no connection but those that are gone.

@@ -55,6 +55,10 @@ pub data Turned {W : Type 0} (is_after : W → List Call → Type 0) (old new : 
       → (IsInOrder old.now → ¬ (IsNothingToDo report old.now)) → Turned is_after old new (Err Memory)
   has_failed : old.failed ≡ true → new ≡ old → Turned is_after old new (Err Failed)
 
+-- memory ran out before
+abbrev pub HasFailed : {W : Type 0} → EngineView W → Type 0
+HasFailed engine = engine.failed ≡ true
+
 -- so many turns, one after another
 pub data Turns {W : Type 0} (is_after : W → List Call → Type 0) (old : EngineView W) : ℕ → EngineView W → Type 0 where
   no_turn : Turns is_after old 0 old

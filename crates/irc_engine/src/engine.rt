@@ -4,7 +4,7 @@ ghost use Rattle.irc_engine.specs.Loops.Counts.{count_of};
 ghost use Rattle.irc_engine.specs.Loops.Moments.{came, engine_view, moment_of, passed_on, AsksFor, HearsFrom, IsNobodyNoted, KeepsOrder, KeepsTold, Spans};
 ghost use Rattle.irc_engine.specs.Loops.Connections.{KeepsMarks, KeepsNotes};
 ghost use Rattle.irc_engine.specs.Running.{AllTold, Answers, AsksOnce, Does, Flushes, PassesOn, RanOn, Reads, Starts, TellsLosses};
-ghost use Rattle.irc_engine.specs.Turning.{brings_nothing, IsNew, Runs, Taken, Turned};
+ghost use Rattle.irc_engine.specs.Turning.{brings_nothing, HasFailed, IsNew, Runs, Taken, Turned};
 
 use crate::connection_table::ConnectionTable;
 use crate::connections::{Connections, take_lowest};
@@ -109,7 +109,8 @@ impl<W: Wire> Engine<W> {
     /// [`EngineFault::Failed`] where memory ran out before; then [`EngineFault::Device`] where the wire could not tell what is ready:
     /// nothing has changed then; [`EngineFault::Memory`] where memory runs out.
     pub fn turn(&mut self) -> Result<(), EngineFault>
-        ensures { Turned W.is_after (engine_view self.old) (engine_view self.new) result }
+        ensures turned { Turned W.is_after (engine_view self.old) (engine_view self.new) result }
+        ensures failed_before { HasFailed (engine_view self.old) → self.new ≡ self.old }
     {
         if self.failed {
             return Err(EngineFault::Failed);

@@ -1,5 +1,5 @@
 -- What was asked of a wire and what it answered, call by call; and what such an account says of each connection.
-use Rattle.std.specs.Prelude.{ℕ, ⊤, ◌≤◌, Bool, true, false, ◌&&◌, nat_eq, nat_lt, Option, Some, None, Result, Ok, Err, List, [], ◌∷◌, ◌++◌, take, count_by, if◌then◌else◌}
+use Rattle.std.specs.Prelude.{ℕ, ⊤, ◌≤◌, Bool, true, false, ◌&&◌, nat_eq, nat_lt, Option, Some, None, Result, Ok, Err, List, [], ◌∷◌, ◌++◌, length, take, count_by, if◌then◌else◌}
 use Rattle.std.specs.List.{flat_map}
 use Rattle.irc_outbox.specs.declared.wire.Ready.{Ready}
 use Rattle.irc_outbox.specs.declared.wire.Got.{Got}
@@ -23,6 +23,10 @@ bytes_got (Ok (Bytes n)) buffer = take n buffer
 bytes_got (Ok Later) buffer = []
 bytes_got (Ok End) buffer = []
 bytes_got (Err fault) buffer = []
+
+-- a read into a buffer, which had these bytes before and has those after
+abbrev pub read_into : ℕ → List ℕ → Result Got IoFault → List ℕ → Call
+read_into conn before answer after = reads conn (length before) answer (bytes_got answer after)
 
 -- no more bytes came than there was room for
 abbrev pub FitsIn : Result Got IoFault → ℕ → Type 0

@@ -1,6 +1,6 @@
 //! What carries bytes, as sockets do: it tells what is ready, reads, writes and closes.
 ghost use Rattle.std.specs.Prelude.{List, ◌≤◌, length, IfOk};
-ghost use Rattle.irc_outbox.specs.Calls.{Call, asks, reads, writes, closes, bytes_got, Adds, FitsIn};
+ghost use Rattle.irc_outbox.specs.Calls.{Call, asks, read_into, writes, closes, Adds, FitsIn};
 
 use irc_names::{Host, ServerName};
 use thiserror::Error;
@@ -56,7 +56,7 @@ pub trait Wire {
     /// # Errors
     /// Where the device failed in this call.
     fn read(&mut self, conn: u64, buffer: &mut [u8]) -> Result<Got, IoFault>
-        ensures account { Adds is_after self.old (reads conn (length buffer.old) result (bytes_got result buffer.new)) self.new }
+        ensures account { Adds is_after self.old (read_into conn buffer.old result buffer.new) self.new }
         ensures within { FitsIn result (length buffer.old) };
 
     /// Writes bytes to a connection, from their front on, and tells how many it took: 0 where it takes none yet.

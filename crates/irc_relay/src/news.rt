@@ -4,8 +4,8 @@ ghost use Rattle.std.specs.Prelude.{◌≡◌, ◌≢◌, ◌++◌, [], ◌∷�
 ghost use Rattle.irc_relay.specs.Queue.{queue_of};
 ghost use Rattle.irc_relay.specs.Links.{IsForest};
 ghost use Rattle.irc_relay.specs.Relay.{IsAtRest, GoesAway};
-ghost use Rattle.irc_relay.specs.NewsNet.{net_of, links_of, streams_of, HasSettled, PublishedGoesAway, name, reading, sent_on, DeliversNews, KeepsNews, ShowAlike, HasAnnounced};
-ghost use Rattle.irc_relay.specs.Loops.Taking.{is_between, TakesOldest};
+ghost use Rattle.irc_relay.specs.NewsNet.{net_of, links_of, streams_of, HasSettled, PublishedGoesAway, name, reading, SendsItem, SendsOn, ShowsItem, DeliversNews, KeepsNews, ShowAlike, HasAnnounced};
+ghost use Rattle.irc_relay.specs.Loops.Taking.{is_between, TakesNone, TakesOldest};
 
 use std::alloc::{AllocError, Global};
 
@@ -50,7 +50,7 @@ fn first_between(flying: &[Sent], from: u8, to: u8) -> Option<usize>
 // Takes the oldest item on its way from one server to another out of what is under way.
 fn take_oldest(flying: &mut Vec<Sent>, from: u8, to: u8) -> Option<u8>
     ensures some { IfSome result (λ item. TakesOldest from to item flying.old.items flying.new.items) }
-    ensures none { IfNone result ((flying.new.items ≡ flying.old.items) × (queue_of reading flying.old.items (name from) (name to) ≡ [])) }
+    ensures none { IfNone result (TakesNone from to flying.old.items flying.new.items) }
 {
     let index = first_between(flying, from, to)?;
     let taken = flying.remove(index);
@@ -65,7 +65,7 @@ fn send_on(
     item: u8,
     flying: &mut Vec<Sent>,
 ) -> Result<(), AllocError>
-    ensures sent { OnOk result (flying.new.items ≡ flying.old.items ++ sent_on edges.now at from item) }
+    ensures sent { OnOk result (SendsOn edges.now at from item flying.old.items flying.new.items) }
 {
     for edge in edges {
         if edge.near == at && edge.far != from {
@@ -101,8 +101,8 @@ impl News {
 
     /// Gives a news item to a server, which shows it and sends it to all its neighbours.
     pub fn publish(&mut self, at: u8, item: u8) -> Result<(), AllocError>
-        ensures shown { OnOk result (self.new.shown.items ≡ self.old.shown.items ++ record { at = at; item = item } ∷ []) }
-        ensures sent { OnOk result (self.new.flying.items ≡ self.old.flying.items ++ sent_on self.old.edges.items at at item) }
+        ensures shown { OnOk result (ShowsItem at item self.old self.new) }
+        ensures sent { OnOk result (SendsItem at item self.old self.new) }
         ensures latest { OnOk result (self.new.latest ≡ slice_set self.old.latest at item) }
         ensures goes_away { OnOk result (PublishedGoesAway at self.old self.new) }
         ensures edges { OnOk result (self.new.edges.items ≡ self.old.edges.items) }

@@ -1,5 +1,5 @@
 -- What a decision may know of the server that makes it.
-use Rattle.std.specs.Prelude.{ℕ, ◌≤◌, Option, List, [], ◌∷◌, length, nat_eq}
+use Rattle.std.specs.Prelude.{ℕ, ◌≤◌, Option, List, [], ◌∷◌, length, map, nat_eq}
 use Rattle.std.specs.Cmp.Lexicographic.{pointwise}
 use Rattle.std.specs.List.{find}
 use Rattle.irc_names.specs.Limits.{max_created}
@@ -30,6 +30,10 @@ alone name info created = record {
   links = 0;
   servers = (record { name = name; info = info; distance = 0 }) ∷ [];
 }
+
+-- the names of all its servers, in order
+abbrev pub names_known : Place → List (List ℕ)
+names_known place = map (λ (server : KnownServer). server.name) place.servers
 
 -- the server of a name, compared byte by byte
 abbrev pub server_named : Place → List ℕ → Option KnownServer

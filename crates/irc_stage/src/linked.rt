@@ -5,11 +5,11 @@ ghost use Rattle.std.specs.Option.{option_copied};
 ghost use Rattle.irc_batch.specs.Growing.{Grew};
 ghost use Rattle.irc_room.specs.Effects.{brings_free};
 ghost use Rattle.irc_stage.specs.EffectTold.{counts, is_of_here};
-ghost use Rattle.irc_stage.specs.Linked.{is_taken, unlinked, with_far, with_password, without_row};
+ghost use Rattle.irc_stage.specs.Linked.{unlinked, with_far, with_password, without_row};
 ghost use Rattle.irc_stage.specs.Matched.{is_user_here};
 ghost use Rattle.irc_stage.specs.View.{with_end};
-ghost use Rattle.irc_stage.specs.Loops.Linking.{view_with, IsMetAt, IsToldToAll};
-ghost use Rattle.irc_stage.specs.Loops.Stage.{machine_at, numbered, view_of, ChangesIf, Comes, EndsClient, IsReady, IsServing, Keeps, Quits, TakesOut};
+ghost use Rattle.irc_stage.specs.Loops.Linking.{takes_newcomer, IsKnownIf, IsMetAt, IsToldToAll};
+ghost use Rattle.irc_stage.specs.Loops.Stage.{machine_at, numbered, view_of, ChangesIf, ComesByLink, EndsClient, IsReady, IsServing, Keeps, Quits, TakesOut};
 
 use crate::clients::number_of;
 use crate::origin::Origin;
@@ -111,8 +111,8 @@ impl Stage {
     pub fn add_server(&mut self, newcomer: Newcomer<'_>) -> Result<bool, AllocError>
         requires serving { IsServing self.old }
         requires met { IsMetAt newcomer.link self.old }
-        ensures taken { IfOk result (λ taken. taken ≡ is_taken self.old.routes newcomer.entry.link newcomer.entry.name.now newcomer.entry.token) }
-        ensures ok { IfOk result (λ taken. view_of self.new ≡ view_with taken newcomer.entry (view_of self.old)) }
+        ensures taken { IfOk result (λ taken. taken ≡ takes_newcomer newcomer.entry (view_of self.old)) }
+        ensures ok { IfOk result (IsKnownIf newcomer.entry self.old self.new) }
         ensures serving { OnOk result (IsServing self.new) }
     {
         let link = newcomer.link;
@@ -169,7 +169,7 @@ impl Stage {
     /// Where memory runs out.
     pub fn come(&mut self, link: u64, effect: &Effect, out: &mut Batch) -> Result<(), AllocError>
         requires serving { IsServing self.old }
-        ensures ok { OnOk result (Comes (Some link) effect.now self.old out.old self.new out.new) }
+        ensures ok { OnOk result (ComesByLink (Some link) effect.now self.old out.old self.new out.new) }
         ensures serving { OnOk result (IsServing self.new) }
         ensures keeps { Keeps self.old self.new }
         ensures grew { Grew out.old.outs out.new.outs }

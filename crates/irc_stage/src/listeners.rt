@@ -1,8 +1,6 @@
 //! Who listens in a channel, kept for as long as nothing changes.
-ghost use Rattle.std.specs.Prelude.{◌≡◌, None, ◌++◌, option_to_list, OnOk};
-ghost use Rattle.irc_names.specs.Fold.{key};
-ghost use Rattle.irc_names.specs.Tables.{row};
-ghost use Rattle.irc_stage.specs.Loops.Listening.{conns_of, heard_by, is_for, AreSo};
+ghost use Rattle.std.specs.Prelude.{◌≡◌, None, OnOk};
+ghost use Rattle.irc_stage.specs.Loops.Listening.{is_for, AddsConn, AddsConns, AreOf, AreSo};
 
 use crate::clients::{ClientTable, number_of};
 use irc_names::{ChannelName, Nick};
@@ -58,7 +56,7 @@ impl Listeners {
         channel: &ChannelName,
     ) -> Result<(), AllocError>
         requires { AreSo self.old room.now.room clients.now.by_nick }
-        ensures found { OnOk result (self.new.conns.items ≡ heard_by room.now.room clients.now.by_nick channel.now) }
+        ensures found { OnOk result (AreOf channel.now self.new room.now.room clients.now.by_nick) }
         ensures so { OnOk result (AreSo self.new room.now.room clients.now.by_nick) }
     {
         if self.are_of(channel) {
@@ -79,7 +77,7 @@ fn add_conns(
     nicks: &[Nick],
     conns: &mut Vec<u64, Global>,
 ) -> Result<(), AllocError>
-    ensures { OnOk result (conns.new.items ≡ conns.old.items ++ conns_of clients.now.by_nick nicks.now) }
+    ensures { OnOk result (AddsConns clients.now.by_nick nicks.now conns.old.items conns.new.items) }
 {
     for nick in nicks {
         add_conn(clients, nick, conns)?;
@@ -93,7 +91,7 @@ fn add_conn(
     nick: &Nick,
     conns: &mut Vec<u64, Global>,
 ) -> Result<(), AllocError>
-    ensures { OnOk result (conns.new.items ≡ conns.old.items ++ option_to_list (row clients.now.by_nick (key nick.now))) }
+    ensures { OnOk result (AddsConn clients.now.by_nick nick.now conns.old.items conns.new.items) }
 {
     if let Some(conn) = number_of(clients, nick) {
         conns.push(conn)?;

@@ -310,7 +310,7 @@ impl Stage {
         ensures grew { Grew out.old.outs out.new.outs }
     {
         self.listeners.refresh(&self.room, &self.clients, channel)?;
-        if self.room.write_line(effect, &mut self.shown.line)? {
+        if self.room.write_line(effect, &mut self.shown.line) {
             out.hold(&self.shown.line)?;
             let own = origin.conn();
             return out.send_to_others(self.listeners.conns.as_slice(), own);
@@ -332,7 +332,7 @@ impl Stage {
         let Some(conn) = number_of(&self.clients, nick) else {
             return Ok(());
         };
-        if self.room.write_line(effect, &mut self.shown.line)? {
+        if self.room.write_line(effect, &mut self.shown.line) {
             return out.put(conn, &self.shown.line);
         }
         Ok(())

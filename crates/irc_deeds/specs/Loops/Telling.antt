@@ -2,8 +2,9 @@
 use Rattle.std.specs.Prelude.{◌≡◌, ℕ, true, Option, Some, List, [], ◌∷◌, map}
 use Rattle.irc_batch.specs.Batches.{Batch}
 use Rattle.irc_burst.specs.DeedsMeant.{Told, a_deed, a_server}
-use Rattle.irc_burst.specs.Loops.Acts.{members_told}
-use Rattle.irc_merge.specs.Deeds.{Deed, brings, flag_given, kills, loses, sets, tops}
+use Rattle.irc_burst.specs.declared.acts.NewMember.{NewMember}
+use Rattle.irc_burst.specs.Loops.Acts.{member_told, members_told}
+use Rattle.irc_merge.specs.Deeds.{Deed, brings, flag_given, kills, loses, member_comes, sets, tops}
 use Rattle.irc_modes.specs.declared.modes.ModeLetter.{ModeLetter}
 use Rattle.irc_room.specs.declared.effect.By.TheVariants as by
 use Rattle.irc_room.specs.declared.effect.Effect.{Effect}
@@ -40,6 +41,10 @@ flag_of letter channel nick = ChangeModes by.Home channel (record { plus = true;
 abbrev pub given_by : Gift → List Effect
 given_by gift = flag_given gift.given gift.letter gift.channel.now gift.nick.now
 
+-- a user becomes a member, with what it may do
+abbrev pub coming_of : List ℕ → NewMember → List Effect
+coming_of channel member = member_comes channel (member_told member)
+
 -- the users of these nicknames quit with one text
 abbrev pub quits_by_nick : List ℕ → List (List ℕ) → List Effect
 quits_by_nick text nicks = map (λ nick. Quit nick text) nicks
@@ -53,16 +58,16 @@ abbrev pub DoesDeed : Option ℕ → Deed → Stage → Batch → Stage → Batc
 DoesDeed arrival deed old out new out_after = served_at new out_after.outs ≡ deed_told arrival deed (served_at old out.outs)
 
 -- what a line tells is done, alone or one after another
-abbrev pub Tells : ℕ → Told → Stage → Batch → Stage → Batch → Type 0
-Tells link told old out new out_after = served_at new out_after.outs ≡ told_by link told (served_at old out.outs)
+abbrev pub DoesTold : ℕ → Told → Stage → Batch → Stage → Batch → Type 0
+DoesTold link told old out new out_after = served_at new out_after.outs ≡ told_by link told (served_at old out.outs)
 
-abbrev pub TellsAll : ℕ → List Told → Stage → Batch → Stage → Batch → Type 0
-TellsAll link told old out new out_after = served_at new out_after.outs ≡ all_told link told (served_at old out.outs)
+abbrev pub DoesAllTold : ℕ → List Told → Stage → Batch → Stage → Batch → Type 0
+DoesAllTold link told old out new out_after = served_at new out_after.outs ≡ all_told link told (served_at old out.outs)
 
 abbrev pub Kills : ℕ → List ℕ → List ℕ → Stage → Batch → Stage → Batch → Type 0
-Kills link server nick old out new out_after = Tells link (a_deed (kills server nick)) old out new out_after
+Kills link server nick old out new out_after = DoesTold link (a_deed (kills server nick)) old out new out_after
 
 -- a server more is told of
 abbrev pub Gains : Newcomer → Stage → Batch → Stage → Batch → Type 0
 Gains newcomer old out new out_after =
-    Tells newcomer.link (a_server newcomer.uplink.now newcomer.name.now newcomer.distance newcomer.token newcomer.info.now) old out new out_after
+    DoesTold newcomer.link (a_server newcomer.uplink.now newcomer.name.now newcomer.distance newcomer.token newcomer.info.now) old out new out_after

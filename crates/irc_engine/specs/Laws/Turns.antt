@@ -11,7 +11,7 @@ use Rattle.irc_engine.specs.declared.engine.EngineFault.{EngineFault}
 use Rattle.irc_engine.specs.declared.engine.Rooms.{Rooms}
 use Rattle.irc_engine.specs.declared.kind.Kind.{Kind}
 use Rattle.irc_engine.specs.declared.connection_table.Connection.{Connection}
-use Rattle.irc_engine.specs.Carrying.{fresh_connection, has_some_at, is_exchange, owed, Fate}
+use Rattle.irc_engine.specs.Carrying.{fresh_connection, has_some_at, is_exchange, bytes_owed, Fate}
 use Rattle.irc_engine.specs.Running.{Moment, IsInOrder, Ran, Starts, in_use, makes_connection, Reads, not_open, read_once, Answers, Turn}
 use Rattle.irc_engine.specs.Turning.{EngineView, Turned, takes_turn, device_failed, wants_memory, has_failed, Turns, no_turn, one_more}
 use Rattle.irc_engine.specs.Writing.{one_if}
@@ -55,7 +55,7 @@ still_waits : (conn : ℕ) (old new : Option Connection) (calls : List Call) (ou
 still_waits conn None new calls outs fate nothing some there = cc some
 still_waits conn (Some old) None calls outs fate nothing some there = cc there
 still_waits conn (Some old) (Some new) calls outs fate nothing some there =
-    some_still old.outbox.bytes (owed (is_some old.framer) conn outs) new.outbox.bytes some (fate.carried ∙ ap (λ xs. xs ++ new.outbox.bytes) nothing)
+    some_still old.outbox.bytes (bytes_owed (is_some old.framer) conn outs) new.outbox.bytes some (fate.carried ∙ ap (λ xs. xs ++ new.outbox.bytes) nothing)
 
 -- a connection that is there was there before
 pub was_there : (conn : ℕ) (old new : Option Connection) (calls : List Call) (outs : List Sent) → Fate conn old calls outs new → is_some new ≡ true → is_some old ≡ true

@@ -1,5 +1,5 @@
 -- How an item is found and taken out of what is under way.
-use Rattle.std.specs.Prelude.{◌≡◌, ℕ, Bool, ◌&&◌, ◌==◌, List, ◌∷◌}
+use Rattle.std.specs.Prelude.{◌≡◌, ℕ, Bool, ◌&&◌, ◌==◌, List, [], ◌∷◌}
 use Rattle.irc_relay.specs.Links.{Name}
 use Rattle.irc_relay.specs.Queue.{queue_of}
 use Rattle.irc_relay.specs.NewsNet.{name, reading}
@@ -13,3 +13,7 @@ is_between from to s = (s.from == from) && (s.to == to)
 pub record TakesOldest (from to item : ℕ) (old new : List Sent) : Type 0 where
   pub oldest : queue_of reading old (name from) (name to) ≡ item ∷ queue_of reading new (name from) (name to)
   pub others : (x y : Name) → (x ≡ name from → y ≡ name to → ⊥) → queue_of reading new x y ≡ queue_of reading old x y
+
+-- none is on its way between them, and nothing is taken
+abbrev pub TakesNone : ℕ → ℕ → List Sent → List Sent → Type 0
+TakesNone from to old new = (new ≡ old) × (queue_of reading old (name from) (name to) ≡ [])

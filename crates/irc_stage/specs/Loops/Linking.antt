@@ -7,7 +7,7 @@ use Rattle.irc_stage.specs.declared.linked.Newcomer.{Newcomer}
 use Rattle.irc_stage.specs.declared.stage.Stage.{Stage}
 use Rattle.irc_stage.specs.View.{View}
 use Rattle.irc_stage.specs.EffectTold.{Served, with_sent}
-use Rattle.irc_stage.specs.Linked.{with_row}
+use Rattle.irc_stage.specs.Linked.{is_taken, with_row}
 use Rattle.irc_stage.specs.Loops.Stage.{lines_on, served_at, view_of}
 
 -- a link is open, and counts
@@ -18,6 +18,13 @@ IsMetAt link stage = IsMetEnd (get (view_of stage).ends link)
 abbrev pub view_with : Bool → Newcomer → View → View
 view_with taken newcomer view =
     if taken then with_row newcomer.link newcomer.uplink.now newcomer.name.now newcomer.distance newcomer.token newcomer.info.now view else view
+
+-- it is taken where it can be, and known from then on
+abbrev pub takes_newcomer : Newcomer → View → Bool
+takes_newcomer newcomer view = is_taken view.routes newcomer.link newcomer.name.now newcomer.token
+
+abbrev pub IsKnownIf : Newcomer → Stage → Stage → Bool → Type 0
+IsKnownIf newcomer old new taken = view_of new ≡ view_with taken newcomer (view_of old)
 
 -- a line goes on every link that counts, but for one
 abbrev pub IsToldToAll : Option ℕ → List ℕ → Stage → Batch → Stage → Batch → Type 0

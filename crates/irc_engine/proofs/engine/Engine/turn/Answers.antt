@@ -4,15 +4,15 @@ use Rattle.irc_engine.specs.Turning.{device_failed, has_failed}
 use Rattle.irc_engine.proofs.TurnLaws.{turned_from}
 use Rattle.irc_engine.proofs.engine.Engine.turn.Goals as goal
 
-pub returns-then-self : goal.returns-then-self
-returns-then-self g c = has_failed c.if-self.true refl
+pub returns-then-self-clause-turned : goal.returns-then-self-clause-turned
+returns-then-self-clause-turned g c = has_failed c.if-self.true refl
 
-pub returns-in-Ok : goal.returns-in-Ok
-returns-in-Ok g c =
+pub returns-in-Ok-clause-turned : goal.returns-in-Ok-clause-turned
+returns-in-Ok-clause-turned g c =
     turned_from _ _ _ _ _ _ c.if-self.false
     (subst (λ r. Adds g.W.Wire.is_after c.args.self.now.core.connections.wire (asks r) c.ready.new.self) c.in-Ok.is c.ready.ensures) c.take.ensures
 
-pub returns-in-Err : goal.returns-in-Err
-returns-in-Err g c =
+pub returns-in-Err-clause-turned : goal.returns-in-Err-clause-turned
+returns-in-Err-clause-turned g c =
     device_failed c.in-Err.field-0 c.if-self.false c.if-self.false refl
     (subst (λ r. Adds g.W.Wire.is_after c.args.self.now.core.connections.wire (asks r) c.ready.new.self) c.in-Err.is c.ready.ensures) refl

@@ -4,8 +4,8 @@ use Rattle.irc_stage.specs.Lemmas.Outcomes.{on_ok}
 use Rattle.irc_stage.proofs.Listening.{passed_on, put_to_others}
 use Rattle.irc_stage.proofs.stage.Stage.pass_on.Goals as goal
 
-pub returns-then-branch-clause-ok : goal.returns-then-branch-clause-ok
-returns-then-branch-clause-ok c =
+pub returns-then-write_line-clause-ok : goal.returns-then-write_line-clause-ok
+returns-then-write_line-clause-ok c =
     let machine = machine_at c.args.self.now in
     let line = c.write_line.new.line.items in
     on_ok c.send_to_others.result _ _
@@ -14,7 +14,7 @@ returns-then-branch-clause-ok c =
     (c.as_slice.ensures.value ∙ c.in_ok-refresh.ensures.found) is)
     ∙ passed_on machine c.args.self.now.clients.by_nick c.requires.ready.indexed c.args.origin c.args.effect.now c.args.channel.now c.requires.said c.requires.spoken
     c.requires.fit c.requires.ready.sound.well_formed (Some line)
-    (λ viewer home. c.in_ok-write_line.ensures viewer (home ∙ sym c.requires.ready.own_is) ∙ ap (λ b. if b then Some line else None) c.if-branch.true)
+    (λ viewer home. c.write_line.ensures viewer (home ∙ sym c.requires.ready.own_is) ∙ ap (λ b. if b then Some line else None) c.if-write_line.true)
     c.args.out.now.outs)
     c.send_to_others.ensures.ok
 
@@ -25,5 +25,5 @@ returns-clause-ok c =
     ap (λ o. record { machine = machine; out = o }) (sym (append-nil c.args.out.now.outs))
     ∙ passed_on machine c.args.self.now.clients.by_nick c.requires.ready.indexed c.args.origin c.args.effect.now c.args.channel.now c.requires.said c.requires.spoken
     c.requires.fit c.requires.ready.sound.well_formed None
-    (λ viewer home. c.in_ok-write_line.ensures viewer (home ∙ sym c.requires.ready.own_is) ∙ ap (λ b. if b then Some line else None) c.if-branch.false)
+    (λ viewer home. c.write_line.ensures viewer (home ∙ sym c.requires.ready.own_is) ∙ ap (λ b. if b then Some line else None) c.if-write_line.false)
     c.args.out.now.outs

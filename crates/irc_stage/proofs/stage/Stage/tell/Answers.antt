@@ -14,8 +14,8 @@ returns-in_default-clause-ok c =
     (λ conn at viewer home. not_none conn (sym c.in_default.is ∙ c.number_of.ensures ∙ at))
     c.args.out.now.outs
 
-pub returns-then-branch-clause-ok : goal.returns-then-branch-clause-ok
-returns-then-branch-clause-ok c =
+pub returns-then-write_line-clause-ok : goal.returns-then-write_line-clause-ok
+returns-then-write_line-clause-ok c =
     let machine = machine_at c.args.self.now in
     let line = c.write_line.new.line.items in
     on_ok c.put.result _ _
@@ -23,7 +23,7 @@ returns-then-branch-clause-ok c =
     (put_to_one c.args.out.now c.put.new.self _ _ line _ is c.deref.ensures.0 (sym c.number_of.ensures ∙ c.in-Some.is))
     ∙ told_on machine c.args.self.now.clients.by_nick c.requires.ready.indexed c.args.effect.now c.args.nick.now c.requires.said c.requires.fit
     c.requires.ready.sound.well_formed (Some line)
-    (λ conn at viewer home. c.in_ok-write_line.ensures viewer (home ∙ sym c.requires.ready.own_is) ∙ ap (λ b. if b then Some line else None) c.if-branch.true)
+    (λ conn at viewer home. c.write_line.ensures viewer (home ∙ sym c.requires.ready.own_is) ∙ ap (λ b. if b then Some line else None) c.if-write_line.true)
     c.args.out.now.outs)
     c.put.ensures.ok
 
@@ -34,5 +34,5 @@ returns-clause-ok c =
     ap (λ o. record { machine = machine; out = o }) (sym (append-nil c.args.out.now.outs))
     ∙ told_on machine c.args.self.now.clients.by_nick c.requires.ready.indexed c.args.effect.now c.args.nick.now c.requires.said c.requires.fit
     c.requires.ready.sound.well_formed None
-    (λ conn at viewer home. c.in_ok-write_line.ensures viewer (home ∙ sym c.requires.ready.own_is) ∙ ap (λ b. if b then Some line else None) c.if-branch.false)
+    (λ conn at viewer home. c.write_line.ensures viewer (home ∙ sym c.requires.ready.own_is) ∙ ap (λ b. if b then Some line else None) c.if-write_line.false)
     c.args.out.now.outs
