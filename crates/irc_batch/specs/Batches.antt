@@ -1,5 +1,5 @@
 -- What is put out to connections and on links, in order.
-use Rattle.std.specs.Prelude.{ℕ, ⊤, ◌≤◌, Bool, false, not, nat_eq, Option, Some, None, List, [], length, map, filter}
+use Rattle.std.specs.Prelude.{ℕ, ⊤, ◌≤◌, Bool, false, not, nat_eq, Option, Some, None, List, [], ◌∷◌, ◌++◌, length, map, filter}
 use Rattle.irc_line.specs.Limits.{max_text}
 use Rattle.irc_batch.specs.declared.close_reason.CloseReason.{CloseReason}
 use Rattle.irc_batch.specs.declared.batch.Out.{Out}
@@ -22,6 +22,18 @@ batch_of outs held = record { outs = outs; held = held }
 
 abbrev pub nothing : Batch
 nothing = batch_of [] []
+
+-- one thing more is put out
+abbrev pub put_out : Sent → Batch → Batch
+put_out sent batch = record batch { outs = batch.outs ++ sent ∷ [] }
+
+-- some things more are put out, in order
+abbrev pub put_out_all : List Sent → Batch → Batch
+put_out_all more batch = record batch { outs = batch.outs ++ more }
+
+-- a line more is put out, and is at hand then
+abbrev pub put_line : (List ℕ → Sent) → List ℕ → Batch → Batch
+put_line to line batch = batch_of (batch.outs ++ to line ∷ []) line
 
 -- a line has at most 512 bytes (RFC 2812 section 2.3)
 abbrev pub IsText : Sent → Type 0

@@ -3,7 +3,7 @@ ghost use Rattle.std.specs.Prelude.{◌≡◌, ◌≤◌, Some, [], ◌∷◌, �
 ghost use Rattle.std.specs.Option.{option_map};
 ghost use Rattle.std.specs.List.{slice_get};
 ghost use Rattle.irc_line.specs.Limits.{max_text};
-ghost use Rattle.irc_batch.specs.Batches.{batch_of, end_of, end_of_link, line_on, line_to, nothing, sent_of, to_others, IsText};
+ghost use Rattle.irc_batch.specs.Batches.{end_of, end_of_link, line_on, line_to, nothing, put_line, put_out, put_out_all, sent_of, to_others, IsText};
 ghost use Rattle.irc_batch.specs.Growing.{Grew};
 ghost use Rattle.irc_batch.specs.Loops.Marks.{bytes_at, IsSpan};
 ghost use Rattle.irc_batch.specs.declared.batch.Out.{Out as AnOut};
@@ -142,7 +142,7 @@ impl Batch {
     /// # Errors
     /// Where memory runs out; nothing has changed then.
     pub fn send(&mut self, conn: u64) -> Result<(), AllocError>
-        ensures ok { OnOk result (self.new ≡ record self.old { outs = self.old.outs ++ line_to conn self.old.held ∷ [] }) }
+        ensures ok { OnOk result (self.new ≡ put_out (line_to conn self.old.held) self.old) }
         ensures refused { OnErr result (self.new ≡ self.old) }
     {
         note(&mut self.marks, Mark::Line(conn, self.held))
@@ -153,7 +153,7 @@ impl Batch {
     /// # Errors
     /// Where memory runs out; nothing has changed then.
     pub fn send_on(&mut self, link: u64) -> Result<(), AllocError>
-        ensures ok { OnOk result (self.new ≡ record self.old { outs = self.old.outs ++ line_on link self.old.held ∷ [] }) }
+        ensures ok { OnOk result (self.new ≡ put_out (line_on link self.old.held) self.old) }
         ensures refused { OnErr result (self.new ≡ self.old) }
     {
         note(&mut self.marks, Mark::LinkLine(link, self.held))
@@ -164,7 +164,7 @@ impl Batch {
     /// # Errors
     /// Where memory runs out; it has been put out to some of them then.
     pub fn send_to_others(&mut self, conns: &[u64], one: Option<u64>) -> Result<(), AllocError>
-        ensures ok { OnOk result (self.new ≡ record self.old { outs = self.old.outs ++ to_others self.old.held one conns.now }) }
+        ensures ok { OnOk result (self.new ≡ put_out_all (to_others self.old.held one conns.now) self.old) }
         ensures grew { Grew self.old.outs self.new.outs }
     {
         for conn in conns {
@@ -175,7 +175,7 @@ impl Batch {
 
     /// Puts out the line at hand to a connection, unless it is this one.
     fn send_unless(&mut self, conn: u64, one: Option<u64>) -> Result<(), AllocError>
-        ensures ok { OnOk result (self.new ≡ record self.old { outs = self.old.outs ++ to_others self.old.held one (conn ∷ []) }) }
+        ensures ok { OnOk result (self.new ≡ put_out_all (to_others self.old.held one (conn ∷ [])) self.old) }
         ensures refused { OnErr result (self.new ≡ self.old) }
     {
         match one {
@@ -190,7 +190,7 @@ impl Batch {
     /// Where memory runs out; nothing more is put out then.
     pub fn put(&mut self, conn: u64, line: &[u8]) -> Result<(), AllocError>
         requires fits { length line.now ≤ max_text }
-        ensures ok { OnOk result (self.new ≡ batch_of (self.old.outs ++ line_to conn line.now ∷ []) line.now) }
+        ensures ok { OnOk result (self.new ≡ put_line (line_to conn) line.now self.old) }
         ensures refused { OnErr result (self.new.outs ≡ self.old.outs) }
     {
         self.hold(line)?;
@@ -203,7 +203,7 @@ impl Batch {
     /// Where memory runs out; nothing more is put out then.
     pub fn put_on(&mut self, link: u64, line: &[u8]) -> Result<(), AllocError>
         requires fits { length line.now ≤ max_text }
-        ensures ok { OnOk result (self.new ≡ batch_of (self.old.outs ++ line_on link line.now ∷ []) line.now) }
+        ensures ok { OnOk result (self.new ≡ put_line (line_on link) line.now self.old) }
         ensures refused { OnErr result (self.new.outs ≡ self.old.outs) }
     {
         self.hold(line)?;
@@ -215,7 +215,7 @@ impl Batch {
     /// # Errors
     /// Where memory runs out; nothing has changed then.
     pub fn close(&mut self, conn: u64) -> Result<(), AllocError>
-        ensures ok { OnOk result (self.new ≡ record self.old { outs = self.old.outs ++ end_of conn ∷ [] }) }
+        ensures ok { OnOk result (self.new ≡ put_out (end_of conn) self.old) }
         ensures refused { OnErr result (self.new ≡ self.old) }
     {
         note(&mut self.marks, Mark::Close(conn))
@@ -226,7 +226,7 @@ impl Batch {
     /// # Errors
     /// Where memory runs out; nothing has changed then.
     pub fn close_link(&mut self, link: u64, reason: CloseReason) -> Result<(), AllocError>
-        ensures ok { OnOk result (self.new ≡ record self.old { outs = self.old.outs ++ end_of_link link reason ∷ [] }) }
+        ensures ok { OnOk result (self.new ≡ put_out (end_of_link link reason) self.old) }
         ensures refused { OnErr result (self.new ≡ self.old) }
     {
         note(&mut self.marks, Mark::LinkClose(link, reason))

@@ -26,7 +26,7 @@ use Rattle.irc_names.specs.Names.{is_nick, is_channel, is_server}
 use Rattle.irc_names.specs.Tables.{row}
 use Rattle.irc_users.specs.declared.user.User.{User}
 use Rattle.irc_channels.specs.declared.flags.Flags.{Flags}
-use Rattle.irc_modes.specs.Modes.{number_of}
+use Rattle.irc_names.specs.Digits.{number_of}
 use Rattle.irc_room.specs.declared.effect.By.TheVariants as by
 use Rattle.irc_room.specs.declared.effect.Effect.{Effect}
 use Rattle.irc_room.specs.declared.effect.Effect.TheVariants.{AddUser, Rename, ChangeModes, SetTopic}

@@ -3,7 +3,7 @@ use Rattle.std.proofs.Common.{◌≡◌, ℕ, true, false, not, Option, Some, No
 use Rattle.irc_names.specs.Fold.{key}
 use Rattle.irc_names.specs.Names.{is_nick}
 use Rattle.irc_names.specs.Tables.{Table, row}
-use Rattle.irc_users.specs.Users.{clean_user, cut_real}
+use Rattle.irc_names.specs.UserTexts.{clean_user, cut_real}
 use Rattle.irc_users.specs.declared.user.User.{User}
 use Rattle.irc_numerics.specs.declared.replies.Reply.TheVariants.{ErroneousNickname, NicknameInUse}
 use Rattle.irc_room.specs.Room.{Room}

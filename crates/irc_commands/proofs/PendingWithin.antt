@@ -8,8 +8,8 @@ use Rattle.irc_line.specs.Lines.{earlier_pieces}
 use Rattle.irc_line.specs.Messages.{IsPlainWord}
 use Rattle.irc_names.specs.Limits.{max_user_name, max_real_name}
 use Rattle.irc_names.specs.Names.{is_nick, IsNick, IsServer}
-use Rattle.irc_users.specs.Users.{IsUserName, clean_user_byte, clean_user, cut_real}
-use Rattle.irc_users.specs.Lemmas.CleanNames.{clean_name}
+use Rattle.irc_names.specs.UserTexts.{IsUserName, clean_user_byte, clean_user, cut_real}
+use Rattle.irc_names.specs.Lemmas.CleanNames.{clean_name}
 use Rattle.irc_numerics.specs.declared.replies.Reply.TheVariants.{ErroneousNickname, NicknameInUse}
 use Rattle.irc_room.specs.Effects.{has_user}
 use Rattle.irc_room.specs.Room.{Room}

@@ -54,7 +54,7 @@ use Rattle.irc_acts.specs.ByTest.{by_test}
 use Rattle.irc_commands.specs.declared.say.Verb.TheVariants as verb
 use Rattle.irc_commands.proofs.OwnCommands.{say_own, topic_own}
 use Rattle.irc_commands.proofs.CarriedCommands.{CarryGiven, say_carries, join_given, part_given, topic_given, kick_given, invite_given, mode_given}
-use Rattle.irc_users.specs.Users.{clean_user, cut_real}
+use Rattle.irc_names.specs.UserTexts.{clean_user, cut_real}
 use Rattle.irc_numerics.specs.declared.replies.Reply.{Reply}
 use Rattle.irc_room.specs.Effects.{has_user}
 use Rattle.irc_commands.specs.declared.pending.Pending.{Pending}

@@ -2,7 +2,7 @@
 use Rattle.std.specs.Prelude.{ℕ, true, false, not, Option, Some, None, List, [], ◌∷◌, codes, unwrap_or, if◌then◌else◌}
 use Rattle.irc_names.specs.Names.{is_nick}
 use Rattle.irc_line.specs.Messages.{Parsed}
-use Rattle.irc_users.specs.Users.{clean_user, cut_real}
+use Rattle.irc_names.specs.UserTexts.{clean_user, cut_real}
 use Rattle.irc_users.specs.declared.user.User.{User}
 use Rattle.irc_numerics.specs.declared.replies.Reply.TheVariants.{Welcome, YourHost, Created, MyInfo, NoMotd, NoNicknameGiven, ErroneousNickname, NicknameInUse, NotRegistered, NeedMoreParams}
 use Rattle.irc_room.specs.declared.effect.Effect.TheVariants.{AddUser}

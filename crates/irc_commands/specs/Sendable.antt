@@ -4,7 +4,7 @@ use Rattle.std.specs.Option.{IfSome}
 use Rattle.irc_line.specs.Carried.{IsCarried, AreLineWords}
 use Rattle.irc_line.specs.Messages.{Parsed}
 use Rattle.irc_names.specs.Names.{IsNick, IsHost, IsServer}
-use Rattle.irc_users.specs.Users.{IsUserName, IsRealName}
+use Rattle.irc_names.specs.UserTexts.{IsUserName, IsRealName}
 use Rattle.irc_room.specs.Limits.{IsWithinLimits}
 use Rattle.irc_room.specs.Room.{Room, IsWellFormed}
 use Rattle.irc_routes.specs.Place.{Place}

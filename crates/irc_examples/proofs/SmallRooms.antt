@@ -7,7 +7,7 @@ use Rattle.irc_names.specs.TableLaws.{row-alter_same, row-alter_other}
 use Rattle.irc_names.specs.Names.{is_nick}
 use Rattle.irc_line.specs.Bytes.{cut}
 use Rattle.irc_line.specs.Messages.{line_text}
-use Rattle.irc_users.specs.Users.{clean_user, cut_real}
+use Rattle.irc_names.specs.UserTexts.{clean_user, cut_real}
 use Rattle.irc_users.specs.declared.user.User.{User}
 use Rattle.irc_channels.specs.declared.flags.Flags.{Flags}
 use Rattle.irc_channels.specs.declared.channel.Channel.{Channel}

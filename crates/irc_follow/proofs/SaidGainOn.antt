@@ -14,7 +14,7 @@ use Rattle.irc_line.specs.Reading.{read_of}
 use Rattle.irc_names.specs.Names.{IsServer, is_server}
 use Rattle.irc_handshake.specs.Peers.{not_taken}
 use Rattle.irc_merge.specs.Deeds.{gains}
-use Rattle.irc_modes.specs.Modes.{number_of}
+use Rattle.irc_names.specs.Digits.{number_of}
 use Rattle.irc_relay.specs.Links.{Name, OneWay, forth, return, same, toward, distance, AreLinked}
 use Rattle.irc_relay.specs.Relay.{TakesFrom}
 use Rattle.irc_relay.specs.Lemmas.TellingNames.{Telling, alike, unlike, tell, same_unless, same_when}

@@ -17,19 +17,18 @@ use Rattle.irc_merge.specs.Bursts.{in_lines, members_a_line, bans_a_line, user_d
 use Rattle.irc_merge.specs.Deeds.{does, brings, sets, tops}
 use Rattle.irc_merge.specs.Lemmas.TableWords.{true_is, entries_all}
 use Rattle.irc_modes.proofs.SetReadable.{set_is_readable, bans_are_readable}
-use Rattle.irc_modes.specs.Lemmas.DigitSteps.{limit-digits}
+use Rattle.irc_modes.specs.Lemmas.LimitFacts.{limit-digits}
 use Rattle.irc_modes.specs.Lemmas.LimitText.{limit_written}
 use Rattle.irc_modes.specs.Modes.{is_nil}
 use Rattle.irc_modes.specs.declared.modes.Modes.{Modes}
 use Rattle.irc_modes.specs.ModesSet.{AreWithinLimits, IsLimit, set, flag_set, privacy_set, key_set, limit_set, set_changes, ban_changes}
 use Rattle.irc_modes.specs.Readable.{AreReadable}
-use Rattle.irc_modes.specs.Texts.{IsKey}
 use Rattle.irc_modes.specs.declared.modes.ModeChange.{ModeChange}
 use Rattle.irc_modes.specs.declared.modes.ModeLetter.{ModeLetter}
 use Rattle.irc_modes.specs.declared.modes.ModeLetter.TheVariants as letter
 use Rattle.irc_modes.specs.declared.modes.Privacy.{Privacy}
 use Rattle.irc_modes.specs.declared.modes.Privacy.TheVariants.{Public, Private, Secret}
-use Rattle.irc_names.specs.Names.{IsChannel, is_ban_mask}
+use Rattle.irc_names.specs.Names.{IsChannel, is_ban_mask, IsKey}
 use Rattle.irc_names.specs.Tables.{row}
 use Rattle.irc_room.specs.declared.effect.Effect.TheVariants.{AddUser}
 use Rattle.irc_room.specs.Limits.{IsBanCarried, IsChannelWithin, IsWithinLimits}

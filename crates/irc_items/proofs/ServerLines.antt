@@ -7,7 +7,7 @@ use Rattle.irc_line.specs.Messages.{IsPlain, Written, line_text, message_of}
 use Rattle.irc_line.specs.Reading.{read_of}
 use Rattle.irc_names.specs.Names.{IsServer, is_nick, is_server}
 use Rattle.irc_handshake.specs.Peers.{not_taken}
-use Rattle.irc_modes.specs.Modes.{number_of}
+use Rattle.irc_names.specs.Digits.{number_of}
 use Rattle.irc_routes.specs.Info.{IsInfo, is_info, is_text_byte}
 use Rattle.irc_routes.specs.Known.{Known, distance_of, token_in}
 use Rattle.irc_burst.specs.DeedsMeant.{a_server, deeds_meant, is_next_distance}

@@ -31,7 +31,7 @@ use Rattle.irc_line.specs.Messages.{Parsed}
 use Rattle.irc_names.specs.Fold.{same}
 use Rattle.irc_names.specs.Limits.{max_real_name}
 use Rattle.irc_names.specs.Names.{fits, is_nick, is_channel, is_host, is_server}
-use Rattle.irc_modes.specs.Modes.{number_of}
+use Rattle.irc_names.specs.Digits.{number_of}
 use Rattle.irc_room.specs.declared.effect.By.{By}
 use Rattle.irc_room.specs.declared.effect.By.TheVariants as by
 use Rattle.irc_room.specs.declared.effect.Effect.{Effect}

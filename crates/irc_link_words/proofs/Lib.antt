@@ -1,4 +1,4 @@
-pub mod DigitsRead
+pub mod NumberFacts
 pub mod TextsRead
 pub mod KeptWords
 pub mod WordsTaken

@@ -8,7 +8,7 @@ use Rattle.irc_modes.specs.Modes.{is_nil}
 use Rattle.irc_link_words.specs.Words.{is_user_name}
 use Rattle.std.proofs.lemmas.List.{take_all}
 use Rattle.irc_names.specs.Limits.{max_words, max_real_name, max_user_name}
-use Rattle.irc_users.specs.Users.{clean_user, clean_user_byte, cut_real, is_user_byte}
+use Rattle.irc_names.specs.UserTexts.{clean_user, clean_user_byte, cut_real, is_user_byte}
 use Rattle.irc_channels.specs.Texts.{cut_words}
 
 pub words-whole : (text : List ℕ) → length text ≤ max_words → cut_words text ≡ text

@@ -7,7 +7,7 @@ use Rattle.std.specs.Str.{bytes_eq}
 use Rattle.arrayvec.specs.ArrayVec.{ArrayVec}
 use Rattle.irc_line.specs.Bytes.{is_space}
 use Rattle.irc_names.specs.Names.{fits, is_channel, is_nick, starts_without_colon}
-use Rattle.irc_users.specs.Users.{is_user_byte}
+use Rattle.irc_names.specs.UserTexts.{is_user_byte}
 use Rattle.irc_names.specs.Limits.{max_user_name, max_words}
 use Rattle.irc_modes.specs.Letters.{names_member, sign_byte}
 use Rattle.irc_modes.specs.declared.modes.ModeChange.{ModeChange}

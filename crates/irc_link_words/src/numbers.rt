@@ -1,18 +1,17 @@
 //! Numbers in lines of a link (RFC 2813 section 4.1.2).
-ghost use Rattle.std.specs.Prelude.{◌≡◌, ◌≤◌, ◌&&◌, length, nat_le, IsTrue, Ok, Err, if◌then◌else◌};
-ghost use Rattle.std.specs.List.{list_all};
-ghost use Rattle.std.specs.Char.{is_ascii_digit};
-ghost use Rattle.irc_modes.specs.Modes.{number_of};
+ghost use Rattle.std.specs.Prelude.{◌≡◌, ◌&&◌, nat_le, Ok, Err, if◌then◌else◌};
+ghost use Rattle.irc_names.specs.Digits.{number_of};
 ghost use Rattle.irc_link_words.specs.declared.fault.WireFault.TheVariants.{Parameters};
-ghost use Rattle.irc_link_words.specs.Numbers.{begins_with_zero, is_number, max_number_digits};
+ghost use Rattle.irc_link_words.specs.Numbers.{begins_with_zero, is_number};
 
 use crate::{MAX_NUMBER, MAX_NUMBER_DIGITS, WireFault};
+use irc_names::{are_digits, number_of};
 
 /// A number, as a distance or as a token: 1 to [`MAX_NUMBER`], without leading zeros.
 ///
 /// # Errors
 /// [`WireFault::Parameters`] where it is none.
-#[tactic(auto, using(crate::proofs::DigitsRead::number_facts))]
+#[tactic(auto, using(crate::proofs::NumberFacts::number_facts))]
 pub fn read_number(bytes: &[u8]) -> Result<u32, WireFault>
     ensures { result ≡ (if is_number bytes.now then Ok (number_of bytes.now) else Err Parameters) }
 {
@@ -47,23 +46,4 @@ fn begins_with_zero(bytes: &[u8]) -> bool
         Some(first) => *first == b'0',
         None => false,
     }
-}
-
-fn are_digits(bytes: &[u8]) -> bool
-    ensures { result ≡ list_all is_ascii_digit bytes.now }
-{
-    bytes.iter().all(u8::is_ascii_digit)
-}
-
-/// The number that a few digits write.
-fn number_of(digits: &[u8]) -> u64
-    requires digits { IsTrue (list_all is_ascii_digit digits.now) }
-    requires few { length digits.now ≤ max_number_digits }
-    ensures { result ≡ number_of digits.now }
-{
-    let mut number = 0;
-    for digit in digits {
-        number = 10 * number + u64::from(*digit - b'0');
-    }
-    number
 }

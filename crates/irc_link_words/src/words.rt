@@ -6,7 +6,7 @@ ghost use Rattle.irc_line.specs.Bytes.{is_space};
 ghost use Rattle.irc_line.specs.Limits.{max_line};
 ghost use Rattle.irc_names.specs.Limits.{max_real_name};
 ghost use Rattle.irc_names.specs.Names.{fits, is_channel, is_host, is_nick, is_server};
-ghost use Rattle.irc_users.specs.Users.{is_user_byte};
+ghost use Rattle.irc_names.specs.UserTexts.{is_user_byte};
 ghost use Rattle.irc_link_words.specs.declared.fault.WireFault.TheVariants.{BadName, Parameters};
 ghost use Rattle.irc_link_words.specs.Words.{are_words, is_come_mode, is_command, is_for_channel, is_marked, is_mode_word, is_user_name, line_of, target_or_fault, unmarked, with_i, without_i};
 
@@ -16,10 +16,10 @@ use irc_line::Line;
 use irc_line::limits::MAX_LINE;
 use irc_modes::ModeWord;
 use irc_names::{
-    ChannelName, Host, MAX_REAL_NAME, MAX_USER_NAME, MAX_WORDS, Nick, ServerName, copied,
+    ChannelName, Host, MAX_REAL_NAME, MAX_USER_NAME, MAX_WORDS, Nick, RealName, ServerName,
+    UserName, copied, is_user_byte,
 };
 use irc_room::Target;
-use irc_users::{RealName, UserName};
 
 /// What stands behind the channel of a JOIN for one that becomes an operator (RFC 2813 section 4.2.1).
 pub const OPERATOR_MARK: &[u8] = b"\x07o";
@@ -161,12 +161,6 @@ fn are_user_bytes(word: &[u8]) -> bool
     ensures { result ≡ list_all is_user_byte word.now }
 {
     word.iter().all(|byte| is_user_byte(*byte))
-}
-
-fn is_user_byte(byte: u8) -> bool
-    ensures { result ≡ is_user_byte byte }
-{
-    byte.is_ascii_alphanumeric() || matches!(byte, b'-' | b'.' | b'_' | b'~')
 }
 
 /// Whether a real name is no longer than one may be.

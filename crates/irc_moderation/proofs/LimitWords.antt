@@ -2,7 +2,7 @@
 use Rattle.std.proofs.Common.{◌≡◌, ◌≢◌, ◌⊎◌, inl, inr, ◌≤◌, ◌<◌, ◌+◌, ℕ, true, false, cond, List, ◌∷◌, length, drop, get_or, sym, ◌∙◌, ap, arith, nat_eq}
 use Rattle.std.proofs.lemmas.Bool.Decides.{eqb_tells}
 use Rattle.std.proofs.lemmas.List.{drop_more}
-use Rattle.irc_modes.specs.Lemmas.DigitSteps.{limit-few}
+use Rattle.irc_modes.specs.Lemmas.LimitFacts.{limit-few}
 use Rattle.irc_modes.specs.Modes.{is_limit}
 use Rattle.irc_modes.specs.Limits.{max_mode_word}
 use Rattle.irc_moderation.specs.Judging.{without_zeros}

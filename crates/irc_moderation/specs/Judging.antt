@@ -14,7 +14,8 @@ use Rattle.irc_modes.specs.declared.modes.ModeLetter.{ModeLetter}
 use Rattle.irc_modes.specs.declared.modes.ModeLetter.TheVariants as letter
 use Rattle.irc_modes.specs.declared.modes.Privacy.{Privacy}
 use Rattle.irc_modes.specs.declared.modes.Privacy.TheVariants.{Public, Private, Secret}
-use Rattle.irc_modes.specs.Modes.{is_limit, number_of, mask_in}
+use Rattle.irc_names.specs.Digits.{number_of}
+use Rattle.irc_modes.specs.Modes.{is_limit, mask_in}
 use Rattle.irc_modes.specs.Limits.{max_bans}
 use Rattle.irc_numerics.specs.declared.replies.Reply.TheVariants.{NoSuchNick, UserNotInChannel, KeySet, BanListFull}
 use Rattle.irc_acts.specs.Acts.{kept, client_words}

@@ -5,7 +5,7 @@ use Rattle.std.proofs.lemmas.List.Folds.{list_all-append}
 use Rattle.std.proofs.lemmas.List.Sums.{sum_by-cons, sum_by-append}
 use Rattle.std.specs.List.{list_all}
 use Rattle.std.specs.Cmp.{first_so, second_so}
-use Rattle.irc_names.specs.Names.{is_key, is_ban_mask}
+use Rattle.irc_names.specs.Names.{is_key, is_ban_mask, IsKey}
 use Rattle.irc_modes.specs.declared.modes.Modes.{Modes}
 use Rattle.irc_modes.specs.declared.modes.ModeChange.{ModeChange}
 use Rattle.irc_modes.specs.declared.modes.ModeLetter.{ModeLetter}
@@ -17,7 +17,6 @@ use Rattle.irc_modes.specs.Letters.{letter_byte}
 use Rattle.irc_modes.specs.ModeLaws.{SetIsReadable, BansAreReadable}
 use Rattle.irc_modes.specs.ModesSet.{AreWithinLimits, IsLimit, set, flag_set, privacy_set, key_set, limit_set, set_changes, ban_changes}
 use Rattle.irc_modes.specs.Readable.{IsOnce, has_its_word, has_parameter, is_of, is_worded}
-use Rattle.irc_modes.specs.Texts.{IsKey}
 use Rattle.irc_modes.specs.Lemmas.LimitText.{written_limit}
 
 -- how many changes are of one letter, at most, if they are all of another

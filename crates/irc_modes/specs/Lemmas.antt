@@ -1,6 +1,6 @@
 -- Lemmas, with their proofs, that the crates above cite too. No rule stands here.
 pub mod BanPlaces
-pub mod DigitSteps
+pub mod LimitFacts
 pub mod FewRead
 pub mod LetterReading
 pub mod LimitText

@@ -1,10 +1,11 @@
 -- The modes of a channel, and what each change of one does (RFC 2811 section 4).
-use Rattle.std.specs.Prelude.{ℕ, ◌+◌, ◌-◌, ◌*◌, Bool, true, false, not, ◌&&◌, Option, Some, None, List, [], ◌∷◌, ◌++◌, fold, filter, nat_le, if◌then◌else◌}
+use Rattle.std.specs.Prelude.{ℕ, Bool, true, false, not, ◌&&◌, Option, Some, None, List, [], ◌∷◌, ◌++◌, fold, filter, nat_le, if◌then◌else◌}
 use Rattle.std.specs.List.{list_any, list_all}
 use Rattle.std.specs.Char.{is_ascii_digit}
 use Rattle.std.specs.Ordering.{is_lt}
 use Rattle.irc_names.specs.Fold.{key, same, name_cmp}
 use Rattle.irc_names.specs.Names.{fits, is_key, is_ban_mask}
+use Rattle.irc_names.specs.Digits.{number_of}
 use Rattle.irc_modes.specs.Limits.{max_limit, max_limit_digits}
 use Rattle.irc_modes.specs.declared.modes.Privacy.{Privacy}
 use Rattle.irc_modes.specs.declared.modes.Privacy.TheVariants.{Public, Private, Secret}
@@ -40,10 +41,6 @@ abbrev pub secret_changed : Bool → Privacy → Privacy
 secret_changed true _ = Secret
 secret_changed false Secret = Public
 secret_changed false before = before
-
--- the number that digits write
-abbrev pub number_of : List ℕ → ℕ
-number_of digits = fold (λ n digit. 10 * n + (digit - 48)) 0 digits
 
 -- a limit is 1 to 65535, written in at most 5 digits (our own choice)
 unfoldable pub is_limit : List ℕ → Bool

@@ -3,7 +3,7 @@
 use Rattle.std.specs.Prelude.{◌≡◌, ℕ, ◌≤◌, Bool, true, Option, Some, None, List, [], ◌∷◌, ◌++◌, map, decimal, if◌then◌else◌}
 use Rattle.std.specs.List.{list_all}
 use Rattle.std.specs.Option.{IfSome}
-use Rattle.irc_names.specs.Names.{is_ban_mask}
+use Rattle.irc_names.specs.Names.{is_ban_mask, IsKey}
 use Rattle.irc_modes.specs.declared.modes.Modes.{Modes}
 use Rattle.irc_modes.specs.declared.modes.ModeChange.{ModeChange}
 use Rattle.irc_modes.specs.declared.modes.ModeLetter.{ModeLetter}
@@ -12,7 +12,6 @@ use Rattle.irc_modes.specs.declared.modes.Privacy.{Privacy}
 use Rattle.irc_modes.specs.declared.modes.Privacy.TheVariants.{Public, Private, Secret}
 use Rattle.irc_modes.specs.Bans.{IsBanList}
 use Rattle.irc_modes.specs.Limits.{max_limit}
-use Rattle.irc_modes.specs.Texts.{IsKey}
 
 -- `+`, a letter, and its parameter if it has one
 abbrev pub set : ModeLetter → Option (List ℕ) → ModeChange

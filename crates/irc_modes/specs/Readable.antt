@@ -7,7 +7,8 @@ use Rattle.irc_names.specs.Names.{is_nick, is_key, is_ban_mask}
 use Rattle.irc_modes.specs.declared.modes.ModeChange.{ModeChange}
 use Rattle.irc_modes.specs.declared.modes.ModeLetter.{ModeLetter}
 use Rattle.irc_modes.specs.declared.modes.ModeLetter.TheVariants as letter
-use Rattle.irc_modes.specs.Modes.{is_nil, is_limit, number_of}
+use Rattle.irc_names.specs.Digits.{number_of}
+use Rattle.irc_modes.specs.Modes.{is_nil, is_limit}
 use Rattle.irc_modes.specs.Letters.{letter_byte}
 use Rattle.irc_modes.specs.Limits.{max_mode_parameters}
 use Rattle.irc_modes.specs.ModeWords.{Asked, change, once}

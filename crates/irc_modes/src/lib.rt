@@ -3,7 +3,6 @@
 
 mod ban_changing;
 mod bans;
-mod key;
 pub mod laws;
 mod limit;
 mod mode_changing;
@@ -13,7 +12,7 @@ mod mode_words;
 mod modes;
 
 pub use bans::BanList;
-pub use key::Key;
+pub use irc_names::Key;
 pub use limit::read_limit;
 pub use mode_text::{push_letters, push_parameter, sign_text};
 pub use mode_word::ModeWord;

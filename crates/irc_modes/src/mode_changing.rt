@@ -6,9 +6,9 @@ ghost use Rattle.irc_modes.specs.Modes.{adds_ban, no_modes, modes_after, private
 ghost use Rattle.irc_modes.specs.Loops.ManyChanges.{setting_step, settings_after};
 
 use crate::bans::BanList;
-use crate::key::Key;
 use crate::limit::read_limit;
 use crate::modes::{ModeChange, ModeLetter, Modes, Privacy};
+use irc_names::Key;
 use std::alloc::{AllocError, Global};
 
 impl Modes {

@@ -6,8 +6,8 @@ ghost use Rattle.irc_modes.specs.ModeViews.{kept_change};
 ghost use Rattle.irc_modes.specs.Texts.{IsKept};
 
 use crate::bans::BanList;
-use crate::key::Key;
 use crate::mode_word::ModeWord;
+use irc_names::Key;
 
 /// Who is told that a channel is there (RFC 2811 section 4.2.6).
 #[derive(Clone, Copy, PartialEq, Eq)]

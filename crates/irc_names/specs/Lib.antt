@@ -4,6 +4,8 @@ pub mod FoldLaws
 pub mod MaskLaws
 pub mod Masks
 pub mod Names
+pub mod UserTexts
+pub mod Digits
 pub mod Spellings
 pub mod Loops
 pub mod Tables

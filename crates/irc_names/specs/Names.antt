@@ -89,3 +89,6 @@ IsServer bytes = IsTrue (is_server bytes)
 
 abbrev pub IsBanMask : List ℕ → Type 0
 IsBanMask bytes = IsTrue (is_ban_mask bytes)
+
+abbrev pub IsKey : List ℕ → Type 0
+IsKey bytes = IsTrue (is_key bytes)

@@ -1,28 +1,36 @@
-//! Names of an IRC network: their case fold, their rules, their types, and masks.
+//! Names of an IRC network: their case fold, their rules, their types, and masks; and the digits of a number.
 #![tactic(auto)]
 
 mod ban_mask;
 mod case_fold;
 mod channel_name;
 mod copying;
+mod digits;
 mod exact;
 mod hashing;
 mod host;
+mod key;
 mod matching;
 mod nick;
+mod real_name;
 mod rules;
 mod server_name;
+mod user_name;
 
 pub use ban_mask::BanMask;
 pub use case_fold::{compare, fold, same};
 pub use channel_name::ChannelName;
 pub use copying::{copied, cut_copy, first_bytes};
+pub use digits::{are_digits, number_of};
 pub use exact::{Exact, Folded};
 pub use host::Host;
+pub use key::Key;
 pub use matching::mask_matches;
 pub use nick::Nick;
+pub use real_name::RealName;
 pub use rules::{is_ban_mask, is_channel, is_host, is_key, is_nick, is_server};
 pub use server_name::ServerName;
+pub use user_name::{UserName, is_user_byte};
 
 // How long names may be, in bytes. Each limit of the code stands here alone; the definitions have the same numbers in `specs/Limits.antt`.
 
@@ -58,3 +66,6 @@ pub const MAX_INFO: usize = 63;
 
 /// The longest text that says when a server was created (our own choice).
 pub const MAX_CREATED: usize = 30;
+
+/// The most digits of a number in a line (our own choice: as many as the greatest `u32` has).
+pub const MAX_DIGITS: usize = 10;

@@ -16,7 +16,7 @@ use Rattle.irc_modes.specs.Modes.{is_limit}
 use Rattle.irc_modes.specs.Letters.{letter_byte, sign_byte}
 use Rattle.irc_modes.specs.ModeWritten.{letters_behind, letters_text}
 use Rattle.irc_modes.specs.Readable.{is_parameter, word_fits, has_its_word, is_worded, is_of, AreReadable}
-use Rattle.irc_modes.specs.Lemmas.DigitSteps.{limit-few}
+use Rattle.irc_modes.specs.Lemmas.LimitFacts.{limit-few}
 use Rattle.irc_room.specs.Room.{Room}
 use Rattle.irc_room.specs.Seen.{stored_nick, names_member, written_word, changes_words}
 use Rattle.irc_room.specs.Sendable.{IsStoredNick, IsSentWord, IsSentChange}

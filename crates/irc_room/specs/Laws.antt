@@ -10,9 +10,8 @@ use Rattle.irc_line.specs.Limits.{max_line}
 use Rattle.irc_line.specs.Bytes.{crlf}
 use Rattle.irc_line.specs.Carried.{IsCarried}
 use Rattle.irc_line.specs.Messages.{IsPlainWord, Written, named, joined_text, text}
-use Rattle.irc_names.specs.Names.{IsNick, IsChannel, IsHost, IsServer, IsBanMask}
-use Rattle.irc_users.specs.Users.{IsUserName}
-use Rattle.irc_modes.specs.Texts.{IsKey}
+use Rattle.irc_names.specs.Names.{IsNick, IsChannel, IsHost, IsServer, IsBanMask, IsKey}
+use Rattle.irc_names.specs.UserTexts.{IsUserName}
 use Rattle.irc_users.specs.declared.user.User.{User}
 use Rattle.irc_channels.specs.declared.channel.Channel.{Channel}
 use Rattle.irc_modes.specs.Modes.{no_modes}

@@ -5,7 +5,7 @@ use Rattle.std.specs.Option.{IfSome}
 use Rattle.irc_line.specs.Carried.{is_carried, IsCarried}
 use Rattle.irc_names.specs.Names.{IsNick, IsChannel, IsHost, IsServer}
 use Rattle.irc_names.specs.Tables.{row}
-use Rattle.irc_users.specs.Users.{IsUserName, IsRealName}
+use Rattle.irc_names.specs.UserTexts.{IsUserName, IsRealName}
 use Rattle.irc_users.specs.declared.user.User.{User}
 use Rattle.irc_channels.specs.Texts.{IsWords}
 use Rattle.irc_modes.specs.ModesSet.{AreWithinLimits}

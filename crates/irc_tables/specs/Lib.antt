@@ -1,4 +1,5 @@
 pub mod FoldedRows
 pub mod RowViews
+pub mod TableChanges
 pub mod Loops
 pub mod Lemmas

@@ -1,11 +1,12 @@
 //! A table by name.
-ghost use Rattle.std.specs.Prelude.{◌≡◌, ℕ, Bool, false, Ok, Err, ◌<◌, ◌≤◌, Option, Some, None, Result, is_some, is_ok, IsTrue, OnOk, OnErr, IfOk, IsOk, map, length, if◌then◌else◌, IfNone, OnSome, vec_len, vec_capacity};
-ghost use Rattle.std.specs.Option.{option_copied, option_map, option_map_or, option_and_then};
+ghost use Rattle.std.specs.Prelude.{◌≡◌, ℕ, Bool, Ok, Err, ◌<◌, ◌≤◌, Option, Some, None, Result, is_some, is_ok, IsTrue, OnOk, OnErr, IfOk, IsOk, map, length, if◌then◌else◌, IfNone, OnSome, vec_len, vec_capacity};
+ghost use Rattle.std.specs.Option.{option_copied, option_map};
 ghost use Rattle.std.specs.FinMap.{empty, entries, keys};
 ghost use Rattle.irc_names.specs.Fold.{key};
 ghost use Rattle.irc_names.specs.Tables.{row, alter, each, moved};
 ghost use Rattle.irc_tables.specs.FoldedRows.{table_of, IsInFoldedOrder, IsPlaceOf, StandsAt};
-ghost use Rattle.irc_tables.specs.RowViews.{row_entry};
+ghost use Rattle.irc_tables.specs.RowViews.{row_entry, as_table};
+ghost use Rattle.irc_tables.specs.TableChanges.{changed_at, entry_at, passes_at, tried_at, with_value, without};
 
 use arrayvec::ArrayVec;
 use irc_names::{MAX_CHANNEL, compare, copied, same};
@@ -126,7 +127,7 @@ impl<V: Drop> NameTable<V> {
 
     /// The row of a name, if there is one.
     pub fn get_row(&self, name: &[u8]) -> Option<&Row<V>>
-        ensures { option_map row_entry (option_copied result) ≡ option_map (λ value. (key name.now, value)) (row self.now (key name.now)) }
+        ensures { option_map row_entry (option_copied result) ≡ entry_at name.now self.now }
     {
         match place_of(&self.rows, name) {
             Ok(place) => Some(&self.rows[place]),
@@ -181,7 +182,7 @@ impl<V: Drop> NameTable<V> {
 
     /// Changes what stands under a name, or takes it out; where nothing does, nothing changes. It takes no memory.
     pub fn change_at<C: RowChange<V>>(&mut self, name: &[u8], change: &C)
-        ensures { self.new ≡ alter (key name.now) (option_and_then (C.changed change.now)) self.old }
+        ensures { self.new ≡ changed_at name.now (C.changed change.now) self.old }
     {
         match place_of(&self.rows, name) {
             Ok(place) => change_row(&mut self.rows, place, name, change),
@@ -195,10 +196,10 @@ impl<V: Drop> NameTable<V> {
     /// # Errors
     /// Where memory runs out; nothing has changed then.
     pub fn try_at<C: RowAttempt<V>>(&mut self, name: &[u8], change: &C) -> Result<(), AllocError>
-        ensures ok { OnOk result (self.new ≡ alter (key name.now) (option_map (C.tried change.now)) self.old) }
+        ensures ok { OnOk result (self.new ≡ tried_at name.now (C.tried change.now) self.old) }
         ensures refused { OnErr result (self.new ≡ self.old) }
         ensures absent { row self.old (key name.now) ≡ None → IsOk result }
-        ensures sure { IsTrue (option_map_or (C.surely change.now) (row self.old (key name.now)) false) → IsOk result }
+        ensures sure { IsTrue (passes_at name.now (C.surely change.now) self.old) → IsOk result }
     {
         match place_of(&self.rows, name) {
             Ok(place) => try_row(&mut self.rows, place, name, change),
@@ -258,7 +259,7 @@ fn insert_at<V: Drop>(
     requires ordered { IsInFoldedOrder row_entry rows.old.items }
     requires fits { length name.now ≤ MAX_CHANNEL }
     requires gap { IsPlaceOf row_entry rows.old.items (key name.now) (Err place) }
-    ensures ok { OnOk result (table_of row_entry rows.new.items ≡ alter (key name.now) (λ _. Some value) (table_of row_entry rows.old.items)) }
+    ensures ok { OnOk result (as_table rows.new ≡ with_value name.now value (as_table rows.old)) }
     ensures refused { OnErr result (rows.new.items ≡ rows.old.items) }
     ensures ordered { IsInFoldedOrder row_entry rows.new.items }
     ensures room { vec_len rows.old < vec_capacity rows.old → IsOk result }
@@ -276,8 +277,8 @@ fn insert_at<V: Drop>(
 /// Takes out the row of a name, if there is one; there is then room for another.
 fn take_out<V: Drop>(rows: &mut Vec<Row<V>, Global>, name: &[u8]) -> Option<Row<V>>
     requires { IsInFoldedOrder row_entry rows.old.items }
-    ensures value { option_map (λ r. r.value) result ≡ row (table_of row_entry rows.old.items) (key name.now) }
-    ensures after { table_of row_entry rows.new.items ≡ alter (key name.now) (λ _. None) (table_of row_entry rows.old.items) }
+    ensures value { option_map (λ r. r.value) result ≡ row (as_table rows.old) (key name.now) }
+    ensures after { as_table rows.new ≡ without name.now (as_table rows.old) }
     ensures ordered { IsInFoldedOrder row_entry rows.new.items }
     ensures same { IfNone result (rows.new.items ≡ rows.old.items) }
     ensures room { OnSome result (vec_len rows.new < vec_capacity rows.new) }
@@ -293,7 +294,7 @@ fn put_in<V: Drop>(rows: &mut Vec<Row<V>, Global>, name: &[u8], value: V)
     requires ordered { IsInFoldedOrder row_entry rows.old.items }
     requires fits { length name.now ≤ MAX_CHANNEL }
     requires room { vec_len rows.old < vec_capacity rows.old }
-    ensures after { table_of row_entry rows.new.items ≡ alter (key name.now) (λ _. Some value) (table_of row_entry rows.old.items) }
+    ensures after { as_table rows.new ≡ with_value name.now value (as_table rows.old) }
     ensures ordered { IsInFoldedOrder row_entry rows.new.items }
 {
     match place_of(rows, name) {
@@ -311,7 +312,7 @@ fn change_row<V: Drop, C: RowChange<V>>(
 )
     requires ordered { IsInFoldedOrder row_entry rows.old.items }
     requires at { IsPlaceOf row_entry rows.old.items (key name.now) (Ok place) }
-    ensures after { table_of row_entry rows.new.items ≡ alter (key name.now) (option_and_then (C.changed change.now)) (table_of row_entry rows.old.items) }
+    ensures after { as_table rows.new ≡ changed_at name.now (C.changed change.now) (as_table rows.old) }
     ensures ordered { IsInFoldedOrder row_entry rows.new.items }
 {
     let stays = change.change(&mut rows[place].value);
@@ -329,9 +330,9 @@ fn try_row<V: Drop, C: RowAttempt<V>>(
 ) -> Result<(), AllocError>
     requires ordered { IsInFoldedOrder row_entry rows.old.items }
     requires at { IsPlaceOf row_entry rows.old.items (key name.now) (Ok place) }
-    ensures ok { OnOk result (table_of row_entry rows.new.items ≡ alter (key name.now) (option_map (C.tried change.now)) (table_of row_entry rows.old.items)) }
-    ensures refused { OnErr result (table_of row_entry rows.new.items ≡ table_of row_entry rows.old.items) }
-    ensures sure { IsTrue (option_map_or (C.surely change.now) (row (table_of row_entry rows.old.items) (key name.now)) false) → IsOk result }
+    ensures ok { OnOk result (as_table rows.new ≡ tried_at name.now (C.tried change.now) (as_table rows.old)) }
+    ensures refused { OnErr result (as_table rows.new ≡ as_table rows.old) }
+    ensures sure { IsTrue (passes_at name.now (C.surely change.now) (as_table rows.old)) → IsOk result }
     ensures ordered { IsInFoldedOrder row_entry rows.new.items }
 {
     change.attempt(&mut rows[place].value)

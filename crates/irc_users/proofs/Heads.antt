@@ -1,5 +1,5 @@
 -- Users, and what they are found by beside them.
-use Rattle.std.proofs.Common.{◌≡◌, ℕ, ◌<◌, ◌≤◌, zero, suc, Bool, false, not, ◌&&◌, Some, List, [], ◌∷◌, map, take, drop, length, get_or, set, refl, sym, ◌∙◌, ap, Result, Ok, Err, arith}
+use Rattle.std.proofs.Common.{◌≡◌, ℕ, ◌<◌, ◌≤◌, zero, suc, Bool, false, ◌&&◌, Some, List, [], ◌∷◌, map, take, drop, length, get_or, set, refl, sym, ◌∙◌, ap, Result, Ok, Err, arith}
 use Rattle.std.proofs.lemmas.List.{length-map, take-map, drop-map, map-set, get_or-map, get_or_default}
 use Rattle.std.specs.Option.{option_map}
 use Rattle.std.proofs.lemmas.List.Folds.{list_all-map}

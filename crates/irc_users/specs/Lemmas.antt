@@ -1,2 +1,1 @@
 -- Lemmas, with their proofs, that the crates above cite too. No rule stands here.
-pub mod CleanNames

@@ -1,4 +1,3 @@
-pub mod Users
 pub mod UserTable
 pub mod Rosters
 pub mod Lemmas

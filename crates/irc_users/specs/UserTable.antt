@@ -1,11 +1,15 @@
 -- The users of a room by nickname: a finite map whose keys are the folds of the nicknames (RFC 2812 sections 1.2.1 and 2.2).
-use Rattle.std.specs.Prelude.{ℕ, Bool, not, ◌&&◌, ◌||◌, List, nat_eq, is_some, is_none, if◌then◌else◌, refl, Option, Some, None}
+use Rattle.std.specs.Prelude.{ℕ, Bool, not, ◌&&◌, ◌||◌, List, nat_eq, is_some, is_none, if◌then◌else◌, refl, Option, Some, None, Result, IfOk, ◌≡◌, map}
+use Rattle.std.specs.Borrow.{Bor}
+use Rattle.std.specs.Global.{Vec}
+use Rattle.std.specs.Option.{option_map}
 use Rattle.std.specs.Coded.{Coded, code_by, coded×, coded_bool}
 use Rattle.std.specs.Cmp.Lexicographic.{pointwise}
 use Rattle.irc_names.specs.Fold.{key, same}
 use Rattle.irc_names.specs.MaskLaws.{matches}
-use Rattle.irc_names.specs.Tables.{Table, row}
+use Rattle.irc_names.specs.Tables.{Table, row, moved}
 use Rattle.irc_tables.specs.FoldedRows.{coded_name}
+use Rattle.irc_tables.specs.TableChanges.{with_value}
 use Rattle.irc_users.specs.declared.fault.RenameFault.{RenameFault}
 use Rattle.irc_users.specs.declared.fault.RenameFault.TheVariants.{Taken, NoSuchUser}
 use Rattle.irc_users.specs.declared.user.User.{User}
@@ -31,9 +35,25 @@ with_nick nick user = record user { nick = nick }
 abbrev pub with_invisible : Bool → User → User
 with_invisible invisible user = record user { invisible = invisible }
 
+-- a user put under its nickname
+abbrev pub with_user : User → Table User → Table User
+with_user user table = with_value user.nick user table
+
+-- whether there is a user of a nickname
+abbrev pub has_nick : Table User → List ℕ → Bool
+has_nick table nick = is_some (row table (key nick))
+
+-- how the nickname of a user is spelled, if there is one that is the same
+abbrev pub spelling_of : Table User → List ℕ → Option (List ℕ)
+spelling_of table name = option_map (λ (user : User). user.nick) (row table (key name))
+
+-- the user with a nickname under another
+abbrev pub moved_to : List ℕ → List ℕ → Table User → Table User
+moved_to nick new table = moved (key nick) (key new) (with_nick new) table
+
 -- whether another user than the one with the first nickname has the second
 abbrev pub is_taken : Table User → List ℕ → List ℕ → Bool
-is_taken table nick new = not (same nick new) && is_some (row table (key new))
+is_taken table nick new = not (same nick new) && has_nick table new
 
 -- why the user with a nickname does not take another, if it does not
 abbrev pub rename_fault : Table User → List ℕ → List ℕ → Option RenameFault
@@ -47,3 +67,7 @@ is_home home user = pointwise nat_eq user.home home
 -- whether a mask matches the nickname, the host, the server or the real name of a user (RFC 2812 section 3.6.1)
 abbrev pub is_found_by : List ℕ → User → Bool
 is_found_by mask user = matches mask user.nick || matches mask user.host || matches mask user.home || matches mask user.real
+
+-- references to just these users, unless it went wrong
+abbrev pub FindsUsers : {E : Type 0} → Result (Vec (Bor User)) E → List User → Type 0
+FindsUsers found users = IfOk found (λ (references : Vec (Bor User)). map (λ user. user.now) references.items ≡ users)

@@ -2,8 +2,7 @@
 ghost use Rattle.std.specs.Prelude.{◌≡◌};
 ghost use Rattle.irc_users.specs.UserTable.{is_home, is_found_by};
 
-use crate::texts::{RealName, UserName};
-use irc_names::{Host, Nick, ServerName, mask_matches};
+use irc_names::{Host, Nick, RealName, ServerName, UserName, mask_matches};
 
 /// A registered user (RFC 2812 sections 3.1.2 and 3.1.3).
 #[derive(Drop)]

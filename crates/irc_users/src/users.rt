@@ -1,14 +1,15 @@
 //! The users of a room, by nickname.
-ghost use Rattle.std.specs.Prelude.{◌≡◌, ℕ, ◌<◌, ◌≤◌, ◌↔◌, List, Result, Some, None, not, is_some, is_ok, IsTrue, OnOk, OnErr, OnSome, IsOk, IfNone, IsErrOf, IfOk, filter, map, length, vec_len, vec_capacity};
+ghost use Rattle.std.specs.Prelude.{◌≡◌, ◌↔◌, None, not, IsTrue, OnOk, OnErr, OnSome, IsOk, IfNone, IsErrOf, filter, map, length};
 ghost use Rattle.std.specs.Option.{option_copied, option_map};
 ghost use Rattle.std.specs.Result.{result_err};
 ghost use Rattle.std.specs.FinMap.{empty, keys, values};
 ghost use Rattle.irc_names.specs.Fold.{key};
-ghost use Rattle.irc_names.specs.Tables.{row, alter, moved};
-ghost use Rattle.irc_tables.specs.FoldedRows.{table_of, BelongsAt, IsPlaceOf, StandsAt};
-ghost use Rattle.irc_users.specs.UserTable.{entry, with_nick, with_invisible, is_taken, rename_fault, is_home, is_found_by};
+ghost use Rattle.irc_names.specs.Tables.{row, alter};
+ghost use Rattle.irc_tables.specs.FoldedRows.{BelongsAt, StandsAt};
+ghost use Rattle.irc_tables.specs.TableChanges.{without};
+ghost use Rattle.irc_users.specs.UserTable.{entry, has_nick, is_home, is_found_by, moved_to, rename_fault, spelling_of, with_invisible, with_user, FindsUsers};
 ghost use Rattle.irc_users.specs.declared.user.User.{User};
-ghost use Rattle.irc_users.specs.Rosters.{boxed, head, head_entry, IsRoster};
+ghost use Rattle.irc_users.specs.Rosters.{boxed, head, head_entry, users_in, HasRoom, IsPlaceBeside, IsRoster, TellsTaken};
 
 use crate::fault::{RenameFault, UsersFault};
 use crate::user::User;
@@ -48,9 +49,9 @@ pub struct Users {
 /// In a clause it is the table of its users, each under the fold of its nickname.
 impl Model for Users {
     ghost use Rattle.irc_names.specs.Tables.{Table};
-    ghost use Rattle.irc_users.specs.declared.user.User.{User};
     ghost use Rattle.irc_tables.specs.FoldedRows.{coded_name, table_of};
     ghost use Rattle.irc_users.specs.UserTable.{user_code, entry};
+    ghost use Rattle.irc_users.specs.declared.user.User.{User};
     ghost use Rattle.irc_users.specs.Rosters.{boxed, IsRoster};
     ghost use Rattle.std.specs.Prelude.{map};
     ghost use Rattle.std.specs.FinMap.{code};
@@ -84,8 +85,8 @@ impl Users {
 
     /// Adds a user, unless its nickname is taken.
     pub fn add(&mut self, user: User) -> Result<(), UsersFault>
-        ensures taken { IsErrOf result UsersFault.Taken ↔ IsTrue (is_some (row self.old (key user.nick))) }
-        ensures ok { OnOk result (self.new ≡ alter (key user.nick) (λ _. Some user) self.old) }
+        ensures taken { IsErrOf result UsersFault.Taken ↔ IsTrue (has_nick self.old user.nick) }
+        ensures ok { OnOk result (self.new ≡ with_user user self.old) }
         ensures refused { OnErr result (self.new ≡ self.old) }
     {
         let Err(place) = place_of(&self.heads, &user.nick) else {
@@ -103,7 +104,7 @@ impl Users {
     /// Gives the user with a nickname another, as spelled. It takes no memory.
     pub fn rename(&mut self, nick: &Nick, new: &Nick) -> Result<(), RenameFault>
         ensures fault { result_err result ≡ rename_fault self.old nick.now new.now }
-        ensures ok { OnOk result (self.new ≡ moved (key nick.now) (key new.now) (with_nick new.now) self.old) }
+        ensures ok { OnOk result (self.new ≡ moved_to nick.now new.now self.old) }
         ensures refused { OnErr result (self.new ≡ self.old) }
     {
         if is_taken(&self.heads, nick, new) {
@@ -195,7 +196,7 @@ impl Users {
 
     /// The nickname, as it is spelled, of the user that [`Users::find_named`] finds for these bytes. Nothing else of the user is looked at.
     pub fn spelling(&self, name: &[u8]) -> Option<&Nick>
-        ensures { option_copied result ≡ option_map (λ user. user.nick) (row self.now (key name.now)) }
+        ensures { option_copied result ≡ spelling_of self.now name.now }
     {
         match place_named(&self.heads, name) {
             Ok(place) => Some(&self.heads[place].nick),
@@ -215,7 +216,7 @@ impl Users {
     /// # Errors
     /// Where memory runs out.
     pub fn by_home(&self, home: &ServerName) -> Result<Vec<&User, Global>, AllocError>
-        ensures { IfOk result (λ found. map (λ user. user.now) found.items ≡ filter (is_home home.now) (values self.now)) }
+        ensures { FindsUsers result (filter (is_home home.now) (values self.now)) }
     {
         homed_at(self.as_slice(), *self.rows.allocator(), home)
     }
@@ -226,7 +227,7 @@ impl Users {
     /// # Errors
     /// Where memory runs out.
     pub fn matching(&self, mask: &[u8]) -> Result<Vec<&User, Global>, AllocError>
-        ensures { IfOk result (λ found. map (λ user. user.now) found.items ≡ filter (is_found_by mask.now) (values self.now)) }
+        ensures { FindsUsers result (filter (is_found_by mask.now) (values self.now)) }
     {
         matched_by(self.as_slice(), *self.rows.allocator(), mask)
     }
@@ -238,7 +239,7 @@ fn homed_at<'a>(
     alloc: Global,
     home: &ServerName,
 ) -> Result<Vec<&'a User, Global>, AllocError>
-    ensures { IfOk result (λ found. map (λ user. user.now) found.items ≡ filter (is_home home.now) (map boxed users.now)) }
+    ensures { FindsUsers result (filter (is_home home.now) (map boxed users.now)) }
 {
     let mut found = Vec::new(alloc);
     for user in users {
@@ -256,7 +257,7 @@ fn matched_by<'a>(
     alloc: Global,
     mask: &[u8],
 ) -> Result<Vec<&'a User, Global>, AllocError>
-    ensures { IfOk result (λ found. map (λ user. user.now) found.items ≡ filter (is_found_by mask.now) (map boxed users.now)) }
+    ensures { FindsUsers result (filter (is_found_by mask.now) (map boxed users.now)) }
 {
     let mut found = Vec::new(alloc);
     for user in users {
@@ -270,7 +271,7 @@ fn matched_by<'a>(
 
 /// Whether another user than the one with the first nickname has the second.
 fn is_taken(heads: &[Head], nick: &Nick, new: &Nick) -> bool
-    ensures { (users : List User) → IsRoster users heads.now → result ≡ is_taken (table_of entry users) nick.now new.now }
+    ensures { TellsTaken heads.now nick.now new.now result }
 {
     nick != new && place_of(heads, new).is_ok()
 }
@@ -284,10 +285,10 @@ fn insert_at(
 ) -> Result<(), AllocError>
     requires roster { IsRoster (map boxed rows.old.items) heads.old.items }
     requires gap { BelongsAt entry (map boxed rows.old.items) (key user.value.nick) place }
-    ensures ok { OnOk result (table_of entry (map boxed rows.new.items) ≡ alter (key user.value.nick) (λ _. Some user.value) (table_of entry (map boxed rows.old.items))) }
+    ensures ok { OnOk result (users_in rows.new ≡ with_user user.value (users_in rows.old)) }
     ensures refused { OnErr result (map boxed rows.new.items ≡ map boxed rows.old.items) }
     ensures roster { IsRoster (map boxed rows.new.items) heads.new.items }
-    ensures room { vec_len rows.old < vec_capacity rows.old → vec_len heads.old < vec_capacity heads.old → IsOk result }
+    ensures room { HasRoom rows.old heads.old → IsOk result }
 {
     if heads.insert(place, Head::of(&user)).is_err() {
         return Err(AllocError);
@@ -308,11 +309,11 @@ fn take_out(
     nick: &Nick,
 ) -> Option<Box<User, Global>>
     requires { IsRoster (map boxed rows.old.items) heads.old.items }
-    ensures value { option_map boxed result ≡ row (table_of entry (map boxed rows.old.items)) (key nick.now) }
-    ensures after { table_of entry (map boxed rows.new.items) ≡ alter (key nick.now) (λ _. None) (table_of entry (map boxed rows.old.items)) }
+    ensures value { option_map boxed result ≡ row (users_in rows.old) (key nick.now) }
+    ensures after { users_in rows.new ≡ without nick.now (users_in rows.old) }
     ensures roster { IsRoster (map boxed rows.new.items) heads.new.items }
     ensures same { IfNone result (map boxed rows.new.items ≡ map boxed rows.old.items) }
-    ensures room { OnSome result (vec_len rows.new < vec_capacity rows.new × vec_len heads.new < vec_capacity heads.new) }
+    ensures room { OnSome result (HasRoom rows.new heads.new) }
 {
     match place_of(heads, nick) {
         Ok(place) => {
@@ -330,9 +331,9 @@ fn put_back(
     user: Box<User, Global>,
 )
     requires roster { IsRoster (map boxed rows.old.items) heads.old.items }
-    requires free { row (table_of entry (map boxed rows.old.items)) (key user.value.nick) ≡ None }
-    requires room { vec_len rows.old < vec_capacity rows.old × vec_len heads.old < vec_capacity heads.old }
-    ensures after { table_of entry (map boxed rows.new.items) ≡ alter (key user.value.nick) (λ _. Some user.value) (table_of entry (map boxed rows.old.items)) }
+    requires free { row (users_in rows.old) (key user.value.nick) ≡ None }
+    requires room { HasRoom rows.old heads.old }
+    ensures after { users_in rows.new ≡ with_user user.value (users_in rows.old) }
     ensures roster { IsRoster (map boxed rows.new.items) heads.new.items }
 {
     match place_of(heads, &user.nick) {
@@ -343,21 +344,21 @@ fn put_back(
 
 /// Where the user with a nickname stands, or where it would stand.
 fn place_of(heads: &[Head], nick: &Nick) -> Result<usize, usize>
-    ensures { (users : List User) → IsRoster users heads.now → IsPlaceOf entry users (key nick.now) result }
+    ensures { IsPlaceBeside heads.now nick.now result }
 {
     place_named(heads, nick.as_bytes())
 }
 
 /// Where the user with these bytes for a nickname stands, by the fold, or where it would stand.
 fn place_named(heads: &[Head], name: &[u8]) -> Result<usize, usize>
-    ensures { (users : List User) → IsRoster users heads.now → IsPlaceOf entry users (key name.now) result }
+    ensures { IsPlaceBeside heads.now name.now result }
 {
     heads.binary_search_by(|head| compare(head.nick.as_bytes(), name))
 }
 
 /// Where the user with these bytes for a nickname stands, or where it would stand: looked for first at a place and the one after it.
 fn place_near(heads: &[Head], near: usize, name: &[u8]) -> Result<usize, usize>
-    ensures { (users : List User) → IsRoster users heads.now → IsPlaceOf entry users (key name.now) result }
+    ensures { IsPlaceBeside heads.now name.now result }
 {
     let next = near.saturating_add(1);
     if is_named(heads, near, name) {

@@ -7,8 +7,8 @@ use Rattle.std.specs.Option.{IfSome, option_map_or}
 use Rattle.std.specs.Str.{bytes_eq}
 use Rattle.irc_names.specs.Limits.{max_real_name}
 use Rattle.irc_names.specs.Names.{fits, is_nick, is_host}
-use Rattle.irc_modes.specs.Modes.{number_of}
-use Rattle.irc_users.specs.Users.{IsUserName, IsRealName, is_user_byte}
+use Rattle.irc_names.specs.Digits.{number_of}
+use Rattle.irc_names.specs.UserTexts.{IsUserName, IsRealName, is_user_byte}
 use Rattle.irc_users.specs.declared.user.User.{User}
 use Rattle.irc_room.specs.declared.effect.Effect.TheVariants.{AddUser}
 use Rattle.irc_room.specs.Limits.{IsUserWithin}

@@ -7,7 +7,7 @@ use Rattle.std.proofs.lemmas.Str.Parse.{IsNumeralModel, numerals_by_fold}
 use Rattle.std.specs.List.{list_all}
 use Rattle.std.specs.Char.{is_ascii_digit}
 use Rattle.irc_names.specs.Names.{fits}
-use Rattle.irc_modes.specs.Modes.{number_of}
+use Rattle.irc_names.specs.Digits.{number_of}
 use Rattle.irc_link_words.specs.Numbers.{begins_with_zero, is_number, max_number_digits}
 
 abbrev number_on : ℕ → List ℕ → ℕ

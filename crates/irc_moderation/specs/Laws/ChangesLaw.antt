@@ -18,7 +18,8 @@ use Rattle.irc_modes.specs.declared.modes.ModeChange.{ModeChange}
 use Rattle.irc_modes.specs.declared.modes.ModeLetter.{ModeLetter}
 use Rattle.irc_modes.specs.declared.modes.Privacy.{Privacy}
 use Rattle.irc_modes.specs.declared.modes.Privacy.TheVariants.{Public, Private, Secret}
-use Rattle.irc_modes.specs.Modes.{is_limit, number_of, private_changed, secret_changed, with_ban, without_ban}
+use Rattle.irc_names.specs.Digits.{number_of}
+use Rattle.irc_modes.specs.Modes.{is_limit, private_changed, secret_changed, with_ban, without_ban}
 use Rattle.irc_channels.specs.Channels.{changed, all_changed}
 use Rattle.irc_modes.specs.ModeWords.{Asked, change, list, no_word, unknown, modes_read}
 use Rattle.irc_room.specs.declared.effect.Effect.{Effect}

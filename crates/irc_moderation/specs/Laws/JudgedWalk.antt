@@ -11,7 +11,8 @@ use Rattle.irc_channels.specs.declared.flags.Flags.{Flags}
 use Rattle.irc_modes.specs.declared.modes.ModeChange.{ModeChange}
 use Rattle.irc_modes.specs.declared.modes.ModeLetter.{ModeLetter}
 use Rattle.irc_modes.specs.declared.modes.ModeLetter.TheVariants as letter
-use Rattle.irc_modes.specs.Modes.{is_limit, number_of, mask_in}
+use Rattle.irc_names.specs.Digits.{number_of}
+use Rattle.irc_modes.specs.Modes.{is_limit, mask_in}
 use Rattle.irc_modes.specs.Limits.{max_bans}
 use Rattle.irc_numerics.specs.declared.replies.Reply.TheVariants.{KeySet, BanListFull}
 use Rattle.irc_acts.specs.ByTest.{by_test}

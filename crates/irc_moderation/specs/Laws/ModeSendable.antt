@@ -15,8 +15,8 @@ use Rattle.irc_channels.specs.Channels.{all_changed}
 use Rattle.irc_modes.specs.ModeWords.{Asked, change, list, no_word, unknown, modes_read}
 use Rattle.irc_modes.specs.Readable.{is_written_limit, has_its_word, AreSomeAsked}
 use Rattle.irc_modes.specs.Readable as some
-use Rattle.irc_modes.specs.Texts.{IsKey}
-use Rattle.irc_modes.specs.Lemmas.DigitSteps.{limit-digits}
+use Rattle.irc_names.specs.Names.{IsKey}
+use Rattle.irc_modes.specs.Lemmas.LimitFacts.{limit-digits}
 use Rattle.irc_modes.specs.Lemmas.FewRead.{some_asked_are_readable}
 use Rattle.irc_modes.specs.Lemmas.LimitText.{plain_limit}
 use Rattle.irc_room.specs.Limits.{IsChannelWithin, IsWithinLimits, IsBanCarried}

@@ -9,11 +9,12 @@ use Rattle.std.specs.List.{list_all}
 use Rattle.std.specs.Char.{is_ascii_digit}
 use Rattle.std.specs.Cmp.{first_so, second_so}
 use Rattle.irc_names.specs.Names.{fits}
-use Rattle.irc_modes.specs.Modes.{is_limit, number_of}
+use Rattle.irc_names.specs.Digits.{number_of}
+use Rattle.irc_modes.specs.Modes.{is_limit}
 use Rattle.irc_modes.specs.Limits.{max_limit, max_limit_digits}
 use Rattle.irc_modes.specs.ModesSet.{IsLimit}
 use Rattle.irc_modes.specs.Readable.{is_written_limit}
-use Rattle.irc_modes.specs.Lemmas.DigitSteps.{limit-digits, limit-most}
+use Rattle.irc_modes.specs.Lemmas.LimitFacts.{limit-digits, limit-most}
 
 abbrev number_on : ℕ → List ℕ → ℕ
 number_on n digits = fold (λ m digit. 10 * m + (digit - 48)) n digits

@@ -4,15 +4,15 @@ use Rattle.std.proofs.lemmas.Bool.{and_from}
 use Rattle.std.proofs.lemmas.List.Folds.{list_all-append}
 use Rattle.std.specs.List.{list_any, list_all}
 use Rattle.irc_names.specs.Fold.{same}
-use Rattle.irc_names.specs.Names.{is_key, is_ban_mask}
+use Rattle.irc_names.specs.Names.{is_key, is_ban_mask, IsKey}
 use Rattle.irc_modes.specs.declared.modes.Modes.{Modes}
 use Rattle.irc_modes.specs.declared.modes.ModeChange.{ModeChange}
 use Rattle.irc_modes.specs.declared.modes.ModeLetter.{ModeLetter}
 use Rattle.irc_modes.specs.declared.modes.ModeLetter.TheVariants as letter
 use Rattle.irc_modes.specs.Bans.{IsBanList, rises, before}
-use Rattle.irc_modes.specs.Modes.{is_limit, number_of, key_changed, limit_changed, with_ban, without_ban, ban_changed, bans_by_word, mode_changed, mode_step, modes_after}
+use Rattle.irc_names.specs.Digits.{number_of}
+use Rattle.irc_modes.specs.Modes.{is_limit, key_changed, limit_changed, with_ban, without_ban, ban_changed, bans_by_word, mode_changed, mode_step, modes_after}
 use Rattle.irc_modes.specs.ModesSet.{AreWithinLimits, IsLimit}
-use Rattle.irc_modes.specs.Texts.{IsKey}
 use Rattle.irc_modes.specs.Lemmas.BanPlaces.{all_kept, places, rises-filter}
 use Rattle.irc_modes.specs.Lemmas.LimitText.{limit_number}
 

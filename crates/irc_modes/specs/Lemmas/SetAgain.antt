@@ -6,17 +6,17 @@ use Rattle.std.proofs.lemmas.List.Sums.{fold-append}
 use Rattle.std.specs.List.{list_any, list_all}
 use Rattle.std.specs.Cmp.{first_so, second_so}
 use Rattle.irc_names.specs.Fold.{same}
-use Rattle.irc_names.specs.Names.{is_ban_mask}
+use Rattle.irc_names.specs.Names.{is_ban_mask, IsKey}
 use Rattle.irc_modes.specs.declared.modes.Modes.{Modes}
 use Rattle.irc_modes.specs.declared.modes.ModeChange.{ModeChange}
 use Rattle.irc_modes.specs.declared.modes.ModeLetter.TheVariants as letter
 use Rattle.irc_modes.specs.declared.modes.Privacy.{Privacy}
 use Rattle.irc_modes.specs.declared.modes.Privacy.TheVariants.{Public, Private, Secret}
 use Rattle.irc_modes.specs.Bans.{before, rises}
-use Rattle.irc_modes.specs.Modes.{no_modes, number_of, with_ban, mode_step, modes_after}
+use Rattle.irc_names.specs.Digits.{number_of}
+use Rattle.irc_modes.specs.Modes.{no_modes, with_ban, mode_step, modes_after}
 use Rattle.irc_modes.specs.ModeLaws.{SetMakesTheModes}
 use Rattle.irc_modes.specs.ModesSet.{IsLimit, flag_set, privacy_set, key_set, limit_set, set_changes, ban_changes}
-use Rattle.irc_modes.specs.Texts.{IsKey}
 use Rattle.irc_modes.specs.Lemmas.BanPlaces.{Side, side, low, level, high}
 use Rattle.irc_modes.specs.Lemmas.LimitText.{limit_written, number_written}
 

@@ -7,17 +7,17 @@ use Rattle.std.proofs.lemmas.Bool.Decides.{nat_tests}
 use Rattle.std.proofs.lemmas.List.Folds.{list_all-append}
 use Rattle.irc_line.specs.Carried.{is_carried}
 use Rattle.irc_names.specs.Fold.{same}
-use Rattle.irc_names.specs.Names.{IsChannel, is_key, is_ban_mask}
+use Rattle.irc_names.specs.Names.{IsChannel, is_key, is_ban_mask, IsKey}
 use Rattle.irc_modes.specs.Bans.{before, rises}
 use Rattle.irc_modes.specs.Limits.{max_limit}
-use Rattle.irc_modes.specs.Texts.{IsKey}
 use Rattle.irc_modes.specs.ModesSet.{IsLimit, AreWithinLimits}
 use Rattle.irc_modes.specs.declared.modes.Modes.{Modes}
 use Rattle.irc_modes.specs.declared.modes.ModeChange.{ModeChange}
 use Rattle.irc_modes.specs.declared.modes.ModeLetter.{ModeLetter}
 use Rattle.irc_modes.specs.declared.modes.ModeLetter.TheVariants as letter
 use Rattle.irc_channels.specs.declared.channel.Channel.{Channel}
-use Rattle.irc_modes.specs.Modes.{is_limit, number_of, key_changed, limit_changed, with_ban, ban_changed, bans_by_word, mode_changed}
+use Rattle.irc_names.specs.Digits.{number_of}
+use Rattle.irc_modes.specs.Modes.{is_limit, key_changed, limit_changed, with_ban, ban_changed, bans_by_word, mode_changed}
 use Rattle.irc_channels.specs.Channels.{modes_changed, letter_changed, changed, all_changed}
 use Rattle.irc_modes.specs.Lemmas.BanPlaces.{places, set_there, is_placed, rises-filter}
 use Rattle.irc_room.specs.Limits.{IsCarriedText, IsChannelWithin, IsBanCarried}

@@ -1,5 +1,5 @@
 -- The code's map in the order of its keys, as a finite map: what it answers is what that has, and so is what a change leaves.
-use Rattle.std.proofs.Common.{◌≡◌, Bool, cond, Some, None, List, [], ◌∷◌, refl, sym, ◌∙◌, ap, Option}
+use Rattle.std.proofs.Common.{◌≡◌, cond, Some, None, List, [], ◌∷◌, refl, sym, ◌∙◌, ap, Option}
 use Rattle.std.specs.declared.cmp.Ordering.{Ordering}
 use Rattle.std.specs.Ordering.{eq_by_cmp, is_eq}
 use Rattle.std.specs.Cmp.{IsTotalOrder, eq_by_cmp_equiv}

@@ -1,6 +1,6 @@
 use Rattle.std.proofs.Common.{◌∙◌}
-use Rattle.irc_users.specs.Lemmas.CleanNames.{clean_name, clean_whole}
-use Rattle.irc_users.proofs.texts.UserName.clean.Goals as goal
+use Rattle.irc_names.specs.Lemmas.CleanNames.{clean_name, clean_whole}
+use Rattle.irc_names.proofs.user_name.UserName.clean.Goals as goal
 
 pub invariant_of-result : goal.invariant_of-result
 invariant_of-result c =

@@ -1,6 +1,6 @@
 use Rattle.std.proofs.Common.{◌∙◌, ◌<◌, sym, ap, refl, arith, ◌+◌, ◌-◌, ◌*◌, get_or}
-use Rattle.irc_link_words.proofs.DigitsRead.{number_more, below_first, below_next}
-use Rattle.irc_link_words.proofs.numbers.number_of.Goals as goal
+use Rattle.irc_names.proofs.DigitSteps.{number_more, below_first, below_next}
+use Rattle.irc_names.proofs.digits.number_of.Goals as goal
 
 pub loop-digit-init : goal.loop-digit-init
 loop-digit-init c = record { so_far = refl; below = below_first }

@@ -1,6 +1,6 @@
 use Rattle.std.proofs.Common.{◌≡◌, map, take}
-use Rattle.irc_users.specs.Users.{clean_user_byte}
-use Rattle.irc_users.proofs.texts.UserName.clean.Given as goal
+use Rattle.irc_names.specs.UserTexts.{clean_user_byte}
+use Rattle.irc_names.proofs.user_name.UserName.clean.Given as goal
 
 abbrev pub invariant-loop-byte : goal.invariant-loop-byte
 invariant-loop-byte l = l.name.items ≡ map clean_user_byte (take l.byte-index l.byte-items)

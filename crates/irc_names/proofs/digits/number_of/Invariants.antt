@@ -1,7 +1,7 @@
 use Rattle.std.proofs.Common.{◌≡◌, take}
-use Rattle.irc_modes.specs.Modes.{number_of}
-use Rattle.irc_link_words.proofs.DigitsRead.{Below}
-use Rattle.irc_link_words.proofs.numbers.number_of.Given as goal
+use Rattle.irc_names.specs.Digits.{number_of}
+use Rattle.irc_names.proofs.DigitSteps.{Below}
+use Rattle.irc_names.proofs.digits.number_of.Given as goal
 
 abbrev pub invariant-loop-digit : goal.invariant-loop-digit
 invariant-loop-digit l = record {

@@ -3,7 +3,7 @@ use Rattle.std.proofs.Common.{◌≡◌, ℕ, ◌≤◌, Bool, true, false, ◌&
 use Rattle.std.proofs.lemmas.List.{length-map, take_all}
 use Rattle.std.specs.List.{list_all}
 use Rattle.irc_names.specs.declared.TheConstants.{MAX_USER_NAME}
-use Rattle.irc_users.specs.Users.{is_user_byte, clean_user_byte, clean_user, IsUserName}
+use Rattle.irc_names.specs.UserTexts.{is_user_byte, clean_user_byte, clean_user, IsUserName}
 
 clean_byte_is : (byte : ℕ) → is_user_byte (clean_user_byte byte) ≡ true
 clean_byte_is byte = by_test (is_user_byte byte) refl
