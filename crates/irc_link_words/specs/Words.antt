@@ -9,7 +9,7 @@ use Rattle.irc_line.specs.Bytes.{is_space}
 use Rattle.irc_names.specs.Names.{fits, is_channel, is_nick, starts_without_colon}
 use Rattle.irc_names.specs.UserTexts.{is_user_byte}
 use Rattle.irc_names.specs.Limits.{max_user_name, max_words}
-use Rattle.irc_modes.specs.Letters.{names_member, sign_byte}
+use Rattle.irc_modes.specs.Letters.{names_member}
 use Rattle.irc_modes.specs.declared.modes.ModeChange.{ModeChange}
 use Rattle.irc_modes.specs.Limits.{max_mode_word}
 use Rattle.irc_modes.specs.Modes.{is_nil}
@@ -128,10 +128,3 @@ are_changes words =
 -- the changes that words of a MODE tell of
 abbrev pub told_changes : List (List ℕ) → Option (List ModeChange)
 told_changes words = if are_changes words then Some (changes_of words) else None
-
--- there is a sign in front of the first letter, and wherever it differs from the one before
-abbrev pub sign_between : Option Bool → Bool → List ℕ
-sign_between None plus = sign_byte plus ∷ []
-sign_between (Some true) true = []
-sign_between (Some false) false = []
-sign_between (Some before) plus = sign_byte plus ∷ []

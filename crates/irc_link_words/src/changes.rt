@@ -6,13 +6,13 @@ ghost use Rattle.std.specs.Cmp.Lexicographic.{pointwise};
 ghost use Rattle.std.specs.Str.{bytes_eq};
 ghost use Rattle.irc_line.specs.PartViews.{words_now};
 ghost use Rattle.irc_modes.specs.ModeViews.{asked};
-ghost use Rattle.irc_modes.specs.ModeWritten.{changes_written, letters_text};
-ghost use Rattle.irc_link_words.specs.Loops.Changes.{Grew, IsKeptWord, behind_bytes, behind_word, bytes_left, if_written, letter_after, words_left};
-ghost use Rattle.irc_link_words.specs.Words.{changes_of, is_mode_word, made, parameters, sign_between, told_changes};
+ghost use Rattle.irc_modes.specs.ModeWritten.{changes_written, letter_text, letters_text};
+ghost use Rattle.irc_link_words.specs.Loops.Changes.{Grew, IsKeptWord, behind_bytes, behind_word, bytes_left, if_written, words_left};
+ghost use Rattle.irc_link_words.specs.Words.{changes_of, is_mode_word, made, parameters, told_changes};
 
 use crate::mode_parameters::keep_words;
 use crate::words::is_mode_word;
-use irc_modes::{ModeChange, ModeItem, read_modes};
+use irc_modes::{ModeChange, ModeItem, read_modes, sign_text};
 use irc_room::ModeChanges;
 use std::alloc::{AllocError, Global};
 
@@ -113,7 +113,7 @@ fn used_by_letter(
     used: usize,
 ) -> Option<usize>
     requires { used ≤ length word.now }
-    ensures bytes { bytes_left word.now result ≡ behind_bytes (letter_after sign change.now) (drop used word.now) }
+    ensures bytes { bytes_left word.now result ≡ behind_bytes (letter_text sign change.now) (drop used word.now) }
     ensures within { IfSome result (λ n. n ≤ length word.now) }
 {
     let signed = used_by_bytes(sign_text(sign, change.plus), word, used)?;
@@ -130,16 +130,6 @@ fn used_by_bytes(bytes: &[u8], word: &[u8], used: usize) -> Option<usize>
         Some(used + bytes.len())
     } else {
         None
-    }
-}
-
-/// The sign in front of a letter, if it has one there.
-pub fn sign_text(before: Option<bool>, plus: bool) -> &'static [u8]
-    ensures { result.now ≡ sign_between before plus }
-{
-    match before {
-        Some(sign) if sign == plus => b"",
-        _ => if plus { b"+" } else { b"-" },
     }
 }
 

@@ -9,7 +9,7 @@ mod numbers;
 mod params;
 mod words;
 
-pub use changes::{read_changes, sign_text};
+pub use changes::read_changes;
 pub use fault::WireFault;
 pub use mode_parameters::expect_members;
 pub use numbers::read_number;

@@ -1,2 +1,1 @@
-pub mod CutPieces
 pub mod ModeLines

@@ -1,97 +1,24 @@
 -- The line of a MODE, piece by piece.
-use Rattle.std.proofs.Common.{◌≡◌, ℕ, ◌+◌, ◌≤◌, ◌<◌, Bool, true, false, Option, Some, None, List, [], ◌∷◌, ◌++◌, length, get_or, drop, if◌then◌else◌, option_to_list, codes, refl, sym, ap, ◌∙◌, append_assoc, append-nil}
-use Rattle.std.proofs.lemmas.List.{drop_more, drop_all}
-use Rattle.std.specs.List.{filter_map, cons_option}
+use Rattle.std.proofs.Common.{◌≡◌, ℕ, None, List, [], ◌∷◌, ◌++◌, codes, sym, ap, ◌∙◌, append_assoc, append-nil}
 use Rattle.irc_line.specs.Bytes.{cut, crlf}
-use Rattle.irc_line.specs.Limits.{max_line}
 use Rattle.irc_line.specs.Messages.{middle_text, text, line_text}
-use Rattle.irc_modes.specs.declared.modes.ModeChange.{ModeChange}
-use Rattle.irc_modes.specs.Letters.{letter_byte, sign_byte}
-use Rattle.irc_modes.specs.ModeWritten.{letters_behind}
-use Rattle.irc_link_words.specs.Loops.Changes.{letters_from}
-use Rattle.irc_link_words.specs.Words.{sign_between}
+use Rattle.irc_line.specs.Lemmas.CutLaws.{cut_two}
+use Rattle.irc_link_writer.specs.Loops.Families.{head_text}
 use Rattle.irc_link_writer.specs.Written.{from}
-use Rattle.irc_line.specs.Lemmas.CutLaws.{cut_two, cut_all}
-use Rattle.irc_link_writer.proofs.CutPieces.{piece_on}
-
-letters_shape_some : (before plus : Bool) (letter : ℕ) (behind : Bool → List ℕ)
-    → (if plus then (if before then [] else sign_byte true ∷ []) else (if before then sign_byte false ∷ [] else [])) ++ letter ∷ behind plus
-    ≡ sign_between (Some before) plus ++ letter ∷ behind plus
-letters_shape_some true true letter behind = refl
-letters_shape_some true false letter behind = refl
-letters_shape_some false true letter behind = refl
-letters_shape_some false false letter behind = refl
-
-letters_of_one : (sign : Option Bool) (c : ModeChange) (rest : List ModeChange)
-    → letters_from sign (c ∷ rest) ≡ sign_between sign c.plus ++ letter_byte c.letter ∷ letters_behind c.plus rest
-letters_of_one None c rest = refl
-letters_of_one (Some before) c rest = letters_shape_some before c.plus (letter_byte c.letter) (λ p. letters_behind p rest)
-
--- the letters of one change more
-pub letters_next : (sign : Option Bool) (changes : List ModeChange) (i : ℕ) (d : ModeChange) → i < length changes
-    → letters_from sign (drop i changes)
-    ≡ (sign_between sign (get_or changes i d).plus ++ letter_byte (get_or changes i d).letter ∷ [])
-    ++ letters_from (Some (get_or changes i d).plus) (drop (i + 1) changes)
-letters_next sign changes i d within =
-    let c = get_or changes i d in
-    ap (letters_from sign) (drop_more changes i d within)
-    ∙ letters_of_one sign c (drop (i + 1) changes)
-    ∙ sym (append_assoc (sign_between sign c.plus) (letter_byte c.letter ∷ []) (letters_behind c.plus (drop (i + 1) changes)))
-
--- a step of the loop over the letters
-pub letters_on : (line more whole : List ℕ) (sign : Option Bool) (changes : List ModeChange) (i : ℕ) (d item : ModeChange) → i < length changes
-    → item ≡ get_or changes i d → more ≡ cut (line ++ (sign_between sign item.plus ++ letter_byte item.letter ∷ []))
-    → cut (line ++ letters_from sign (drop i changes)) ≡ cut whole → cut (more ++ letters_from (Some item.plus) (drop (i + 1) changes)) ≡ cut whole
-letters_on line more whole sign changes i d item within is pushed so_far =
-    ap (λ (m : ModeChange). cut (more ++ letters_from (Some m.plus) (drop (i + 1) changes))) is
-    ∙ piece_on line more _ _ _ (pushed ∙ ap (λ (m : ModeChange). cut (line ++ (sign_between sign m.plus ++ letter_byte m.letter ∷ []))) is)
-    (letters_next sign changes i d within)
-    ∙ so_far
-
-no_letters : (sign : Option Bool) → letters_from sign [] ≡ []
-no_letters None = refl
-no_letters (Some sign) = refl
-
-nothing_on : (line whole : List ℕ) → length line ≤ max_line → cut (line ++ []) ≡ cut whole → line ≡ cut whole
-nothing_on line whole fits so_far = sym (ap cut (append-nil line) ∙ cut_all line fits) ∙ so_far
-
--- the ends of the two loops
-pub letters_done : (line whole : List ℕ) (sign : Option Bool) (changes : List ModeChange) (i : ℕ) → length changes ≤ i → length line ≤ max_line
-    → cut (line ++ letters_from sign (drop i changes)) ≡ cut whole → line ≡ cut whole
-letters_done line whole sign changes i past fits so_far =
-    nothing_on line whole fits
-    (sym (ap (λ cs. cut (line ++ letters_from sign cs)) (drop_all i changes past) ∙ ap (λ t. cut (line ++ t)) (no_letters sign)) ∙ so_far)
-
-pub words_done : (written : ModeChange → Option (List ℕ)) (line whole : List ℕ) (changes : List ModeChange) (i : ℕ)
-    → length changes ≤ i → length line ≤ max_line → cut (line ++ middle_text (filter_map written (drop i changes))) ≡ cut whole → line ≡ cut whole
-words_done written line whole changes i past fits so_far =
-    nothing_on line whole fits (sym (ap (λ cs. cut (line ++ middle_text (filter_map written cs))) (drop_all i changes past)) ∙ so_far)
-
-one_word : (o : Option (List ℕ)) (rest : List (List ℕ)) → middle_text (cons_option o rest) ≡ middle_text (option_to_list o) ++ middle_text rest
-one_word None rest = refl
-one_word (Some word) rest = ap (λ w. w ++ middle_text rest) (sym (append-nil (32 ∷ word)))
-
--- the parameter of one change more
-pub words_next : (written : ModeChange → Option (List ℕ)) (changes : List ModeChange) (i : ℕ) (d : ModeChange) → i < length changes
-    → middle_text (filter_map written (drop i changes))
-    ≡ middle_text (option_to_list (written (get_or changes i d))) ++ middle_text (filter_map written (drop (i + 1) changes))
-words_next written changes i d within =
-    let c = get_or changes i d in
-    ap (λ cs. middle_text (filter_map written cs)) (drop_more changes i d within) ∙ one_word (written c) (filter_map written (drop (i + 1) changes))
 
 -- all pieces of the line are its parts
-in_a_row : (x c l w : List ℕ) → (x ++ codes " MODE " ++ c ++ codes " ") ++ l ++ w ≡ (x ++ codes " ") ++ codes "MODE" ++ ((32 ∷ c) ++ ((32 ∷ l) ++ w)) ++ []
+in_a_row : (x c l w : List ℕ)
+    → (x ++ codes " MODE " ++ c ++ codes " ") ++ (l ++ w) ≡ (x ++ codes " ") ++ codes "MODE" ++ ((32 ∷ c) ++ ((32 ∷ l) ++ w)) ++ []
 in_a_row [] c l w =
-    ap (λ t. 32 ∷ 77 ∷ 79 ∷ 68 ∷ 69 ∷ 32 ∷ t)
-    (ap (λ t. t ++ w) (append_assoc c (32 ∷ []) l) ∙ append_assoc c (32 ∷ l) w ∙ sym (append-nil (c ++ ((32 ∷ l) ++ w))))
+    ap (λ t. 32 ∷ 77 ∷ 79 ∷ 68 ∷ 69 ∷ 32 ∷ t) (append_assoc c (32 ∷ []) (l ++ w) ∙ sym (append-nil (c ++ (32 ∷ (l ++ w)))))
 in_a_row (x ∷ xs) c l w = ap (λ t. x ∷ t) (in_a_row xs c l w)
 
 -- the whole line
-pub mode_written : (name channel letters : List ℕ) (words : List (List ℕ)) (a b d line : List ℕ)
-    → a ≡ cut (codes ":" ++ name ++ codes " MODE " ++ channel ++ codes " ") → b ≡ cut (a ++ letters) → d ≡ cut (b ++ middle_text words)
-    → line ≡ d ++ crlf → line ≡ text (from name (codes "MODE") (channel ∷ letters ∷ words) None)
+pub mode_written : (name channel letters : List ℕ) (words : List (List ℕ)) (head changed line : List ℕ)
+    → head ≡ cut (head_text name (codes " MODE ") channel) → changed ≡ cut (head ++ (letters ++ middle_text words))
+    → line ≡ changed ++ crlf → line ≡ text (from name (codes "MODE") (channel ∷ letters ∷ words) None)
 unfolding line_text
-mode_written name channel letters words a b d line head lettered worded ended =
-    let front = codes ":" ++ name ++ codes " MODE " ++ channel ++ codes " " in
-    let whole = cut_two [] b d (front ++ letters) (middle_text words) (cut_two [] a b front letters head lettered) worded in
+mode_written name channel letters words head changed line begun worded ended =
+    let front = head_text name (codes " MODE ") channel in
+    let whole = cut_two [] head changed front (letters ++ middle_text words) begun worded in
     ended ∙ ap (λ l. l ++ crlf) (whole ∙ ap cut (in_a_row (codes ":" ++ name) channel letters (middle_text words)))

@@ -1,27 +1,16 @@
-//! Lines that are written piece by piece.
-ghost use Rattle.std.specs.Prelude.{◌≡◌, ◌≤◌, [], ◌++◌, codes};
+//! The front of a line that is written piece by piece.
+ghost use Rattle.std.specs.Prelude.{◌≡◌, ◌≤◌, []};
 ghost use Rattle.arrayvec.specs.ArrayVec.{array_vec_len};
 ghost use Rattle.irc_line.specs.Bytes.{cut};
 ghost use Rattle.irc_line.specs.Limits.{max_line};
+ghost use Rattle.irc_link_writer.specs.Loops.Families.{head_text};
 
-use irc_line::Text;
-use irc_line::limits::MAX_LINE;
-use irc_names::first_bytes;
-
-/// Appends bytes to a line, and drops those past [`MAX_LINE`].
-pub fn push_cut(line: &mut Text, bytes: &[u8])
-    requires { array_vec_len line.old ≤ max_line }
-    ensures appended { line.new.items ≡ cut (line.old.items ++ bytes.now) }
-    ensures still_cut { array_vec_len line.new ≤ max_line }
-{
-    let room = MAX_LINE - line.len();
-    let _ = line.try_extend_from_slice(first_bytes(bytes, room));
-}
+use irc_line::{Text, push_cut};
 
 /// Appends what stands before the second parameter of a line about a channel; the command has a space before and behind it.
 pub fn push_head(line: &mut Text, name: &[u8], command: &[u8], channel: &[u8])
     requires { line.old.items ≡ [] }
-    ensures head { line.new.items ≡ cut (codes ":" ++ name.now ++ command.now ++ channel.now ++ codes " ") }
+    ensures head { line.new.items ≡ cut (head_text name.now command.now channel.now) }
     ensures still_cut { array_vec_len line.new ≤ max_line }
 {
     push_cut(line, b":");

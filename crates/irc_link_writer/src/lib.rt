@@ -1,11 +1,9 @@
 //! Effects written as lines of a link (RFC 2813 section 4). Definitions are in `specs/`.
 #![tactic(auto)]
 
-mod asking;
 mod cutting;
 mod mode_line;
 mod writing;
 
-pub use cutting::{push_cut, push_head};
-pub use mode_line::{push_letters, push_word};
+pub use cutting::push_head;
 pub use writing::{next_distance, write_effect, written_token};

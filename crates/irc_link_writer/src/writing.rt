@@ -4,18 +4,16 @@ ghost use Rattle.irc_line.specs.MessageViews.{optional_now};
 ghost use Rattle.irc_line.specs.Messages.{text};
 ghost use Rattle.irc_line.specs.PartViews.{words_now};
 ghost use Rattle.irc_names.specs.Limits.{max_channel};
-ghost use Rattle.irc_room.specs.Seen.{stored_channel, stored_nick};
-ghost use Rattle.irc_link_writer.specs.Loops.Families.{IsOfUsers, introduced};
+ghost use Rattle.irc_link_writer.specs.Loops.Families.{IsOfUsers, introduced, written_invite, written_join, written_kick, written_user_mode};
 ghost use Rattle.irc_link_words.specs.Words.{marked, with_i, without_i};
-ghost use Rattle.irc_link_writer.specs.Written.{from, introduction, next_distance, wire, written_token};
+ghost use Rattle.irc_link_writer.specs.Written.{by_name, from, introduction, next_distance, wire, written_token};
 
-use crate::asking::{by_name, stored_channel, stored_nick, target_name};
 use crate::mode_line::mode_line;
 use arrayvec::ArrayVec;
 use irc_line::{Parts, Prefix, Text, write_message};
 use irc_link_words::OPERATOR_MARK;
 use irc_names::{ChannelName, MAX_CHANNEL, Nick, ServerName, copied};
-use irc_room::{Effect, Room};
+use irc_room::{By, Effect, Room};
 use irc_routes::Routes;
 use irc_users::User;
 use itoa::Buffer;
@@ -37,26 +35,26 @@ pub fn write_effect(effect: &Effect, room: &Room, routes: &Routes, link: u64) ->
         } => mode_line(
             room,
             by_name(room, routes, by),
-            stored_channel(room, channel),
+            room.stored_channel(channel),
             changes.as_slice(),
         ),
         Effect::SetTopic { by, channel, text } => line(
             by_name(room, routes, by),
             b"TOPIC",
-            &[stored_channel(room, channel)],
+            &[room.stored_channel(channel)],
             Some(text.as_bytes()),
         ),
         Effect::Join { nick, channel, op } => {
-            join_line(room, nick, stored_channel(room, channel), *op)
+            join_line(room, nick, room.stored_channel(channel), *op)
         }
         Effect::Part {
             nick,
             channel,
             text,
         } => line(
-            stored_nick(room, nick.as_bytes()),
+            room.stored_nick(nick.as_bytes()),
             b"PART",
-            &[stored_channel(room, channel)],
+            &[room.stored_channel(channel)],
             Some(text.as_bytes()),
         ),
         Effect::Kick {
@@ -77,13 +75,13 @@ fn user_line(effect: &Effect, room: &Room, routes: &Routes) -> Text
     match effect {
         Effect::AddUser(user) => introduction_line(routes, user),
         Effect::Rename { nick, new } => line(
-            stored_nick(room, nick.as_bytes()),
+            room.stored_nick(nick.as_bytes()),
             b"NICK",
             &[new.as_bytes()],
             None,
         ),
         Effect::Quit { nick, text } => line(
-            stored_nick(room, nick.as_bytes()),
+            room.stored_nick(nick.as_bytes()),
             b"QUIT",
             &[],
             Some(text.as_bytes()),
@@ -94,16 +92,26 @@ fn user_line(effect: &Effect, room: &Room, routes: &Routes) -> Text
             target,
             text,
         } => line(
-            stored_nick(room, by.as_bytes()),
+            room.stored_nick(by.as_bytes()),
             say_command(*notice),
-            &[target_name(room, target)],
+            &[room.target_name(target)],
             Some(text.as_slice()),
         ),
         Effect::Invite { by, nick, channel } => invite_line(room, by, nick, channel),
         Effect::UserMode { nick, invisible } => {
-            user_mode_line(stored_nick(room, nick.as_bytes()), *invisible)
+            user_mode_line(room.stored_nick(nick.as_bytes()), *invisible)
         }
         _ => unreachable!(),
+    }
+}
+
+/// The name of whoever changes a channel: a user's, or the server's own.
+fn by_name<'a>(room: &'a Room, routes: &'a Routes, by: &'a By) -> &'a [u8]
+    ensures { result.now ≡ by_name room.now.room routes.now by.now }
+{
+    match by {
+        By::User(nick) => room.stored_nick(nick.as_bytes()),
+        By::Home => routes.name().as_bytes(),
     }
 }
 
@@ -127,11 +135,11 @@ fn say_command(notice: bool) -> &'static [u8]
 
 fn join_line(room: &Room, nick: &Nick, channel: &[u8], op: bool) -> Text
     requires { length channel.now ≤ max_channel }
-    ensures { result.items ≡ text (from (stored_nick room.now.room nick.now) (codes "JOIN") (marked channel.now op ∷ []) None) }
+    ensures { result.items ≡ text (written_join room.now.room nick.now channel.now op) }
 {
     let word = marked(channel, op);
     line(
-        stored_nick(room, nick.as_bytes()),
+        room.stored_nick(nick.as_bytes()),
         b"JOIN",
         &[word.as_slice()],
         None,
@@ -157,37 +165,35 @@ fn kick_line<'a>(
     nick: &'a Nick,
     words: &[u8],
 ) -> Text
-    ensures { result.items ≡ text (from (stored_nick room.now.room by.now) (codes "KICK")
-        (stored_channel room.now.room channel.now ∷ stored_nick room.now.room nick.now ∷ []) (Some words.now)) }
+    ensures { result.items ≡ text (written_kick room.now.room by.now channel.now nick.now words.now) }
 {
     line(
-        stored_nick(room, by.as_bytes()),
+        room.stored_nick(by.as_bytes()),
         b"KICK",
         &[
-            stored_channel(room, channel),
-            stored_nick(room, nick.as_bytes()),
+            room.stored_channel(channel),
+            room.stored_nick(nick.as_bytes()),
         ],
         Some(words),
     )
 }
 
 fn invite_line<'a>(room: &'a Room, by: &Nick, nick: &'a Nick, channel: &'a ChannelName) -> Text
-    ensures { result.items ≡ text (from (stored_nick room.now.room by.now) (codes "INVITE")
-        (stored_nick room.now.room nick.now ∷ stored_channel room.now.room channel.now ∷ []) None) }
+    ensures { result.items ≡ text (written_invite room.now.room by.now nick.now channel.now) }
 {
     line(
-        stored_nick(room, by.as_bytes()),
+        room.stored_nick(by.as_bytes()),
         b"INVITE",
         &[
-            stored_nick(room, nick.as_bytes()),
-            stored_channel(room, channel),
+            room.stored_nick(nick.as_bytes()),
+            room.stored_channel(channel),
         ],
         None,
     )
 }
 
 fn user_mode_line(nick: &[u8], invisible: bool) -> Text
-    ensures { result.items ≡ text (from nick.now (codes "MODE") (nick.now ∷ (if invisible then with_i else without_i) ∷ []) None) }
+    ensures { result.items ≡ text (written_user_mode nick.now invisible) }
 {
     let mode: &[u8] = if invisible { b"+i" } else { b"-i" };
     line(nick, b"MODE", &[nick, mode], None)

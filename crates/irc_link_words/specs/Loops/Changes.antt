@@ -7,11 +7,10 @@ use Rattle.std.specs.Option.{option_map}
 use Rattle.std.specs.Str.{bytes_eq}
 use Rattle.irc_line.specs.PartViews.{words_now}
 use Rattle.irc_modes.specs.declared.modes.ModeChange.{ModeChange}
-use Rattle.irc_modes.specs.Letters.{letter_byte}
 use Rattle.irc_modes.specs.ModeWords.{Asked, change}
-use Rattle.irc_modes.specs.ModeWritten.{changes_written, letters_behind, letters_text}
+use Rattle.irc_modes.specs.ModeWritten.{changes_written}
 use Rattle.irc_modes.specs.Texts.{IsKept}
-use Rattle.irc_link_words.specs.Words.{keeps_word, sign_between}
+use Rattle.irc_link_words.specs.Words.{keeps_word}
 
 -- changes, where their words keep the rules of their letters and these are the words that they are written as
 abbrev pub if_written : List ModeChange → List (List ℕ) → Option (List ModeChange)
@@ -47,12 +46,3 @@ bytes_left word used = option_map (λ n. drop n word) used
 -- what of a text is behind these bytes, where it begins with them
 abbrev pub behind_bytes : List ℕ → List ℕ → Option (List ℕ)
 behind_bytes bytes text = if starts_with nat_eq text bytes then Some (drop (length bytes) text) else None
-
--- the letter of a change, and in front of it its sign, where it has one there
-abbrev pub letter_after : Option Bool → ModeChange → List ℕ
-letter_after sign c = sign_between sign c.plus ++ letter_byte c.letter ∷ []
-
--- the letters of changes behind one with this sign, or where none is before them
-abbrev pub letters_from : Option Bool → List ModeChange → List ℕ
-letters_from None changes = letters_text changes
-letters_from (Some sign) changes = letters_behind sign changes

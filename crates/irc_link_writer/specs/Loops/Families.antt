@@ -1,10 +1,14 @@
 -- The lines that are written for each kind of effect.
-use Rattle.std.specs.Prelude.{ℕ, ⊤, Some, List, [], ◌∷◌, codes, if◌then◌else◌}
+use Rattle.std.specs.Prelude.{ℕ, Bool, ⊤, Some, None, List, [], ◌∷◌, ◌++◌, codes, if◌then◌else◌}
 use Rattle.irc_line.specs.Messages.{Written, nobody}
 use Rattle.irc_users.specs.declared.user.User.{User}
 use Rattle.irc_room.specs.declared.effect.Effect.{Effect}
 use Rattle.irc_room.specs.declared.effect.Effect.TheVariants.{AddUser, Rename, Quit, Say, Invite, UserMode}
-use Rattle.irc_link_words.specs.Words.{with_i, no_mode}
+use Rattle.irc_room.specs.Room.{Room}
+use Rattle.irc_room.specs.Seen.{changes_words, stored_channel, stored_nick}
+use Rattle.irc_modes.specs.declared.modes.ModeChange.{ModeChange}
+use Rattle.irc_link_words.specs.Words.{with_i, without_i, no_mode, marked}
+use Rattle.irc_link_writer.specs.Written.{from}
 
 -- an effect on users alone, a text or an invitation
 abbrev pub IsOfUsers : Effect → Type 0
@@ -24,3 +28,26 @@ introduced user distance token = record {
   middle = user.nick ∷ distance ∷ user.user ∷ user.host ∷ token ∷ (if user.invisible then with_i else no_mode) ∷ [];
   last = Some user.real;
 }
+
+-- what stands before the second parameter of a line about a channel
+abbrev pub head_text : List ℕ → List ℕ → List ℕ → List ℕ
+head_text name command channel = codes ":" ++ name ++ command ++ channel ++ codes " "
+
+-- ---- the lines of a channel, of an invitation and of a user's mode
+
+abbrev pub written_modes : Room → List ℕ → List ℕ → List ModeChange → Written
+written_modes room name channel changes = from name (codes "MODE") (channel ∷ changes_words room changes) None
+
+abbrev pub written_join : Room → List ℕ → List ℕ → Bool → Written
+written_join room nick channel op = from (stored_nick room nick) (codes "JOIN") (marked channel op ∷ []) None
+
+abbrev pub written_kick : Room → List ℕ → List ℕ → List ℕ → List ℕ → Written
+written_kick room by channel nick text =
+    from (stored_nick room by) (codes "KICK") (stored_channel room channel ∷ stored_nick room nick ∷ []) (Some text)
+
+abbrev pub written_invite : Room → List ℕ → List ℕ → List ℕ → Written
+written_invite room by nick channel =
+    from (stored_nick room by) (codes "INVITE") (stored_nick room nick ∷ stored_channel room channel ∷ []) None
+
+abbrev pub written_user_mode : List ℕ → Bool → Written
+written_user_mode nick invisible = from nick (codes "MODE") (nick ∷ (if invisible then with_i else without_i) ∷ []) None
