@@ -6,7 +6,7 @@ ghost use Rattle.irc_acts.specs.Words.{reason_given};
 
 use irc_channels::Words;
 use irc_names::cut_copy;
-use irc_numerics::Words as ClientWords;
+use irc_numerics::ClientWords;
 
 /// The first parameter, or another text where it is absent or empty; cut.
 pub fn reason_given(params: &[&[u8]], other: &[u8]) -> Words

@@ -112,7 +112,7 @@ module _ (room other : Room) (alike : AreAlike room other) where
   there_alike : (place : Place) (me : User) (name : List ℕ) (found : Option User) → told_if_there room place me name found ≡ told_if_there other place me name found
   there_alike place me name None = refl
   there_alike place me name (Some user) =
-      ap (λ (channels : List OnChannel). Answer (WhoisUser user.nick (kept user.user) user.host (kept user.real))
+      ap (λ (channels : List OnChannel). Answer (WhoisUser user.nick user.user user.host user.real)
       ∷ Answer (WhoisServer user.nick user.home (kept (info_of place user.home)))
       ∷ map (channels_line user) (in_lines max_whois_channels channels)) (places_alike me user)
 

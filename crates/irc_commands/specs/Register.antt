@@ -47,7 +47,7 @@ server_told place = Answer (YourHost place.name) ∷ Answer (Created (kept place
 
 -- the user is added, and welcomed (RFC 2812 section 5.1)
 abbrev pub welcomed : Place → User → List Act
-welcomed place member = Do (AddUser member) ∷ Answer (Welcome member.nick (kept member.user) member.host) ∷ server_told place
+welcomed place member = Do (AddUser member) ∷ Answer (Welcome member.nick member.user member.host) ∷ server_told place
 
 -- Once nickname and user name are there the connection is registered, unless a registered user has the nickname by now: then it has none.
 abbrev pub completed : Room → Place → Pending → Option (List ℕ) → Option (List ℕ) → Registered

@@ -79,7 +79,7 @@ fn welcome(alloc: Global, routes: &Routes, user: User) -> Result<Vec<Act, Global
 {
     let told = Act::Answer(Reply::Welcome {
         nick: user.nick.copy(),
-        user: copied(user.user.as_bytes()),
+        user: user.user.copy(),
         host: user.host.copy(),
     });
     let mut steps = Vec::with_capacity(alloc, 6)?;

@@ -1,7 +1,6 @@
 -- How the modes of a channel are told: 324, and its bans: 367 and 368 (RFC 2812 section 3.2.3).
 use Rattle.std.specs.Prelude.{ℕ, Bool, is_some, List, [], ◌∷◌, ◌++◌, codes, map, if◌then◌else◌}
 use Rattle.std.specs.Option.{option_map}
-use Rattle.arrayvec.specs.ArrayVec.{ArrayVec}
 use Rattle.irc_names.specs.Fold.{key}
 use Rattle.irc_users.specs.declared.user.User.{User}
 use Rattle.irc_channels.specs.declared.channel.Channel.{Channel}
@@ -40,8 +39,8 @@ letters_set modes =
     ++ if_set (is_some modes.limit) letter.Limit
 
 -- the key as a user is told it: who is no member sees `*` in its place (our own choice)
-abbrev pub key_shown : Bool → List ℕ → ArrayVec ℕ
-key_shown member word = kept (if member then word else codes "*")
+abbrev pub key_shown : Bool → List ℕ → List ℕ
+key_shown member word = if member then word else codes "*"
 
 -- the modes of a channel as a user is told them
 abbrev pub modes_shown : User → Channel → Act

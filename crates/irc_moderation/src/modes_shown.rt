@@ -1,15 +1,14 @@
 //! How the modes of a channel are told.
-ghost use Rattle.std.specs.Prelude.{◌≡◌, ◌≤◌, ◌<◌, ◌+◌, [], ◌∷◌, ◌++◌, length, if◌then◌else◌};
+ghost use Rattle.std.specs.Prelude.{◌≡◌, ◌≤◌, ◌<◌, ◌+◌, [], ◌∷◌, ◌++◌, codes, length, if◌then◌else◌};
 ghost use Rattle.std.specs.Option.{option_copied, option_map};
 ghost use Rattle.irc_acts.specs.Acts.{kept};
 ghost use Rattle.irc_acts.specs.Steps.{AddsTo};
 ghost use Rattle.irc_moderation.specs.ModesShown.{ban_shown, bans_shown, key_shown, letters_set, modes_shown, privacy_letter};
 
-use arrayvec::ArrayVec;
 use irc_acts::{Act, put};
 use irc_channels::Channel;
-use irc_modes::{Key, Modes, Privacy};
-use irc_names::{BanMask, MAX_KEY, copied};
+use irc_modes::{Modes, Privacy};
+use irc_names::{BanMask, Key, copied};
 use irc_numerics::limits::MAX_MODE_LETTERS;
 use irc_numerics::{ModeLetters, Reply};
 use irc_users::User;
@@ -28,7 +27,7 @@ pub(crate) fn modes_shown(me: &User, channel: &Channel) -> Act
 }
 
 /// The key of a channel, if it has one.
-fn key_told(member: bool, key: Option<&Key>) -> Option<ArrayVec<u8, MAX_KEY>>
+fn key_told(member: bool, key: Option<&Key>) -> Option<Key>
     ensures { result ≡ option_map (key_shown member) (option_copied key.entry) }
 {
     match key {
@@ -38,14 +37,21 @@ fn key_told(member: bool, key: Option<&Key>) -> Option<ArrayVec<u8, MAX_KEY>>
 }
 
 /// A key as a user is told it: who is no member sees `*` in its place.
-fn key_shown(member: bool, key: &Key) -> ArrayVec<u8, MAX_KEY>
+fn key_shown(member: bool, key: &Key) -> Key
     ensures { result ≡ key_shown member key.now }
 {
-    if member {
-        copied(key.as_bytes())
-    } else {
-        copied(b"*")
-    }
+    if member { key.copy() } else { star() }
+}
+
+/// What stands in the place of a key.
+#[tactic(auto, unfolding(irc_names::specs::Names::is_key))]
+fn star() -> Key
+    ensures { result ≡ codes "*" }
+{
+    let Some(star) = Key::read(b"*") else {
+        unreachable!();
+    };
+    star
 }
 
 /// `+`, and the letters of the modes that are set.

@@ -97,7 +97,7 @@ short : (reply : Reply) → IsWithinLimits reply → length (number reply) + siz
 unfolding number words table
 short (Welcome nick user host) limits =
     row_fits (codes "001") []
-    (codes "Welcome to the Internet Relay Network " ∷ nick ∷ codes "!" ∷ user.items ∷ codes "@" ∷ host ∷ [])
+    (codes "Welcome to the Internet Relay Network " ∷ nick ∷ codes "!" ∷ user ∷ codes "@" ∷ host ∷ [])
     (omega arith)
 short (YourHost server) limits =
     row_fits (codes "002") [] (codes "Your host is " ∷ server ∷ codes ", running version treeircd-1" ∷ []) (omega arith)
@@ -135,11 +135,11 @@ short (NoTopic channel) limits = omega arith
 short (Topic channel topic) limits = omega arith
 short (Inviting channel nick) limits = omega arith
 short (WhoReply None user host server nick mark hops real) limits =
-    row_fits (codes "352") (codes "*" ∷ user.items ∷ host ∷ server ∷ nick ∷ (codes "H" ++ mark_text mark) ∷ [])
-    (decimal hops ∷ codes " " ∷ real.items ∷ []) (omega (arith, digits hops limits.5, length-mark_text mark))
+    row_fits (codes "352") (codes "*" ∷ user ∷ host ∷ server ∷ nick ∷ (codes "H" ++ mark_text mark) ∷ [])
+    (decimal hops ∷ codes " " ∷ real ∷ []) (omega (arith, digits hops limits.5, length-mark_text mark))
 short (WhoReply (Some place) user host server nick mark hops real) limits =
-    row_fits (codes "352") (place ∷ user.items ∷ host ∷ server ∷ nick ∷ (codes "H" ++ mark_text mark) ∷ [])
-    (decimal hops ∷ codes " " ∷ real.items ∷ []) (omega (arith, digits hops limits.5, length-mark_text mark, limits.0))
+    row_fits (codes "352") (place ∷ user ∷ host ∷ server ∷ nick ∷ (codes "H" ++ mark_text mark) ∷ [])
+    (decimal hops ∷ codes " " ∷ real ∷ []) (omega (arith, digits hops limits.5, length-mark_text mark, limits.0))
 short (NamReply Public channel names) limits = omega (
   arith,
   spaced-fits listed 10 names

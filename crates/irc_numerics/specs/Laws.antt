@@ -12,7 +12,7 @@ use Rattle.irc_numerics.specs.Replies.{reply_text, reply_name, reply_parts, numb
 
 -- A reply whose names and texts are as short as their limits say. One with a client's own words has no limit: its line may be cut.
 abbrev pub IsWithinLimits : Reply → Type 0
-IsWithinLimits (Welcome nick user host) = (length nick ≤ max_nick) × (length user.items ≤ max_user_name) ×
+IsWithinLimits (Welcome nick user host) = (length nick ≤ max_nick) × (length user ≤ max_user_name) ×
     (length host ≤ max_host)
 IsWithinLimits (YourHost server) = length server ≤ max_server
 IsWithinLimits (Created created) = length created.items ≤ max_created
@@ -22,8 +22,8 @@ IsWithinLimits (LuserClient users servers) = (users < 2 ^ 64) × (servers < 2 ^ 
 IsWithinLimits (LuserChannels channels) = channels < 2 ^ 64
 IsWithinLimits (LuserMe clients links) = (clients < 2 ^ 64) × (links < 2 ^ 64)
 IsWithinLimits (IsOn _) = ⊥
-IsWithinLimits (WhoisUser nick user host real) = (length nick ≤ max_nick) × (length user.items ≤ max_user_name) ×
-    (length host ≤ max_host) × (length real.items ≤ max_real_name)
+IsWithinLimits (WhoisUser nick user host real) = (length nick ≤ max_nick) × (length user ≤ max_user_name) ×
+    (length host ≤ max_host) × (length real ≤ max_real_name)
 IsWithinLimits (WhoisServer nick server info) = (length nick ≤ max_nick) × (length server ≤ max_server) ×
     (length info.items ≤ max_info)
 IsWithinLimits (EndOfWho _) = ⊥
@@ -34,14 +34,14 @@ IsWithinLimits (ListRow channel count topic) = (length channel ≤ max_channel) 
     (length topic.items ≤ max_words)
 IsWithinLimits ListEnd = ⊤
 IsWithinLimits (ChannelModeIs channel modes key limit) = (length channel ≤ max_channel) ×
-    (length modes.items ≤ max_mode_letters) × (IfSome key (λ k. length k.items ≤ max_key)) ×
+    (length modes.items ≤ max_mode_letters) × (IfSome key (λ k. length k ≤ max_key)) ×
     (IfSome limit (λ n. n < 2 ^ 64))
 IsWithinLimits (NoTopic channel) = length channel ≤ max_channel
 IsWithinLimits (Topic channel topic) = (length channel ≤ max_channel) × (length topic.items ≤ max_words)
 IsWithinLimits (Inviting channel nick) = (length channel ≤ max_channel) × (length nick ≤ max_nick)
 IsWithinLimits (WhoReply channel user host server nick _ hops real) = (IfSome channel (λ c. length c ≤ max_channel)) ×
-    (length user.items ≤ max_user_name) × (length host ≤ max_host) × (length server ≤ max_server) × (length nick ≤ max_nick)
-    × (hops < 2 ^ 64) × (length real.items ≤ max_real_name)
+    (length user ≤ max_user_name) × (length host ≤ max_host) × (length server ≤ max_server) × (length nick ≤ max_nick)
+    × (hops < 2 ^ 64) × (length real ≤ max_real_name)
 IsWithinLimits (NamReply _ channel names) = (length channel ≤ max_channel) × (length names ≤ max_names) ×
     (AllByRecursion (λ member. length member.nick ≤ max_nick) names)
 IsWithinLimits (EndOfNames _) = ⊥

@@ -77,7 +77,7 @@ bare number parameters = record { number = number; words = plain parameters }
 -- the table: each reply's number, parameters and text
 unfoldable pub table : Reply → ReplyRow
 table (Welcome nick user host) = says 001 []
-    (in_a_row (codes "Welcome to the Internet Relay Network " ∷ nick ∷ codes "!" ∷ user.items ∷ codes "@" ∷ host ∷ []))
+    (in_a_row (codes "Welcome to the Internet Relay Network " ∷ nick ∷ codes "!" ∷ user ∷ codes "@" ∷ host ∷ []))
 table (YourHost server) = says 002 [] (in_a_row (codes "Your host is " ∷ server ∷ codes ", running version treeircd-1" ∷ []))
 table (Created created) = says 003 [] (in_a_row (codes "This server was created " ∷ created.items ∷ []))
 table (MyInfo server) = bare 004 (server ∷ codes "treeircd-1" ∷ codes "i" ∷ codes "biklmnopstv" ∷ [])
@@ -88,7 +88,7 @@ table (LuserChannels channels) = says 254 (decimal channels ∷ []) (codes "chan
 table (LuserMe clients links) = says 255 []
     (in_a_row (codes "I have " ∷ decimal clients ∷ codes " clients and " ∷ decimal links ∷ codes " servers" ∷ []))
 table (IsOn nicks) = says 303 [] nicks.items
-table (WhoisUser nick user host real) = says 311 (nick ∷ user.items ∷ host ∷ codes "*" ∷ []) real.items
+table (WhoisUser nick user host real) = says 311 (nick ∷ user ∷ host ∷ codes "*" ∷ []) real
 table (WhoisServer nick server info) = says 312 (nick ∷ server ∷ []) info.items
 table (EndOfWho name) = says 315 (name.items ∷ []) (codes "End of WHO list")
 table (EndOfWhois nick) = says 318 (nick.items ∷ []) (codes "End of WHOIS list")
@@ -96,13 +96,13 @@ table (WhoisChannels nick channels) = says 319 (nick ∷ []) (spaced (map on_cha
 table (ListRow channel count topic) = says 322 (channel ∷ decimal count ∷ []) topic.items
 table ListEnd = says 323 [] (codes "End of LIST")
 table (ChannelModeIs channel modes key limit) = bare 324
-    (mode_words channel modes.items (option_map (λ k. k.items) key) (option_map decimal limit))
+    (mode_words channel modes.items key (option_map decimal limit))
 table (NoTopic channel) = says 331 (channel ∷ []) (codes "No topic is set")
 table (Topic channel topic) = says 332 (channel ∷ []) topic.items
 table (Inviting channel nick) = bare 341 (channel ∷ nick ∷ [])
 table (WhoReply channel user host server nick mark hops real) = says 352
-    (unwrap_or channel (codes "*") ∷ user.items ∷ host ∷ server ∷ nick ∷ (codes "H" ++ mark_text mark) ∷ [])
-    (in_a_row (decimal hops ∷ codes " " ∷ real.items ∷ []))
+    (unwrap_or channel (codes "*") ∷ user ∷ host ∷ server ∷ nick ∷ (codes "H" ++ mark_text mark) ∷ [])
+    (in_a_row (decimal hops ∷ codes " " ∷ real ∷ []))
 table (NamReply visibility channel names) = says 353 (visibility_text visibility ∷ channel ∷ []) (spaced (map listed names))
 table (EndOfNames name) = says 366 (name.items ∷ []) (codes "End of NAMES list")
 table (BanList channel mask) = bare 367 (channel ∷ mask ∷ [])

@@ -7,10 +7,10 @@ ghost use Rattle.irc_numerics.specs.Replies.{number, words, plain, saying, mode_
 ghost use Rattle.irc_numerics.specs.Loops.Places.{IsBehindUsers};
 
 use crate::lists::list_line;
-use crate::replies::{Key, Reply};
+use crate::replies::Reply;
 use crate::writing::Head;
 use irc_line::Text;
-use irc_names::ChannelName;
+use irc_names::{ChannelName, Key};
 use itoa::Buffer;
 
 /// The line of a reply on a channel, and of each reply with a higher number.
@@ -71,7 +71,7 @@ fn mode_line(
     limit: Option<u16>,
 ) -> Text
     ensures { result.items ≡ line_of head.entry (codes "324")
-        (plain (mode_words channel.now modes.now (option_map (λ key. key.items) key.now) (option_map decimal limit))) }
+        (plain (mode_words channel.now modes.now key.now (option_map decimal limit))) }
 {
     let mut digits = Buffer::new();
     let limit = limit_digits(limit, &mut digits);
@@ -97,11 +97,11 @@ fn mode_words_line<'a>(
 }
 
 fn key_bytes(key: &Option<Key>) -> Option<&[u8]>
-    ensures { optional_now result ≡ option_map (λ key. key.items) key.now }
+    ensures { optional_now result ≡ key.now }
 {
     match key {
         None => None,
-        Some(key) => Some(key.as_slice()),
+        Some(key) => Some(key.as_bytes()),
     }
 }
 

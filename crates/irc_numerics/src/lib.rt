@@ -15,7 +15,6 @@ mod writing;
 
 pub use name_list::NameList;
 pub use replies::{
-    Created, Info, Key, Listed, Mark, ModeLetters, OnChannel, RealName, Reply, TopicText, UserName,
-    Visibility, Words,
+    ClientWords, Created, Info, Listed, Mark, ModeLetters, OnChannel, Reply, TopicText, Visibility,
 };
 pub use writing::reply_line;

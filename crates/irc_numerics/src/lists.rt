@@ -34,14 +34,14 @@ pub(crate) fn list_line(head: Head<'_>, reply: &Reply) -> Text
             head,
             &[
                 channel_or_star(channel),
-                user,
+                user.as_bytes(),
                 host.as_bytes(),
                 server.as_bytes(),
                 nick.as_bytes(),
                 here(mark),
             ],
             *hops,
-            real,
+            real.as_bytes(),
         ),
         Reply::NamReply {
             visibility,

@@ -8,18 +8,12 @@ use crate::name_list::NameList;
 use arrayvec::ArrayVec;
 use irc_line::Line;
 use irc_names::{
-    BanMask, ChannelName, Host, MAX_CREATED, MAX_INFO, MAX_KEY, MAX_REAL_NAME, MAX_USER_NAME,
-    MAX_WORDS, Nick, ServerName,
+    BanMask, ChannelName, Host, Key, MAX_CREATED, MAX_INFO, MAX_WORDS, Nick, RealName, ServerName,
+    UserName,
 };
 
 /// A client's own words, as it gave them.
-pub type Words = Line;
-
-/// The user name of a user.
-pub type UserName = ArrayVec<u8, MAX_USER_NAME>;
-
-/// The real name of a user.
-pub type RealName = ArrayVec<u8, MAX_REAL_NAME>;
+pub type ClientWords = Line;
 
 /// The topic of a channel.
 pub type TopicText = ArrayVec<u8, MAX_WORDS>;
@@ -29,9 +23,6 @@ pub type Info = ArrayVec<u8, MAX_INFO>;
 
 /// When a server was made.
 pub type Created = ArrayVec<u8, MAX_CREATED>;
-
-/// The key of a channel, or `*` in its place.
-pub type Key = ArrayVec<u8, MAX_KEY>;
 
 /// The modes of a channel: `+`, and the letters of those that are set.
 pub type ModeLetters = ArrayVec<u8, MAX_MODE_LETTERS>;
@@ -176,7 +167,7 @@ pub enum Reply {
     },
     /// 303, with the nicknames parted by one space.
     IsOn {
-        nicks: Words,
+        nicks: ClientWords,
     },
     /// 311.
     WhoisUser {
@@ -193,11 +184,11 @@ pub enum Reply {
     },
     /// 315, with what was asked for.
     EndOfWho {
-        name: Words,
+        name: ClientWords,
     },
     /// 318, with what was asked for.
     EndOfWhois {
-        nick: Words,
+        nick: ClientWords,
     },
     /// 319.
     WhoisChannels {
@@ -212,7 +203,7 @@ pub enum Reply {
     },
     /// 323.
     ListEnd,
-    /// 324.
+    /// 324; the key may be a `*` in place of the channel's own.
     ChannelModeIs {
         channel: ChannelName,
         modes: ModeLetters,
@@ -252,7 +243,7 @@ pub enum Reply {
     },
     /// 366, with what was asked for, or `*`.
     EndOfNames {
-        name: Words,
+        name: ClientWords,
     },
     /// 367.
     BanList {
@@ -265,11 +256,11 @@ pub enum Reply {
     },
     /// 401, with what was given.
     NoSuchNick {
-        name: Words,
+        name: ClientWords,
     },
     /// 403, with what was given.
     NoSuchChannel {
-        name: Words,
+        name: ClientWords,
     },
     /// 404.
     CannotSendToChan {
@@ -281,19 +272,19 @@ pub enum Reply {
     },
     /// 407, with the first target that is too many.
     TooManyTargets {
-        target: Words,
+        target: ClientWords,
     },
     /// 409.
     NoOrigin,
     /// 411, with the command in capitals.
     NoRecipient {
-        command: Words,
+        command: ClientWords,
     },
     /// 412.
     NoTextToSend,
     /// 421, with the command as it was given.
     UnknownCommand {
-        command: Words,
+        command: ClientWords,
     },
     /// 422.
     NoMotd,
@@ -301,7 +292,7 @@ pub enum Reply {
     NoNicknameGiven,
     /// 432, with what was given.
     ErroneousNickname {
-        nick: Words,
+        nick: ClientWords,
     },
     /// 433, as it was given.
     NicknameInUse {
@@ -309,7 +300,7 @@ pub enum Reply {
     },
     /// 441, with what was given.
     UserNotInChannel {
-        nick: Words,
+        nick: ClientWords,
         channel: ChannelName,
     },
     /// 442.
@@ -325,7 +316,7 @@ pub enum Reply {
     NotRegistered,
     /// 461, with the command in capitals.
     NeedMoreParams {
-        command: Words,
+        command: ClientWords,
     },
     /// 462.
     AlreadyRegistered,

@@ -7,7 +7,7 @@ use crate::replies::Reply;
 use crate::users::user_line;
 use crate::writing::Head;
 use irc_line::Text;
-use irc_names::{Host, Nick, ServerName};
+use irc_names::{Host, Nick, ServerName, UserName};
 use itoa::Buffer;
 
 /// The line of a reply on a connection or on the network, and of each reply with a higher number.
@@ -41,7 +41,7 @@ pub(crate) fn statistics_line(head: Head<'_>, reply: &Reply) -> Text
 }
 
 /// The first line that a user gets.
-fn welcome_line<'a>(head: Head<'_>, nick: &'a Nick, user: &'a [u8], host: &'a Host) -> Text
+fn welcome_line<'a>(head: Head<'_>, nick: &'a Nick, user: &'a UserName, host: &'a Host) -> Text
     ensures { result.items ≡ line_of head.entry (codes "001")
         (said (in_a_row (codes "Welcome to the Internet Relay Network " ∷ nick.now ∷ codes "!" ∷ user.now ∷ codes "@" ∷ host.now ∷ []))) }
 {
@@ -49,7 +49,14 @@ fn welcome_line<'a>(head: Head<'_>, nick: &'a Nick, user: &'a [u8], host: &'a Ho
     head.telling(
         b"001",
         &[],
-        &[welcome, nick.as_bytes(), b"!", user, b"@", host.as_bytes()],
+        &[
+            welcome,
+            nick.as_bytes(),
+            b"!",
+            user.as_bytes(),
+            b"@",
+            host.as_bytes(),
+        ],
     )
 }
 

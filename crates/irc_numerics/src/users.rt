@@ -24,8 +24,8 @@ pub(crate) fn user_line(head: Head<'_>, reply: &Reply) -> Text
             real,
         } => head.saying(
             b"311",
-            &[nick.as_bytes(), user, host.as_bytes(), b"*"],
-            real,
+            &[nick.as_bytes(), user.as_bytes(), host.as_bytes(), b"*"],
+            real.as_bytes(),
         ),
         Reply::WhoisServer { nick, server, info } => head.saying(
             b"312",

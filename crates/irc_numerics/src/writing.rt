@@ -1,5 +1,5 @@
 //! Replies written as lines.
-ghost use Rattle.std.specs.Prelude.{◌≡◌, ℕ, ◌<◌, ◌≤◌, List, [], ◌∷◌, ◌++◌, length, take};
+ghost use Rattle.std.specs.Prelude.{◌≡◌, ℕ, ◌<◌, List, [], ◌∷◌, ◌++◌, length};
 ghost use Rattle.irc_line.specs.Bytes.{cut, space};
 ghost use Rattle.irc_line.specs.PartViews.{words_now};
 ghost use Rattle.irc_line.specs.MessageViews.{optional_now, params_now};
@@ -11,7 +11,7 @@ use crate::statistics::statistics_line;
 use arrayvec::ArrayVec;
 use irc_line::limits::{MAX_LINE, MAX_PARAMETERS};
 use irc_line::{Line, Parts, Prefix, Text, write_message};
-use irc_names::{ChannelName, Nick, ServerName};
+use irc_names::{ChannelName, Nick, ServerName, first_bytes};
 
 const NO_NAME: &[u8] = b"*";
 
@@ -131,7 +131,7 @@ fn push(text: &mut Line, bytes: &[u8])
     ensures { text.new.items ≡ cut (text.old.items ++ bytes.now) }
 {
     let room = MAX_LINE - text.len();
-    let _ = text.try_extend_from_slice(front(bytes, room));
+    let _ = text.try_extend_from_slice(first_bytes(bytes, room));
 }
 
 /// Appends an entry of a list, which one space parts from the entry before it.
@@ -153,16 +153,4 @@ fn push_marked(text: &mut Line, mark: Mark, name: &[u8])
 {
     push(text, mark.as_bytes());
     push(text, name);
-}
-
-/// The first `room` bytes, or all where there are fewer.
-fn front(bytes: &[u8], room: usize) -> &[u8]
-    ensures value { result.now ≡ take room bytes.now }
-    ensures fits { length result.now ≤ room }
-{
-    if bytes.len() <= room {
-        bytes
-    } else {
-        &bytes[..room]
-    }
 }

@@ -18,7 +18,7 @@ use Rattle.irc_room.specs.Room.{Room}
 use Rattle.irc_routes.specs.Place.{Place, server_named}
 use Rattle.irc_acts.specs.declared.act.Act.{Act}
 use Rattle.irc_acts.specs.declared.act.Act.TheVariants.{Answer}
-use Rattle.irc_acts.specs.Acts.{kept, client_words}
+use Rattle.irc_acts.specs.Acts.{client_words}
 use Rattle.irc_acts.specs.Marks.{asterisk, hash}
 use Rattle.irc_acts.specs.Standing.{is_known, is_seen, mark_of}
 
@@ -29,7 +29,7 @@ hops_to place home = option_map_or (λ server. server.distance) (server_named pl
 -- a user, and what it is in the channel that was asked for, if one was
 abbrev pub user_line : Place → Option (List ℕ) → Mark → User → Act
 user_line place channel mark user =
-    Answer (WhoReply channel (kept user.user) user.host user.home user.nick mark (hops_to place user.home) (kept user.real))
+    Answer (WhoReply channel user.user user.host user.home user.nick mark (hops_to place user.home) user.real)
 
 -- a member of a channel, where it is seen
 abbrev pub member_if_seen : Place → (User → Bool) → Channel → Flags → User → Option Act

@@ -42,7 +42,7 @@ channels_line user channels = Answer (WhoisChannels user.nick (record { items = 
 -- what a user says of itself, its server, and its channels; where none is listed there is no line of them
 abbrev pub told_of : Room → Place → User → User → List Act
 told_of room place me user =
-    Answer (WhoisUser user.nick (kept user.user) user.host (kept user.real))
+    Answer (WhoisUser user.nick user.user user.host user.real)
     ∷ Answer (WhoisServer user.nick user.home (kept (info_of place user.home)))
     ∷ map (channels_line user) (in_lines max_whois_channels (places room me user))
 

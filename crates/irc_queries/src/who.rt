@@ -17,7 +17,7 @@ use irc_acts::standing::{is_known, is_seen, mark_of};
 use irc_acts::words::client_words;
 use irc_batch::Batch;
 use irc_channels::{Channel, Flags};
-use irc_names::{ChannelName, ServerName, copied};
+use irc_names::{ChannelName, ServerName};
 use irc_numerics::{Mark, Reply};
 use irc_routes::{Routes, laws};
 use irc_tables::Row;
@@ -242,13 +242,13 @@ fn user_line(routes: &Routes, channel: Option<ChannelName>, mark: Mark, user: &U
 {
     Reply::WhoReply {
         channel,
-        user: copied(user.user.as_bytes()),
+        user: user.user.copy(),
         host: user.host.copy(),
         server: user.home.copy(),
         nick: user.nick.copy(),
         mark,
         hops: hops_to(routes, &user.home),
-        real: copied(user.real.as_bytes()),
+        real: user.real.copy(),
     }
 }
 

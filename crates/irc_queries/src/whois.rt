@@ -4,7 +4,7 @@ ghost use Rattle.irc_line.specs.PartViews.{words_now};
 ghost use Rattle.irc_numerics.specs.declared.replies.Reply.TheVariants.{NoSuchNick, WhoisUser};
 ghost use Rattle.irc_routes.specs.Known.{place_of};
 ghost use Rattle.irc_acts.specs.declared.act.Act.TheVariants.{Answer};
-ghost use Rattle.irc_acts.specs.Acts.{client_words, kept};
+ghost use Rattle.irc_acts.specs.Acts.{client_words};
 ghost use Rattle.irc_acts.specs.CommaLists.{entries};
 ghost use Rattle.irc_queries.specs.Whois.{channels_line, info_of, place_in};
 ghost use Rattle.irc_queries.specs.Loops.Telling.{AddsSteps, CameChannels, CameListed, channels_now, each_here, lines_of, list_here, one_here, places_here, home_told, user_here, whois_here};
@@ -109,14 +109,13 @@ fn put_told(
 
 /// What a user says of itself.
 fn user_line(user: &User) -> Act
-    ensures { result
-        ≡ Answer (WhoisUser user.now.nick (kept user.now.user) user.now.host (kept user.now.real)) }
+    ensures { result ≡ Answer (WhoisUser user.now.nick user.now.user user.now.host user.now.real) }
 {
     Act::Answer(Reply::WhoisUser {
         nick: user.nick.copy(),
-        user: copied(user.user.as_bytes()),
+        user: user.user.copy(),
         host: user.host.copy(),
-        real: copied(user.real.as_bytes()),
+        real: user.real.copy(),
     })
 }
 

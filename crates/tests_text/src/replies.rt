@@ -1,8 +1,8 @@
 //! The words of each reply.
 use arrayvec::ArrayVec;
 use irc_line::body;
-use irc_names::{BanMask, ChannelName, Host, Nick, ServerName, cut_copy};
-use irc_numerics::{Listed, Mark, NameList, OnChannel, Reply, Visibility, Words, reply_line};
+use irc_names::{BanMask, ChannelName, Host, Key, Nick, RealName, ServerName, UserName, cut_copy};
+use irc_numerics::{ClientWords, Listed, Mark, NameList, OnChannel, Reply, Visibility, reply_line};
 use std::alloc::Global;
 use std::process::Abort;
 
@@ -94,7 +94,7 @@ fn on_the_network(given: &Named, number: u16) -> Option<Reply> {
     match number {
         1 => Some(Reply::Welcome {
             nick: given.nick.copy(),
-            user: cut_copy(b"u"),
+            user: UserName::clean(b"u"),
             host: given.host.copy(),
         }),
         2 => Some(Reply::YourHost {
@@ -127,9 +127,9 @@ fn on_a_user(given: &Named, number: u16) -> Option<Reply> {
         }),
         311 => Some(Reply::WhoisUser {
             nick: given.nick.copy(),
-            user: cut_copy(b"u"),
+            user: UserName::clean(b"u"),
             host: given.host.copy(),
-            real: cut_copy(b"Bo Li"),
+            real: RealName::cut(b"Bo Li"),
         }),
         312 => Some(Reply::WhoisServer {
             nick: given.nick.copy(),
@@ -218,7 +218,7 @@ fn refusal_on(number: u16, channel: ChannelName) -> Option<Reply> {
 }
 
 /// A refusal of which only a client's own word varies.
-fn refusal_of(number: u16, word: Words) -> Option<Reply> {
+fn refusal_of(number: u16, word: ClientWords) -> Option<Reply> {
     match number {
         401 => Some(Reply::NoSuchNick { name: word }),
         403 => Some(Reply::NoSuchChannel { name: word }),
@@ -287,7 +287,7 @@ fn shows_modes(
     line: &str,
 ) -> bool {
     let key = match key {
-        Some(bytes) => Some(cut_copy(bytes)),
+        Some(bytes) => Key::read(bytes),
         None => None,
     };
     let reply = Reply::ChannelModeIs {
@@ -395,13 +395,13 @@ fn shows_names(
 fn shows_user(given: &Named, channel: Option<ChannelName>, mark: Mark, line: &str) -> bool {
     let reply = Reply::WhoReply {
         channel,
-        user: cut_copy(b"u"),
+        user: UserName::clean(b"u"),
         host: given.host.copy(),
         server: given.server.copy(),
         nick: given.nick.copy(),
         mark,
         hops: 0,
-        real: cut_copy(b"Bo Li"),
+        real: RealName::cut(b"Bo Li"),
     };
     says(given, "al", &reply, line)
 }

@@ -7,10 +7,10 @@ pub returns-in-WhoReply : goal.returns-in-WhoReply
 unfolding number words table
 returns-in-WhoReply c =
     is_line c.args.head.server.now c.args.head.name.now c.in-WhoReply.is c.who_line.ensures refl
-    (says (both c.channel_or_star.ensures (both c.deref.ensures.0 (both c.as_bytes.ensures.value
-    (both c.as_bytes-in-WhoReply.ensures.value (both c.as_bytes-in-WhoReply-2.ensures.value
+    (says (both c.channel_or_star.ensures (both c.as_bytes.ensures.value (both c.as_bytes-in-WhoReply.ensures.value
+    (both c.as_bytes-in-WhoReply-2.ensures.value (both c.as_bytes-in-WhoReply-3.ensures.value
     (both c.here.ensures refl)))))) (ap in_a_row (kept (decimal c.in-WhoReply.hops) (kept (codes " ")
-    (both c.deref-in-WhoReply.ensures.0 no_more)))))
+    (both c.as_bytes-in-WhoReply-4.ensures.value no_more)))))
 
 pub returns-in-NamReply : goal.returns-in-NamReply
 unfolding number words table
@@ -22,7 +22,7 @@ pub returns-in-EndOfNames : goal.returns-in-EndOfNames
 unfolding number words table
 returns-in-EndOfNames c =
     is_line c.args.head.server.now c.args.head.name.now c.in-EndOfNames.is c.saying.ensures refl
-    (says (both c.deref-in-EndOfNames.ensures.0 refl) refl)
+    (says (both c.deref.ensures.0 refl) refl)
 
 pub returns-in-BanList : goal.returns-in-BanList
 unfolding number words table

@@ -8,7 +8,7 @@ unfolding number words table
 returns-in-Welcome c =
     is_line c.args.head.server.now c.args.head.name.now c.in-Welcome.is c.welcome_line.ensures refl
     (says refl (ap in_a_row (kept (codes "Welcome to the Internet Relay Network ") (kept c.in-Welcome.nick (kept (codes "!")
-    (both c.deref.ensures.0 (kept (codes "@") (kept c.in-Welcome.host no_more))))))))
+    (kept c.in-Welcome.user (kept (codes "@") (kept c.in-Welcome.host no_more))))))))
 
 pub returns-in-YourHost : goal.returns-in-YourHost
 unfolding number words table
@@ -20,7 +20,7 @@ pub returns-in-Created : goal.returns-in-Created
 unfolding number words table
 returns-in-Created c =
     is_line c.args.head.server.now c.args.head.name.now c.in-Created.is c.telling.ensures refl
-    (says refl (ap in_a_row (kept (codes "This server was created ") (both c.deref-in-Created.ensures.0 no_more))))
+    (says refl (ap in_a_row (kept (codes "This server was created ") (both c.deref.ensures.0 no_more))))
 
 pub returns-in-MyInfo : goal.returns-in-MyInfo
 unfolding number words table

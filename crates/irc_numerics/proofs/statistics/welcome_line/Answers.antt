@@ -9,5 +9,5 @@ returns c =
     c.telling.ensures
     ∙ ap (λ pieces. line (said (in_a_row pieces)))
     (kept (codes "Welcome to the Internet Relay Network ") (both c.as_bytes.ensures.value (kept (codes "!")
-    (kept c.args.user.now
-    (kept (codes "@") (both c.as_bytes-2.ensures.value no_more))))))
+    (both c.as_bytes-2.ensures.value
+    (kept (codes "@") (both c.as_bytes-3.ensures.value no_more))))))

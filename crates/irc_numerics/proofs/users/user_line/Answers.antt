@@ -8,15 +8,15 @@ pub returns-in-WhoisUser : goal.returns-in-WhoisUser
 unfolding number words table
 returns-in-WhoisUser c =
     is_line c.args.head.server.now c.args.head.name.now c.in-WhoisUser.is c.saying.ensures refl
-    (says (both c.as_bytes.ensures.value (both c.deref.ensures.0
-    (both c.as_bytes-in-WhoisUser.ensures.value refl))) c.deref-in-WhoisUser.ensures.0)
+    (says (both c.as_bytes.ensures.value (both c.as_bytes-in-WhoisUser.ensures.value
+    (both c.as_bytes-in-WhoisUser-2.ensures.value refl))) c.as_bytes-in-WhoisUser-3.ensures.value)
 
 pub returns-in-WhoisServer : goal.returns-in-WhoisServer
 unfolding number words table
 returns-in-WhoisServer c =
     is_line c.args.head.server.now c.args.head.name.now c.in-WhoisServer.is c.saying-in-WhoisServer.ensures refl
     (says (both c.as_bytes-in-WhoisServer.ensures.value
-    (both c.as_bytes-in-WhoisServer-2.ensures.value refl)) c.deref-in-WhoisServer.ensures.0)
+    (both c.as_bytes-in-WhoisServer-2.ensures.value refl)) c.deref.ensures.0)
 
 pub returns-in-EndOfWho : goal.returns-in-EndOfWho
 unfolding number words table
