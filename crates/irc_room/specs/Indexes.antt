@@ -50,6 +50,10 @@ row_joined nick op channel there = Some (joined (key nick) op (unwrap_or there (
 abbrev pub with_row : List ℕ → (Channel → Channel) → Table Channel → Table Channel
 with_row name change channels = alter (key name) (option_map change) channels
 
+-- the same for a name, in a list
+abbrev pub channel_named : Table Channel → List ℕ → List (List ℕ × Channel)
+channel_named channels name = option_to_list (entry_at channels (key name))
+
 -- the channels under the names of some entries, as far as there are any
 abbrev pub entries_under : {V : Type 0} → Table Channel → List (List ℕ × V) → List (List ℕ × Channel)
 entries_under channels es = flat_map (λ e. option_to_list (entry_at channels e.0)) es

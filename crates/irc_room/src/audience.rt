@@ -1,7 +1,6 @@
 //! Who sees an effect, on whichever server.
 ghost use Rattle.std.specs.Prelude.{◌≡◌, IfOk, map};
 ghost use Rattle.irc_room.specs.Readers.{nicks_in, viewers_of};
-ghost use Rattle.irc_room.specs.Seen.{seen};
 
 use crate::effect::Effect;
 use crate::effect_lines::has_line;

@@ -1,12 +1,12 @@
 //! The channels of a room, and in which of them each user is.
-ghost use Rattle.std.specs.Prelude.{◌≡◌, Some, None, OnOk, OnErr, is_some, map, unwrap_or};
+ghost use Rattle.std.specs.Prelude.{◌≡◌, Some, OnOk, OnErr, is_some, map};
 ghost use Rattle.std.specs.Option.{option_copied, option_map, option_and_then};
 ghost use Rattle.std.specs.FinMap.{empty, entries};
 ghost use Rattle.irc_names.specs.Fold.{key};
 ghost use Rattle.irc_names.specs.Tables.{row, alter, each};
 ghost use Rattle.irc_tables.specs.RowViews.{row_entry};
 ghost use Rattle.irc_channels.specs.ChannelTable.{members_in};
-ghost use Rattle.irc_channels.specs.Channels.{new_channel, has_member, joined, left, without_user, renamed, invited_too, with_topic, all_changed};
+ghost use Rattle.irc_channels.specs.Channels.{has_member, left, without_user, renamed, invited_too, with_topic, all_changed};
 ghost use Rattle.irc_room.specs.Indexes.{entry_at, holds, own_names, row_joined, with_row, IsFreeOf};
 
 use crate::effect::ModeChanges;

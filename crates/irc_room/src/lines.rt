@@ -1,11 +1,10 @@
 //! The line that each kind of effect shows (RFC 2812 section 3). Where the doer is not there, there is none.
-ghost use Rattle.std.specs.Prelude.{◌≡◌, None, Some, [], ◌∷◌, codes, if◌then◌else◌};
-ghost use Rattle.std.specs.Option.{option_map};
+ghost use Rattle.std.specs.Prelude.{◌≡◌, None, Some, [], ◌∷◌, codes};
 ghost use Rattle.irc_line.specs.Messages.{text};
 ghost use Rattle.irc_line.specs.MessageViews.{optional_now};
 ghost use Rattle.irc_line.specs.PartViews.{sender, words_now};
-ghost use Rattle.irc_room.specs.Seen.{changes_words, full_sender};
-ghost use Rattle.irc_room.specs.Loops.LineViews.{invisible_word, mode_parts, say_command, Writes};
+ghost use Rattle.irc_room.specs.Seen.{full_sender};
+ghost use Rattle.irc_room.specs.Loops.LineViews.{invisible_word, mode_params, mode_parts, say_command, Writes};
 
 use crate::mode_letters::push_changes;
 use crate::tables::Tables;
@@ -102,7 +101,7 @@ pub(crate) fn mode_line(
     changes: &[ModeChange],
     line: &mut Text,
 ) -> bool
-    ensures { Writes result line.new doer.entry (codes "MODE") (channel.now ∷ changes_words tables.now changes.now) None }
+    ensures { Writes result line.new doer.entry (codes "MODE") (mode_params tables.now channel.now changes.now) None }
 {
     match doer {
         None => false,

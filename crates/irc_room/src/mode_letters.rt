@@ -1,12 +1,11 @@
 //! Changes of modes as they are written (RFC 2812 section 3.2.3). As many changes as there may be, it takes no memory.
 ghost use Rattle.std.specs.Prelude.{◌≡◌, ◌≤◌, ◌++◌};
-ghost use Rattle.std.specs.List.{filter_map};
 ghost use Rattle.arrayvec.specs.ArrayVec.{array_vec_len};
 ghost use Rattle.irc_line.specs.Bytes.{cut};
 ghost use Rattle.irc_line.specs.Limits.{max_line};
 ghost use Rattle.irc_line.specs.Messages.{middle_text};
 ghost use Rattle.irc_line.specs.MessageViews.{optional_now};
-ghost use Rattle.irc_room.specs.Seen.{changes_text, written_word};
+ghost use Rattle.irc_room.specs.Seen.{changes_text, written_word, written_words};
 
 use crate::tables::Tables;
 use irc_line::{Text, push_cut};
@@ -25,7 +24,7 @@ pub(crate) fn push_changes(tables: &Tables, line: &mut Text, changes: &[ModeChan
 /// The parameters of changes in order, each behind a space.
 fn push_words(tables: &Tables, line: &mut Text, changes: &[ModeChange])
     requires { array_vec_len line.old ≤ max_line }
-    ensures pushed { line.new.items ≡ cut (line.old.items ++ middle_text (filter_map (written_word tables.now) changes.now)) }
+    ensures pushed { line.new.items ≡ cut (line.old.items ++ middle_text (written_words tables.now changes.now)) }
     ensures still_cut { array_vec_len line.new ≤ max_line }
 {
     push_cut(line, b"");

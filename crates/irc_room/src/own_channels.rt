@@ -1,8 +1,7 @@
 //! The channels of one user.
-ghost use Rattle.std.specs.Prelude.{◌≡◌, ◌++◌, map, option_to_list, IfOk, OnOk};
-ghost use Rattle.irc_names.specs.Fold.{key};
+ghost use Rattle.std.specs.Prelude.{◌≡◌, ◌++◌, map, IfOk, OnOk};
 ghost use Rattle.irc_tables.specs.RowViews.{row_entry};
-ghost use Rattle.irc_room.specs.Indexes.{entries_under, entry_at};
+ghost use Rattle.irc_room.specs.Indexes.{channel_named, entries_under};
 ghost use Rattle.irc_room.specs.Readers.{channels_of, rows_now};
 
 use crate::indexed_channels::IndexedChannels;
@@ -52,7 +51,7 @@ fn add_named<'a>(
     name: &[u8],
     found: &mut Vec<&'a Row<Channel>, Global>,
 ) -> Result<(), AllocError>
-    ensures { OnOk result (rows_now found.new.items ≡ rows_now found.old.items ++ option_to_list (entry_at channels.now (key name.now))) }
+    ensures { OnOk result (rows_now found.new.items ≡ rows_now found.old.items ++ channel_named channels.now name.now) }
 {
     if let Some(row) = channels.find_row(name) {
         found.push(row)?;

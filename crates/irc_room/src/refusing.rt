@@ -4,6 +4,7 @@ ghost use Rattle.std.specs.List.{list_all};
 ghost use Rattle.std.specs.Option.{option_copied, option_map_or};
 ghost use Rattle.irc_room.specs.Applying.{missing_fault, room_fault};
 ghost use Rattle.irc_room.specs.Effects.{has_user, has_channel, needs_users, needs_channel};
+ghost use Rattle.irc_room.specs.Loops.Tables.{kept_of};
 
 use crate::effect::Effect;
 use crate::fault::RoomFault;
@@ -12,7 +13,7 @@ use irc_names::Nick;
 
 /// Why a room with these users and channels refuses an effect, if it does.
 pub(crate) fn refusal(failed: bool, tables: &Tables, effect: &Effect) -> Option<RoomFault>
-    ensures { (own : List ℕ) → result ≡ room_fault (record { own = own; failed = failed; room = tables.now }) effect.now }
+    ensures { (own : List ℕ) → result ≡ room_fault (kept_of own failed tables.now) effect.now }
 {
     if failed {
         Some(RoomFault::Failed)

@@ -1,7 +1,7 @@
 //! One room.
-ghost use Rattle.std.specs.Prelude.{◌≡◌, ◌≤◌, ◌++◌, false, true, not, Some, None, filter, length, map, option_to_list, IfOk, OnOk, if◌then◌else◌};
-ghost use Rattle.std.specs.Option.{option_copied, option_map};
-ghost use Rattle.std.specs.FinMap.{empty, entries, values};
+ghost use Rattle.std.specs.Prelude.{◌≡◌, ◌≤◌, ◌++◌, false, true, Some, None, length, map, IfOk, if◌then◌else◌};
+ghost use Rattle.std.specs.Option.{option_copied};
+ghost use Rattle.std.specs.FinMap.{entries, values};
 ghost use Rattle.arrayvec.specs.ArrayVec.{array_vec_len};
 ghost use Rattle.irc_line.specs.Bytes.{cut};
 ghost use Rattle.irc_line.specs.Limits.{max_line};
@@ -9,18 +9,14 @@ ghost use Rattle.irc_names.specs.Fold.{key};
 ghost use Rattle.irc_names.specs.Limits.{max_channel};
 ghost use Rattle.irc_names.specs.Tables.{row};
 ghost use Rattle.irc_tables.specs.RowViews.{row_entry};
-ghost use Rattle.irc_users.specs.declared.user.User.{User};
 ghost use Rattle.irc_users.specs.Rosters.{boxed};
-ghost use Rattle.irc_users.specs.UserTable.{is_home};
-ghost use Rattle.irc_channels.specs.Channels.{has_member};
 ghost use Rattle.irc_channels.specs.ChannelTable.{members_in};
 ghost use Rattle.irc_room.specs.Applying.{Kept, Applied, IdleStays, ShowsHere, does};
 ghost use Rattle.irc_room.specs.Effects.{brings_free};
-ghost use Rattle.irc_room.specs.Indexes.{entries_under};
 ghost use Rattle.irc_room.specs.Laws.{no_room};
 ghost use Rattle.irc_room.specs.Readers.{user_at, channel_at, channels_of, flags_at, is_invited_at, is_visible_at, nicks_in, rows_now, spelling_at, users_now, users_of, viewers_of};
 ghost use Rattle.irc_room.specs.Room.{IsWellFormed};
-ghost use Rattle.irc_room.specs.Seen.{changes_text, seen, stored_channel, stored_nick, target_name};
+ghost use Rattle.irc_room.specs.Seen.{changes_text, stored_channel, stored_nick, target_name};
 
 use crate::audience::{audience, member_nicks};
 use crate::changing::perform;

@@ -1,10 +1,9 @@
 //! What an effect shows to the users of one server.
-ghost use Rattle.std.specs.Prelude.{◌≡◌, [], false, ◌++◌, map, OnOk};
-ghost use Rattle.std.specs.List.{flat_map};
+ghost use Rattle.std.specs.Prelude.{◌≡◌, [], false, ◌++◌, OnOk};
 ghost use Rattle.irc_room.specs.Applying.{pairs_of};
 ghost use Rattle.irc_room.specs.Effects.{is_idle};
 ghost use Rattle.irc_room.specs.Readers.{users_now};
-ghost use Rattle.irc_room.specs.Loops.Viewing.{own_nick, viewers};
+ghost use Rattle.irc_room.specs.Loops.Viewing.{own_nick, own_nicks, own_viewers};
 ghost use Rattle.irc_room.specs.Loops.Telling.{shown_at};
 
 use crate::effect::Effect;
@@ -43,7 +42,7 @@ fn add_viewers(
     effect: &Effect,
     nicks: &mut Vec<Nick, Global>,
 ) -> Result<(), AllocError>
-    ensures { OnOk result (nicks.new.items ≡ nicks.old.items ++ flat_map (own_nick own.now) (viewers tables.now effect.now)) }
+    ensures { OnOk result (nicks.new.items ≡ nicks.old.items ++ own_viewers own.now tables.now effect.now) }
 {
     let users = viewers(alloc, tables, effect)?;
     add_each(own, users.as_slice(), nicks)
@@ -51,7 +50,7 @@ fn add_viewers(
 
 /// Adds each of these users that is one of the server.
 fn add_each(own: &[u8], users: &[&User], nicks: &mut Vec<Nick, Global>) -> Result<(), AllocError>
-    ensures { OnOk result (nicks.new.items ≡ nicks.old.items ++ flat_map (own_nick own.now) (users_now users.now)) }
+    ensures { OnOk result (nicks.new.items ≡ nicks.old.items ++ own_nicks own.now (users_now users.now)) }
 {
     for user in users {
         add_own(own, user, nicks)?;

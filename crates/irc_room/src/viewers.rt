@@ -1,20 +1,14 @@
 //! The users that see an effect, in folded order.
-ghost use Rattle.std.specs.Prelude.{◌≡◌, ◌≤◌, ◌++◌, ◌&&◌, ◌||◌, ℕ, Bool, List, not, length, map, filter, is_some, option_to_list, IfOk, OnOk};
-ghost use Rattle.std.specs.List.{list_any};
-ghost use Rattle.std.specs.FinMap.{values};
-ghost use Rattle.arrayvec.specs.ArrayVec.{ArrayVec};
+ghost use Rattle.std.specs.Prelude.{◌≡◌, ◌≤◌, ◌++◌, not, length, map, filter, IfOk, OnOk};
 ghost use Rattle.irc_names.specs.Fold.{key, same};
-ghost use Rattle.irc_names.specs.Tables.{row};
 ghost use Rattle.irc_names.specs.TableLaws.{same_fold};
 ghost use Rattle.irc_tables.specs.RowViews.{row_entry};
 ghost use Rattle.irc_channels.specs.Channels.{has_member};
-ghost use Rattle.irc_room.specs.declared.effect.Effect.TheVariants.{Say};
 ghost use Rattle.irc_room.specs.Effects.{is_member};
 ghost use Rattle.irc_room.specs.Indexes.{holds, own_names};
-ghost use Rattle.irc_room.specs.Loops.Viewing.{hears, is_in_any, is_one_of, is_sharer, sees_join, sees_quit, sees_rename, user_named, users_under, Finds, Gains};
+ghost use Rattle.irc_room.specs.Loops.Viewing.{hears, hears_text, is_in_any, is_one_of, is_sharer, sees_join, sees_quit, sees_rename, user_named, users_under, AreSharers, Finds, Gains};
 ghost use Rattle.irc_room.specs.Readers.{users_now};
 ghost use Rattle.irc_room.specs.Seen.{sees};
-ghost use Rattle.irc_room.specs.Loops.Telling.{AreNamed};
 
 use crate::effect::{Effect, Target};
 use crate::indexed_channels::IndexedChannels;
@@ -54,7 +48,7 @@ fn hearers<'a>(
     by: &Nick,
     target: &Target,
 ) -> Result<Vec<&'a User, Global>, AllocError>
-    ensures { (notice : Bool) (text : ArrayVec ℕ) → IfOk result (λ found. Finds tables.now (λ room. sees room (Say by.now notice target.now text)) found.items) }
+    ensures { IfOk result (λ found. Finds tables.now (λ room. hears_text room by.now target.now) found.items) }
 {
     match target {
         Target::User(nick) => only(alloc, tables, nick),
@@ -158,7 +152,7 @@ fn names_sharing(
     tables: &Tables,
     nick: &Nick,
 ) -> Result<NameTable<Flags>, AllocError>
-    ensures { IfOk result (λ names. (fold : List ℕ) → is_some (row names fold) ≡ is_sharer tables.now.channels nick.now fold) }
+    ensures { IfOk result (λ names. AreSharers names tables.now.channels nick.now) }
 {
     let mut names = NameTable::new(alloc);
     put_shared(&mut names, &tables.channels, nick)?;

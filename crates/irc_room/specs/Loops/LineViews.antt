@@ -14,9 +14,13 @@ abbrev pub line_if : Bool → ArrayVec ℕ → Option (List ℕ)
 line_if true line = Some line.items
 line_if false line = None
 
+-- the parameters of a line of changes of a channel's modes
+abbrev pub mode_params : Room → List ℕ → List ModeChange → List (List ℕ)
+mode_params room channel changes = channel ∷ changes_words room changes
+
 -- the parts of a line of changes of a channel's modes
 abbrev pub mode_parts : Room → Sender → List ℕ → List ModeChange → Written
-mode_parts room sender channel changes = record { sender = sender; command = codes "MODE"; middle = channel ∷ changes_words room changes; last = None }
+mode_parts room sender channel changes = record { sender = sender; command = codes "MODE"; middle = mode_params room channel changes; last = None }
 
 -- the line with these parts is written, where there is somebody who sends it
 abbrev pub Writes : Bool → ArrayVec ℕ → Option Prefix → List ℕ → List (List ℕ) → Option (List ℕ) → Type 0

@@ -14,6 +14,8 @@ use Rattle.irc_channels.specs.declared.channel.Channel.{Channel}
 use Rattle.irc_channels.specs.declared.flags.Flags.{Flags}
 use Rattle.irc_channels.specs.Channels.{has_member}
 use Rattle.irc_room.specs.declared.effect.Effect.{Effect}
+use Rattle.irc_room.specs.declared.effect.Target.{Target}
+use Rattle.irc_room.specs.declared.effect.Target.TheVariants as target
 use Rattle.irc_room.specs.Effects.{is_member}
 use Rattle.irc_room.specs.Indexes.{holds}
 use Rattle.irc_room.specs.Room.{Room}
@@ -44,6 +46,11 @@ sees_join room nick channel viewer = same nick viewer || is_member room viewer c
 abbrev pub hears : Room → List ℕ → List ℕ → List ℕ → Bool
 hears room by channel viewer = not (same by viewer) && is_member room viewer channel
 
+-- those that are shown what a user says
+abbrev pub hears_text : Room → List ℕ → Target → List ℕ → Bool
+hears_text room by (target.User nick) viewer = same nick viewer
+hears_text room by (target.Channel channel) viewer = hears room by channel viewer
+
 -- the line, for a user of the server of this name
 abbrev pub told : List ℕ → List ℕ → User → List (List ℕ × ArrayVec ℕ)
 told own line user = if pointwise nat_eq user.home own then (user.nick, record { items = line }) ∷ [] else []
@@ -52,6 +59,13 @@ told own line user = if pointwise nat_eq user.home own then (user.nick, record {
 abbrev pub own_nick : List ℕ → User → List (List ℕ)
 own_nick own user = if pointwise nat_eq user.home own then user.nick ∷ [] else []
 
+-- those nicknames of some users, and of all that see an effect
+abbrev pub own_nicks : List ℕ → List User → List (List ℕ)
+own_nicks own users = flat_map (own_nick own) users
+
+abbrev pub own_viewers : List ℕ → Room → Effect → List (List ℕ)
+own_viewers own room effect = own_nicks own (viewers room effect)
+
 -- whether a channel has both members
 abbrev pub joins_both : List ℕ → List ℕ → Channel → Bool
 joins_both one other channel = has_member one channel && has_member other channel
@@ -59,6 +73,10 @@ joins_both one other channel = has_member one channel && has_member other channe
 -- whether a fold is that of a member of some channel that a user is in
 abbrev pub is_sharer : Table Channel → List ℕ → List ℕ → Bool
 is_sharer channels nick fold = list_any (joins_both (key nick) fold) (values channels)
+
+-- a table has rows under just these
+abbrev pub AreSharers : Table Flags → Table Channel → List ℕ → Type 0
+AreSharers names channels nick = (fold : List ℕ) → is_some (row names fold) ≡ is_sharer channels nick fold
 
 -- whether it is that of a member of one of some channels, by their rows
 abbrev pub is_in_any : Table Channel → List (Row (Unit {0})) → List ℕ → Bool
