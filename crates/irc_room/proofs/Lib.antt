@@ -8,6 +8,7 @@ pub mod CountedUsers
 pub mod ModeLine
 pub mod RowValues
 pub mod Keeping
+pub mod KeptWell
 pub mod ToldLaw
 pub mod AudienceLaw
 pub mod WhoSees

@@ -1,5 +1,5 @@
 -- The line of a MODE, piece by piece.
-use Rattle.std.proofs.Common.{◌≡◌, ℕ, Option, None, List, [], ◌∷◌, ◌++◌, codes, sym, ap, ◌∙◌, append_assoc, append-nil}
+use Rattle.std.proofs.Common.{◌≡◌, ℕ, None, List, [], ◌∷◌, ◌++◌, codes, sym, ap, ◌∙◌, append_assoc, append-nil}
 use Rattle.irc_line.specs.Bytes.{cut, crlf}
 use Rattle.irc_line.specs.Messages.{Sender, line_text, middle_text, prefix_of, prefix_text, text}
 use Rattle.irc_line.specs.Lemmas.CutLaws.{cut_two}

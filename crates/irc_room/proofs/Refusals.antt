@@ -2,9 +2,6 @@
 use Rattle.std.proofs.Common.{◌≡◌, Bool, true, false, cond, not, Some, None, Result, Ok, Err, [], refl, sym, ◌∙◌, ap}
 use Rattle.std.specs.List.{list_all}
 use Rattle.std.specs.Option.{option_map_or}
-use Rattle.irc_names.specs.Tables.{Table}
-use Rattle.irc_users.specs.declared.user.User.{User}
-use Rattle.irc_channels.specs.declared.channel.Channel.{Channel}
 use Rattle.irc_room.specs.declared.effect.Effect.{Effect}
 use Rattle.irc_room.specs.declared.fault.RoomFault.{RoomFault}
 use Rattle.irc_room.specs.declared.fault.RoomFault.TheVariants.{NoSuchUser, NoSuchChannel, Memory, Failed}
@@ -67,11 +64,10 @@ kept_changed inside now room effect is alive changed =
     ∙ ap (λ (r : Room). record { own = inside.own; failed = inside.failed; room = r }) changed
     ∙ ap (λ (k : Kept). record k { room = after k.room effect }) is
 
-pub kept_refused : (inside now : Kept) (users : Table User) (channels : Table Channel) → inside ≡ now → users ≡ inside.room.users → channels ≡ inside.room.channels
-    → record { own = inside.own; failed = true; room = record { users = users; channels = channels } } ≡ record now { failed = true }
-kept_refused inside now users channels is same_users same_channels =
-    ap (λ (u : Table User). record { own = inside.own; failed = true; room = record { users = u; channels = channels } }) same_users
-    ∙ ap (λ (t : Table Channel). record { own = inside.own; failed = true; room = record { users = inside.room.users; channels = t } }) same_channels
+pub kept_refused : (inside now : Kept) (room : Room) → inside ≡ now → room ≡ inside.room
+    → record { own = inside.own; failed = true; room = room } ≡ record now { failed = true }
+kept_refused inside now room is same =
+    ap (λ (r : Room). record { own = inside.own; failed = true; room = r }) same
     ∙ ap (λ (k : Kept). record k { failed = true }) is
 
 -- an effect that does nothing leaves all as it was

@@ -16,7 +16,7 @@ use Rattle.irc_room.specs.Room.{Room}
 use Rattle.irc_room.specs.Effects.{is_idle}
 use Rattle.irc_room.specs.Seen.{Showing, seen, shown_to, shown_line, sees}
 use Rattle.irc_room.specs.Applying.{Kept, is_own, handed}
-use Rattle.irc_room.specs.Loops.RoomParts.{ShowsAt}
+use Rattle.irc_room.specs.Loops.Tables.{ShowsAt}
 use Rattle.irc_room.specs.Loops.Telling.{shown_at, AreNamed}
 use Rattle.irc_room.specs.Loops.Viewing.{own_nick, told, viewers}
 

@@ -1,12 +1,13 @@
 -- Names of channels by nickname: what the code keeps beside the table of channels, so that it need not look through all of them.
-use Rattle.std.specs.Prelude.{◌≡◌, ℕ, Bool, true, false, not, ◌&&◌, ◌||◌, is_some, Option, Some, None, List, [], map, filter, option_to_list}
+use Rattle.std.specs.Prelude.{◌≡◌, ℕ, Bool, true, false, not, ◌&&◌, ◌||◌, is_some, Option, Some, None, List, [], map, filter, option_to_list, unwrap_or}
 use Rattle.std.specs.List.{flat_map}
 use Rattle.std.specs.Option.{option_map, option_map_or}
 use Rattle.std.specs.FinMap.{entries}
-use Rattle.irc_names.specs.Tables.{Table, row}
+use Rattle.irc_names.specs.Fold.{key}
+use Rattle.irc_names.specs.Tables.{Table, row, alter}
 use Rattle.irc_names.specs.TableLaws.{same_fold}
 use Rattle.irc_channels.specs.declared.channel.Channel.{Channel}
-use Rattle.irc_channels.specs.Channels.{has_member}
+use Rattle.irc_channels.specs.Channels.{has_member, joined, new_channel}
 
 -- some names, by their folds
 abbrev pub Names : Type 0
@@ -37,9 +38,25 @@ holds test channels nick name = option_map_or (test nick) (row channels name) fa
 abbrev pub own_names : List ℕ → Table Channel → List (List ℕ × Unit {0})
 own_names nick channels = map (λ e. (e.0, tt)) (filter (λ e. has_member nick e.1) (entries channels))
 
+-- the channel with this fold, beside it
+abbrev pub entry_at : Table Channel → List ℕ → Option (List ℕ × Channel)
+entry_at channels name = option_map (λ (channel : Channel). (name, channel)) (row channels name)
+
+-- the row of a channel that a user joins
+abbrev pub row_joined : List ℕ → Bool → List ℕ → Option Channel → Option Channel
+row_joined nick op channel there = Some (joined (key nick) op (unwrap_or there (new_channel channel)))
+
+-- the channel of a name is changed, if there is one
+abbrev pub with_row : List ℕ → (Channel → Channel) → Table Channel → Table Channel
+with_row name change channels = alter (key name) (option_map change) channels
+
+-- the same for a name, in a list
+abbrev pub channel_named : Table Channel → List ℕ → List (List ℕ × Channel)
+channel_named channels name = option_to_list (entry_at channels (key name))
+
 -- the channels under the names of some entries, as far as there are any
 abbrev pub entries_under : {V : Type 0} → Table Channel → List (List ℕ × V) → List (List ℕ × Channel)
-entries_under channels es = flat_map (λ e. option_to_list (option_map (λ (channel : Channel). (e.0, channel)) (row channels e.0))) es
+entries_under channels es = flat_map (λ e. option_to_list (entry_at channels e.0)) es
 
 -- names stand by nicknames just where a test says so
 pub record Tells (index : Index) (test : List ℕ → List ℕ → Bool) : Type 0 where

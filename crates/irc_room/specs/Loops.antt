@@ -1,5 +1,5 @@
 pub mod HomeCount
 pub mod LineViews
-pub mod RoomParts
+pub mod Tables
 pub mod Telling
 pub mod Viewing

@@ -51,13 +51,17 @@ stored_channel room channel = option_map_or (λ (c : Channel). c.name) (row room
 abbrev pub written_word : Room → ModeChange → Option (List ℕ)
 written_word room c = if names_member c.letter then option_map (stored_nick room) c.word else c.word
 
+-- the parameters in order
+abbrev pub written_words : Room → List ModeChange → List (List ℕ)
+written_words room changes = filter_map (written_word room) changes
+
 -- The words that changes are written as: the letters, then the parameters in order (RFC 2812 section 3.2.3).
 abbrev pub changes_words : Room → List ModeChange → List (List ℕ)
-changes_words room changes = letters_text changes ∷ filter_map (written_word room) changes
+changes_words room changes = letters_text changes ∷ written_words room changes
 
 -- the same words in a line, behind a space: each parameter has a space in front of it
 abbrev pub changes_text : Room → List ModeChange → List ℕ
-changes_text room changes = letters_text changes ++ middle_text (filter_map (written_word room) changes)
+changes_text room changes = letters_text changes ++ middle_text (written_words room changes)
 
 -- the user that does it, as it is before the effect
 abbrev pub full_sender : User → Sender

@@ -1,14 +1,11 @@
 //! Who sees an effect, on whichever server.
 ghost use Rattle.std.specs.Prelude.{◌≡◌, IfOk, map};
-ghost use Rattle.irc_room.specs.Loops.RoomParts.{room_of};
-ghost use Rattle.irc_room.specs.Readers.{nicks_in};
-ghost use Rattle.irc_room.specs.Seen.{seen};
-ghost use Rattle.irc_room.specs.Loops.Telling.{AreNamed};
+ghost use Rattle.irc_room.specs.Readers.{nicks_in, viewers_of};
 
 use crate::effect::Effect;
 use crate::effect_lines::has_line;
 use crate::idle::is_idle;
-use crate::room_parts::RoomParts;
+use crate::tables::Tables;
 use crate::viewers::{members, viewers};
 use irc_names::{ChannelName, Nick};
 use irc_users::User;
@@ -20,16 +17,15 @@ use std::alloc::{AllocError, Global};
 /// Where memory runs out.
 pub(crate) fn audience(
     alloc: Global,
-    parts: RoomParts<'_>,
+    tables: &Tables,
     effect: &Effect,
 ) -> Result<Vec<Nick, Global>, AllocError>
-    requires { AreNamed parts.users.now }
-    ensures { IfOk result (λ viewers. viewers.items ≡ map (λ s. s.viewer) (seen (room_of parts.entry) effect.now)) }
+    ensures { IfOk result (λ viewers. viewers.items ≡ viewers_of tables.now effect.now) }
 {
-    if is_idle(parts, effect) || !has_line(parts, effect) {
+    if is_idle(tables, effect) || !has_line(tables, effect) {
         return Ok(Vec::new(alloc));
     }
-    let users = viewers(alloc, parts, effect)?;
+    let users = viewers(alloc, tables, effect)?;
     nicknames(alloc, users.as_slice())
 }
 
@@ -39,13 +35,12 @@ pub(crate) fn audience(
 /// Where memory runs out.
 pub(crate) fn member_nicks(
     alloc: Global,
-    parts: RoomParts<'_>,
+    tables: &Tables,
     channel: &ChannelName,
 ) -> Result<Vec<Nick, Global>, AllocError>
-    requires { AreNamed parts.users.now }
-    ensures { IfOk result (λ nicks. nicks.items ≡ nicks_in (room_of parts.entry) channel.now) }
+    ensures { IfOk result (λ nicks. nicks.items ≡ nicks_in tables.now channel.now) }
 {
-    let users = members(alloc, parts, channel)?;
+    let users = members(alloc, tables, channel)?;
     nicknames(alloc, users.as_slice())
 }
 

@@ -1,21 +1,21 @@
 //! The room after an effect.
-ghost use Rattle.std.specs.Prelude.{◌≡◌, Some, None, Ok, [], true, false, is_some, OnOk, OnErr};
-ghost use Rattle.std.specs.List.{list_all};
+ghost use Rattle.std.specs.Prelude.{◌≡◌, Some, None, Ok, [], true, OnOk, OnErr};
 ghost use Rattle.irc_names.specs.Fold.{key};
 ghost use Rattle.irc_names.specs.Tables.{row, alter, moved};
 ghost use Rattle.irc_users.specs.UserTable.{rename_fault, with_nick};
 ghost use Rattle.irc_room.specs.After.{after};
 ghost use Rattle.irc_room.specs.Applying.{pairs_of};
-ghost use Rattle.irc_room.specs.Effects.{brings_free, is_idle, needs_users};
-ghost use Rattle.irc_room.specs.Loops.Telling.{shown_at, AreNamed};
+ghost use Rattle.irc_room.specs.Effects.{is_idle, IsPossible};
+ghost use Rattle.irc_room.specs.Loops.Tables.{room_of};
+ghost use Rattle.irc_room.specs.Loops.Telling.{shown_at};
 ghost use Rattle.irc_room.specs.Room.{IsWellFormed};
 
 use crate::effect::Effect;
 use crate::idle::is_idle;
 use crate::indexed_channels::IndexedChannels;
-use crate::room_parts::RoomParts;
 use crate::showing::show;
 use crate::shown_line::ShownLine;
+use crate::tables::Tables;
 use irc_names::Nick;
 use irc_users::{User, Users, UsersFault};
 use std::alloc::{AllocError, Global};
@@ -28,56 +28,36 @@ use std::alloc::{AllocError, Global};
 pub(crate) fn perform(
     alloc: Global,
     own: &[u8],
-    users: &mut Users,
-    channels: &mut IndexedChannels,
+    tables: &mut Tables,
     effect: &Effect,
     shown: &mut ShownLine,
 ) -> Result<(), AllocError>
-    requires named { AreNamed users.old }
-    requires well { IsWellFormed (record { users = users.old; channels = channels.old }) }
-    requires free { brings_free (record { users = users.old; channels = channels.old }) effect.now ≡ true }
+    requires possible { IsPossible tables.old effect.now }
     requires none { shown.old.viewers.items ≡ [] }
-    requires there { list_all (λ nick. is_some (row users.old (key nick))) (needs_users effect.now) ≡ true }
-    ensures changed { OnOk result (record { users = users.new; channels = channels.new } ≡ after (record { users = users.old; channels = channels.old }) effect.now) }
-    ensures shown { OnOk result (pairs_of shown.new ≡ shown_at own.now (record { users = users.old; channels = channels.old }) effect.now) }
-    ensures refused { OnErr result ((users.new ≡ users.old) × (channels.new ≡ channels.old)) }
-    ensures idle { is_idle (record { users = users.old; channels = channels.old }) effect.now ≡ true → result ≡ Ok tt }
+    ensures changed { OnOk result (tables.new ≡ after tables.old effect.now) }
+    ensures shown { OnOk result (pairs_of shown.new ≡ shown_at own.now tables.old effect.now) }
+    ensures refused { OnErr result (tables.new ≡ tables.old) }
+    ensures idle { is_idle tables.old effect.now ≡ true → result ≡ Ok tt }
 {
-    let parts = RoomParts {
-        users: &*users,
-        channels: &*channels,
-    };
-    if is_idle(parts, effect) {
+    if is_idle(tables, effect) {
         return Ok(());
     }
-    show_and_change(alloc, own, users, channels, effect, shown)
+    show(alloc, own, tables, effect, shown)?;
+    tables.change(effect)
 }
 
-/// The same for an effect that does something.
-fn show_and_change(
-    alloc: Global,
-    own: &[u8],
-    users: &mut Users,
-    channels: &mut IndexedChannels,
-    effect: &Effect,
-    shown: &mut ShownLine,
-) -> Result<(), AllocError>
-    requires named { AreNamed users.old }
-    requires well { IsWellFormed (record { users = users.old; channels = channels.old }) }
-    requires free { brings_free (record { users = users.old; channels = channels.old }) effect.now ≡ true }
-    requires none { shown.old.viewers.items ≡ [] }
-    requires there { list_all (λ nick. is_some (row users.old (key nick))) (needs_users effect.now) ≡ true }
-    requires busy { is_idle (record { users = users.old; channels = channels.old }) effect.now ≡ false }
-    ensures changed { OnOk result (record { users = users.new; channels = channels.new } ≡ after (record { users = users.old; channels = channels.old }) effect.now) }
-    ensures shown { OnOk result (pairs_of shown.new ≡ shown_at own.now (record { users = users.old; channels = channels.old }) effect.now) }
-    ensures refused { OnErr result ((users.new ≡ users.old) × (channels.new ≡ channels.old)) }
-{
-    let parts = RoomParts {
-        users: &*users,
-        channels: &*channels,
-    };
-    show(alloc, own, parts, effect, shown)?;
-    change(users, channels, effect)
+impl Tables {
+    /// Makes an effect's change of users and channels.
+    ///
+    /// # Errors
+    /// Where memory runs out; nothing has changed then.
+    fn change(&mut self, effect: &Effect) -> Result<(), AllocError>
+        requires { IsPossible self.old effect.now }
+        ensures changed { OnOk result (self.new ≡ after self.old effect.now) }
+        ensures refused { OnErr result (self.new ≡ self.old) }
+    {
+        change(&mut self.users, &mut self.channels, effect)
+    }
 }
 
 /// Makes an effect's change of users and channels.
@@ -90,10 +70,9 @@ fn change(
     channels: &mut IndexedChannels,
     effect: &Effect,
 ) -> Result<(), AllocError>
-    requires well { IsWellFormed (record { users = users.old; channels = channels.old }) }
-    requires free { brings_free (record { users = users.old; channels = channels.old }) effect.now ≡ true }
-    requires there { list_all (λ nick. is_some (row users.old (key nick))) (needs_users effect.now) ≡ true }
-    ensures ok { OnOk result (record { users = users.new; channels = channels.new } ≡ after (record { users = users.old; channels = channels.old }) effect.now) }
+    requires well { IsWellFormed (room_of users.old channels.old) }
+    requires possible { IsPossible (room_of users.old channels.old) effect.now }
+    ensures ok { OnOk result (room_of users.new channels.new ≡ after (room_of users.old channels.old) effect.now) }
     ensures refused { OnErr result ((users.new ≡ users.old) × (channels.new ≡ channels.old)) }
 {
     match effect {

@@ -7,17 +7,18 @@ ghost use Rattle.irc_users.specs.UserTable.{is_home};
 ghost use Rattle.irc_room.specs.Loops.HomeCount.{come, gone, home_count, one_of};
 
 use crate::effect::Effect;
+use crate::tables::Tables;
 use irc_names::{Nick, ServerName};
-use irc_users::{User, Users};
+use irc_users::User;
 use std::alloc::Global;
 
 /// How many of the users of a server stay through an effect: all, but for one that quits.
-pub(crate) fn staying(home: &ServerName, users: &Users, count: usize, effect: &Effect) -> usize
-    requires { count ≡ home_count home.now users.now }
-    ensures { count ≡ result + gone home.now users.now effect.now }
+pub(crate) fn staying(home: &ServerName, tables: &Tables, count: usize, effect: &Effect) -> usize
+    requires { count ≡ home_count home.now tables.now.users }
+    ensures { count ≡ result + gone home.now tables.now.users effect.now }
 {
     match effect {
-        Effect::Quit { nick, .. } => count - one_named(home, users, nick),
+        Effect::Quit { nick, .. } => count - one_named(home, tables, nick),
         _ => count,
     }
 }
@@ -25,14 +26,14 @@ pub(crate) fn staying(home: &ServerName, users: &Users, count: usize, effect: &E
 /// How many users of a server there are after an effect, where so many stayed.
 pub(crate) fn with_newcomer(
     home: &ServerName,
-    users: &Users,
+    tables: &Tables,
     staying: usize,
     effect: &Effect,
 ) -> usize
-    requires { home_count home.now users.now ≡ staying + come home.now effect.now }
-    ensures { result ≡ home_count home.now users.now }
+    requires { home_count home.now tables.now.users ≡ staying + come home.now effect.now }
+    ensures { result ≡ home_count home.now tables.now.users }
 {
-    users.len();
+    tables.users.len();
     match effect {
         Effect::AddUser(user) => staying + one_of(home, user),
         _ => staying,
@@ -53,10 +54,10 @@ pub(crate) fn homed(home: &ServerName, users: &[Box<User, Global>]) -> usize
 }
 
 /// One, where the user with a nickname is there and connected to a server, or none.
-fn one_named(home: &ServerName, users: &Users, nick: &Nick) -> usize
-    ensures { result ≡ one_of (is_home home.now) (row users.now (key nick.now)) }
+fn one_named(home: &ServerName, tables: &Tables, nick: &Nick) -> usize
+    ensures { result ≡ one_of (is_home home.now) (row tables.now.users (key nick.now)) }
 {
-    match users.find(nick) {
+    match tables.users.find(nick) {
         Some(user) => one_of(home, user),
         None => 0,
     }

@@ -1,13 +1,13 @@
 //! The channels of a room, and in which of them each user is.
-ghost use Rattle.std.specs.Prelude.{◌≡◌, Some, None, OnOk, OnErr, is_some, map, unwrap_or};
+ghost use Rattle.std.specs.Prelude.{◌≡◌, Some, OnOk, OnErr, is_some, map};
 ghost use Rattle.std.specs.Option.{option_copied, option_map, option_and_then};
 ghost use Rattle.std.specs.FinMap.{empty, entries};
 ghost use Rattle.irc_names.specs.Fold.{key};
 ghost use Rattle.irc_names.specs.Tables.{row, alter, each};
 ghost use Rattle.irc_tables.specs.RowViews.{row_entry};
 ghost use Rattle.irc_channels.specs.ChannelTable.{members_in};
-ghost use Rattle.irc_channels.specs.Channels.{new_channel, has_member, joined, left, without_user, renamed, invited_too, with_topic, all_changed};
-ghost use Rattle.irc_room.specs.Indexes.{holds, own_names, IsFreeOf};
+ghost use Rattle.irc_channels.specs.Channels.{has_member, left, without_user, renamed, invited_too, with_topic, all_changed};
+ghost use Rattle.irc_room.specs.Indexes.{entry_at, holds, own_names, row_joined, with_row, IsFreeOf};
 
 use crate::effect::ModeChanges;
 use crate::name_index::NameIndex;
@@ -63,7 +63,7 @@ impl IndexedChannels {
 
     /// The row of a channel's name, if there is such a channel.
     pub fn find_row(&self, name: &[u8]) -> Option<&Row<Channel>>
-        ensures { option_map row_entry (option_copied result) ≡ option_map (λ channel. (key name.now, channel)) (row self.now (key name.now)) }
+        ensures { option_map row_entry (option_copied result) ≡ entry_at self.now (key name.now) }
     {
         self.rows.find_row(name)
     }
@@ -108,7 +108,7 @@ impl IndexedChannels {
     /// # Errors
     /// Where memory runs out; no channel has changed then.
     pub fn join(&mut self, nick: &Nick, channel: &ChannelName, op: bool) -> Result<(), AllocError>
-        ensures ok { OnOk result (self.new ≡ alter (key channel.now) (λ c. Some (joined (key nick.now) op (unwrap_or c (new_channel channel.now)))) self.old) }
+        ensures ok { OnOk result (self.new ≡ alter (key channel.now) (row_joined nick.now op channel.now) self.old) }
         ensures refused { OnErr result (self.new ≡ self.old) }
     {
         if is_in(&self.rows, nick, channel) {
@@ -141,7 +141,7 @@ impl IndexedChannels {
         channel: &ChannelName,
         changes: &ModeChanges,
     ) -> Result<(), AllocError>
-        ensures ok { OnOk result (self.new ≡ alter (key channel.now) (option_map (all_changed changes.now)) self.old) }
+        ensures ok { OnOk result (self.new ≡ with_row channel.now (all_changed changes.now) self.old) }
         ensures refused { OnErr result (self.new ≡ self.old) }
     {
         change_modes(&mut self.rows, channel, changes)
@@ -149,7 +149,7 @@ impl IndexedChannels {
 
     /// A channel's topic changes. Where the channel is not there nothing changes. It takes no memory.
     pub fn set_topic(&mut self, channel: &ChannelName, topic: &Words)
-        ensures { self.new ≡ alter (key channel.now) (option_map (with_topic topic.now)) self.old }
+        ensures { self.new ≡ with_row channel.now (with_topic topic.now) self.old }
     {
         set_topic(&mut self.rows, channel, topic);
     }
@@ -159,7 +159,7 @@ impl IndexedChannels {
     /// # Errors
     /// Where memory runs out; nothing has changed then.
     pub fn invite(&mut self, nick: &Nick, channel: &ChannelName) -> Result<(), AllocError>
-        ensures ok { OnOk result (self.new ≡ alter (key channel.now) (option_map (invited_too (key nick.now))) self.old) }
+        ensures ok { OnOk result (self.new ≡ with_row channel.now (invited_too (key nick.now)) self.old) }
         ensures refused { OnErr result (self.new ≡ self.old) }
     {
         invite(&mut self.rows, nick, channel)
@@ -208,7 +208,7 @@ fn change_modes(
     channel: &ChannelName,
     changes: &ModeChanges,
 ) -> Result<(), AllocError>
-    ensures ok { OnOk result (channels.new ≡ alter (key channel.now) (option_map (all_changed changes.now)) channels.old) }
+    ensures ok { OnOk result (channels.new ≡ with_row channel.now (all_changed changes.now) channels.old) }
     ensures refused { OnErr result (channels.new ≡ channels.old) }
 {
     match channels.change(channel, changes.as_slice()) {
@@ -221,14 +221,14 @@ fn change_modes(
 
 /// A channel's topic changes. Where the channel is not there nothing changes.
 fn set_topic(channels: &mut Channels, channel: &ChannelName, topic: &Words)
-    ensures { channels.new ≡ alter (key channel.now) (option_map (with_topic topic.now)) channels.old }
+    ensures { channels.new ≡ with_row channel.now (with_topic topic.now) channels.old }
 {
     let _ = channels.set_topic(channel, topic);
 }
 
 /// A user is invited. Where the channel is not there nothing changes.
 fn invite(channels: &mut Channels, nick: &Nick, channel: &ChannelName) -> Result<(), AllocError>
-    ensures ok { OnOk result (channels.new ≡ alter (key channel.now) (option_map (invited_too (key nick.now))) channels.old) }
+    ensures ok { OnOk result (channels.new ≡ with_row channel.now (invited_too (key nick.now)) channels.old) }
     ensures refused { OnErr result (channels.new ≡ channels.old) }
 {
     match channels.invite(nick, channel) {

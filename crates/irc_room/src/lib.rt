@@ -16,11 +16,12 @@ pub mod laws;
 mod lines;
 mod mode_letters;
 mod name_index;
+mod own_channels;
 mod refusing;
 mod room;
-mod room_parts;
 mod showing;
 mod shown_line;
+mod tables;
 mod viewers;
 
 pub use effect::{By, Effect, ModeChanges, Target};

@@ -1,15 +1,13 @@
 //! The line that each kind of effect shows (RFC 2812 section 3). Where the doer is not there, there is none.
-ghost use Rattle.std.specs.Prelude.{◌≡◌, None, Some, [], ◌∷◌, codes, if◌then◌else◌};
-ghost use Rattle.std.specs.Option.{option_map};
+ghost use Rattle.std.specs.Prelude.{◌≡◌, None, Some, [], ◌∷◌, codes};
 ghost use Rattle.irc_line.specs.Messages.{text};
 ghost use Rattle.irc_line.specs.MessageViews.{optional_now};
 ghost use Rattle.irc_line.specs.PartViews.{sender, words_now};
-ghost use Rattle.irc_room.specs.Seen.{changes_words, full_sender, line_of};
-ghost use Rattle.irc_room.specs.Loops.LineViews.{line_if, mode_parts};
-ghost use Rattle.irc_room.specs.Loops.RoomParts.{room_of};
+ghost use Rattle.irc_room.specs.Seen.{full_sender};
+ghost use Rattle.irc_room.specs.Loops.LineViews.{invisible_word, mode_params, mode_parts, say_command, Writes};
 
 use crate::mode_letters::push_changes;
-use crate::room_parts::RoomParts;
+use crate::tables::Tables;
 use irc_line::{Parts, Prefix, Text, push_cut, push_prefix, write_message};
 use irc_modes::ModeChange;
 use irc_users::User;
@@ -25,7 +23,7 @@ pub(crate) fn full_prefix(user: &User) -> Prefix<'_>
     }
 }
 
-/// Writes the line with these parts, if there is somebody who sends it. Here and below: tells whether it did.
+/// Writes the line with these tables, if there is somebody who sends it. Here and below: tells whether it did.
 fn write_line(
     doer: Option<Prefix<'_>>,
     command: &[u8],
@@ -33,7 +31,7 @@ fn write_line(
     last: Option<&[u8]>,
     line: &mut Text,
 ) -> bool
-    ensures { line_if result line.new ≡ line_of command.now (words_now middle.now) (optional_now last.entry) (option_map sender doer.entry) }
+    ensures { Writes result line.new doer.entry command.now (words_now middle.now) (optional_now last.entry) }
 {
     match doer {
         None => false,
@@ -51,21 +49,21 @@ fn write_line(
 
 /// A user has another nickname (RFC 2812 section 3.1.2).
 pub(crate) fn nick_line(doer: Option<Prefix<'_>>, new: &[u8], line: &mut Text) -> bool
-    ensures { line_if result line.new ≡ line_of (codes "NICK") (new.now ∷ []) None (option_map sender doer.entry) }
+    ensures { Writes result line.new doer.entry (codes "NICK") (new.now ∷ []) None }
 {
     write_line(doer, b"NICK", &[new], None, line)
 }
 
 /// A user leaves (RFC 2812 section 3.1.7).
 pub(crate) fn quit_line(doer: Option<Prefix<'_>>, reason: &[u8], line: &mut Text) -> bool
-    ensures { line_if result line.new ≡ line_of (codes "QUIT") [] (Some reason.now) (option_map sender doer.entry) }
+    ensures { Writes result line.new doer.entry (codes "QUIT") [] (Some reason.now) }
 {
     write_line(doer, b"QUIT", &[], Some(reason), line)
 }
 
 /// A user joins a channel (RFC 2812 section 3.2.1).
 pub(crate) fn join_line(doer: Option<Prefix<'_>>, channel: &[u8], line: &mut Text) -> bool
-    ensures { line_if result line.new ≡ line_of (codes "JOIN") (channel.now ∷ []) None (option_map sender doer.entry) }
+    ensures { Writes result line.new doer.entry (codes "JOIN") (channel.now ∷ []) None }
 {
     write_line(doer, b"JOIN", &[channel], None, line)
 }
@@ -77,7 +75,7 @@ pub(crate) fn part_line(
     reason: &[u8],
     line: &mut Text,
 ) -> bool
-    ensures { line_if result line.new ≡ line_of (codes "PART") (channel.now ∷ []) (Some reason.now) (option_map sender doer.entry) }
+    ensures { Writes result line.new doer.entry (codes "PART") (channel.now ∷ []) (Some reason.now) }
 {
     write_line(doer, b"PART", &[channel], Some(reason), line)
 }
@@ -90,40 +88,40 @@ pub(crate) fn kick_line<'a>(
     reason: &[u8],
     line: &mut Text,
 ) -> bool
-    ensures { line_if result line.new ≡ line_of (codes "KICK") (channel.now ∷ nick.now ∷ []) (Some reason.now) (option_map sender doer.entry) }
+    ensures { Writes result line.new doer.entry (codes "KICK") (channel.now ∷ nick.now ∷ []) (Some reason.now) }
 {
     write_line(doer, b"KICK", &[channel, nick], Some(reason), line)
 }
 
 /// A channel's modes change (RFC 2812 section 3.2.3).
 pub(crate) fn mode_line(
-    parts: RoomParts<'_>,
+    tables: &Tables,
     doer: Option<Prefix<'_>>,
     channel: &[u8],
     changes: &[ModeChange],
     line: &mut Text,
 ) -> bool
-    ensures { line_if result line.new ≡ line_of (codes "MODE") (channel.now ∷ changes_words (room_of parts.entry) changes.now) None (option_map sender doer.entry) }
+    ensures { Writes result line.new doer.entry (codes "MODE") (mode_params tables.now channel.now changes.now) None }
 {
     match doer {
         None => false,
         Some(prefix) => {
-            *line = mode_text(parts, prefix, channel, changes);
+            *line = mode_text(tables, prefix, channel, changes);
             true
         }
     }
 }
 
 /// The same line, from somebody who is there.
-fn mode_text(parts: RoomParts<'_>, doer: Prefix<'_>, channel: &[u8], changes: &[ModeChange]) -> Text
-    ensures { result.items ≡ text (mode_parts (room_of parts.entry) (sender doer.entry) channel.now changes.now) }
+fn mode_text(tables: &Tables, doer: Prefix<'_>, channel: &[u8], changes: &[ModeChange]) -> Text
+    ensures { result.items ≡ text (mode_parts tables.now (sender doer.entry) channel.now changes.now) }
 {
     let mut line = Text::new();
     push_prefix(&mut line, &doer);
     push_cut(&mut line, b"MODE ");
     push_cut(&mut line, channel);
     push_cut(&mut line, b" ");
-    push_changes(parts, &mut line, changes);
+    push_changes(tables, &mut line, changes);
     let _ = line.try_extend_from_slice(b"\r\n");
     line
 }
@@ -135,7 +133,7 @@ pub(crate) fn topic_line(
     topic: &[u8],
     line: &mut Text,
 ) -> bool
-    ensures { line_if result line.new ≡ line_of (codes "TOPIC") (channel.now ∷ []) (Some topic.now) (option_map sender doer.entry) }
+    ensures { Writes result line.new doer.entry (codes "TOPIC") (channel.now ∷ []) (Some topic.now) }
 {
     write_line(doer, b"TOPIC", &[channel], Some(topic), line)
 }
@@ -148,7 +146,7 @@ pub(crate) fn say_line(
     words: &[u8],
     line: &mut Text,
 ) -> bool
-    ensures { line_if result line.new ≡ line_of (if notice then codes "NOTICE" else codes "PRIVMSG") (target.now ∷ []) (Some words.now) (option_map sender doer.entry) }
+    ensures { Writes result line.new doer.entry (say_command notice) (target.now ∷ []) (Some words.now) }
 {
     let command: &[u8] = if notice { b"NOTICE" } else { b"PRIVMSG" };
     write_line(doer, command, &[target], Some(words), line)
@@ -161,7 +159,7 @@ pub(crate) fn invite_line<'a>(
     channel: &'a [u8],
     line: &mut Text,
 ) -> bool
-    ensures { line_if result line.new ≡ line_of (codes "INVITE") (nick.now ∷ channel.now ∷ []) None (option_map sender doer.entry) }
+    ensures { Writes result line.new doer.entry (codes "INVITE") (nick.now ∷ channel.now ∷ []) None }
 {
     write_line(doer, b"INVITE", &[nick, channel], None, line)
 }
@@ -173,7 +171,7 @@ pub(crate) fn user_mode_line(
     invisible: bool,
     line: &mut Text,
 ) -> bool
-    ensures { line_if result line.new ≡ line_of (codes "MODE") (nick.now ∷ (if invisible then codes "+i" else codes "-i") ∷ []) None (option_map sender doer.entry) }
+    ensures { Writes result line.new doer.entry (codes "MODE") (nick.now ∷ invisible_word invisible ∷ []) None }
 {
     let mode = if invisible { b"+i" } else { b"-i" };
     write_line(doer, b"MODE", &[nick, mode], None, line)

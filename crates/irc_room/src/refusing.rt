@@ -3,41 +3,32 @@ ghost use Rattle.std.specs.Prelude.{◌≡◌, ℕ, true, List};
 ghost use Rattle.std.specs.List.{list_all};
 ghost use Rattle.std.specs.Option.{option_copied, option_map_or};
 ghost use Rattle.irc_room.specs.Applying.{missing_fault, room_fault};
-ghost use Rattle.irc_room.specs.Effects.{is_named, needs_users, needs_channel};
+ghost use Rattle.irc_room.specs.Effects.{has_user, has_channel, needs_users, needs_channel};
+ghost use Rattle.irc_room.specs.Loops.Tables.{kept_of};
 
 use crate::effect::Effect;
 use crate::fault::RoomFault;
-use crate::indexed_channels::IndexedChannels;
-use irc_names::{ChannelName, Nick};
-use irc_users::Users;
+use crate::tables::Tables;
+use irc_names::Nick;
 
 /// Why a room with these users and channels refuses an effect, if it does.
-pub(crate) fn refusal(
-    failed: bool,
-    users: &Users,
-    channels: &IndexedChannels,
-    effect: &Effect,
-) -> Option<RoomFault>
-    ensures { (own : List ℕ) → result ≡ room_fault (record { own = own; failed = failed; room = record { users = users.now; channels = channels.now } }) effect.now }
+pub(crate) fn refusal(failed: bool, tables: &Tables, effect: &Effect) -> Option<RoomFault>
+    ensures { (own : List ℕ) → result ≡ room_fault (kept_of own failed tables.now) effect.now }
 {
     if failed {
         Some(RoomFault::Failed)
     } else {
-        missing(users, channels, effect)
+        missing(tables, effect)
     }
 }
 
 /// What of all that an effect names is not there, if anything is not.
-pub(crate) fn missing(
-    users: &Users,
-    channels: &IndexedChannels,
-    effect: &Effect,
-) -> Option<RoomFault>
-    ensures { result ≡ missing_fault (record { users = users.now; channels = channels.now }) effect.now }
+pub(crate) fn missing(tables: &Tables, effect: &Effect) -> Option<RoomFault>
+    ensures { result ≡ missing_fault tables.now effect.now }
 {
-    if !users_there(users, effect) {
+    if !users_there(tables, effect) {
         Some(RoomFault::NoSuchUser)
-    } else if !channel_there(channels, effect) {
+    } else if !channel_there(tables, effect) {
         Some(RoomFault::NoSuchChannel)
     } else {
         None
@@ -45,43 +36,36 @@ pub(crate) fn missing(
 }
 
 /// Whether a user has a nickname.
-fn is_user(users: &Users, nick: &Nick) -> bool
-    ensures { result ≡ is_named users.now nick.now }
+fn is_user(tables: &Tables, nick: &Nick) -> bool
+    ensures { result ≡ has_user tables.now nick.now }
 {
-    users.find(nick).is_some()
+    tables.users.find(nick).is_some()
 }
 
 /// Whether a user has this nickname, if there is one.
-fn is_there(users: &Users, nick: Option<&Nick>) -> bool
-    ensures { result ≡ option_map_or (is_named users.now) (option_copied nick.entry) true }
+fn is_there(tables: &Tables, nick: Option<&Nick>) -> bool
+    ensures { result ≡ option_map_or (has_user tables.now) (option_copied nick.entry) true }
 {
     match nick {
-        Some(nick) => is_user(users, nick),
+        Some(nick) => is_user(tables, nick),
         None => true,
     }
 }
 
 /// Whether all users are there that an effect names.
-fn users_there(users: &Users, effect: &Effect) -> bool
-    ensures { result ≡ list_all (is_named users.now) (needs_users effect.now) }
+fn users_there(tables: &Tables, effect: &Effect) -> bool
+    ensures { result ≡ list_all (has_user tables.now) (needs_users effect.now) }
 {
     let [doer, other] = effect.users();
-    is_there(users, doer) && is_there(users, other)
-}
-
-/// Whether a channel has a name.
-fn is_channel(channels: &IndexedChannels, name: &ChannelName) -> bool
-    ensures { result ≡ is_named channels.now name.now }
-{
-    channels.has(name)
+    is_there(tables, doer) && is_there(tables, other)
 }
 
 /// Whether the channel is there that an effect needs, if it needs one.
-fn channel_there(channels: &IndexedChannels, effect: &Effect) -> bool
-    ensures { result ≡ option_map_or (is_named channels.now) (needs_channel effect.now) true }
+fn channel_there(tables: &Tables, effect: &Effect) -> bool
+    ensures { result ≡ option_map_or (has_channel tables.now) (needs_channel effect.now) true }
 {
     match effect.channel() {
-        Some(channel) => is_channel(channels, channel),
+        Some(channel) => tables.has_channel(channel),
         None => true,
     }
 }

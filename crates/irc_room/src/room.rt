@@ -1,7 +1,7 @@
 //! One room.
-ghost use Rattle.std.specs.Prelude.{◌≡◌, ◌≤◌, ◌++◌, false, true, not, Some, None, filter, length, map, option_to_list, IfOk, OnOk, if◌then◌else◌};
-ghost use Rattle.std.specs.Option.{option_copied, option_map};
-ghost use Rattle.std.specs.FinMap.{empty, entries, values};
+ghost use Rattle.std.specs.Prelude.{◌≡◌, ◌≤◌, ◌++◌, false, true, Some, None, length, map, IfOk, if◌then◌else◌};
+ghost use Rattle.std.specs.Option.{option_copied};
+ghost use Rattle.std.specs.FinMap.{entries, values};
 ghost use Rattle.arrayvec.specs.ArrayVec.{array_vec_len};
 ghost use Rattle.irc_line.specs.Bytes.{cut};
 ghost use Rattle.irc_line.specs.Limits.{max_line};
@@ -9,19 +9,14 @@ ghost use Rattle.irc_names.specs.Fold.{key};
 ghost use Rattle.irc_names.specs.Limits.{max_channel};
 ghost use Rattle.irc_names.specs.Tables.{row};
 ghost use Rattle.irc_tables.specs.RowViews.{row_entry};
-ghost use Rattle.irc_users.specs.declared.user.User.{User};
 ghost use Rattle.irc_users.specs.Rosters.{boxed};
-ghost use Rattle.irc_users.specs.UserTable.{is_home};
-ghost use Rattle.irc_channels.specs.Channels.{has_member};
 ghost use Rattle.irc_channels.specs.ChannelTable.{members_in};
 ghost use Rattle.irc_room.specs.Applying.{Kept, Applied, IdleStays, ShowsHere, does};
 ghost use Rattle.irc_room.specs.Effects.{brings_free};
-ghost use Rattle.irc_room.specs.Indexes.{entries_under};
 ghost use Rattle.irc_room.specs.Laws.{no_room};
-ghost use Rattle.irc_room.specs.Loops.RoomParts.{room_of};
-ghost use Rattle.irc_room.specs.Readers.{user_at, channel_at, flags_at, is_invited_at, nicks_in};
+ghost use Rattle.irc_room.specs.Readers.{user_at, channel_at, channels_of, flags_at, is_invited_at, is_visible_at, nicks_in, rows_now, spelling_at, users_now, users_of, viewers_of};
 ghost use Rattle.irc_room.specs.Room.{IsWellFormed};
-ghost use Rattle.irc_room.specs.Seen.{changes_text, seen, stored_channel, stored_nick, target_name};
+ghost use Rattle.irc_room.specs.Seen.{changes_text, stored_channel, stored_nick, target_name};
 
 use crate::audience::{audience, member_nicks};
 use crate::changing::perform;
@@ -33,14 +28,14 @@ use crate::idle::is_idle;
 use crate::indexed_channels::IndexedChannels;
 use crate::mode_letters::push_changes;
 use crate::refusing::{missing, refusal};
-use crate::room_parts::{RoomParts, stored_channel, stored_nick, target_name};
 use crate::shown_line::ShownLine;
+use crate::tables::Tables;
 use irc_channels::{Channel, Flags};
 use irc_line::Text;
 use irc_modes::ModeChange;
 use irc_names::{ChannelName, Nick, ServerName};
 use irc_tables::Row;
-use irc_users::{User, Users};
+use irc_users::User;
 use std::alloc::{AllocError, Global};
 use std::marker::Model;
 
@@ -49,9 +44,8 @@ use std::marker::Model;
 pub struct Room {
     own: ServerName,
     failed: bool,
-    users: Users,
+    tables: Tables,
     at_home: usize,
-    channels: IndexedChannels,
     alloc: Global,
 }
 
@@ -67,9 +61,9 @@ impl Model for Room {
 
     ghost coded = { kept_code users_row.coded channel_row.coded };
 
-    ghost view = { λ r. record { own = r.own; failed = r.failed; room = record { users = r.users; channels = r.channels } } };
+    ghost view = { λ r. record { own = r.own; failed = r.failed; room = r.tables } };
 
-    ghost invariant = { λ r. IsCounted r.own r.at_home (record { users = r.users; channels = r.channels }) };
+    ghost invariant = { λ r. IsCounted r.own r.at_home r.tables };
 }
 
 impl Room {
@@ -80,9 +74,8 @@ impl Room {
         Room {
             own,
             failed: false,
-            users: Users::new(alloc),
+            tables: Tables::new(alloc),
             at_home: 0,
-            channels: IndexedChannels::new(alloc),
             alloc,
         }
     }
@@ -92,6 +85,7 @@ impl Room {
         ensures name { result.now ≡ self.now.own }
         ensures well_formed { IsWellFormed self.now.room }
     {
+        self.tables.know_well_formed();
         &self.own
     }
 
@@ -99,36 +93,36 @@ impl Room {
     pub fn user(&self, name: &[u8]) -> Option<&User>
         ensures { option_copied result ≡ user_at self.now.room (key name.now) }
     {
-        self.users.find_named(name)
+        self.tables.users.find_named(name)
     }
 
     /// The nickname, as it is spelled, of the user that [`Room::user`] finds for these bytes.
     pub fn spelling(&self, name: &[u8]) -> Option<&Nick>
-        ensures { option_copied result ≡ option_map (λ user. user.nick) (user_at self.now.room (key name.now)) }
+        ensures { option_copied result ≡ spelling_at self.now.room (key name.now) }
     {
-        self.users.spelling(name)
+        self.tables.users.spelling(name)
     }
 
     /// Whether the user that [`Room::user`] finds for these bytes is without mode i. It is looked for near a place first, as
     /// [`irc_users::Users::is_visible_near`] has it, so a walk over nicknames in folded order finds neighbours at once.
     pub fn is_visible_near(&self, near: &mut usize, name: &[u8]) -> Option<bool>
-        ensures { result ≡ option_map (λ user. not user.invisible) (user_at self.now.room (key name.now)) }
+        ensures { result ≡ is_visible_at self.now.room (key name.now) }
     {
-        self.users.is_visible_near(near, name)
+        self.tables.users.is_visible_near(near, name)
     }
 
     /// The channel whose name is the same as these bytes under the fold, which may be no channel's name themselves.
     pub fn channel(&self, name: &[u8]) -> Option<&Channel>
         ensures { option_copied result ≡ channel_at self.now.room (key name.now) }
     {
-        self.channels.find(name)
+        self.tables.channels.find(name)
     }
 
     /// The flags of the user of a nickname in the channel of a name, where it is a member.
     pub fn member(&self, nick: &[u8], channel: &[u8]) -> Option<Flags>
         ensures { result ≡ flags_at self.now.room (key nick.now) (key channel.now) }
     {
-        match self.channels.find(channel) {
+        match self.tables.channels.find(channel) {
             Some(channel) => flags_in(channel, nick),
             None => None,
         }
@@ -138,7 +132,7 @@ impl Room {
     pub fn invited(&self, nick: &[u8], channel: &[u8]) -> bool
         ensures { result ≡ is_invited_at self.now.room (key nick.now) (key channel.now) }
     {
-        match self.channels.find(channel) {
+        match self.tables.channels.find(channel) {
             Some(channel) => channel.invited.get(nick).is_some(),
             None => false,
         }
@@ -149,9 +143,9 @@ impl Room {
     /// # Errors
     /// Where memory runs out.
     pub fn users(&self) -> Result<Vec<&User, Global>, AllocError>
-        ensures { IfOk result (λ found. map (λ user. user.now) found.items ≡ values self.now.room.users) }
+        ensures { IfOk result (λ found. users_now found.items ≡ values self.now.room.users) }
     {
-        unboxed(self.users.as_slice(), self.alloc)
+        unboxed(self.tables.users.as_slice(), self.alloc)
     }
 
     /// The users that are connected to a server, in folded order of their nicknames.
@@ -159,26 +153,26 @@ impl Room {
     /// # Errors
     /// Where memory runs out.
     pub fn users_at(&self, home: &ServerName) -> Result<Vec<&User, Global>, AllocError>
-        ensures { IfOk result (λ found. map (λ user. user.now) found.items ≡ filter (is_home home.now) (values self.now.room.users)) }
+        ensures { IfOk result (λ found. users_now found.items ≡ users_of self.now.room home.now) }
     {
-        self.users.by_home(home)
+        self.tables.users.by_home(home)
     }
 
     /// How many users there are.
     pub fn user_count(&self) -> usize
         ensures { result ≡ length (values self.now.room.users) }
     {
-        self.users.len()
+        self.tables.user_count()
     }
 
     /// How many users are connected to a server. For the one that keeps the room no user is looked at.
     pub fn home_count(&self, home: &ServerName) -> usize
-        ensures { result ≡ length (filter (is_home home.now) (values self.now.room.users)) }
+        ensures { result ≡ length (users_of self.now.room home.now) }
     {
         if self.own.as_bytes() == home.as_bytes() {
             self.at_home
         } else {
-            homed(home, self.users.as_slice())
+            homed(home, self.tables.users.as_slice())
         }
     }
 
@@ -186,7 +180,7 @@ impl Room {
     pub fn channels(&self) -> &[Row<Channel>]
         ensures { map row_entry result.now ≡ entries self.now.room.channels }
     {
-        self.channels.as_slice()
+        self.tables.channels.as_slice()
     }
 
     /// The channels that the user of a nickname is a member of, in folded order of their names.
@@ -194,19 +188,16 @@ impl Room {
     /// # Errors
     /// Where memory runs out.
     pub fn channels_of(&self, nick: &[u8]) -> Result<Vec<&Row<Channel>, Global>, AllocError>
-        ensures { IfOk result (λ found. map (λ row. row_entry row.now) found.items ≡ filter (λ e. has_member (key nick.now) e.1) (entries self.now.room.channels)) }
+        ensures { IfOk result (λ found. rows_now found.items ≡ channels_of self.now.room nick.now) }
     {
-        let mut near = 0;
-        let _ = self.users.find_near(&mut near, nick);
-        let names = self.channels.names_near(&mut near, nick);
-        with_names(&self.channels, self.alloc, names)
+        self.tables.channels_of(self.alloc, nick)
     }
 
     /// How many channels the user of a nickname is a member of. No channel is looked at.
     pub fn channel_count(&self, nick: &[u8]) -> usize
-        ensures { result ≡ length (filter (λ e. has_member (key nick.now) e.1) (entries self.now.room.channels)) }
+        ensures { result ≡ length (channels_of self.now.room nick.now) }
     {
-        self.channels.names_of(nick).len()
+        self.tables.channels.names_of(nick).len()
     }
 
     /// The members of the channel of a name with their flags, in folded order of their nicknames; none where there is no such
@@ -214,7 +205,7 @@ impl Room {
     pub fn members_of(&self, channel: &[u8]) -> &[Row<Flags>]
         ensures { map row_entry result.now ≡ members_in (channel_at self.now.room (key channel.now)) }
     {
-        self.channels.members(channel)
+        self.tables.channels.members(channel)
     }
 
     /// Whether an effect does anything: whom and what it names is there, and it is no Join by a member, and no Part or Kick of
@@ -222,11 +213,7 @@ impl Room {
     pub fn does(&self, effect: &Effect) -> bool
         ensures { result ≡ does self.now.room effect.now }
     {
-        let parts = RoomParts {
-            users: &self.users,
-            channels: &self.channels,
-        };
-        missing(&self.users, &self.channels, effect).is_none() && !is_idle(parts, effect)
+        missing(&self.tables, effect).is_none() && !is_idle(&self.tables, effect)
     }
 
     /// The nicknames of all who see an effect, on whichever server, in folded order (RFC 2812 section 3).
@@ -234,13 +221,9 @@ impl Room {
     /// # Errors
     /// Where memory runs out.
     pub fn audience(&self, effect: &Effect) -> Result<Vec<Nick, Global>, AllocError>
-        ensures { IfOk result (λ viewers. viewers.items ≡ map (λ s. s.viewer) (seen self.now.room effect.now)) }
+        ensures { IfOk result (λ viewers. viewers.items ≡ viewers_of self.now.room effect.now) }
     {
-        let parts = RoomParts {
-            users: &self.users,
-            channels: &self.channels,
-        };
-        audience(self.alloc, parts, effect)
+        audience(self.alloc, &self.tables, effect)
     }
 
     /// The nicknames of the members of a channel, on whichever server, in folded order; none where there is no such channel.
@@ -250,11 +233,7 @@ impl Room {
     pub fn member_nicks(&self, channel: &ChannelName) -> Result<Vec<Nick, Global>, AllocError>
         ensures { IfOk result (λ nicks. nicks.items ≡ nicks_in self.now.room channel.now) }
     {
-        let parts = RoomParts {
-            users: &self.users,
-            channels: &self.channels,
-        };
-        member_nicks(self.alloc, parts, channel)
+        member_nicks(self.alloc, &self.tables, channel)
     }
 
     /// Writes the line that an effect shows to each user of the room's own server who sees it, with its CR LF (RFC 2812 section 2.3), and
@@ -262,18 +241,14 @@ impl Room {
     pub fn write_line(&self, effect: &Effect, line: &mut Text) -> bool
         ensures { ShowsHere self.now effect.now (if result then Some line.new.items else None) }
     {
-        let parts = RoomParts {
-            users: &self.users,
-            channels: &self.channels,
-        };
-        effect_line(self.own.as_bytes(), parts, effect, line)
+        effect_line(self.own.as_bytes(), &self.tables, effect, line)
     }
 
     /// The nickname that these bytes are under the fold, as it is stored, or the bytes as given where there is no such user.
     pub fn stored_nick<'a>(&'a self, nick: &'a [u8]) -> &'a [u8]
         ensures { result.now ≡ stored_nick self.now.room nick.now }
     {
-        stored_nick(self.parts(), nick)
+        self.tables.stored_nick(nick)
     }
 
     /// A channel's name as it is stored, or as it was given where there is no such channel.
@@ -281,14 +256,14 @@ impl Room {
         ensures name { result.now ≡ stored_channel self.now.room channel.now }
         ensures fits { length result.now ≤ max_channel }
     {
-        stored_channel(self.parts(), channel)
+        self.tables.stored_channel(channel)
     }
 
     /// The name of whom a text is for, as it is stored.
     pub fn target_name<'a>(&'a self, target: &'a Target) -> &'a [u8]
         ensures { result.now ≡ target_name self.now.room target.now }
     {
-        target_name(self.parts(), target)
+        self.tables.target_name(target)
     }
 
     /// Appends changes of modes as this room writes them (RFC 2812 section 3.2.3): the letters, and then each parameter behind a space, a
@@ -298,17 +273,7 @@ impl Room {
         ensures pushed { line.new.items ≡ cut (line.old.items ++ changes_text self.now.room changes.now) }
         ensures still_cut { array_vec_len line.new ≤ max_line }
     {
-        push_changes(self.parts(), line, changes);
-    }
-
-    /// The two tables.
-    fn parts(&self) -> RoomParts<'_>
-        ensures { room_of result ≡ self.now.room }
-    {
-        RoomParts {
-            users: &self.users,
-            channels: &self.channels,
-        }
+        push_changes(&self.tables, line, changes);
     }
 
     /// Applies an effect: the room is the one after it, and `shown` is what it shows to the server's own users.
@@ -326,22 +291,21 @@ impl Room {
         ensures idle { IdleStays self.old effect.now result self.new shown.new }
     {
         shown.viewers.clear();
-        if let Some(fault) = refusal(self.failed, &self.users, &self.channels, effect) {
+        if let Some(fault) = refusal(self.failed, &self.tables, effect) {
             return Err(fault);
         }
-        let stay = staying(&self.own, &self.users, self.at_home, effect);
+        let stay = staying(&self.own, &self.tables, self.at_home, effect);
         self.failed = true;
         match perform(
             self.alloc,
             self.own.as_bytes(),
-            &mut self.users,
-            &mut self.channels,
+            &mut self.tables,
             effect,
             shown,
         ) {
             Ok(()) => {
                 self.failed = false;
-                self.at_home = with_newcomer(&self.own, &self.users, stay, effect);
+                self.at_home = with_newcomer(&self.own, &self.tables, stay, effect);
                 Ok(())
             }
             Err(_) => {
@@ -354,7 +318,7 @@ impl Room {
 
 /// The users in some boxes, in their order.
 fn unboxed(users: &[Box<User, Global>], alloc: Global) -> Result<Vec<&User, Global>, AllocError>
-    ensures { IfOk result (λ found. map (λ user. user.now) found.items ≡ map boxed users.now) }
+    ensures { IfOk result (λ found. users_now found.items ≡ map boxed users.now) }
 {
     let mut found = Vec::new(alloc);
     for user in users {
@@ -362,35 +326,6 @@ fn unboxed(users: &[Box<User, Global>], alloc: Global) -> Result<Vec<&User, Glob
         found.push(one)?;
     }
     Ok(found)
-}
-
-/// The channels under some names, in their order.
-fn with_names<'a>(
-    channels: &'a IndexedChannels,
-    alloc: Global,
-    names: &[Row<()>],
-) -> Result<Vec<&'a Row<Channel>, Global>, AllocError>
-    ensures { IfOk result (λ found. map (λ row. row_entry row.now) found.items ≡ entries_under channels.now (map row_entry names.now)) }
-{
-    let mut found = Vec::new(alloc);
-    for row in names {
-        add_named(channels, row.name.as_slice(), &mut found)?;
-    }
-    Ok(found)
-}
-
-/// Appends the channel of a name, if it is there.
-fn add_named<'a>(
-    channels: &'a IndexedChannels,
-    name: &[u8],
-    found: &mut Vec<&'a Row<Channel>, Global>,
-) -> Result<(), AllocError>
-    ensures { OnOk result (map (λ row. row_entry row.now) found.new.items ≡ map (λ row. row_entry row.now) found.old.items ++ option_to_list (option_map (λ channel. (key name.now, channel)) (row channels.now (key name.now)))) }
-{
-    if let Some(row) = channels.find_row(name) {
-        found.push(row)?;
-    }
-    Ok(())
 }
 
 /// The flags of the user of a nickname in a channel.

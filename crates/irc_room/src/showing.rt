@@ -1,16 +1,15 @@
 //! What an effect shows to the users of one server.
-ghost use Rattle.std.specs.Prelude.{◌≡◌, [], false, ◌++◌, map, OnOk};
-ghost use Rattle.std.specs.List.{flat_map};
+ghost use Rattle.std.specs.Prelude.{◌≡◌, [], false, ◌++◌, OnOk};
 ghost use Rattle.irc_room.specs.Applying.{pairs_of};
 ghost use Rattle.irc_room.specs.Effects.{is_idle};
-ghost use Rattle.irc_room.specs.Loops.Viewing.{own_nick, viewers};
-ghost use Rattle.irc_room.specs.Loops.RoomParts.{room_of};
-ghost use Rattle.irc_room.specs.Loops.Telling.{shown_at, AreNamed};
+ghost use Rattle.irc_room.specs.Readers.{users_now};
+ghost use Rattle.irc_room.specs.Loops.Viewing.{own_nick, own_nicks, own_viewers};
+ghost use Rattle.irc_room.specs.Loops.Telling.{shown_at};
 
 use crate::effect::Effect;
 use crate::effect_lines::effect_line;
-use crate::room_parts::RoomParts;
 use crate::shown_line::ShownLine;
+use crate::tables::Tables;
 use crate::viewers::viewers;
 use irc_names::Nick;
 use irc_users::User;
@@ -20,17 +19,17 @@ use std::alloc::{AllocError, Global};
 pub(crate) fn show(
     alloc: Global,
     own: &[u8],
-    parts: RoomParts<'_>,
+    tables: &Tables,
     effect: &Effect,
     shown: &mut ShownLine,
 ) -> Result<(), AllocError>
-    requires named { AreNamed parts.users.now }
-    requires busy { is_idle (room_of parts) effect.now ≡ false }
+    requires busy { is_idle tables.now effect.now ≡ false }
     requires none { shown.old.viewers.items ≡ [] }
-    ensures { OnOk result (pairs_of shown.new ≡ shown_at own.now (room_of parts.entry) effect.now) }
+    ensures { OnOk result (pairs_of shown.new ≡ shown_at own.now tables.now effect.now) }
 {
-    if effect_line(own, parts, effect, &mut shown.line) {
-        add_viewers(alloc, own, parts, effect, &mut shown.viewers)?;
+    tables.know_well_formed();
+    if effect_line(own, tables, effect, &mut shown.line) {
+        add_viewers(alloc, own, tables, effect, &mut shown.viewers)?;
     }
     Ok(())
 }
@@ -39,20 +38,19 @@ pub(crate) fn show(
 fn add_viewers(
     alloc: Global,
     own: &[u8],
-    parts: RoomParts<'_>,
+    tables: &Tables,
     effect: &Effect,
     nicks: &mut Vec<Nick, Global>,
 ) -> Result<(), AllocError>
-    requires { AreNamed parts.users.now }
-    ensures { OnOk result (nicks.new.items ≡ nicks.old.items ++ flat_map (own_nick own.now) (viewers (room_of parts.entry) effect.now)) }
+    ensures { OnOk result (nicks.new.items ≡ nicks.old.items ++ own_viewers own.now tables.now effect.now) }
 {
-    let users = viewers(alloc, parts, effect)?;
+    let users = viewers(alloc, tables, effect)?;
     add_each(own, users.as_slice(), nicks)
 }
 
 /// Adds each of these users that is one of the server.
 fn add_each(own: &[u8], users: &[&User], nicks: &mut Vec<Nick, Global>) -> Result<(), AllocError>
-    ensures { OnOk result (nicks.new.items ≡ nicks.old.items ++ flat_map (own_nick own.now) (map (λ user. user.now) users.now)) }
+    ensures { OnOk result (nicks.new.items ≡ nicks.old.items ++ own_nicks own.now (users_now users.now)) }
 {
     for user in users {
         add_own(own, user, nicks)?;

@@ -1,24 +1,18 @@
 //! The users that see an effect, in folded order.
-ghost use Rattle.std.specs.Prelude.{◌≡◌, ◌≤◌, ◌++◌, ◌&&◌, ◌||◌, ℕ, Bool, List, not, length, map, filter, is_some, option_to_list, IfOk, OnOk};
-ghost use Rattle.std.specs.List.{list_any};
-ghost use Rattle.std.specs.FinMap.{values};
-ghost use Rattle.arrayvec.specs.ArrayVec.{ArrayVec};
+ghost use Rattle.std.specs.Prelude.{◌≡◌, ◌≤◌, ◌++◌, not, length, map, filter, IfOk, OnOk};
 ghost use Rattle.irc_names.specs.Fold.{key, same};
-ghost use Rattle.irc_names.specs.Tables.{row};
 ghost use Rattle.irc_names.specs.TableLaws.{same_fold};
 ghost use Rattle.irc_tables.specs.RowViews.{row_entry};
 ghost use Rattle.irc_channels.specs.Channels.{has_member};
-ghost use Rattle.irc_room.specs.declared.effect.Effect.TheVariants.{Say};
 ghost use Rattle.irc_room.specs.Effects.{is_member};
 ghost use Rattle.irc_room.specs.Indexes.{holds, own_names};
-ghost use Rattle.irc_room.specs.Loops.Viewing.{joins_both, users_under, Finds, Gains};
-ghost use Rattle.irc_room.specs.Loops.RoomParts.{room_of};
-ghost use Rattle.irc_room.specs.Seen.{sees, share_channel};
-ghost use Rattle.irc_room.specs.Loops.Telling.{AreNamed};
+ghost use Rattle.irc_room.specs.Loops.Viewing.{hears, hears_text, is_in_any, is_one_of, is_sharer, sees_join, sees_quit, sees_rename, user_named, users_under, AreSharers, Finds, Gains};
+ghost use Rattle.irc_room.specs.Readers.{users_now};
+ghost use Rattle.irc_room.specs.Seen.{sees};
 
 use crate::effect::{Effect, Target};
 use crate::indexed_channels::IndexedChannels;
-use crate::room_parts::RoomParts;
+use crate::tables::Tables;
 use irc_channels::Flags;
 use irc_names::{ChannelName, MAX_CHANNEL, Nick};
 use irc_tables::{NameTable, Row};
@@ -28,83 +22,78 @@ use std::alloc::{AllocError, Global};
 /// The users that see an effect, found by the names that stand in the channels it is about: besides them only its doer is looked at.
 pub(crate) fn viewers<'a>(
     alloc: Global,
-    parts: RoomParts<'a>,
+    tables: &'a Tables,
     effect: &Effect,
 ) -> Result<Vec<&'a User, Global>, AllocError>
-    requires { AreNamed parts.users.now }
-    ensures { IfOk result (λ found. Finds (room_of parts.entry) (λ room. sees room effect.now) found.items) }
+    ensures { IfOk result (λ found. Finds tables.now (λ room. sees room effect.now) found.items) }
 {
     match effect {
         Effect::AddUser(_) => Ok(Vec::new(alloc)),
-        Effect::Rename { nick, .. } => with_sharers(alloc, parts, nick),
-        Effect::Quit { nick, .. } => sharers(alloc, parts, nick),
-        Effect::Join { nick, channel, .. } => with_joiner(alloc, parts, nick, channel),
+        Effect::Rename { nick, .. } => with_sharers(alloc, tables, nick),
+        Effect::Quit { nick, .. } => sharers(alloc, tables, nick),
+        Effect::Join { nick, channel, .. } => with_joiner(alloc, tables, nick, channel),
         Effect::Part { channel, .. }
         | Effect::Kick { channel, .. }
         | Effect::ChangeModes { channel, .. }
-        | Effect::SetTopic { channel, .. } => members(alloc, parts, channel),
-        Effect::Say { by, target, .. } => hearers(alloc, parts, by, target),
-        Effect::Invite { nick, .. } | Effect::UserMode { nick, .. } => only(alloc, parts, nick),
+        | Effect::SetTopic { channel, .. } => members(alloc, tables, channel),
+        Effect::Say { by, target, .. } => hearers(alloc, tables, by, target),
+        Effect::Invite { nick, .. } | Effect::UserMode { nick, .. } => only(alloc, tables, nick),
     }
 }
 
 /// Those that are shown what a user says.
 fn hearers<'a>(
     alloc: Global,
-    parts: RoomParts<'a>,
+    tables: &'a Tables,
     by: &Nick,
     target: &Target,
 ) -> Result<Vec<&'a User, Global>, AllocError>
-    requires { AreNamed parts.users.now }
-    ensures { (notice : Bool) (text : ArrayVec ℕ) → IfOk result (λ found. Finds (room_of parts.entry) (λ room. sees room (Say by.now notice target.now text)) found.items) }
+    ensures { IfOk result (λ found. Finds tables.now (λ room. hears_text room by.now target.now) found.items) }
 {
     match target {
-        Target::User(nick) => only(alloc, parts, nick),
-        Target::Channel(channel) => others(alloc, parts, by, channel),
+        Target::User(nick) => only(alloc, tables, nick),
+        Target::Channel(channel) => others(alloc, tables, by, channel),
     }
 }
 
 /// The user of a nickname, if it is there.
 fn only<'a>(
     alloc: Global,
-    parts: RoomParts<'a>,
+    tables: &'a Tables,
     nick: &Nick,
 ) -> Result<Vec<&'a User, Global>, AllocError>
-    requires { AreNamed parts.users.now }
-    ensures { IfOk result (λ found. Finds (room_of parts.entry) (λ room. same nick.now) found.items) }
+    ensures { IfOk result (λ found. Finds tables.now (λ room. same nick.now) found.items) }
 {
     let mut found = Vec::new(alloc);
-    add_named(parts.users, &mut 0, nick.as_bytes(), &mut found)?;
+    add_named(&tables.users, &mut 0, nick.as_bytes(), &mut found)?;
     Ok(found)
 }
 
 /// The members of a channel.
 pub(crate) fn members<'a>(
     alloc: Global,
-    parts: RoomParts<'a>,
+    tables: &'a Tables,
     channel: &ChannelName,
 ) -> Result<Vec<&'a User, Global>, AllocError>
-    requires { AreNamed parts.users.now }
-    ensures { IfOk result (λ found. Finds (room_of parts.entry) (λ room viewer. is_member room viewer channel.now) found.items) }
+    ensures { IfOk result (λ found. Finds tables.now (λ room viewer. is_member room viewer channel.now) found.items) }
 {
     users_of(
         alloc,
-        parts.users,
-        parts.channels.members(channel.as_bytes()),
+        &tables.users,
+        tables.channels.members(channel.as_bytes()),
     )
 }
 
 /// The members of a channel but for one user.
 fn others<'a>(
     alloc: Global,
-    parts: RoomParts<'a>,
+    tables: &'a Tables,
     by: &Nick,
     channel: &ChannelName,
 ) -> Result<Vec<&'a User, Global>, AllocError>
-    requires { AreNamed parts.users.now }
-    ensures { IfOk result (λ found. Finds (room_of parts.entry) (λ room viewer. not (same by.now viewer) && is_member room viewer channel.now) found.items) }
+    ensures { IfOk result (λ found. Finds tables.now (λ room. hears room by.now channel.now) found.items) }
 {
-    let mut found = members(alloc, parts, channel)?;
+    let mut found = members(alloc, tables, channel)?;
     leave_out(&mut found, by);
     Ok(found)
 }
@@ -119,57 +108,54 @@ fn leave_out(found: &mut Vec<&User, Global>, nick: &Nick)
 /// The members of a channel, and a user that joins it.
 fn with_joiner<'a>(
     alloc: Global,
-    parts: RoomParts<'a>,
+    tables: &'a Tables,
     nick: &Nick,
     channel: &ChannelName,
 ) -> Result<Vec<&'a User, Global>, AllocError>
-    requires { AreNamed parts.users.now }
-    ensures { IfOk result (λ found. Finds (room_of parts.entry) (λ room viewer. same nick.now viewer || is_member room viewer channel.now) found.items) }
+    ensures { IfOk result (λ found. Finds tables.now (λ room. sees_join room nick.now channel.now) found.items) }
 {
     let mut names = NameTable::new(alloc);
-    put_rows(&mut names, parts.channels.members(channel.as_bytes()))?;
+    put_rows(&mut names, tables.channels.members(channel.as_bytes()))?;
     put_name(&mut names, nick.as_bytes())?;
-    users_of(alloc, parts.users, names.as_slice())
+    users_of(alloc, &tables.users, names.as_slice())
 }
 
 /// A user, and those that share a channel with it.
 fn with_sharers<'a>(
     alloc: Global,
-    parts: RoomParts<'a>,
+    tables: &'a Tables,
     nick: &Nick,
 ) -> Result<Vec<&'a User, Global>, AllocError>
-    requires { AreNamed parts.users.now }
-    ensures { IfOk result (λ found. Finds (room_of parts.entry) (λ room viewer. same nick.now viewer || share_channel room nick.now viewer) found.items) }
+    ensures { IfOk result (λ found. Finds tables.now (λ room. sees_rename room nick.now) found.items) }
 {
-    let mut names = names_sharing(alloc, parts, nick)?;
+    let mut names = names_sharing(alloc, tables, nick)?;
     put_name(&mut names, nick.as_bytes())?;
-    users_of(alloc, parts.users, names.as_slice())
+    users_of(alloc, &tables.users, names.as_slice())
 }
 
 /// Those that share a channel with a user, but for the user.
 fn sharers<'a>(
     alloc: Global,
-    parts: RoomParts<'a>,
+    tables: &'a Tables,
     nick: &Nick,
 ) -> Result<Vec<&'a User, Global>, AllocError>
-    requires { AreNamed parts.users.now }
-    ensures { IfOk result (λ found. Finds (room_of parts.entry) (λ room viewer. not (same nick.now viewer) && share_channel room nick.now viewer) found.items) }
+    ensures { IfOk result (λ found. Finds tables.now (λ room. sees_quit room nick.now) found.items) }
 {
-    let mut names = names_sharing(alloc, parts, nick)?;
+    let mut names = names_sharing(alloc, tables, nick)?;
     names.remove(nick.as_bytes());
-    users_of(alloc, parts.users, names.as_slice())
+    users_of(alloc, &tables.users, names.as_slice())
 }
 
 /// The nicknames of all members of the channels that a user is in, each once.
 fn names_sharing(
     alloc: Global,
-    parts: RoomParts<'_>,
+    tables: &Tables,
     nick: &Nick,
 ) -> Result<NameTable<Flags>, AllocError>
-    ensures { IfOk result (λ names. (fold : List ℕ) → is_some (row names fold) ≡ list_any (joins_both (key nick.now) fold) (values parts.entry.channels.now)) }
+    ensures { IfOk result (λ names. AreSharers names tables.now.channels nick.now) }
 {
     let mut names = NameTable::new(alloc);
-    put_shared(&mut names, parts.channels, nick)?;
+    put_shared(&mut names, &tables.channels, nick)?;
     Ok(names)
 }
 
@@ -179,7 +165,7 @@ fn users_of<'a>(
     users: &'a Users,
     rows: &[Row<Flags>],
 ) -> Result<Vec<&'a User, Global>, AllocError>
-    ensures { IfOk result (λ found. map (λ user. user.now) found.items ≡ users_under users.now (map row_entry rows.now)) }
+    ensures { IfOk result (λ found. users_now found.items ≡ users_under users.now (map row_entry rows.now)) }
 {
     let mut found = Vec::new(alloc);
     let mut place = 0;
@@ -196,7 +182,7 @@ fn add_named<'a>(
     name: &[u8],
     found: &mut Vec<&'a User, Global>,
 ) -> Result<(), AllocError>
-    ensures { OnOk result (map (λ user. user.now) found.new.items ≡ map (λ user. user.now) found.old.items ++ option_to_list (row users.now (key name.now))) }
+    ensures { OnOk result (users_now found.new.items ≡ users_now found.old.items ++ user_named users.now name.now) }
 {
     if let Some(user) = users.find_near(place, name) {
         found.push(user)?;
@@ -210,7 +196,7 @@ fn put_shared(
     channels: &IndexedChannels,
     nick: &Nick,
 ) -> Result<(), AllocError>
-    ensures { OnOk result (Gains names.old names.new (λ fold. list_any (joins_both (key nick.now) fold) (values channels.now))) }
+    ensures { OnOk result (Gains names.old names.new (is_sharer channels.now nick.now)) }
 {
     put_all(names, channels, channels_of_user(channels, nick))
 }
@@ -228,7 +214,7 @@ fn put_all(
     channels: &IndexedChannels,
     rows: &[Row<()>],
 ) -> Result<(), AllocError>
-    ensures { OnOk result (Gains names.old names.new (λ fold. list_any (λ row. holds has_member channels.now fold (key row.name.items)) rows.now)) }
+    ensures { OnOk result (Gains names.old names.new (is_in_any channels.now rows.now)) }
 {
     for row in rows {
         put_members(names, channels, row.name.as_slice())?;
@@ -249,7 +235,7 @@ fn put_members(
 
 /// Adds the names of some rows.
 fn put_rows(names: &mut NameTable<Flags>, rows: &[Row<Flags>]) -> Result<(), AllocError>
-    ensures { OnOk result (Gains names.old names.new (λ fold. list_any (λ row. same_fold fold (key row.name.items)) rows.now)) }
+    ensures { OnOk result (Gains names.old names.new (is_one_of rows.now)) }
 {
     for row in rows {
         put_name(names, row.name.as_slice())?;

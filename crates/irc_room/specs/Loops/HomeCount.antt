@@ -7,7 +7,7 @@ use Rattle.irc_users.specs.declared.user.User.{User}
 use Rattle.irc_users.specs.UserTable.{is_home}
 use Rattle.irc_room.specs.declared.effect.Effect.{Effect}
 use Rattle.irc_room.specs.declared.effect.Effect.TheVariants.{AddUser, Quit}
-use Rattle.irc_room.specs.Room.{Room, IsWellFormed}
+use Rattle.irc_room.specs.Room.{Room}
 
 -- the users of a server
 abbrev pub home_count : List ℕ → Table User → ℕ
@@ -28,6 +28,5 @@ come home (AddUser user) = one_of (is_home home) (Some user)
 come home other = 0
 
 -- what the code keeps always
-pub record IsCounted (own : List ℕ) (at_home : ℕ) (room : Room) : Type 0 where
-  pub well : IsWellFormed room
-  pub home : at_home ≡ home_count own room.users
+abbrev pub IsCounted : List ℕ → ℕ → Room → Type 0
+IsCounted own at_home room = at_home ≡ home_count own room.users

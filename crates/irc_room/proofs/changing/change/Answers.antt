@@ -5,7 +5,7 @@ use Rattle.irc_room.proofs.changing.change.Goals as goal
 
 pub rename_member-requires : goal.rename_member-requires
 rename_member-requires c =
-    free_in_room c.args.users.now c.args.channels.now c.args.effect.now _ _ c.requires.well c.in-Rename.is c.requires.free
+    free_in_room c.args.users.now c.args.channels.now c.args.effect.now _ _ c.requires.well c.in-Rename.is c.requires.possible.nick_free
 
 pub returns-in-Quit-clause-ok : goal.returns-in-Quit-clause-ok
 unfolding after

@@ -2,7 +2,6 @@ use Rattle.std.proofs.Common.{[], ◌++◌, ◌∙◌, ap, refl, option_to_list,
 use Rattle.irc_line.specs.Bytes.{cut}
 use Rattle.irc_line.specs.Messages.{middle_text}
 use Rattle.irc_modes.specs.declared.modes.ModeChange.{ModeChange}
-use Rattle.irc_room.specs.Loops.RoomParts.{room_of}
 use Rattle.irc_room.specs.Seen.{written_word}
 use Rattle.irc_line.specs.Lemmas.CutPieces.{piece_on}
 use Rattle.irc_modes.specs.Lemmas.ModePieces.{words_next, words_done}
@@ -16,7 +15,7 @@ loop-change-preserved c =
     let changes = c.args.changes.now in
     let i = c.loop-change.change-index in
     let line = c.loop-change.line.items in
-    let written = written_word (room_of c.args.parts) in
+    let written = written_word c.args.tables.now in
     let pushed = c.push_parameter.ensures.pushed
     ∙ ap (λ o. cut (line ++ middle_text (option_to_list o))) c.written_word.ensures
     ∙ ap (λ (m : ModeChange). cut (line ++ middle_text (option_to_list (written m)))) c.change-item.is in
@@ -27,5 +26,5 @@ loop-change-preserved c =
 
 pub returns-clause-pushed : goal.returns-clause-pushed
 returns-clause-pushed c =
-    words_done (written_word (room_of c.args.parts)) _ _ c.args.changes.now c.loop-change.change-index (omega (arith, c.loop-change-test.false))
+    words_done (written_word c.args.tables.now) _ _ c.args.changes.now c.loop-change.change-index (omega (arith, c.loop-change-test.false))
     c.loop-change.invariant.still_cut c.loop-change.invariant.pushed

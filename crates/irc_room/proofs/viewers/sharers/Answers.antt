@@ -1,11 +1,17 @@
+use Rattle.std.proofs.Common.{◌∙◌, ap, map, subst}
+use Rattle.irc_tables.specs.RowViews.{row_entry}
+use Rattle.irc_room.specs.Loops.Telling.{AreNamed}
+use Rattle.irc_room.specs.Loops.Viewing.{users_under}
+use Rattle.irc_room.specs.Room.{Room}
 use Rattle.irc_room.proofs.WhoSees.{found_also, names_chosen, all_but_one}
-use Rattle.std.proofs.Common.{◌∙◌}
 use Rattle.irc_room.proofs.viewers.sharers.Goals as goal
 
 pub returns : goal.returns
 returns c =
+    let named = subst (λ (room : Room). AreNamed room.users) c.tables.view_is c.tables.invariant.users_named in
     found_also c.users_of.result
     (λ found is. is
-    ∙ names_chosen c.args.parts.users.now c.requires _ c.as_slice.result.now _ c.as_slice.ensures
+    ∙ ap (λ (room : Room). users_under room.users (map row_entry c.as_slice.result.now)) c.tables.view_is
+    ∙ names_chosen c.args.tables.now.users named _ c.as_slice.result.now _ c.as_slice.ensures
     (all_but_one _ _ c.args.nick.now c.as_bytes.result.now c.as_bytes.ensures.value _ c.in_ok-names.ensures c.remove.ensures.after))
     c.users_of.ensures

@@ -1,13 +1,12 @@
-use Rattle.std.proofs.Common.{◌∙◌, ap, sym, subst, refl}
+use Rattle.std.proofs.Common.{◌∙◌, ap, sym, refl}
 use Rattle.irc_room.specs.Applying.{Kept, room_fault, shown_here}
 use Rattle.irc_room.specs.Effects.{brings_free, is_idle}
-use Rattle.irc_room.specs.Room.{Room, IsWellFormed}
+use Rattle.irc_room.specs.Room.{Room}
 use Rattle.irc_room.specs.Loops.HomeCount.{home_count}
 use Rattle.irc_room.specs.Loops.Telling.{shown_at}
 use Rattle.irc_room.proofs.CountedUsers.{still_counted}
 use Rattle.irc_room.proofs.Refusals.{refused, served, kept_changed, kept_refused, idle_stays, not_done}
 use Rattle.irc_room.specs.Lemmas.Rows.{not_none}
-use Rattle.irc_room.specs.Lemmas.WellFormedLaw.{after_is_well_formed}
 use Rattle.irc_room.proofs.room.Room.apply.Goals as goal
 
 pub returns-in-Some-clause-applied : goal.returns-in-Some-clause-applied
@@ -15,34 +14,25 @@ returns-in-Some-clause-applied c =
     refused c.args.self.now c.args.effect.now c.in-Some.fault (record c.args.shown.now { viewers = c.clear.new.self })
     (c.in-Some.ensures c.self.inside.own ∙ ap (λ k. room_fault k c.args.effect.now) c.self.view_is) c.clear.ensures.items
 
-pub perform-requires-clause-there : goal.perform-requires-clause-there
-perform-requires-clause-there c =
-    let kept : Kept = record { own = c.self.inside.own; failed = c.self.inside.failed; room = record { users = c.self.inside.users; channels = c.self.inside.channels } } in
-    (served kept c.args.effect.now (sym (c.refusal.ensures c.self.inside.own) ∙ c.in_default.is)).users_there
-
-pub invariant_of-self : goal.invariant_of-self
-invariant_of-self c =
-    let kept : Kept = record { own = c.self.inside.own; failed = c.self.inside.failed; room = record { users = c.self.inside.users; channels = c.self.inside.channels } } in
+pub perform-requires-clause-possible : goal.perform-requires-clause-possible
+perform-requires-clause-possible c =
+    let kept : Kept = record { own = c.self.inside.own; failed = c.self.inside.failed; room = c.self.inside.tables } in
     let all = served kept c.args.effect.now (sym (c.refusal.ensures c.self.inside.own) ∙ c.in_default.is) in record {
-      well = subst IsWellFormed (sym c.in-Ok.ensures.changed)
-          (after_is_well_formed kept.room c.args.effect.now c.self.invariant.well (record {
-            users_there = all.users_there;
-            channel_there = all.channel_there;
-            nick_free = ap (λ (k : Kept). brings_free k.room c.args.effect.now) c.self.view_is ∙ c.requires;
-          }));
-      home = c.with_newcomer-self-inside.ensures;
+      users_there = all.users_there;
+      channel_there = all.channel_there;
+      nick_free = ap (λ (k : Kept). brings_free k.room c.args.effect.now) c.self.view_is ∙ c.requires;
     }
 
 pub with_newcomer-self-inside-requires : goal.with_newcomer-self-inside-requires
 with_newcomer-self-inside-requires c =
-    let kept : Kept = record { own = c.self.inside.own; failed = c.self.inside.failed; room = record { users = c.self.inside.users; channels = c.self.inside.channels } } in
+    let kept : Kept = record { own = c.self.inside.own; failed = c.self.inside.failed; room = c.self.inside.tables } in
     ap (λ (r : Room). home_count c.self.inside.own r.users) c.in-Ok.ensures.changed
     ∙ still_counted c.self.inside.own kept.room c.args.effect.now c.self.inside.at_home c.staying-stay.result
-    (ap (λ (k : Kept). brings_free k.room c.args.effect.now) c.self.view_is ∙ c.requires) c.self.invariant.home c.staying-stay.ensures
+    (ap (λ (k : Kept). brings_free k.room c.args.effect.now) c.self.view_is ∙ c.requires) c.self.invariant c.staying-stay.ensures
 
 pub returns-in-Ok-clause-applied : goal.returns-in-Ok-clause-applied
 returns-in-Ok-clause-applied c =
-    let kept : Kept = record { own = c.self.inside.own; failed = c.self.inside.failed; room = record { users = c.self.inside.users; channels = c.self.inside.channels } } in
+    let kept : Kept = record { own = c.self.inside.own; failed = c.self.inside.failed; room = c.self.inside.tables } in
     let none = sym (c.refusal.ensures c.self.inside.own) ∙ c.in_default.is in (
       ap (λ k. room_fault k c.args.effect.now) (sym c.self.view_is) ∙ none,
       kept_changed kept c.args.self.now _ c.args.effect.now c.self.view_is (served kept c.args.effect.now none).alive c.in-Ok.ensures.changed,
@@ -53,9 +43,9 @@ returns-in-Ok-clause-applied c =
 
 pub returns-in-Err-clause-applied : goal.returns-in-Err-clause-applied
 returns-in-Err-clause-applied c =
-    let kept : Kept = record { own = c.self.inside.own; failed = c.self.inside.failed; room = record { users = c.self.inside.users; channels = c.self.inside.channels } } in (
+    let kept : Kept = record { own = c.self.inside.own; failed = c.self.inside.failed; room = c.self.inside.tables } in (
       ap (λ k. room_fault k c.args.effect.now) (sym c.self.view_is) ∙ sym (c.refusal.ensures c.self.inside.own) ∙ c.in_default.is,
-      kept_refused kept c.args.self.now _ _ c.self.view_is c.in-Err.ensures.refused.0 c.in-Err.ensures.refused.1,
+      kept_refused kept c.args.self.now _ c.self.view_is c.in-Err.ensures.refused,
       c.clear-in-Err.ensures.items,
     )
 

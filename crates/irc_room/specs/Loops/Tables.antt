@@ -1,15 +1,21 @@
--- A room as the code of one server has it, and the lines that an effect shows there.
-use Rattle.std.specs.Prelude.{◌≡◌, ℕ, ⊤, Option, List}
+-- A room by its two tables, and the lines that an effect shows there.
+use Rattle.std.specs.Prelude.{◌≡◌, ℕ, ⊤, Bool, Option, List}
+use Rattle.irc_names.specs.Tables.{Table}
 use Rattle.irc_users.specs.declared.user.User.{User}
+use Rattle.irc_channels.specs.declared.channel.Channel.{Channel}
 use Rattle.irc_room.specs.declared.effect.Effect.{Effect}
 use Rattle.irc_room.specs.declared.effect.Effect.TheVariants.{Join, Part, Kick, ChangeModes, SetTopic, Invite}
-use Rattle.irc_room.specs.declared.room_parts.RoomParts.{RoomParts}
+use Rattle.irc_room.specs.Applying.{Kept}
 use Rattle.irc_room.specs.Room.{Room}
 use Rattle.irc_room.specs.Seen.{shown_line}
 
 -- the room of these two tables
-abbrev pub room_of : RoomParts → Room
-room_of parts = record { users = parts.users.now; channels = parts.channels.now }
+abbrev pub room_of : Table User → Table Channel → Room
+room_of users channels = record { users = users; channels = channels }
+
+-- a room as the server of this name keeps it, for which memory ran out or did not
+abbrev pub kept_of : List ℕ → Bool → Room → Kept
+kept_of own failed room = record { own = own; failed = failed; room = room }
 
 -- the line that an effect shows to each viewer of one server
 abbrev pub ShowsAt : Room → Effect → List ℕ → Option (List ℕ) → Type 0
