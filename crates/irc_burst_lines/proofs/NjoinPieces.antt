@@ -6,7 +6,7 @@ use Rattle.irc_line.specs.Limits.{max_line}
 use Rattle.irc_line.specs.Messages.{text, line_text}
 use Rattle.irc_line.specs.Lemmas.CutLaws.{cut_two, cut_all}
 use Rattle.irc_link_writer.specs.Written.{from}
-use Rattle.irc_link_writer.proofs.CutPieces.{piece_on}
+use Rattle.irc_line.specs.Lemmas.CutPieces.{piece_on}
 use Rattle.irc_burst_lines.specs.declared.njoin_line.Member.{Member}
 use Rattle.irc_burst_lines.specs.DeedLines.{member_text, more_text}
 use Rattle.irc_burst_lines.specs.Loops.Telling.{told_member, told_members}

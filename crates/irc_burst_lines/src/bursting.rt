@@ -2,17 +2,12 @@
 //!
 //! The neighbour has to know a server before what is linked to it and before its users, and users before the channels that they are in. So the order is:
 //! the servers that are not behind the link, the nearer first; their users; channel by channel the members, the modes, the bans and the topic.
-ghost use Rattle.std.specs.Prelude.{◌≡◌, ◌++◌, filter, map, option_to_list, IfOk, OnOk};
-ghost use Rattle.std.specs.List.{filter_map, flat_map};
+ghost use Rattle.std.specs.Prelude.{◌≡◌, IfOk, OnOk};
 ghost use Rattle.std.specs.Option.{option_map};
-ghost use Rattle.std.specs.FinMap.{values};
 ghost use Rattle.irc_line.specs.Messages.{text};
-ghost use Rattle.irc_tables.specs.RowViews.{row_entry};
-ghost use Rattle.irc_channels.specs.declared.channel.Channel.{Channel};
-ghost use Rattle.irc_tables.specs.declared.table.Row.{Row};
 ghost use Rattle.irc_link_writer.specs.Written.{introduction};
 ghost use Rattle.irc_burst_lines.specs.BurstLines.{burst_parts, is_near};
-ghost use Rattle.irc_burst_lines.specs.Loops.Telling.{Writes, channel_told, is_near_user, lines_now, near_member, near_members, row_parts, rows_now, told_member, told_members, users_now};
+ghost use Rattle.irc_burst_lines.specs.Loops.Telling.{AreLines, Gains, Tells, channels_told, near_row, near_rows, row_parts, rows_told, server_rows, told_in, told_member, told_members, user_lines, users_now, users_told};
 
 use crate::njoin_line::Member;
 use crate::server_lines::server_text;
@@ -32,7 +27,7 @@ use std::alloc::{AllocError, Global};
 /// # Errors
 /// Where memory runs out.
 pub fn burst(room: &Room, routes: &Routes, link: u64) -> Result<Vec<Text, Global>, AllocError>
-    ensures { IfOk result (λ lines. lines_now lines.items ≡ map text (burst_parts room.now.room routes.now link)) }
+    ensures { IfOk result (λ lines. AreLines (burst_parts room.now.room routes.now link) lines) }
 {
     let servers = routes.told_on(link)?;
     let mut lines = Vec::new(*servers.allocator());
@@ -48,7 +43,7 @@ fn tell_servers(
     routes: &Routes,
     servers: &[&ServerRow],
 ) -> Result<(), AllocError>
-    ensures { OnOk result (Writes (map (row_parts routes.now) (rows_now servers.now)) lines.old.items lines.new.items) }
+    ensures { OnOk result (Tells (server_rows routes.now servers.now) lines.old lines.new) }
 {
     for server in servers {
         put(lines, row_text(routes, server))?;
@@ -70,8 +65,7 @@ fn tell_users(
     routes: &Routes,
     link: u64,
 ) -> Result<(), AllocError>
-    ensures { OnOk result (Writes (map (introduction routes.now) (filter (is_near_user routes.now link) (values room.now.room.users)))
-        lines.old.items lines.new.items) }
+    ensures { OnOk result (Tells (users_told routes.now link room.now.room) lines.old lines.new) }
 {
     let users = room.users()?;
     tell_each_user(lines, room, routes, link, users.as_slice())
@@ -85,7 +79,7 @@ fn tell_each_user(
     link: u64,
     users: &[&User],
 ) -> Result<(), AllocError>
-    ensures { OnOk result (Writes (map (introduction routes.now) (filter (is_near_user routes.now link) (users_now users.now))) lines.old.items lines.new.items) }
+    ensures { OnOk result (Tells (user_lines routes.now link (users_now users.now)) lines.old lines.new) }
 {
     for user in users {
         if is_near(routes, link, &user.home) {
@@ -119,7 +113,7 @@ fn tell_channels(
     routes: &Routes,
     link: u64,
 ) -> Result<(), AllocError>
-    ensures { OnOk result (Writes (flat_map (channel_told routes.now link room.now.room.users) (values room.now.room.channels)) lines.old.items lines.new.items) }
+    ensures { OnOk result (Tells (channels_told routes.now link room.now.room) lines.old lines.new) }
 {
     tell_each_channel(lines, room, routes, link, room.channels())
 }
@@ -132,8 +126,7 @@ fn tell_each_channel(
     link: u64,
     channels: &[Row<Channel>],
 ) -> Result<(), AllocError>
-    ensures { OnOk result (Writes (flat_map (λ (r : Row Channel). channel_told routes.now link room.now.room.users r.value) channels.now)
-        lines.old.items lines.new.items) }
+    ensures { OnOk result (Tells (rows_told routes.now link room.now.room channels.now) lines.old lines.new) }
 {
     for row in channels {
         tell_one_channel(lines, room, routes, link, &row.value)?;
@@ -149,7 +142,7 @@ fn tell_one_channel(
     link: u64,
     channel: &Channel,
 ) -> Result<(), AllocError>
-    ensures { OnOk result (Writes (channel_told routes.now link room.now.room.users channel.now) lines.old.items lines.new.items) }
+    ensures { OnOk result (Tells (told_in routes.now link room.now.room channel.now) lines.old lines.new) }
 {
     let rows = channel.members.as_slice();
     let members = near_members(*lines.allocator(), room, routes, link, rows)?;
@@ -165,7 +158,7 @@ fn near_members<'a>(
     rows: &[Row<Flags>],
 ) -> Result<Vec<Member<'a>, Global>, AllocError>
     ensures { IfOk result (λ members. told_members members.items
-        ≡ filter_map (near_member (is_near routes.now link) room.now.room.users) (map row_entry rows.now)) }
+        ≡ near_rows routes.now link room.now.room rows.now) }
 {
     let mut members = Vec::new(alloc);
     for row in rows {
@@ -179,7 +172,7 @@ fn push_if<'a>(
     members: &mut Vec<Member<'a>, Global>,
     member: Option<Member<'a>>,
 ) -> Result<(), AllocError>
-    ensures { OnOk result (told_members members.new.items ≡ told_members members.old.items ++ option_to_list (option_map told_member member.entry)) }
+    ensures { OnOk result (Gains members.old member.entry members.new) }
 {
     if let Some(member) = member {
         members.push(member)?;
@@ -194,7 +187,7 @@ fn near_member<'a>(
     link: u64,
     row: &Row<Flags>,
 ) -> Option<Member<'a>>
-    ensures { option_map told_member result ≡ near_member (is_near routes.now link) room.now.room.users (row_entry row.now) }
+    ensures { option_map told_member result ≡ near_row routes.now link room.now.room row.now }
 {
     match room.user(row.name.as_slice()) {
         Some(user) if is_near(routes, link, &user.home) => Some(Member {

@@ -1,17 +1,16 @@
 //! MODE of a server (RFC 2812 section 3.2.3). As many changes as there may be, it takes no memory.
 ghost use Rattle.std.specs.Prelude.{◌≡◌, ◌≤◌, ◌++◌};
-ghost use Rattle.std.specs.List.{filter_map};
 ghost use Rattle.arrayvec.specs.ArrayVec.{array_vec_len};
 ghost use Rattle.irc_line.specs.Bytes.{cut};
 ghost use Rattle.irc_line.specs.Limits.{max_line};
 ghost use Rattle.irc_line.specs.Messages.{middle_text, text};
 ghost use Rattle.irc_line.specs.MessageViews.{optional_now};
-ghost use Rattle.irc_modes.specs.declared.modes.ModeChange.{ModeChange};
+ghost use Rattle.irc_link_words.specs.Words.{parameters};
 ghost use Rattle.irc_burst_lines.specs.DeedLines.{mode_parts};
 
-use irc_line::Text;
-use irc_link_writer::{push_cut, push_head, push_letters, push_word};
-use irc_modes::ModeChange;
+use irc_line::{Text, push_cut};
+use irc_link_writer::push_head;
+use irc_modes::{ModeChange, push_letters, push_parameter};
 use irc_names::{ChannelName, ServerName};
 
 /// The line in which a server tells of modes of a channel, with the words that the changes have: `:a.net MODE #m +ntl 5`.
@@ -29,12 +28,12 @@ pub fn mode_text(server: &ServerName, channel: &ChannelName, changes: &[ModeChan
 /// The parameters of changes in order, each after a space.
 fn push_words(line: &mut Text, changes: &[ModeChange])
     requires { array_vec_len line.old ≤ max_line }
-    ensures pushed { line.new.items ≡ cut (line.old.items ++ middle_text (filter_map (λ (c : ModeChange). c.word) changes.now)) }
+    ensures pushed { line.new.items ≡ cut (line.old.items ++ middle_text (parameters changes.now)) }
     ensures still_cut { array_vec_len line.new ≤ max_line }
 {
     push_cut(line, b"");
     for change in changes {
-        push_word(line, written_word(change));
+        push_parameter(line, written_word(change));
     }
 }
 

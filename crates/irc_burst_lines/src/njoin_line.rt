@@ -4,12 +4,12 @@ ghost use Rattle.arrayvec.specs.ArrayVec.{array_vec_len};
 ghost use Rattle.irc_line.specs.Bytes.{cut};
 ghost use Rattle.irc_line.specs.Limits.{max_line};
 ghost use Rattle.irc_line.specs.Messages.{text};
-ghost use Rattle.irc_burst_lines.specs.DeedLines.{member_text, members_text, more_text, njoin_parts};
-ghost use Rattle.irc_burst_lines.specs.Loops.Telling.{told_member, told_members};
+ghost use Rattle.irc_burst_lines.specs.DeedLines.{member_text, more_text, njoin_parts};
+ghost use Rattle.irc_burst_lines.specs.Loops.Telling.{told_member, told_members, told_text};
 
 use irc_channels::Flags;
-use irc_line::Text;
-use irc_link_writer::{push_cut, push_head};
+use irc_line::{Text, push_cut};
+use irc_link_writer::push_head;
 use irc_names::{ChannelName, ServerName};
 
 /// A member of a channel, as NJOIN brings it.
@@ -36,7 +36,7 @@ pub fn njoin_text(server: &ServerName, channel: &ChannelName, members: &[Member<
 /// Appends members, each but the first after a comma.
 fn push_members(line: &mut Text, members: &[Member<'_>])
     requires { array_vec_len line.old ≤ max_line }
-    ensures pushed { line.new.items ≡ cut (line.old.items ++ members_text (told_members members.now)) }
+    ensures pushed { line.new.items ≡ cut (line.old.items ++ told_text members.now) }
     ensures still_cut { array_vec_len line.new ≤ max_line }
 {
     match members.split_first() {

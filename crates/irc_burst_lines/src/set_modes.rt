@@ -1,8 +1,9 @@
 //! The changes that set what is set of a channel's modes.
-ghost use Rattle.std.specs.Prelude.{◌≡◌, ◌++◌, ◌∷◌, [], Some, IfOk, OnOk};
+ghost use Rattle.std.specs.Prelude.{◌≡◌, ◌∷◌, [], Some, IfOk, OnOk};
 ghost use Rattle.std.specs.Option.{option_copied};
 ghost use Rattle.irc_modes.specs.ModesSet.{ban_changes, flag_set, key_set, limit_set, privacy_set, set, set_changes};
 ghost use Rattle.irc_modes.specs.Texts.{IsModeWord};
+ghost use Rattle.irc_burst_lines.specs.Loops.Telling.{Grew};
 
 use irc_modes::{Key, ModeChange, ModeLetter, ModeWord, Modes, Privacy};
 use irc_names::BanMask;
@@ -47,7 +48,7 @@ fn push_flag(
     on: bool,
     letter: ModeLetter,
 ) -> Result<(), AllocError>
-    ensures { OnOk result (changes.new.items ≡ changes.old.items ++ flag_set on letter) }
+    ensures { OnOk result (Grew changes.old (flag_set on letter) changes.new) }
 {
     if on {
         changes.push(ModeChange {
@@ -61,7 +62,7 @@ fn push_flag(
 
 /// Appends the change that sets p or s, if one of them is set.
 fn push_privacy(changes: &mut Vec<ModeChange, Global>, privacy: Privacy) -> Result<(), AllocError>
-    ensures { OnOk result (changes.new.items ≡ changes.old.items ++ privacy_set privacy) }
+    ensures { OnOk result (Grew changes.old (privacy_set privacy) changes.new) }
 {
     match privacy {
         Privacy::Public => Ok(()),
@@ -72,7 +73,7 @@ fn push_privacy(changes: &mut Vec<ModeChange, Global>, privacy: Privacy) -> Resu
 
 /// Appends the change that sets a key, if there is one.
 fn push_key(changes: &mut Vec<ModeChange, Global>, key: Option<&Key>) -> Result<(), AllocError>
-    ensures { OnOk result (changes.new.items ≡ changes.old.items ++ key_set (option_copied key.entry)) }
+    ensures { OnOk result (Grew changes.old (key_set (option_copied key.entry)) changes.new) }
 {
     match key {
         Some(key) => push_worded(changes, ModeLetter::Key, key.as_bytes()),
@@ -83,7 +84,7 @@ fn push_key(changes: &mut Vec<ModeChange, Global>, key: Option<&Key>) -> Result<
 /// Appends the change that sets a limit, if there is one.
 #[tactic(auto, using(crate::proofs::LimitWritten::limit_fits))]
 fn push_limit(changes: &mut Vec<ModeChange, Global>, limit: Option<u16>) -> Result<(), AllocError>
-    ensures { OnOk result (changes.new.items ≡ changes.old.items ++ limit_set limit) }
+    ensures { OnOk result (Grew changes.old (limit_set limit) changes.new) }
 {
     match limit {
         Some(limit) => {
@@ -101,7 +102,7 @@ fn push_worded(
     word: &[u8],
 ) -> Result<(), AllocError>
     requires { IsModeWord word.now }
-    ensures { OnOk result (changes.new.items ≡ changes.old.items ++ set letter (Some word.now) ∷ []) }
+    ensures { OnOk result (Grew changes.old (set letter (Some word.now) ∷ []) changes.new) }
 {
     let Some(word) = ModeWord::read(word) else {
         unreachable!();

@@ -1,7 +1,6 @@
 //! What a channel is told by.
 ghost use Rattle.std.specs.Prelude.{◌≡◌, ◌++◌, ◌∷◌, [], drop, take, OnOk};
-ghost use Rattle.irc_modes.specs.ModesSet.{ban_changes, set_changes};
-ghost use Rattle.irc_burst_lines.specs.Loops.Telling.{Writes, ban_lines, channel_lines, member_lines, settings_lines, told_members, topic_lines};
+ghost use Rattle.irc_burst_lines.specs.Loops.Telling.{Tells, ban_lines, lines_of_bans, lines_of_channel, lines_of_members, lines_of_modes, topic_lines};
 
 use crate::mode_line::mode_text;
 use crate::njoin_line::{Member, njoin_text};
@@ -29,7 +28,7 @@ pub(crate) fn tell_channel(
     channel: &Channel,
     members: &[Member<'_>],
 ) -> Result<(), AllocError>
-    ensures { OnOk result (Writes (channel_lines server.now channel.now (told_members members.now)) lines.old.items lines.new.items) }
+    ensures { OnOk result (Tells (lines_of_channel server.now channel.now members.now) lines.old lines.new) }
 {
     if members.is_empty() {
         return Ok(());
@@ -47,7 +46,7 @@ fn tell_members(
     channel: &ChannelName,
     members: &[Member<'_>],
 ) -> Result<(), AllocError>
-    ensures { OnOk result (Writes (member_lines server.now channel.now (told_members members.now)) lines.old.items lines.new.items) }
+    ensures { OnOk result (Tells (lines_of_members server.now channel.now members.now) lines.old lines.new) }
 {
     let mut rest = members;
     while !rest.is_empty() {
@@ -66,7 +65,7 @@ fn tell_settings(
     server: &ServerName,
     channel: &Channel,
 ) -> Result<(), AllocError>
-    ensures { OnOk result (Writes (settings_lines server.now channel.now.name (set_changes channel.now.modes)) lines.old.items lines.new.items) }
+    ensures { OnOk result (Tells (lines_of_modes server.now channel.now) lines.old lines.new) }
 {
     let changes = set_changes(*lines.allocator(), &channel.modes)?;
     if changes.is_empty() {
@@ -81,7 +80,7 @@ fn tell_bans(
     server: &ServerName,
     channel: &Channel,
 ) -> Result<(), AllocError>
-    ensures { OnOk result (Writes (ban_lines server.now channel.now.name (ban_changes channel.now.modes.bans)) lines.old.items lines.new.items) }
+    ensures { OnOk result (Tells (lines_of_bans server.now channel.now) lines.old lines.new) }
 {
     let changes = ban_changes(*lines.allocator(), channel.modes.bans.as_slice())?;
     tell_changes(lines, server, &channel.name, &changes)
@@ -94,7 +93,7 @@ fn tell_changes(
     channel: &ChannelName,
     changes: &[ModeChange],
 ) -> Result<(), AllocError>
-    ensures { OnOk result (Writes (ban_lines server.now channel.now changes.now) lines.old.items lines.new.items) }
+    ensures { OnOk result (Tells (ban_lines server.now channel.now changes.now) lines.old lines.new) }
 {
     let mut rest = changes;
     while !rest.is_empty() {
@@ -111,7 +110,7 @@ fn tell_topic(
     channel: &ChannelName,
     topic: &Words,
 ) -> Result<(), AllocError>
-    ensures { OnOk result (Writes (topic_lines server.now channel.now topic.now) lines.old.items lines.new.items) }
+    ensures { OnOk result (Tells (topic_lines server.now channel.now topic.now) lines.old lines.new) }
 {
     if topic.as_bytes().is_empty() {
         return Ok(());

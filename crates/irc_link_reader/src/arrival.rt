@@ -1,19 +1,19 @@
 //! What is asked where a line is read that came by a link.
-ghost use Rattle.std.specs.Prelude.{◌≡◌, ◌∷◌, [], Ok, Err, false, is_some, if◌then◌else◌, option_to_list};
+ghost use Rattle.std.specs.Prelude.{◌≡◌, Ok, Err, is_some, true, if◌then◌else◌, option_to_list};
 ghost use Rattle.std.specs.List.{list_all};
-ghost use Rattle.std.specs.Option.{option_copied};
+ghost use Rattle.std.specs.Option.{option_copied, option_map_or};
 ghost use Rattle.irc_names.specs.Fold.{key};
 ghost use Rattle.irc_room.specs.Readers.{channel_at};
-ghost use Rattle.irc_room.specs.Effects.{by_nick, needs_users, target_users};
+ghost use Rattle.irc_room.specs.Effects.{needs_users};
 ghost use Rattle.irc_link_words.specs.declared.fault.WireFault.TheVariants.{WrongDirection};
-ghost use Rattle.irc_link_reader.specs.Loops.Readings.{are_there, is_far_user, is_member_far, reader};
+ghost use Rattle.irc_link_reader.specs.Loops.Readings.{are_there, has_home, is_far_user, is_member_far, reader};
 ghost use Rattle.irc_link_reader.specs.Means.{if_there, is_distance_of};
 ghost use Rattle.irc_link_reader.specs.Reader.{may_come};
 
 use irc_channels::Flags;
 use irc_link_words::WireFault;
 use irc_names::{Nick, ServerName, is_nick, is_server};
-use irc_room::{By, Effect, Room, Target};
+use irc_room::{Effect, Room};
 use irc_routes::Routes;
 use irc_tables::Row;
 
@@ -40,7 +40,7 @@ fn home<'a>(at: Arrival<'a>, nick: &[u8]) -> Option<&'a ServerName>
 
 /// Whether the user of a nickname is there.
 fn is_known(at: Arrival<'_>, nick: &[u8]) -> bool
-    ensures { result ≡ is_some ((reader at.entry).home nick.now) }
+    ensures { result ≡ has_home at.entry nick.now }
 {
     home(at, nick).is_some()
 }
@@ -117,40 +117,17 @@ pub(crate) fn if_there(at: Arrival<'_>, effect: Effect) -> Option<Effect>
 fn are_there(at: Arrival<'_>, effect: &Effect) -> bool
     ensures { result ≡ are_there at.entry (needs_users effect.now) }
 {
-    match effect {
-        Effect::AddUser(_) => true,
-        Effect::Rename { nick, .. }
-        | Effect::Quit { nick, .. }
-        | Effect::Join { nick, .. }
-        | Effect::Part { nick, .. }
-        | Effect::UserMode { nick, .. } => is_known(at, nick.as_bytes()),
-        Effect::Kick { by, nick, .. } | Effect::Invite { by, nick, .. } => are_known(at, by, nick),
-        Effect::ChangeModes { by, .. } | Effect::SetTopic { by, .. } => is_doer_known(at, by),
-        Effect::Say { by, target, .. } => are_talkers_known(at, by, target),
-    }
+    let [doer, other] = effect.users();
+    is_there(at, doer) && is_there(at, other)
 }
 
-fn are_known(at: Arrival<'_>, one: &Nick, other: &Nick) -> bool
-    ensures { result ≡ are_there at.entry (one.now ∷ other.now ∷ []) }
+/// Whether the user is there, if one is named.
+fn is_there(at: Arrival<'_>, nick: Option<&Nick>) -> bool
+    ensures { result ≡ option_map_or (has_home at.entry) (option_copied nick.entry) true }
 {
-    is_known(at, one.as_bytes()) && is_known(at, other.as_bytes())
-}
-
-fn is_doer_known(at: Arrival<'_>, by: &By) -> bool
-    ensures { result ≡ are_there at.entry (option_to_list (by_nick by.now)) }
-{
-    match by {
-        By::User(nick) => is_known(at, nick.as_bytes()),
-        By::Home => true,
-    }
-}
-
-fn are_talkers_known(at: Arrival<'_>, by: &Nick, target: &Target) -> bool
-    ensures { result ≡ are_there at.entry (by.now ∷ target_users target.now) }
-{
-    match target {
-        Target::User(nick) => are_known(at, by, nick),
-        Target::Channel(_) => is_known(at, by.as_bytes()),
+    match nick {
+        Some(nick) => is_known(at, nick.as_bytes()),
+        None => true,
     }
 }
 

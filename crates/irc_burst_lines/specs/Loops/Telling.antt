@@ -1,9 +1,10 @@
 -- Lines put behind others, part by part of a burst.
-use Rattle.std.specs.Prelude.{◌≡◌, ℕ, Bool, Option, Some, None, List, [], ◌∷◌, ◌++◌, map, if◌then◌else◌}
+use Rattle.std.specs.Prelude.{◌≡◌, ℕ, Bool, Option, Some, None, List, [], ◌∷◌, ◌++◌, filter, map, option_to_list, if◌then◌else◌}
 use Rattle.std.specs.Borrow.{Bor}
-use Rattle.std.specs.List.{filter_map}
-use Rattle.std.specs.Option.{option_and_then}
-use Rattle.std.specs.FinMap.{entries}
+use Rattle.std.specs.Global.{Vec}
+use Rattle.std.specs.List.{filter_map, flat_map}
+use Rattle.std.specs.Option.{option_and_then, option_map}
+use Rattle.std.specs.FinMap.{entries, values}
 use Rattle.arrayvec.specs.ArrayVec.{ArrayVec}
 use Rattle.irc_names.specs.Tables.{Table, row}
 use Rattle.irc_line.specs.Messages.{Written, text}
@@ -13,11 +14,15 @@ use Rattle.irc_channels.specs.declared.channel.Channel.{Channel}
 use Rattle.irc_modes.specs.Modes.{is_nil}
 use Rattle.irc_modes.specs.ModesSet.{set_changes, ban_changes}
 use Rattle.irc_modes.specs.declared.modes.ModeChange.{ModeChange}
+use Rattle.irc_tables.specs.RowViews.{row_entry}
+use Rattle.irc_tables.specs.declared.table.Row.{Row}
+use Rattle.irc_room.specs.Room.{Room}
 use Rattle.irc_routes.specs.Known.{Known}
 use Rattle.irc_routes.specs.declared.server_row.ServerRow.{ServerRow}
 use Rattle.irc_merge.specs.Bursts.{in_lines, members_a_line, bans_a_line}
+use Rattle.irc_link_writer.specs.Written.{introduction}
 use Rattle.irc_burst_lines.specs.declared.njoin_line.Member.{Member}
-use Rattle.irc_burst_lines.specs.DeedLines.{server_parts, njoin_parts, mode_parts, topic_parts}
+use Rattle.irc_burst_lines.specs.DeedLines.{server_parts, members_text, njoin_parts, mode_parts, topic_parts}
 use Rattle.irc_burst_lines.specs.BurstLines.{is_near}
 
 abbrev pub lines_now : List (ArrayVec ℕ) → List (List ℕ)
@@ -27,11 +32,32 @@ lines_now lines = map (λ (line : ArrayVec ℕ). line.items) lines
 abbrev pub Writes : List Written → List (ArrayVec ℕ) → List (ArrayVec ℕ) → Type 0
 Writes parts old new = lines_now new ≡ lines_now old ++ map text parts
 
+-- the same of two lists
+abbrev pub Tells : List Written → Vec (ArrayVec ℕ) → Vec (ArrayVec ℕ) → Type 0
+Tells parts old new = Writes parts old.items new.items
+
+-- a list is the lines of these parts
+abbrev pub AreLines : List Written → Vec (ArrayVec ℕ) → Type 0
+AreLines parts lines = lines_now lines.items ≡ map text parts
+
 abbrev pub told_member : Member → List ℕ × Flags
 told_member member = (member.nick.now, member.flags)
 
 abbrev pub told_members : List Member → List (List ℕ × Flags)
 told_members members = map told_member members
+
+abbrev pub told_text : List Member → List ℕ
+told_text members = members_text (told_members members)
+
+-- a list with one member more, if there is one
+abbrev pub Gains : Vec Member → Option Member → Vec Member → Type 0
+Gains old member new = told_members new.items ≡ told_members old.items ++ option_to_list (option_map told_member member)
+
+-- ---- changes
+
+-- a list with these changes more
+abbrev pub Grew : Vec ModeChange → List ModeChange → Vec ModeChange → Type 0
+Grew old changes new = new.items ≡ old.items ++ changes
 
 -- ---- servers and users
 
@@ -46,6 +72,16 @@ users_now users = map (λ (user : Bor User). user.now) users
 
 abbrev pub is_near_user : Known → ℕ → User → Bool
 is_near_user known link user = is_near known link user.home
+
+-- the lines of servers, and those of the users among some that are on this side
+abbrev pub server_rows : Known → List (Bor ServerRow) → List Written
+server_rows known rows = map (row_parts known) (rows_now rows)
+
+abbrev pub user_lines : Known → ℕ → List User → List Written
+user_lines known link users = map (introduction known) (filter (is_near_user known link) users)
+
+abbrev pub users_told : Known → ℕ → Room → List Written
+users_told known link room = user_lines known link (values room.users)
 
 -- ---- a channel
 
@@ -83,3 +119,32 @@ channel_lines server channel (member ∷ members) =
 
 abbrev pub channel_told : Known → ℕ → Table User → Channel → List Written
 channel_told known link users channel = channel_lines known.name channel (near_members (is_near known link) users channel)
+
+-- ---- the same, as the code has them
+
+abbrev pub lines_of_members : List ℕ → List ℕ → List Member → List Written
+lines_of_members server channel members = member_lines server channel (told_members members)
+
+abbrev pub lines_of_modes : List ℕ → Channel → List Written
+lines_of_modes server channel = settings_lines server channel.name (set_changes channel.modes)
+
+abbrev pub lines_of_bans : List ℕ → Channel → List Written
+lines_of_bans server channel = ban_lines server channel.name (ban_changes channel.modes.bans)
+
+abbrev pub lines_of_channel : List ℕ → Channel → List Member → List Written
+lines_of_channel server channel members = channel_lines server channel (told_members members)
+
+abbrev pub near_row : Known → ℕ → Room → Row Flags → Option (List ℕ × Flags)
+near_row known link room r = near_member (is_near known link) room.users (row_entry r)
+
+abbrev pub near_rows : Known → ℕ → Room → List (Row Flags) → List (List ℕ × Flags)
+near_rows known link room rows = filter_map (near_member (is_near known link) room.users) (map row_entry rows)
+
+abbrev pub told_in : Known → ℕ → Room → Channel → List Written
+told_in known link room channel = channel_told known link room.users channel
+
+abbrev pub channels_told : Known → ℕ → Room → List Written
+channels_told known link room = flat_map (channel_told known link room.users) (values room.channels)
+
+abbrev pub rows_told : Known → ℕ → Room → List (Row Channel) → List Written
+rows_told known link room rows = flat_map (λ (r : Row Channel). channel_told known link room.users r.value) rows

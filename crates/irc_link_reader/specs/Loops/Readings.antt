@@ -37,9 +37,12 @@ abbrev pub Reads : (Reader → Option (List ℕ) → List (List ℕ) → Checked
     → Type 0
 Reads line at name words result = found result ≡ first_fault (line (reader at) name words)
 
--- whether the users of all these nicknames are there
+-- whether the user of a nickname is there, and whether those of all these are
+abbrev pub has_home : Arrival → List ℕ → Bool
+has_home at nick = is_some ((reader at).home nick)
+
 abbrev pub are_there : Arrival → List (List ℕ) → Bool
-are_there at nicks = list_all (λ nick. is_some ((reader at).home nick)) nicks
+are_there at nicks = list_all (has_home at) nicks
 
 -- the same of a MODE of a user
 abbrev pub IsUserMode : Arrival → List ℕ → List ℕ → List (List ℕ) → Result (Option Effect) WireFault → Type 0

@@ -1,6 +1,7 @@
 use Rattle.std.proofs.Common.{◌++◌, ◌∙◌, ap, codes, arith}
 use Rattle.std.proofs.lemmas.Grind.{common_steps}
 use Rattle.irc_line.specs.Bytes.{cut}
+use Rattle.irc_line.specs.Lemmas.CutLaws.{cut_two}
 use Rattle.irc_link_writer.proofs.ModeLines.{mode_written}
 use Rattle.irc_burst_lines.proofs.mode_line.mode_text.Goals as goal
 
@@ -9,4 +10,4 @@ returns c =
     let head = c.push_head.ensures.head
     ∙ ap (λ name. cut (codes ":" ++ name ++ codes " MODE " ++ c.as_bytes-2.result.now ++ codes " ")) c.as_bytes.ensures.value
     ∙ ap (λ channel. cut (codes ":" ++ c.args.server.now ++ codes " MODE " ++ channel ++ codes " ")) c.as_bytes-2.ensures.value in
-    mode_written _ _ _ _ _ _ _ _ head c.push_letters.ensures.pushed c.push_words.ensures.pushed (grind (arith, common_steps))
+    mode_written _ _ _ _ _ _ _ head (cut_two _ _ _ _ _ c.push_letters.ensures.pushed c.push_words.ensures.pushed) (grind (arith, common_steps))

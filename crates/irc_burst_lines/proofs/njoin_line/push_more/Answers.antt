@@ -1,5 +1,5 @@
 use Rattle.std.proofs.Common.{[], refl, arith}
-use Rattle.irc_link_writer.proofs.CutPieces.{piece_on}
+use Rattle.irc_line.specs.Lemmas.CutPieces.{piece_on}
 use Rattle.irc_burst_lines.proofs.NjoinPieces.{more_on, more_done}
 use Rattle.irc_burst_lines.proofs.njoin_line.push_more.Goals as goal
 
