@@ -10,13 +10,13 @@ use Rattle.irc_server.specs.Served.{of_client, served}
 use Rattle.irc_server.specs.Happening.{occurrence_of}
 
 -- a line, where it is one to this connection
-abbrev pub line_to_conn : ℕ → Sent → Option (List ℕ)
-line_to_conn conn (line_to to line) = if nat_eq to conn then Some line else None
-line_to_conn conn other = None
+abbrev pub line_for : ℕ → Sent → Option (List ℕ)
+line_for conn (line_to to line) = if nat_eq to conn then Some line else None
+line_for conn other = None
 
 -- what a connection receives of what is put out
 abbrev pub lines_to : ℕ → List Sent → List (List ℕ)
-lines_to conn out = filter_map (line_to_conn conn) out
+lines_to conn out = filter_map (line_for conn) out
 
 -- the server after these happenings
 abbrev pub after_all : View → List Happening → View

@@ -4,3 +4,4 @@ pub mod MetEnds
 pub mod OwnClosings
 pub mod OwnKept
 pub mod OwnServed
+pub mod PutOut

@@ -5,7 +5,7 @@ use Rattle.std.specs.Option.{option_and_then}
 use Rattle.irc_batch.specs.Batches.{Batch, line_on}
 use Rattle.irc_line.specs.declared.reading.LineFault.{LineFault}
 use Rattle.irc_line.specs.Messages.{Parsed, Written}
-use Rattle.irc_routes.specs.Known.{names_behind}
+use Rattle.irc_routes.specs.Known.{behind}
 use Rattle.irc_stage.specs.declared.stage.Stage.{Stage}
 use Rattle.irc_stage.specs.EffectTold.{Served}
 use Rattle.irc_stage.specs.View.{End, View}
@@ -69,4 +69,4 @@ LosesBehind link old out new out_after =
 abbrev pub LosesAll : ℕ → List ℕ → Stage → Batch → Stage → Batch → Type 0
 LosesAll link far old out new out_after =
     served_at new out_after.outs
-    ≡ deeds_told (Some link) (losses (view_of old).routes.name far (names_behind (view_of old).routes link)) (served_at old out.outs)
+    ≡ deeds_told (Some link) (losses (view_of old).routes.name far (behind (view_of old).routes link)) (served_at old out.outs)
