@@ -23,3 +23,4 @@ pub mod OtherInvitations
 pub mod OtherInvitationsLaws
 pub mod AlikeRows
 pub mod AlikeChannels
+pub mod OwnRows

@@ -1,5 +1,5 @@
 -- What each command carries can be sent, where the room and the words of the message keep to the limits.
-use Rattle.std.proofs.Common.{◌≡◌, ℕ, ◌&&◌, not, Option, Some, None, List, [], ◌∷◌, refl, sym, subst}
+use Rattle.std.proofs.Common.{◌≡◌, ℕ, zero, suc, ◌&&◌, not, Option, Some, None, List, [], ◌∷◌, drop, refl, sym, subst}
 use Rattle.std.specs.Prelude.{⊤}
 use Rattle.std.specs.List.{AllByRecursion}
 use Rattle.irc_line.specs.Carried.{IsCarried}
@@ -48,20 +48,29 @@ CarryGiven me room params steps = IsWellFormed room → IsWithinLimits room → 
 own_nick : (me : User) (room : Room) → IsWithinLimits room → row room.users (key me.nick) ≡ Some me → IsCarried me.nick
 own_nick me room within mine = nick_carried me.nick (within.users (key me.nick) me mine).nick
 
-pub kick_given : (me : User) (room : Room) (params : List (List ℕ)) → CarryGiven me room params (kick_steps room me params)
-kick_given me room params well within mine carried = kick_carries me room params (own_nick me room within mine) carried
+behind_carried : (n : ℕ) (params : List (List ℕ)) → AllByRecursion IsCarried params → AllByRecursion IsCarried (drop n params)
+behind_carried zero params all = all
+behind_carried (suc n) [] all = tt
+behind_carried (suc n) (word ∷ params) all = behind_carried n params all.1
 
-pub part_given : (me : User) (room : Room) (params : List (List ℕ)) → CarryGiven me room params (part_steps room me params)
-part_given me room params well within mine carried = part_carries me room params (own_nick me room within mine) carried
+module _ (me : User) (room : Room) (params : List (List ℕ)) where
+  pub kick_given : (channels nicks : List ℕ) (n : ℕ) → CarryGiven me room params (kick_steps room me channels nicks (drop n params))
+  kick_given channels nicks n well within mine carried =
+      kick_carries me room channels nicks (drop n params) (own_nick me room within mine) (behind_carried n params carried)
 
-pub join_given : (me : User) (room : Room) (params : List (List ℕ)) → CarryGiven me room params (join_steps room me params)
-join_given me room params well within mine carried = join_carries me room params (own_nick me room within mine)
+  pub part_given : (list : List ℕ) (n : ℕ) → CarryGiven me room params (part_steps room me list (drop n params))
+  part_given list n well within mine carried =
+      part_carries me room list (drop n params) (own_nick me room within mine) (behind_carried n params carried)
 
-pub invite_given : (me : User) (room : Room) (params : List (List ℕ)) → CarryGiven me room params (invite_steps room me params)
-invite_given me room params well within mine carried = invite_carries me room params
+  pub join_given : (list keys : List ℕ) → CarryGiven me room params (join_steps room me list keys)
+  join_given list keys well within mine carried = join_carries me room list keys (own_nick me room within mine)
 
-pub mode_given : (me : User) (room : Room) (params : List (List ℕ)) → CarryGiven me room params (mode_steps room me params)
-mode_given me room params well within mine carried = mode_carries room well within me params carried
+  pub invite_given : (nick name : List ℕ) → CarryGiven me room params (invite_steps room me nick name)
+  invite_given nick name well within mine carried = invite_carries me room nick name
+
+  pub mode_given : (target : List ℕ) (n : ℕ) → CarryGiven me room params (mode_steps room me target (drop n params))
+  mode_given target n well within mine carried =
+      mode_carries room well within me target (drop n params) (behind_carried n params carried)
 
 -- PRIVMSG and NOTICE: a text leaves the room as it is
 
@@ -133,10 +142,8 @@ found_sent me room name more carried (Some channel) =
     by_test (CarriesStep room) (is_known me channel) (topic_known me channel more) (Answer (NoSuchChannel (client_words name)))
     (λ known. known_sent me room channel more carried) (λ secret. tt)
 
-topic_carries : (me : User) (room : Room) (params : List (List ℕ)) → AllByRecursion IsCarried params → CarrySendable room (topic_steps room me params)
+pub topic_given : (me : User) (room : Room) (params : List (List ℕ)) (name : List ℕ) (n : ℕ)
+    → CarryGiven me room params (topic_steps room me name (drop n params))
 unfolding topic_steps
-topic_carries me room [] carried = tt
-topic_carries me room (name ∷ more) carried = found_sent me room name more carried.1 (row room.channels (key name))
-
-pub topic_given : (me : User) (room : Room) (params : List (List ℕ)) → CarryGiven me room params (topic_steps room me params)
-topic_given me room params well within mine carried = topic_carries me room params carried
+topic_given me room params name n well within mine carried =
+    found_sent me room name (drop n params) (behind_carried n params carried) (row room.channels (key name))

@@ -1,5 +1,5 @@
 -- What is decided in rooms that are alike but for the invitations of others is the same.
-use Rattle.std.proofs.Common.{◌≡◌, ℕ, cond, Option, Some, None, List, [], ◌∷◌, ◌++◌, take, drop, refl, sym, ◌∙◌, ap}
+use Rattle.std.proofs.Common.{◌≡◌, ℕ, cond, Option, Some, None, List, [], ◌∷◌, ◌++◌, take, drop, length, nat_lt, refl, sym, ◌∙◌, ap}
 use Rattle.std.proofs.Math.Path.{fun_ext}
 use Rattle.std.specs.List.{flat_map}
 use Rattle.std.specs.Option.{option_map}
@@ -20,6 +20,7 @@ use Rattle.irc_acts.specs.AlikeChannels.{row_alike}
 use Rattle.irc_acts.specs.CommaLists.{entries}
 use Rattle.irc_acts.specs.OtherInvitations.{uninviting, AreAlike, AreAlikeFor}
 use Rattle.irc_acts.specs.Standing.{is_known}
+use Rattle.irc_acts.specs.Words.{names_channel, word_at}
 use Rattle.irc_membership.specs.Laws.InviteDoes.{invite_looks_at_no_invitation}
 use Rattle.irc_membership.specs.Laws.JoinDoes.{join_looks_at_own_invitations}
 use Rattle.irc_membership.specs.Laws.KickDoes.{kick_looks_at_no_invitation}
@@ -34,8 +35,8 @@ use Rattle.irc_commands.specs.Decisions.{nothing, does}
 use Rattle.irc_commands.specs.Decide.{is_from, decide_for, decide}
 use Rattle.irc_commands.specs.Nick.{nick_taken, nick_steps}
 use Rattle.irc_commands.specs.OwnInvitations.{DecidedByOwnInvitations}
-use Rattle.irc_commands.specs.Say.{is_channel_target, to_channel, to_user, to_one, too_many, unless_notice, say_steps}
-use Rattle.irc_commands.specs.Table.{command_of, row_of}
+use Rattle.irc_commands.specs.Say.{to_channel, to_user, to_one, too_many, unless_notice, say_steps}
+use Rattle.irc_commands.specs.Table.{CommandRow, decided_by, row_named, row_of, too_few}
 use Rattle.irc_commands.specs.Topic.{topic_set, topic_known, topic_of, topic_steps}
 use Rattle.irc_commands.proofs.QueriesAlike.{names_alike, list_alike, lusers_alike, ison_alike, whois_alike, who_alike}
 
@@ -48,13 +49,13 @@ channel_aside me which words name (Some channel) = refl
 
 abbrev said_to : User → Verb → List ℕ → List ℕ → Table User → Option Channel → List Act
 said_to me which words name users found =
-    cond (is_channel_target name) (to_channel me which name words found) (to_user me which name words (row users (key name)))
+    cond (names_channel name) (to_channel me which name words found) (to_user me which name words (row users (key name)))
 
 one_alike : (room other : Room) → AreAlike room other → (me : User) (which : Verb) (words name : List ℕ)
     → to_one room me which words name ≡ to_one other me which words name
 one_alike room other alike me which words name =
     row_alike (said_to me which words name)
-    (λ users found. ap (λ acts. cond (is_channel_target name) acts (to_user me which name words (row users (key name)))) (channel_aside me which words name found))
+    (λ users found. ap (λ acts. cond (names_channel name) acts (to_user me which name words (row users (key name)))) (channel_aside me which words name found))
     room other alike (key name)
 
 say_alike : (room other : Room) → AreAlike room other → (me : User) (which : Verb) (params : List (List ℕ))
@@ -92,39 +93,45 @@ topic_aside me name more users None = refl
 topic_aside me name more users (Some channel) =
     ap (λ act. cond (is_known me channel) act (Answer (NoSuchChannel (client_words name)))) (known_aside me channel more)
 
-topic_alike : (room other : Room) → AreAlike room other → (me : User) (params : List (List ℕ)) → topic_steps room me params ≡ topic_steps other me params
+topic_alike : (room other : Room) → AreAlike room other → (me : User) (name : List ℕ) (more : List (List ℕ))
+    → topic_steps room me name more ≡ topic_steps other me name more
 unfolding topic_steps
-topic_alike room other alike me [] = refl
-topic_alike room other alike me (name ∷ more) =
+topic_alike room other alike me name more =
     ap (λ act. act ∷ []) (row_alike (λ users. topic_of me name more) (topic_aside me name more) room other alike (key name))
 
 -- ---- the whole table
 
-by_row : (room other : Room) (place : Place) (me : User) (message : Parsed) → AreAlikeFor me.nick room other → (which : Option Command)
-    → row_of room place me message which ≡ row_of other place me message which
+by_command : (room other : Room) (place : Place) (me : User) (params : List (List ℕ)) → AreAlikeFor me.nick room other → (which : Command)
+    → row_of room place me params which ≡ row_of other place me params which
 unfolding row_of
-by_row room other place me message so (Some command.Pass) = refl
-by_row room other place me message so (Some command.User) = refl
-by_row room other place me message so (Some command.Pong) = refl
-by_row room other place me message so (Some command.Motd) = refl
-by_row room other place me message so (Some command.Ping) = refl
-by_row room other place me message so (Some command.Quit) = refl
-by_row room other place me message so (Some command.Privmsg) = ap does (say_alike room other so.alike me verb.Privmsg message.params)
-by_row room other place me message so (Some command.Notice) = ap does (say_alike room other so.alike me verb.Notice message.params)
-by_row room other place me message so (Some command.Nick) = ap does (nick_alike room other so.alike me message.params)
-by_row room other place me message so (Some command.Join) = ap does (join_looks_at_own_invitations me room other message.params so)
-by_row room other place me message so (Some command.Part) = ap does (part_looks_at_no_invitation me room other message.params so.alike)
-by_row room other place me message so (Some command.Topic) = ap does (topic_alike room other so.alike me message.params)
-by_row room other place me message so (Some command.Names) = ap does (names_alike room other so.alike me message.params)
-by_row room other place me message so (Some command.Kick) = ap does (kick_looks_at_no_invitation me room other message.params so.alike)
-by_row room other place me message so (Some command.Invite) = ap does (invite_looks_at_no_invitation me room other message.params so.alike)
-by_row room other place me message so (Some command.Mode) = ap does (mode_looks_at_no_invitations me room other message.params so.alike)
-by_row room other place me message so (Some command.Ison) = ap does (ison_alike room other so.alike message.params)
-by_row room other place me message so (Some command.Lusers) = ap does (lusers_alike room other so.alike place)
-by_row room other place me message so (Some command.List) = ap does (list_alike room other so.alike me message.params)
-by_row room other place me message so (Some command.Whois) = ap does (whois_alike room other so.alike place me message.params)
-by_row room other place me message so (Some command.Who) = ap does (who_alike room other so.alike place me message.params)
+by_command room other place me params so command.Pass = refl
+by_command room other place me params so command.User = refl
+by_command room other place me params so command.Pong = refl
+by_command room other place me params so command.Motd = refl
+by_command room other place me params so command.Ping = refl
+by_command room other place me params so command.Quit = refl
+by_command room other place me params so command.Privmsg = ap does (say_alike room other so.alike me verb.Privmsg params)
+by_command room other place me params so command.Notice = ap does (say_alike room other so.alike me verb.Notice params)
+by_command room other place me params so command.Nick = ap does (nick_alike room other so.alike me params)
+by_command room other place me params so command.Join = ap does (join_looks_at_own_invitations me room other (word_at params 0) (word_at params 1) so)
+by_command room other place me params so command.Part = ap does (part_looks_at_no_invitation me room other (word_at params 0) (drop 1 params) so.alike)
+by_command room other place me params so command.Topic = ap does (topic_alike room other so.alike me (word_at params 0) (drop 1 params))
+by_command room other place me params so command.Names = ap does (names_alike room other so.alike me params)
+by_command room other place me params so command.Kick =
+    ap does (kick_looks_at_no_invitation me room other (word_at params 0) (word_at params 1) (drop 2 params) so.alike)
+by_command room other place me params so command.Invite = ap does (invite_looks_at_no_invitation me room other (word_at params 0) (word_at params 1) so.alike)
+by_command room other place me params so command.Mode = ap does (mode_looks_at_no_invitations me room other (word_at params 0) (drop 1 params) so.alike)
+by_command room other place me params so command.Ison = ap does (ison_alike room other so.alike params)
+by_command room other place me params so command.Lusers = ap does (lusers_alike room other so.alike place)
+by_command room other place me params so command.List = ap does (list_alike room other so.alike me params)
+by_command room other place me params so command.Whois = ap does (whois_alike room other so.alike place me params)
+by_command room other place me params so command.Who = ap does (who_alike room other so.alike place me params)
+
+by_row : (room other : Room) (place : Place) (me : User) (message : Parsed) → AreAlikeFor me.nick room other → (which : Option CommandRow)
+    → decided_by room place me message which ≡ decided_by other place me message which
 by_row room other place me message so None = refl
+by_row room other place me message so (Some row) =
+    ap (cond (nat_lt (length message.params) row.least) (too_few row.name)) (by_command room other place me message.params so row.command)
 
 -- rooms that are alike for a nickname are so for each of its spellings
 by_spelling : (room other : Room) (who nick : List ℕ) → key nick ≡ key who → AreAlikeFor who room other → AreAlikeFor nick room other
@@ -138,7 +145,7 @@ by_user : (room other : Room) (place : Place) (who : List ℕ) (message : Parsed
 by_user room other place who message well so None is = refl
 by_user room other place who message well so (Some me) is =
     ap (λ d. cond (is_from message.prefix (Some me.nick)) d nothing)
-    (by_row room other place me message (by_spelling room other who me.nick (well.users_named (key who) me is) so) (command_of message.command))
+    (by_row room other place me message (by_spelling room other who me.nick (well.users_named (key who) me is) so) (row_named message.command))
 
 pub decided_by_own_invitations : DecidedByOwnInvitations
 unfolding decide

@@ -67,7 +67,6 @@ found_own me room name more (Some channel) is =
     by_test (IsOwnStep me room) (is_known me channel) (topic_known me channel more) (Answer (NoSuchChannel (client_words name)))
     (λ known. known_own me room name channel is more) (λ secret. tt)
 
-pub topic_own : (me : User) (room : Room) (params : List (List ℕ)) → AreOwn me room (topic_steps room me params)
+pub topic_own : (me : User) (room : Room) (name : List ℕ) (more : List (List ℕ)) → AreOwn me room (topic_steps room me name more)
 unfolding topic_steps
-topic_own me room [] = tt
-topic_own me room (name ∷ more) = found_own me room name more (row room.channels (key name)) refl
+topic_own me room name more = found_own me room name more (row room.channels (key name)) refl

@@ -26,12 +26,13 @@ use Rattle.irc_acts.specs.CommaLists as commas
 use Rattle.irc_acts.specs.Marks.{asterisk}
 use Rattle.irc_acts.specs.OtherInvitations.{uninviting, AreAlike}
 use Rattle.irc_acts.specs.Standing.{is_listed, is_known, is_seen, is_seen_from}
+use Rattle.irc_acts.specs.Words.{names_channel}
 use Rattle.irc_answers.specs.Names.{in_lines, names_of, known_names, end_of_names, one_names, names_steps}
 use Rattle.irc_queries.specs.Ison.{users_on, ison_steps}
 use Rattle.irc_queries.specs.Lusers.{channels_formed, lusers_steps}
 use Rattle.irc_queries.specs.List.{channel_entry, listed_entries, known_entry, asked_entry, list_steps}
 use Rattle.irc_queries.specs.Whois.{info_of, place_in, places, channels_line, told_if_there, told_of_one, told_of_list, whois_steps}
-use Rattle.irc_queries.specs.Who.{member_if_seen, members_told, users_told, is_channel_asked, told_of_seen, told, asks_for_operators, end_of_who, who_steps}
+use Rattle.irc_queries.specs.Who.{member_if_seen, members_told, users_told, told_of_seen, told, asks_for_operators, end_of_who, who_steps}
 
 module _ (room other : Room) (alike : AreAlike room other) where
   -- NAMES
@@ -98,9 +99,8 @@ module _ (room other : Room) (alike : AreAlike room other) where
 
   pub ison_alike : (params : List (List ℕ)) → ison_steps room params ≡ ison_steps other params
   unfolding ison_steps
-  ison_alike [] = refl
-  ison_alike (words ∷ more) =
-      ap (λ (users : Table User). users_on (flat_map (λ asked. flat_map (λ nick. option_to_list (row users (key nick))) (slice_split is_space asked)) (words ∷ more)) ∷ [])
+  ison_alike params =
+      ap (λ (users : Table User). users_on (flat_map (λ asked. flat_map (λ nick. option_to_list (row users (key nick))) (slice_split is_space asked)) params) ∷ [])
       alike.users
 
   -- WHOIS
@@ -160,9 +160,9 @@ module _ (room other : Room) (alike : AreAlike room other) where
   who_told_alike : (place : Place) (me : User) (asked : List ℕ) → told room place me asked ≡ told other place me asked
   who_told_alike place me asked =
       ap (λ (seen : User → Bool). told_of_seen room place seen me asked) (fun_ext (seen_alike me))
-      ∙ ap (λ acts. cond (is_channel_asked asked) acts (users_told place (λ user. is_seen other me user) asked (values room.users)))
+      ∙ ap (λ acts. cond (names_channel asked) acts (users_told place (λ user. is_seen other me user) asked (values room.users)))
       (members_alike place (λ user. is_seen other me user) me (key asked))
-      ∙ ap (λ users. cond (is_channel_asked asked) (members_told other place (λ user. is_seen other me user) me (row other.channels (key asked)))
+      ∙ ap (λ users. cond (names_channel asked) (members_told other place (λ user. is_seen other me user) me (row other.channels (key asked)))
       (users_told place (λ user. is_seen other me user) asked (values users))) alike.users
 
   pub who_alike : (place : Place) (me : User) (params : List (List ℕ)) → who_steps room place me params ≡ who_steps other place me params

@@ -16,9 +16,10 @@ use Rattle.irc_acts.specs.declared.act.Act.TheVariants.{Answer, Do}
 use Rattle.irc_acts.specs.Acts.{kept}
 use Rattle.irc_acts.specs.ByTest.{by_test}
 use Rattle.irc_acts.specs.CommaLists.{entries}
+use Rattle.irc_acts.specs.Words.{names_channel}
 use Rattle.irc_commands.specs.declared.say.Verb.{Verb}
 use Rattle.irc_commands.specs.declared.say.Verb.TheVariants as verb
-use Rattle.irc_commands.specs.Say.{is_notice, said_text, may_speak, is_channel_target, says, to_channel, to_user, to_one, too_many, unless_notice, say_to, say_steps}
+use Rattle.irc_commands.specs.Say.{is_notice, said_text, may_speak, says, to_channel, to_user, to_one, too_many, unless_notice, say_to, say_steps}
 
 -- so it is of an answer, and of a text to a user or a channel that is there, as much of the words as its line has room for
 pub record IsSoWhereSaid (room : Room) (me : User) (which : Verb) (words : List ℕ) (P : Act → Type 0) : Type 0 where
@@ -62,7 +63,7 @@ user_all room me P which words so name (Some other) is = (so.to_users name other
 one_all : (room : Room) (me : User) (P : Act → Type 0) (which : Verb) (words : List ℕ) → IsSoWhereSaid room me which words P → (name : List ℕ)
     → AllByRecursion P (to_one room me which words name)
 one_all room me P which words so name =
-    by_test (AllByRecursion P) (is_channel_target name)
+    by_test (AllByRecursion P) (names_channel name)
     (to_channel me which name words (row room.channels (key name))) (to_user me which name words (row room.users (key name)))
     (λ is. channel_all room me P which words so name (row room.channels (key name)) refl)
     (λ is_not. user_all room me P which words so name (row room.users (key name)) refl)

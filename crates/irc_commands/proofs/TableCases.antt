@@ -1,5 +1,5 @@
 -- What can come of a line, case by case: of a user, and of a connection that is not registered. A case for each row of the command table.
-use Rattle.std.proofs.Common.{Bool, if◌then◌else◌, map, sym, subst, ◌⊎◌, inl, inr, nat_eq, ◌≡◌, ℕ, true, false, not, Option, Some, None, List, [], ◌∷◌, refl, cond}
+use Rattle.std.proofs.Common.{Bool, if◌then◌else◌, map, sym, subst, ◌⊎◌, inl, inr, nat_eq, ◌≡◌, ℕ, true, false, not, Option, Some, None, List, [], ◌∷◌, refl, cond, drop, length, nat_lt}
 use Rattle.arrayvec.specs.ArrayVec.{ArrayVec}
 use Rattle.std.specs.Cmp.Lexicographic.{pointwise}
 use Rattle.irc_names.specs.Fold.{key}
@@ -16,14 +16,14 @@ use Rattle.irc_acts.specs.declared.act.Act.{Act}
 use Rattle.irc_acts.specs.declared.act.Act.TheVariants.{Answer, Raw, Do}
 use Rattle.irc_commands.specs.declared.table.Command.{Command}
 use Rattle.irc_commands.specs.declared.table.Command.TheVariants as command
-use Rattle.irc_commands.specs.Table.{command_of, row_of}
+use Rattle.irc_commands.specs.Table.{CommandRow, command_of, decided_by, row_named, row_of, too_few}
 use Rattle.irc_acts.specs.Acts.{client_words, effects_among}
 use Rattle.irc_commands.specs.Decisions.{Decided, nothing, does, Registered}
 use Rattle.irc_commands.specs.Decide.{is_from, decide_for, decide}
 use Rattle.irc_acts.specs.Moves.{own_channels}
 use Rattle.irc_acts.specs.Own.{IsOwn, AreOwn}
 use Rattle.irc_acts.specs.Sendable.{CarriesSendable}
-use Rattle.irc_acts.specs.Words.{reason_given}
+use Rattle.irc_acts.specs.Words.{reason_given, word_at}
 use Rattle.irc_membership.specs.Join.{leaves, join_steps}
 use Rattle.irc_membership.specs.Invite.{invite_steps}
 use Rattle.irc_membership.specs.Kick.{kick_steps}
@@ -116,51 +116,70 @@ by_join : (room : Room) (who : List ℕ) (message : Parsed) (me : User) (Q : Dec
 by_join room who message me Q so is steps carries (inl own) = so.own me steps is own carries
 by_join room who message me Q so is steps carries (inr all) = subst (λ (acts : List Act). Q (does acts)) (sym all) (so.leaves_all me is)
 
-by_row : (room : Room) (place : Place) (who : List ℕ) (me : User) (message : Parsed) (Q : Decided → Type 0) → IsSoDecided room who message Q
-    → row room.users (key who) ≡ Some me → (which : Option Command) → Q (row_of room place me message which)
+by_command : (room : Room) (place : Place) (who : List ℕ) (me : User) (message : Parsed) (Q : Decided → Type 0) → IsSoDecided room who message Q
+    → row room.users (key who) ≡ Some me → (which : Command) → Q (row_of room place me message.params which)
 unfolding row_of
-by_row room place who me message Q so is (Some command.Pass) = by_answers room who message me Q so is _ refl
-by_row room place who me message Q so is (Some command.User) = by_answers room who message me Q so is _ refl
-by_row room place who me message Q so is (Some command.Pong) = so.silent
-by_row room place who me message Q so is (Some command.Motd) = by_answers room who message me Q so is _ refl
-by_row room place who me message Q so is (Some command.Ping) = by_answers room who message me Q so is (ping_steps place message.params) (pinged place message.params)
-by_row room place who me message Q so is (Some command.Quit) = so.quits me _ _ is refl
-by_row room place who me message Q so is (Some command.Privmsg) =
+by_command room place who me message Q so is command.Pass = by_answers room who message me Q so is _ refl
+by_command room place who me message Q so is command.User = by_answers room who message me Q so is _ refl
+by_command room place who me message Q so is command.Pong = so.silent
+by_command room place who me message Q so is command.Motd = by_answers room who message me Q so is _ refl
+by_command room place who me message Q so is command.Ping = by_answers room who message me Q so is (ping_steps place message.params) (pinged place message.params)
+by_command room place who me message Q so is command.Quit = so.quits me _ _ is refl
+by_command room place who me message Q so is command.Privmsg =
     so.own me (say_steps room me verb.Privmsg message.params) is (say_own me room verb.Privmsg message.params) (say_carries me room verb.Privmsg message.params)
-by_row room place who me message Q so is (Some command.Notice) =
+by_command room place who me message Q so is command.Notice =
     so.own me (say_steps room me verb.Notice message.params) is (say_own me room verb.Notice message.params) (say_carries me room verb.Notice message.params)
-by_row room place who me message Q so is (Some command.Nick) = by_nick room who message me Q so is message.params
-by_row room place who me message Q so is (Some command.Join) =
-    by_join room who message me Q so is (join_steps room me message.params) (join_given me room message.params) (join_is_own_or_leaves me room message.params)
-by_row room place who me message Q so is (Some command.Part) =
-    so.own me (part_steps room me message.params) is (part_is_own me room message.params) (part_given me room message.params)
-by_row room place who me message Q so is (Some command.Topic) =
-    so.own me (topic_steps room me message.params) is (topic_own me room message.params) (topic_given me room message.params)
-by_row room place who me message Q so is (Some command.Names) =
+by_command room place who me message Q so is command.Nick = by_nick room who message me Q so is message.params
+by_command room place who me message Q so is command.Join =
+    let list = word_at message.params 0 in
+    let keys = word_at message.params 1 in
+    by_join room who message me Q so is (join_steps room me list keys) (join_given me room message.params list keys) (join_is_own_or_leaves me room list keys)
+by_command room place who me message Q so is command.Part =
+    let list = word_at message.params 0 in
+    let more = drop 1 message.params in
+    so.own me (part_steps room me list more) is (part_is_own me room list more) (part_given me room message.params list 1)
+by_command room place who me message Q so is command.Topic =
+    let name = word_at message.params 0 in
+    let more = drop 1 message.params in
+    so.own me (topic_steps room me name more) is (topic_own me room name more) (topic_given me room message.params name 1)
+by_command room place who me message Q so is command.Names =
     by_answers room who message me Q so is (names_steps room me message.params) (names_only_answers room me message.params)
-by_row room place who me message Q so is (Some command.Kick) =
-    so.own me (kick_steps room me message.params) is (kick_is_own me room message.params) (kick_given me room message.params)
-by_row room place who me message Q so is (Some command.Invite) =
-    so.own me (invite_steps room me message.params) is (invite_is_own me room message.params) (invite_given me room message.params)
-by_row room place who me message Q so is (Some command.Mode) =
-    so.own me (mode_steps room me message.params) is (mode_is_own me room message.params) (mode_given me room message.params)
-by_row room place who me message Q so is (Some command.Ison) =
+by_command room place who me message Q so is command.Kick =
+    let channels = word_at message.params 0 in
+    let nicks = word_at message.params 1 in
+    let more = drop 2 message.params in
+    so.own me (kick_steps room me channels nicks more) is (kick_is_own me room channels nicks more) (kick_given me room message.params channels nicks 2)
+by_command room place who me message Q so is command.Invite =
+    let nick = word_at message.params 0 in
+    let name = word_at message.params 1 in
+    so.own me (invite_steps room me nick name) is (invite_is_own me room nick name) (invite_given me room message.params nick name)
+by_command room place who me message Q so is command.Mode =
+    let target = word_at message.params 0 in
+    let more = drop 1 message.params in
+    so.own me (mode_steps room me target more) is (mode_is_own me room target more) (mode_given me room message.params target 1)
+by_command room place who me message Q so is command.Ison =
     by_answers room who message me Q so is (ison_steps room message.params) (ison_only_answers room message.params)
-by_row room place who me message Q so is (Some command.Lusers) = by_answers room who message me Q so is (lusers_steps room place) (lusers_only_answers room place)
-by_row room place who me message Q so is (Some command.List) =
+by_command room place who me message Q so is command.Lusers = by_answers room who message me Q so is (lusers_steps room place) (lusers_only_answers room place)
+by_command room place who me message Q so is command.List =
     by_answers room who message me Q so is (list_steps room me message.params) (list_only_answers room me message.params)
-by_row room place who me message Q so is (Some command.Whois) =
+by_command room place who me message Q so is command.Whois =
     by_answers room who message me Q so is (whois_steps room place me message.params) (whois_only_answers room place me message.params)
-by_row room place who me message Q so is (Some command.Who) =
+by_command room place who me message Q so is command.Who =
     by_answers room who message me Q so is (who_steps room place me message.params) (who_only_answers room place me message.params)
+
+by_row : (room : Room) (place : Place) (who : List ℕ) (me : User) (message : Parsed) (Q : Decided → Type 0) → IsSoDecided room who message Q
+    → row room.users (key who) ≡ Some me → (which : Option CommandRow) → Q (decided_by room place me message which)
 by_row room place who me message Q so is None = by_answers room who message me Q so is _ refl
+by_row room place who me message Q so is (Some found) =
+    by_test Q (nat_lt (length message.params) found.least) (too_few found.name) (row_of room place me message.params found.command)
+    (λ fewer. by_answers room who message me Q so is _ refl) (λ enough. by_command room place who me message Q so is found.command)
 
 by_user : (room : Room) (place : Place) (who : List ℕ) (message : Parsed) (Q : Decided → Type 0) → IsSoDecided room who message Q
     → (found : Option User) → row room.users (key who) ≡ found → Q (decide_for room place message found)
 by_user room place who message Q so None is = so.silent
 by_user room place who message Q so (Some me) is =
-    by_test Q (is_from message.prefix (Some me.nick)) (row_of room place me message (command_of message.command)) nothing
-    (λ own. by_row room place who me message Q so is (command_of message.command)) (λ foreign. so.silent)
+    by_test Q (is_from message.prefix (Some me.nick)) (decided_by room place me message (row_named message.command)) nothing
+    (λ own. by_row room place who me message Q so is (row_named message.command)) (λ foreign. so.silent)
 
 pub decided_so : (room : Room) (place : Place) (who : List ℕ) (message : Parsed) (Q : Decided → Type 0) → IsSoDecided room who message Q → Q (decide room place who message)
 unfolding decide

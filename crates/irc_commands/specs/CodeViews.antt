@@ -1,5 +1,6 @@
 -- What the code's decisions are, without where their steps lie in memory.
 use Rattle.std.specs.Prelude.{◌≡◌, ℕ, Option, Some, None, Result, List, [], ◌++◌, IfOk}
+use Rattle.std.specs.Borrow.{Bor}
 use Rattle.std.specs.Global.{Vec}
 use Rattle.irc_names.specs.Fold.{key}
 use Rattle.irc_names.specs.Tables.{row}
@@ -19,7 +20,8 @@ use Rattle.irc_commands.specs.Decide.{decide}
 use Rattle.irc_commands.specs.Decisions.{Decided, Registered, does}
 use Rattle.irc_commands.specs.Nick.{nick_steps}
 use Rattle.irc_commands.specs.Say.{say_steps, say_to}
-use Rattle.irc_commands.specs.Table.{row_for}
+use Rattle.irc_commands.specs.declared.table.Command.{Command}
+use Rattle.irc_commands.specs.Table.{CommandRow, row_for, row_of}
 use Rattle.irc_commands.specs.Topic.{topic_steps}
 
 abbrev pub registered_of : Registration → Registered
@@ -33,8 +35,8 @@ AreDecided want steps = steps.items ≡ want
 abbrev pub nick_here : Context → List (List ℕ) → List Act
 nick_here context params = nick_steps context.room.now.room context.me.now params
 
-abbrev pub topic_here : Context → List (List ℕ) → List Act
-topic_here context params = topic_steps context.room.now.room context.me.now params
+abbrev pub topic_here : Context → List ℕ → List (List ℕ) → List Act
+topic_here context name more = topic_steps context.room.now.room context.me.now name more
 
 abbrev pub say_here : Context → Verb → List (List ℕ) → List Act
 say_here context verb params = say_steps context.room.now.room context.me.now verb params
@@ -68,6 +70,15 @@ IsAsking query d =
 -- A command of the context's user, with these parameters, is decided so.
 abbrev pub IsDecidedIn : Context → List (List ℕ) → Decided → Decision → Type 0
 IsDecidedIn context params want = IsDecidedAs context.room.now.room (place_of context.routes.now) (Some context.me.now) params want
+
+-- a row of the code's table
+abbrev pub row_view : Bor (List ℕ) × Command × ℕ → CommandRow
+row_view row = record { name = row.0.now; command = row.1; least = row.2 }
+
+-- what a command does with these parameters, which are as many as its row wants
+abbrev pub IsRowOf : Context → Command → List (List ℕ) → Decision → Type 0
+IsRowOf context command params =
+    IsDecidedIn context params (row_of context.room.now.room (place_of context.routes.now) context.me.now params command)
 
 -- The row of the command table that a user's line fits, and what a line of who has this nickname does.
 abbrev pub IsRowFor : Context → Parsed → Decision → Type 0

@@ -1,5 +1,5 @@
 -- PRIVMSG and NOTICE.
-use Rattle.std.specs.Prelude.{ℕ, ◌-◌, Bool, true, false, not, ◌&&◌, ◌||◌, Option, Some, None, List, [], ◌∷◌, ◌++◌, codes, length, take, drop, filter, nat_eq, is_some, if◌then◌else◌}
+use Rattle.std.specs.Prelude.{ℕ, ◌-◌, Bool, true, false, not, ◌&&◌, ◌||◌, Option, Some, None, List, [], ◌∷◌, ◌++◌, codes, length, take, drop, filter, is_some, if◌then◌else◌}
 use Rattle.std.specs.List.{flat_map}
 use Rattle.irc_names.specs.Fold.{key}
 use Rattle.irc_names.specs.Tables.{row}
@@ -19,13 +19,9 @@ use Rattle.irc_commands.specs.declared.say.Verb.TheVariants as verb
 use Rattle.irc_acts.specs.declared.act.Act.{Act}
 use Rattle.irc_acts.specs.declared.act.Act.TheVariants.{Answer, Do}
 use Rattle.irc_acts.specs.Acts.{kept, client_words}
-use Rattle.irc_acts.specs.Marks.{hash}
 use Rattle.irc_acts.specs.CommaLists.{entries}
 use Rattle.irc_acts.specs.Standing.{is_banned}
-
-abbrev pub is_channel_target : List ℕ → Bool
-is_channel_target [] = false
-is_channel_target (b ∷ bytes) = nat_eq b hash
+use Rattle.irc_acts.specs.Words.{names_channel}
 
 -- an operator, or a member with voice
 abbrev pub is_raised : Option Flags → Bool
@@ -71,7 +67,7 @@ to_user me which word words (Some user) = says me which (target.User user.nick) 
 
 abbrev pub to_one : Room → User → Verb → List ℕ → List ℕ → List Act
 to_one room me which words name =
-    if is_channel_target name then to_channel me which name words (row room.channels (key name))
+    if names_channel name then to_channel me which name words (row room.channels (key name))
     else to_user me which name words (row room.users (key name))
 
 -- the target behind the last that is served, if there is one

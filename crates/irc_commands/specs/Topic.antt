@@ -1,12 +1,12 @@
 -- TOPIC.
-use Rattle.std.specs.Prelude.{ℕ, not, ◌&&◌, Option, Some, None, List, [], ◌∷◌, codes, if◌then◌else◌}
+use Rattle.std.specs.Prelude.{ℕ, not, ◌&&◌, Option, Some, None, List, [], ◌∷◌, if◌then◌else◌}
 use Rattle.irc_names.specs.Fold.{key}
 use Rattle.irc_names.specs.Tables.{row}
 use Rattle.irc_users.specs.declared.user.User.{User}
 use Rattle.irc_channels.specs.declared.flags.Flags.{Flags}
 use Rattle.irc_channels.specs.declared.channel.Channel.{Channel}
 use Rattle.irc_channels.specs.Texts.{cut_words}
-use Rattle.irc_numerics.specs.declared.replies.Reply.TheVariants.{NeedMoreParams, NoSuchChannel, NoTopic, Topic, NotOnChannel, ChanOPrivsNeeded}
+use Rattle.irc_numerics.specs.declared.replies.Reply.TheVariants.{NoSuchChannel, NoTopic, Topic, NotOnChannel, ChanOPrivsNeeded}
 use Rattle.irc_room.specs.declared.effect.By.TheVariants as by
 use Rattle.irc_room.specs.declared.effect.Effect.TheVariants.{SetTopic}
 use Rattle.irc_room.specs.Room.{Room}
@@ -37,7 +37,6 @@ topic_of me name more None = Answer (NoSuchChannel (client_words name))
 topic_of me name more (Some channel) =
     if is_known me channel then topic_known me channel more else Answer (NoSuchChannel (client_words name))
 
--- what a TOPIC does (RFC 2812 section 3.2.4)
-unfoldable pub topic_steps : Room → User → List (List ℕ) → List Act
-topic_steps room me [] = Answer (NeedMoreParams (client_words (codes "TOPIC"))) ∷ []
-topic_steps room me (name ∷ more) = topic_of me name more (row room.channels (key name)) ∷ []
+-- what a TOPIC of the channel of a name does (RFC 2812 section 3.2.4); the parameter behind it is the topic that is set
+unfoldable pub topic_steps : Room → User → List ℕ → List (List ℕ) → List Act
+topic_steps room me name more = topic_of me name more (row room.channels (key name)) ∷ []

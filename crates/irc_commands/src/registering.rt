@@ -192,7 +192,8 @@ fn take_nick(
     }
 }
 
-/// USER: a user name and a real name. An earlier USER is replaced.
+/// USER: a user name and a real name. An earlier USER is replaced. Too few parameters are answered here and not by the command table's number,
+/// which is of registered users: they are refused before their parameters are counted.
 fn take_user(
     alloc: Global,
     room: &Room,

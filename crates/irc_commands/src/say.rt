@@ -7,7 +7,6 @@ ghost use Rattle.irc_acts.specs.Acts.{client_words};
 ghost use Rattle.irc_acts.specs.declared.act.Act.TheVariants.{Answer};
 ghost use Rattle.irc_commands.specs.CodeViews.{AreDecided, said_here, say_here};
 ghost use Rattle.irc_commands.specs.Say.{
-  is_channel_target,
   is_notice,
   is_raised,
   may_speak,
@@ -22,7 +21,7 @@ ghost use Rattle.irc_commands.specs.Say.{
 use crate::MAX_TARGETS;
 use irc_acts::comma_lists::next_entry;
 use irc_acts::standing::is_banned;
-use irc_acts::words::client_words;
+use irc_acts::words::{client_words, names_channel};
 use irc_acts::{Act, Context, put};
 use irc_channels::{Channel, Flags};
 use irc_line::Line;
@@ -84,7 +83,7 @@ fn to_target(context: &Context<'_>, verb: Verb, words: &[u8], name: &[u8]) -> Ac
     ensures { to_one context.now.room.now.room context.now.me.now verb words.now name.now
         ≡ result ∷ [] }
 {
-    if is_channel_target(name) {
+    if names_channel(name) {
         to_channel(context.room.channel(name), context.me, verb, words, name)
     } else {
         to_user(context.room.user(name), context.me, verb, words, name)
@@ -133,18 +132,6 @@ fn missing(name: &[u8]) -> Act
     Act::Answer(Reply::NoSuchNick {
         name: client_words(name),
     })
-}
-
-const HASH: u8 = b'#';
-
-/// Whether a target stands for a channel.
-fn is_channel_target(name: &[u8]) -> bool
-    ensures { result ≡ is_channel_target name.now }
-{
-    match name.first() {
-        Some(first) => *first == HASH,
-        None => false,
-    }
 }
 
 /// Whether a user may speak in a channel (RFC 2811 sections 4.2.3, 4.2.4 and 4.3.1): no outsider where mode n keeps them out; an

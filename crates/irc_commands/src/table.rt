@@ -1,16 +1,19 @@
 //! The command table.
 ghost use Rattle.std.specs.Prelude.{◌≡◌, List, [], ◌∷◌, IfOk};
+ghost use Rattle.std.specs.Option.{option_map};
 ghost use Rattle.irc_line.specs.MessageViews.{parsed};
+ghost use Rattle.irc_line.specs.PartViews.{words_now};
 ghost use Rattle.irc_acts.specs.declared.act.Act.{Act};
 ghost use Rattle.irc_acts.specs.declared.act.Act.TheVariants.{Answer};
-ghost use Rattle.irc_commands.specs.CodeViews.{AreDecided, GivesWithoutQuery, IsAsking, IsRowFor, IsWithoutQuery};
+ghost use Rattle.irc_commands.specs.CodeViews.{AreDecided, GivesWithoutQuery, IsAsking, IsRowFor, IsRowOf, IsWithoutQuery, row_view};
 ghost use Rattle.irc_commands.specs.Decisions.{does, nothing};
-ghost use Rattle.irc_commands.specs.Table.{command_of, same_letters, unknown};
+ghost use Rattle.irc_commands.specs.Table.{command_of, row_named, same_letters, too_few, unknown};
 
 use crate::decision::Decision;
 use crate::say::Verb;
 use crate::{nick, ping, quit, say, topic};
-use irc_acts::words::client_words;
+use irc_acts::refusals::need_more_params;
+use irc_acts::words::{client_words, word_at, words_behind};
 use irc_acts::{Act, Context, only};
 use irc_answers::names;
 use irc_line::Message;
@@ -67,29 +70,32 @@ pub enum Command {
     Who,
 }
 
-/// Each command by its name.
-const NAMES: [(&[u8], Command); 21] = [
-    (b"PASS", Command::Pass),
-    (b"NICK", Command::Nick),
-    (b"USER", Command::User),
-    (b"QUIT", Command::Quit),
-    (b"PING", Command::Ping),
-    (b"PONG", Command::Pong),
-    (b"MOTD", Command::Motd),
-    (b"PRIVMSG", Command::Privmsg),
-    (b"NOTICE", Command::Notice),
-    (b"JOIN", Command::Join),
-    (b"PART", Command::Part),
-    (b"TOPIC", Command::Topic),
-    (b"NAMES", Command::Names),
-    (b"KICK", Command::Kick),
-    (b"INVITE", Command::Invite),
-    (b"MODE", Command::Mode),
-    (b"ISON", Command::Ison),
-    (b"LUSERS", Command::Lusers),
-    (b"LIST", Command::List),
-    (b"WHOIS", Command::Whois),
-    (b"WHO", Command::Who),
+/// A row of the command table: a command by its name, and how many parameters it wants at least.
+type Row = (&'static [u8], Command, usize);
+
+/// Each command (RFC 2812 section 3, and 4.9 of ISON). Its number is 0 also where a line that lacks a parameter is answered otherwise.
+const ROWS: [Row; 21] = [
+    (b"PASS", Command::Pass, 0),
+    (b"NICK", Command::Nick, 0),
+    (b"USER", Command::User, 0),
+    (b"QUIT", Command::Quit, 0),
+    (b"PING", Command::Ping, 0),
+    (b"PONG", Command::Pong, 0),
+    (b"MOTD", Command::Motd, 0),
+    (b"PRIVMSG", Command::Privmsg, 0),
+    (b"NOTICE", Command::Notice, 0),
+    (b"JOIN", Command::Join, 1),
+    (b"PART", Command::Part, 1),
+    (b"TOPIC", Command::Topic, 1),
+    (b"NAMES", Command::Names, 0),
+    (b"KICK", Command::Kick, 2),
+    (b"INVITE", Command::Invite, 2),
+    (b"MODE", Command::Mode, 1),
+    (b"ISON", Command::Ison, 1),
+    (b"LUSERS", Command::Lusers, 0),
+    (b"LIST", Command::List, 0),
+    (b"WHOIS", Command::Whois, 0),
+    (b"WHO", Command::Who, 0),
 ];
 
 impl Command {
@@ -97,13 +103,21 @@ impl Command {
     pub fn read(word: &[u8]) -> Option<Self>
         ensures { result ≡ command_of word.now }
     {
-        for (name, command) in NAMES {
-            if is_word(word, name) {
-                return Some(command);
-            }
-        }
-        None
+        let (_, command, _) = find(word)?;
+        Some(command)
     }
+}
+
+/// The row of the command that a word is, in any case of letters; none where it is not in the table.
+fn find(word: &[u8]) -> Option<Row>
+    ensures { option_map row_view result ≡ row_named word.now }
+{
+    for (name, command, least) in ROWS {
+        if is_word(word, name) {
+            return Some((name, command, least));
+        }
+    }
+    None
 }
 
 /// Whether two words are one but for the case of letters.
@@ -113,37 +127,51 @@ fn is_word(word: &[u8], name: &[u8]) -> bool
     word.eq_ignore_ascii_case(name)
 }
 
-/// The row of the command table that the line of a user fits.
-#[tactic(auto, unfolding(crate::specs::Table::row_of))]
+/// What a line of a user does, by the row of its command. Too few parameters are answered here, whatever the command.
 pub(crate) fn decide_for(
     context: &Context<'_>,
     message: &Message<'_>,
 ) -> Result<Decision, AllocError>
     ensures { IfOk result (IsRowFor context.now (parsed message.now)) }
 {
+    let Some((name, command, least)) = find(message.command) else {
+        return unknown(context.alloc, message.command);
+    };
     let params = message.params.as_slice();
-    match Command::read(message.command) {
-        Some(Command::Pass | Command::User) => answer(context.alloc, Reply::AlreadyRegistered),
-        Some(Command::Pong) => Ok(nothing(context.alloc)),
-        Some(Command::Motd) => answer(context.alloc, Reply::NoMotd),
-        Some(Command::Ping) => stays(ping::steps(context.alloc, context.routes, params)),
-        Some(Command::Quit) => quit::decided(context, params),
-        Some(Command::Privmsg) => stays(say::steps(context, Verb::Privmsg, params)),
-        Some(Command::Notice) => stays(say::steps(context, Verb::Notice, params)),
-        Some(Command::Nick) => stays(nick::steps(context, params)),
-        Some(Command::Join) => stays(join::steps(context, params)),
-        Some(Command::Part) => stays(part::steps(context, params)),
-        Some(Command::Topic) => stays(topic::steps(context, params)),
-        Some(Command::Names) => stays(names::steps(context, params)),
-        Some(Command::Kick) => stays(kick::steps(context, params)),
-        Some(Command::Invite) => stays(invite::steps(context, params)),
-        Some(Command::Mode) => stays(mode::steps(context, params)),
-        Some(Command::Ison) => stays(ison::steps(context, params)),
-        Some(Command::Lusers) => stays(lusers::steps(context)),
-        Some(Command::List) => Ok(asks(context.alloc, Query::List)),
-        Some(Command::Whois) => stays(whois::steps(context, params)),
-        Some(Command::Who) => Ok(asks(context.alloc, Query::Who)),
-        None => unknown(context.alloc, message.command),
+    if params.len() < least {
+        return too_few(context.alloc, name);
+    }
+    obey(context, command, params)
+}
+
+/// What a command does with parameters that are as many as its row wants.
+#[tactic(auto, unfolding(crate::specs::Table::row_of))]
+fn obey(context: &Context<'_>, command: Command, params: &[&[u8]]) -> Result<Decision, AllocError>
+    ensures { IfOk result (IsRowOf context.now command (words_now params.now)) }
+{
+    let first = word_at(params, 0);
+    let second = word_at(params, 1);
+    match command {
+        Command::Pass | Command::User => answer(context.alloc, Reply::AlreadyRegistered),
+        Command::Pong => Ok(nothing(context.alloc)),
+        Command::Motd => answer(context.alloc, Reply::NoMotd),
+        Command::Ping => stays(ping::steps(context.alloc, context.routes, params)),
+        Command::Quit => quit::decided(context, params),
+        Command::Privmsg => stays(say::steps(context, Verb::Privmsg, params)),
+        Command::Notice => stays(say::steps(context, Verb::Notice, params)),
+        Command::Nick => stays(nick::steps(context, params)),
+        Command::Join => stays(join::steps(context, first, second)),
+        Command::Part => stays(part::steps(context, first, words_behind(params, 1))),
+        Command::Topic => stays(topic::steps(context, first, words_behind(params, 1))),
+        Command::Names => stays(names::steps(context, params)),
+        Command::Kick => stays(kick::steps(context, first, second, words_behind(params, 2))),
+        Command::Invite => stays(invite::steps(context, first, second)),
+        Command::Mode => stays(mode::steps(context, first, words_behind(params, 1))),
+        Command::Ison => stays(ison::steps(context, params)),
+        Command::Lusers => stays(lusers::steps(context)),
+        Command::List => Ok(asks(context.alloc, Query::List)),
+        Command::Whois => stays(whois::steps(context, params)),
+        Command::Who => Ok(asks(context.alloc, Query::Who)),
     }
 }
 
@@ -197,4 +225,11 @@ fn unknown(alloc: Global, word: &[u8]) -> Result<Decision, AllocError>
 {
     let command = client_words(word);
     answer(alloc, Reply::UnknownCommand { command })
+}
+
+/// A command that wants more parameters is named in capitals.
+fn too_few(alloc: Global, name: &[u8]) -> Result<Decision, AllocError>
+    ensures { GivesWithoutQuery (too_few name.now) result }
+{
+    stays(only(alloc, need_more_params(name)))
 }

@@ -1,11 +1,11 @@
 //! TOPIC.
-ghost use Rattle.std.specs.Prelude.{◌≡◌, [], ◌∷◌, IfOk};
+ghost use Rattle.std.specs.Prelude.{◌≡◌, IfOk};
 ghost use Rattle.std.specs.Option.{option_copied};
 ghost use Rattle.irc_line.specs.PartViews.{words_now};
-ghost use Rattle.irc_commands.specs.Topic.{topic_of, topic_set, topic_steps, topic_told};
+ghost use Rattle.irc_commands.specs.Topic.{topic_of, topic_set, topic_told};
 ghost use Rattle.irc_commands.specs.CodeViews.{AreDecided, topic_here};
 
-use irc_acts::refusals::{need_more_params, no_such_channel, not_on_channel};
+use irc_acts::refusals::{no_such_channel, not_on_channel};
 use irc_acts::standing::is_known;
 use irc_acts::{Act, Context, only};
 use irc_channels::{Channel, Flags, Words};
@@ -15,23 +15,17 @@ use irc_room::{By, Effect};
 use irc_users::User;
 use std::alloc::{AllocError, Global};
 
-/// What a TOPIC does (RFC 2812 section 3.2.4).
-pub(crate) fn steps(context: &Context<'_>, params: &[&[u8]]) -> Result<Vec<Act, Global>, AllocError>
-    ensures { IfOk result (AreDecided (topic_here context.now (words_now params.now))) }
-{
-    only(context.alloc, step(context, params))
-}
-
-/// The one step of a TOPIC.
+/// What a TOPIC of the channel of a name does (RFC 2812 section 3.2.4): it shows the topic, or the first parameter behind the name is set.
 #[tactic(auto, unfolding(crate::specs::Topic::topic_steps))]
-fn step(context: &Context<'_>, params: &[&[u8]]) -> Act
-    ensures { topic_steps context.now.room.now.room context.now.me.now (words_now params.now)
-        ≡ result ∷ [] }
+pub(crate) fn steps(
+    context: &Context<'_>,
+    name: &[u8],
+    more: &[&[u8]],
+) -> Result<Vec<Act, Global>, AllocError>
+    ensures { IfOk result (AreDecided (topic_here context.now name.now (words_now more.now))) }
 {
-    match params.split_first() {
-        Some((name, more)) => in_channel(context.room.channel(name), context.me, name, more),
-        None => need_more_params(b"TOPIC"),
-    }
+    let step = in_channel(context.room.channel(name), context.me, name, more);
+    only(context.alloc, step)
 }
 
 /// What a TOPIC does to the channel that was found under a name, if one was. A secret channel is not there for who is no member.

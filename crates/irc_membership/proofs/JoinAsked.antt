@@ -1,7 +1,5 @@
 -- The channels that a JOIN asks for, read from the front of its two lists.
 use Rattle.std.proofs.Common.{◌≡◌, ℕ, Bool, true, false, not, Option, Some, None, List, [], ◌∷◌, ◌++◌, filter, length, map, eqb, refl, sym, ◌∙◌, ap, subst, if◌then◌else◌}
-use Rattle.std.specs.Borrow.{Bor}
-use Rattle.irc_line.specs.PartViews.{words_now}
 use Rattle.irc_users.specs.declared.user.User.{User}
 use Rattle.irc_modes.specs.Modes.{is_nil}
 use Rattle.irc_room.specs.Room.{Room}
@@ -9,7 +7,7 @@ use Rattle.irc_acts.specs.declared.act.Act.{Act}
 use Rattle.irc_acts.specs.Ahead.{ahead, in_turn}
 use Rattle.irc_acts.specs.CommaLists.{pieces_left}
 use Rattle.irc_acts.specs.Moves.{AreOwnJoins, own_channels}
-use Rattle.irc_membership.specs.Join.{Asked, asks, with_keys, asked_for, is_zero, join_one, join_steps, keys_given, leaves}
+use Rattle.irc_membership.specs.Join.{Asked, asks, with_keys, asked_for, is_zero, join_one, join_steps, leaves}
 use Rattle.irc_membership.specs.Loops.JoinList.{IsNextKey}
 use Rattle.irc_acts.specs.AheadLaws.{one_served}
 
@@ -63,12 +61,7 @@ some_name [] b is some = sym is ∙ some
 some_name (x ∷ name) b is some = refl
 
 -- `0` leaves all channels
-zero_leaves : (room : Room) (me : User) (list : List ℕ) (more : List (List ℕ)) → is_zero list ≡ true → join_steps room me (list ∷ more) ≡ map (leaves me) (own_channels room me)
+pub all_left : (room : Room) (me : User) (list keys : List ℕ) → is_zero list ≡ true → map (leaves me) (own_channels room me) ≡ join_steps room me list keys
 unfolding join_steps
-zero_leaves room me list more zero =
-    ap (λ b. if b then map (leaves me) (own_channels room me) else in_turn (join_one me) room (asked_for list (keys_given more))) zero
-
-pub all_left : (room : Room) (me : User) (params more : List (Bor (List ℕ))) (list : Bor (List ℕ)) → params ≡ list ∷ more → is_zero (list.now) ≡ true
-    → map (leaves me) (own_channels room me) ≡ join_steps room me (words_now params)
-all_left room me params more list is zero =
-    sym (ap (λ (ps : List (Bor (List ℕ))). join_steps room me (words_now ps)) is ∙ zero_leaves room me (list.now) (words_now more) zero)
+all_left room me list keys zero =
+    sym (ap (λ b. if b then map (leaves me) (own_channels room me) else in_turn (join_one me) room (asked_for list keys)) zero)

@@ -1,5 +1,4 @@
 pub mod JoinAsked
-pub mod JoinedRows
 pub mod JoinOne
 pub mod PartOne
 pub mod KickMember

@@ -1,12 +1,12 @@
 -- INVITE.
-use Rattle.std.specs.Prelude.{ℕ, not, ◌&&◌, is_some, Option, Some, None, List, [], ◌∷◌, codes, if◌then◌else◌}
+use Rattle.std.specs.Prelude.{ℕ, not, ◌&&◌, is_some, Option, Some, None, List, [], ◌∷◌, if◌then◌else◌}
 use Rattle.irc_names.specs.Fold.{key}
 use Rattle.irc_names.specs.Names.{is_channel}
 use Rattle.irc_names.specs.Tables.{row}
 use Rattle.irc_users.specs.declared.user.User.{User}
 use Rattle.irc_channels.specs.declared.channel.Channel.{Channel}
 use Rattle.irc_channels.specs.Channels.{has_member}
-use Rattle.irc_numerics.specs.declared.replies.Reply.TheVariants.{Inviting, NeedMoreParams, NoSuchNick, NoSuchChannel, NotOnChannel, UserOnChannel, ChanOPrivsNeeded}
+use Rattle.irc_numerics.specs.declared.replies.Reply.TheVariants.{Inviting, NoSuchNick, NoSuchChannel, NotOnChannel, UserOnChannel, ChanOPrivsNeeded}
 use Rattle.irc_room.specs.declared.effect.Effect.TheVariants.{Invite}
 use Rattle.irc_room.specs.Room.{Room}
 use Rattle.irc_acts.specs.declared.act.Act.{Act}
@@ -42,12 +42,6 @@ abbrev pub invites_user : Room → User → List ℕ → List ℕ → Option Use
 invites_user room me nick name None = Answer (NoSuchNick (client_words nick)) ∷ []
 invites_user room me nick name (Some other) = invites_found me other name (row room.channels (key name))
 
--- the user of a nickname, to the channel of a name
-abbrev pub invites_named : Room → User → List ℕ → List ℕ → List Act
-invites_named room me nick name = invites_user room me nick name (row room.users (key nick))
-
--- what an INVITE does (RFC 2812 section 3.2.7)
-unfoldable pub invite_steps : Room → User → List (List ℕ) → List Act
-invite_steps room me [] = Answer (NeedMoreParams (client_words (codes "INVITE"))) ∷ []
-invite_steps room me (nick ∷ []) = Answer (NeedMoreParams (client_words (codes "INVITE"))) ∷ []
-invite_steps room me (nick ∷ name ∷ more) = invites_named room me nick name
+-- what an INVITE of the user of a nickname to the channel of a name does (RFC 2812 section 3.2.7)
+unfoldable pub invite_steps : Room → User → List ℕ → List ℕ → List Act
+invite_steps room me nick name = invites_user room me nick name (row room.users (key nick))

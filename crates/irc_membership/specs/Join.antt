@@ -10,7 +10,7 @@ use Rattle.irc_channels.specs.declared.channel.Channel.{Channel}
 use Rattle.irc_channels.specs.Channels.{is_invited, joined, new_channel}
 use Rattle.irc_modes.specs.Modes.{is_nil}
 use Rattle.irc_channels.specs.Texts.{cut_words}
-use Rattle.irc_numerics.specs.declared.replies.Reply.TheVariants.{NeedMoreParams, NoSuchChannel, TooManyChannels, InviteOnlyChan, BannedFromChan, BadChannelKey, ChannelIsFull, Topic}
+use Rattle.irc_numerics.specs.declared.replies.Reply.TheVariants.{NoSuchChannel, TooManyChannels, InviteOnlyChan, BannedFromChan, BadChannelKey, ChannelIsFull, Topic}
 use Rattle.irc_room.specs.declared.effect.Effect.TheVariants.{Join, Part}
 use Rattle.irc_room.specs.Room.{Room}
 use Rattle.irc_room.specs.Effects.{is_member}
@@ -41,11 +41,6 @@ with_keys (channel ∷ channels) (given ∷ keys) = asks channel given ∷ with_
 -- an entry that is skipped among the channels takes its key with it
 unfoldable pub asked_for : List ℕ → List ℕ → List Asked
 asked_for channels keys = filter (λ asked. not (is_nil asked.channel)) (with_keys (pieces channels) (pieces keys))
-
--- the list of keys is the second parameter
-abbrev pub keys_given : List (List ℕ) → List ℕ
-keys_given [] = []
-keys_given (list ∷ more) = list
 
 abbrev pub opens : Option (List ℕ) → List ℕ → Bool
 opens None given = true
@@ -114,8 +109,6 @@ join_list room me list keys = in_turn (join_one me) room (asked_for list keys)
 abbrev pub is_zero : List ℕ → Bool
 is_zero word = pointwise nat_eq word (codes "0")
 
--- what a JOIN does (RFC 2812 section 3.2.1); `JOIN 0` leaves every channel
-unfoldable pub join_steps : Room → User → List (List ℕ) → List Act
-join_steps room me [] = Answer (NeedMoreParams (client_words (codes "JOIN"))) ∷ []
-join_steps room me (list ∷ more) =
-    if is_zero list then leave_each room me else join_list room me list (keys_given more)
+-- what a JOIN of a list of channels with a list of keys does (RFC 2812 section 3.2.1); `JOIN 0` leaves every channel
+unfoldable pub join_steps : Room → User → List ℕ → List ℕ → List Act
+join_steps room me list keys = if is_zero list then leave_each room me else join_list room me list keys

@@ -63,21 +63,16 @@ kicks_found users me text asked (Some channel) =
 abbrev pub kick_one : User → List ℕ → Room → Kicking → List Act
 kick_one me text room asked = kicks_found room.users me text asked (row room.channels (key asked.channel))
 
-abbrev pub too_few : List Act
-too_few = Answer (NeedMoreParams (client_words (codes "KICK"))) ∷ []
-
 -- one after another; lists that do not fit each other are too few parameters (our own choice)
 abbrev pub kick_all : User → List ℕ → Room → Option (List Kicking) → List Act
-kick_all me text room None = too_few
+kick_all me text room None = Answer (NeedMoreParams (client_words (codes "KICK"))) ∷ []
 kick_all me text room (Some asked) = in_turn (kick_one me text) room asked
 
 -- the nicknames of a comma list from the channels of another
 abbrev pub kick_lists : Room → User → List ℕ → List ℕ → List ℕ → List Act
 kick_lists room me text channels nicks = kick_all me text room (kicks_asked (entries channels) (entries nicks))
 
--- What a KICK does (RFC 2812 section 3.2.8): of both lists the empty entries are skipped before anything is counted. The third
--- parameter is the text, and the nickname of who kicks stands for it where it is absent or empty.
-unfoldable pub kick_steps : Room → User → List (List ℕ) → List Act
-kick_steps room me [] = too_few
-kick_steps room me (channels ∷ []) = too_few
-kick_steps room me (channels ∷ nicks ∷ more) = kick_lists room me (reason_given more me.nick) channels nicks
+-- What a KICK of a list of nicknames from a list of channels does (RFC 2812 section 3.2.8): of both the empty entries are skipped before
+-- anything is counted. The parameter behind them is the text, and the nickname of who kicks stands for it where it is absent or empty.
+unfoldable pub kick_steps : Room → User → List ℕ → List ℕ → List (List ℕ) → List Act
+kick_steps room me channels nicks more = kick_lists room me (reason_given more me.nick) channels nicks

@@ -1,11 +1,11 @@
 -- PART.
-use Rattle.std.specs.Prelude.{ℕ, Option, Some, None, List, [], ◌∷◌, codes, if◌then◌else◌}
+use Rattle.std.specs.Prelude.{ℕ, Option, Some, None, List, [], ◌∷◌, if◌then◌else◌}
 use Rattle.irc_names.specs.Fold.{key}
 use Rattle.irc_names.specs.Tables.{row}
 use Rattle.irc_users.specs.declared.user.User.{User}
 use Rattle.irc_channels.specs.declared.channel.Channel.{Channel}
 use Rattle.irc_channels.specs.Channels.{has_member}
-use Rattle.irc_numerics.specs.declared.replies.Reply.TheVariants.{NeedMoreParams, NoSuchChannel, NotOnChannel}
+use Rattle.irc_numerics.specs.declared.replies.Reply.TheVariants.{NoSuchChannel, NotOnChannel}
 use Rattle.irc_room.specs.declared.effect.Effect.TheVariants.{Part}
 use Rattle.irc_room.specs.Room.{Room}
 use Rattle.irc_acts.specs.declared.act.Act.{Act}
@@ -28,7 +28,7 @@ part_one me text room name = left_by me text name (row room.channels (key name))
 abbrev pub part_list : Room → User → List ℕ → List ℕ → List Act
 part_list room me text list = in_turn (part_one me text) room (entries list)
 
--- what a PART does (RFC 2812 section 3.2.2): the second parameter is the text, and the nickname stands for it where it is absent or empty
-unfoldable pub part_steps : Room → User → List (List ℕ) → List Act
-part_steps room me [] = Answer (NeedMoreParams (client_words (codes "PART"))) ∷ []
-part_steps room me (list ∷ more) = part_list room me (reason_given more me.nick) list
+-- What a PART of a list of channels does (RFC 2812 section 3.2.2): the parameter behind it is the text, and the nickname stands for it where it
+-- is absent or empty.
+unfoldable pub part_steps : Room → User → List ℕ → List (List ℕ) → List Act
+part_steps room me list more = part_list room me (reason_given more me.nick) list

@@ -1,15 +1,14 @@
 //! INVITE.
 ghost use Rattle.std.specs.Prelude.{◌≡◌, None};
-ghost use Rattle.irc_line.specs.PartViews.{words_now};
 ghost use Rattle.irc_room.specs.declared.effect.Effect.TheVariants.{Invite};
 ghost use Rattle.irc_acts.specs.Refusing.{first_refusal};
 ghost use Rattle.irc_acts.specs.Steps.{by_room, Yields};
-ghost use Rattle.irc_membership.specs.Invite.{invite_refusals, invite_steps, invites, invites_found, invites_named, invites_there};
+ghost use Rattle.irc_membership.specs.Invite.{invite_refusals, invite_steps, invites, invites_found, invites_there};
 ghost use Rattle.irc_membership.specs.Laws.InviteDoes.{InviteDoes, InviteIsPossible, InviteLooksAtNoInvitation};
 ghost use Rattle.irc_membership.specs.Laws.InviteSendable.{InviteIsSendable};
 ghost use Rattle.irc_membership.specs.Laws.InviteLaw.{InviteIsOwn};
 
-use irc_acts::refusals::{need_more_params, no_such_channel};
+use irc_acts::refusals::no_such_channel;
 use irc_acts::standing::is_operator;
 use irc_acts::words::client_words;
 use irc_acts::{Act, Context, only, put};
@@ -20,30 +19,17 @@ use irc_room::Effect;
 use irc_users::User;
 use std::alloc::{AllocError, Global};
 
-/// What an INVITE does (RFC 2812 section 3.2.7).
+/// What an INVITE of the user of a nickname to the channel of a name does (RFC 2812 section 3.2.7).
 ///
 /// # Errors
 /// Where memory runs out.
 #[tactic(auto, unfolding(crate::specs::Invite::invite_steps))]
-pub fn steps(context: &Context<'_>, params: &[&[u8]]) -> Result<Vec<Act, Global>, AllocError>
-    ensures { Yields result (by_room context.now invite_steps (words_now params.now)) }
-{
-    let Some((nick, behind)) = params.split_first() else {
-        return only(context.alloc, need_more_params(b"INVITE"));
-    };
-    match behind.split_first() {
-        Some((name, _)) => invite_named(context, nick, name),
-        None => only(context.alloc, need_more_params(b"INVITE")),
-    }
-}
-
-/// What inviting the user of a nickname to the channel of a name does.
-fn invite_named(
+pub fn steps(
     context: &Context<'_>,
     nick: &[u8],
     name: &[u8],
 ) -> Result<Vec<Act, Global>, AllocError>
-    ensures { Yields result (by_room context.now invites_named nick.now name.now) }
+    ensures { Yields result (by_room context.now invite_steps nick.now name.now) }
 {
     let Some(other) = context.room.user(nick) else {
         let reply = Reply::NoSuchNick {

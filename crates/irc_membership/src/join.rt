@@ -2,12 +2,11 @@
 ghost use Rattle.std.specs.Prelude.{◌≡◌, false, length, map};
 ghost use Rattle.irc_names.specs.Fold.{key};
 ghost use Rattle.irc_line.specs.MessageViews.{optional_now};
-ghost use Rattle.irc_line.specs.PartViews.{words_now};
 ghost use Rattle.irc_channels.specs.Channels.{has_member};
 ghost use Rattle.irc_room.specs.Effects.{is_member};
 ghost use Rattle.irc_acts.specs.Steps.{by_room, AddsTo, Yields};
 ghost use Rattle.irc_acts.specs.Moves.{AreOwnJoins, own_channels};
-ghost use Rattle.irc_membership.specs.Join.{is_zero, join_list, join_steps, joiner_topic, keys_given, leave_each, leaves};
+ghost use Rattle.irc_membership.specs.Join.{is_zero, join_list, join_steps, joiner_topic, leave_each, leaves};
 ghost use Rattle.irc_membership.specs.Laws.JoinLaw.{JoinIsOwnOrLeaves, LeavingAllIsOwn};
 ghost use Rattle.irc_membership.specs.Laws.JoinDoes.{JoinDoes, JoinLooksAtOwnInvitations};
 ghost use Rattle.irc_membership.specs.Loops.JoinList.{is_in_ahead, Enters, IsNextKey, JoinsFound, JoinsOne, JoinsThere};
@@ -16,8 +15,8 @@ use crate::MAX_JOINED;
 use crate::admission::kept_out;
 use irc_acts::ahead::{self, know_well_formed};
 use irc_acts::comma_lists::first_piece;
-use irc_acts::refusals::{need_more_params, no_such_channel};
-use irc_acts::{Act, Context, only, put};
+use irc_acts::refusals::no_such_channel;
+use irc_acts::{Act, Context, put};
 use irc_answers::names::{end_of_names, put_joiner_names};
 use irc_channels::{Channel, Words};
 use irc_names::{ChannelName, copied};
@@ -27,21 +26,22 @@ use irc_tables::Row;
 use irc_users::User;
 use std::alloc::{AllocError, Global};
 
-/// What a JOIN does (RFC 2812 section 3.2.1).
+/// What a JOIN of a comma list of channels does, with a comma list of keys, which is empty where none is given (RFC 2812 section 3.2.1).
 ///
 /// # Errors
 /// Where memory runs out.
 #[tactic(auto, unfolding(crate::specs::Join::join_steps))]
-pub fn steps(context: &Context<'_>, params: &[&[u8]]) -> Result<Vec<Act, Global>, AllocError>
-    ensures { Yields result (by_room context.now join_steps (words_now params.now)) }
+pub fn steps(
+    context: &Context<'_>,
+    list: &[u8],
+    keys: &[u8],
+) -> Result<Vec<Act, Global>, AllocError>
+    ensures { Yields result (by_room context.now join_steps list.now keys.now) }
 {
-    let Some((list, more)) = params.split_first() else {
-        return only(context.alloc, need_more_params(b"JOIN"));
-    };
     if is_zero(list) {
         leave_each(context)
     } else {
-        join_list(context, list, keys_given(more))
+        join_list(context, list, keys)
     }
 }
 
@@ -50,16 +50,6 @@ fn is_zero(list: &[u8]) -> bool
     ensures { result ≡ is_zero list.now }
 {
     list == b"0".as_slice()
-}
-
-/// The list of keys, which is empty where none is given.
-fn keys_given<'a>(more: &[&'a [u8]]) -> &'a [u8]
-    ensures { result.now ≡ keys_given (words_now more.now) }
-{
-    match more.first() {
-        Some(keys) => keys,
-        None => &[],
-    }
 }
 
 /// A Part of each channel that the user is in, with its nickname as the text. No other channel is looked at.

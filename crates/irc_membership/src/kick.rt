@@ -24,20 +24,21 @@ use irc_room::{Effect, Room};
 use irc_users::User;
 use std::alloc::{AllocError, Global};
 
-/// What a KICK does (RFC 2812 section 3.2.8).
+/// What a KICK of a comma list of nicknames from a comma list of channels does (RFC 2812 section 3.2.8); the first parameter behind them is
+/// the text.
 ///
 /// # Errors
 /// Where memory runs out.
 #[tactic(auto, unfolding(crate::specs::Kick::kick_steps))]
-pub fn steps(context: &Context<'_>, params: &[&[u8]]) -> Result<Vec<Act, Global>, AllocError>
-    ensures { Yields result (by_room context.now kick_steps (words_now params.now)) }
+pub fn steps(
+    context: &Context<'_>,
+    channels: &[u8],
+    nicks: &[u8],
+    more: &[&[u8]],
+) -> Result<Vec<Act, Global>, AllocError>
+    ensures { Yields result
+        (by_room context.now kick_steps channels.now nicks.now (words_now more.now)) }
 {
-    let Some((channels, behind)) = params.split_first() else {
-        return only(context.alloc, need_more_params(b"KICK"));
-    };
-    let Some((nicks, more)) = behind.split_first() else {
-        return only(context.alloc, need_more_params(b"KICK"));
-    };
     let text = reason_given(more, context.me.nick.as_bytes());
     kick_asked(context, &text, channels, nicks)
 }

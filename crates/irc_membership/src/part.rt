@@ -9,24 +9,25 @@ ghost use Rattle.irc_membership.specs.Loops.PartList.{IsPartAhead};
 
 use irc_acts::ahead::{self, know_well_formed};
 use irc_acts::comma_lists::next_entry;
-use irc_acts::refusals::{need_more_params, no_such_channel, not_on_channel};
+use irc_acts::refusals::{no_such_channel, not_on_channel};
 use irc_acts::words::reason_given;
-use irc_acts::{Act, Context, only, put};
+use irc_acts::{Act, Context, put};
 use irc_channels::Words;
 use irc_room::Effect;
 use std::alloc::{AllocError, Global};
 
-/// What a PART does (RFC 2812 section 3.2.2).
+/// What a PART of a comma list of channels does (RFC 2812 section 3.2.2); the first parameter behind it is the text.
 ///
 /// # Errors
 /// Where memory runs out.
 #[tactic(auto, unfolding(crate::specs::Part::part_steps))]
-pub fn steps(context: &Context<'_>, params: &[&[u8]]) -> Result<Vec<Act, Global>, AllocError>
-    ensures { Yields result (by_room context.now part_steps (words_now params.now)) }
+pub fn steps(
+    context: &Context<'_>,
+    list: &[u8],
+    more: &[&[u8]],
+) -> Result<Vec<Act, Global>, AllocError>
+    ensures { Yields result (by_room context.now part_steps list.now (words_now more.now)) }
 {
-    let Some((list, more)) = params.split_first() else {
-        return only(context.alloc, need_more_params(b"PART"));
-    };
     let text = reason_given(more, context.me.nick.as_bytes());
     part_list(context, &text, list)
 }

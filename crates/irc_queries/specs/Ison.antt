@@ -1,11 +1,11 @@
 -- ISON.
-use Rattle.std.specs.Prelude.{ℕ, List, [], ◌∷◌, codes, map, option_to_list}
+use Rattle.std.specs.Prelude.{ℕ, List, [], ◌∷◌, map, option_to_list}
 use Rattle.std.specs.List.{flat_map, slice_split}
 use Rattle.irc_names.specs.Fold.{key}
 use Rattle.irc_names.specs.Tables.{row}
 use Rattle.irc_line.specs.Bytes.{is_space}
 use Rattle.irc_users.specs.declared.user.User.{User}
-use Rattle.irc_numerics.specs.declared.replies.Reply.TheVariants.{NeedMoreParams, IsOn}
+use Rattle.irc_numerics.specs.declared.replies.Reply.TheVariants.{IsOn}
 use Rattle.irc_numerics.specs.Replies.{spaced}
 use Rattle.irc_room.specs.Room.{Room}
 use Rattle.irc_acts.specs.declared.act.Act.{Act}
@@ -24,7 +24,6 @@ users_named room words = users_under room (slice_split is_space words)
 abbrev pub users_on : List User → Act
 users_on users = Answer (IsOn (client_words (spaced (map (λ user. user.nick) users))))
 
--- what an ISON does (RFC 2812 section 4.9)
+-- what an ISON of the nicknames in these parameters does (RFC 2812 section 4.9)
 unfoldable pub ison_steps : Room → List (List ℕ) → List Act
-ison_steps room [] = Answer (NeedMoreParams (client_words (codes "ISON"))) ∷ []
-ison_steps room (words ∷ more) = users_on (flat_map (users_named room) (words ∷ more)) ∷ []
+ison_steps room params = users_on (flat_map (users_named room) params) ∷ []

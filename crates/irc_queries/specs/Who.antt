@@ -6,7 +6,6 @@ use Rattle.std.specs.Option.{option_and_then, option_map_or}
 use Rattle.std.specs.FinMap.{entries, values}
 use Rattle.irc_names.specs.Fold.{key}
 use Rattle.irc_names.specs.Tables.{row}
-use Rattle.irc_line.specs.Bytes.{begins}
 use Rattle.irc_users.specs.declared.user.User.{User}
 use Rattle.irc_users.specs.UserTable.{is_found_by}
 use Rattle.irc_channels.specs.declared.flags.Flags.{Flags}
@@ -19,8 +18,9 @@ use Rattle.irc_routes.specs.Place.{Place, server_named}
 use Rattle.irc_acts.specs.declared.act.Act.{Act}
 use Rattle.irc_acts.specs.declared.act.Act.TheVariants.{Answer}
 use Rattle.irc_acts.specs.Acts.{client_words}
-use Rattle.irc_acts.specs.Marks.{asterisk, hash}
+use Rattle.irc_acts.specs.Marks.{asterisk}
 use Rattle.irc_acts.specs.Standing.{is_known, is_seen, mark_of}
+use Rattle.irc_acts.specs.Words.{names_channel}
 
 -- how many links away the server of a name is
 abbrev pub hops_to : Place → List ℕ → ℕ
@@ -51,13 +51,10 @@ is_asked_for mask user = pointwise nat_eq mask (codes "0") || is_found_by mask u
 abbrev pub users_told : Place → (User → Bool) → List ℕ → List User → List Act
 users_told place seen mask users = map (user_line place None Plain) (filter (λ user. is_asked_for mask user && seen user) users)
 
-abbrev pub is_channel_asked : List ℕ → Bool
-is_channel_asked asked = begins (nat_eq hash) asked
-
 -- what is told to one who sees these users
 abbrev pub told_of_seen : Room → Place → (User → Bool) → User → List ℕ → List Act
 told_of_seen room place seen me asked =
-    if is_channel_asked asked then members_told room place seen me (row room.channels (key asked)) else users_told place seen asked (values room.users)
+    if names_channel asked then members_told room place seen me (row room.channels (key asked)) else users_told place seen asked (values room.users)
 
 abbrev pub told : Room → Place → User → List ℕ → List Act
 told room place me asked = told_of_seen room place (λ user. is_seen room me user) me asked

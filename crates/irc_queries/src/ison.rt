@@ -11,7 +11,6 @@ ghost use Rattle.irc_queries.specs.Loops.Telling.{AddsUsers, all_named, ison_her
 ghost use Rattle.irc_queries.specs.Laws.IsonLaw.{IsonOnlyAnswers};
 
 use arrayvec::ArrayVec;
-use irc_acts::refusals::need_more_params;
 use irc_acts::{Act, Context, only};
 use irc_line::Line;
 use irc_line::limits::MAX_LINE;
@@ -23,7 +22,7 @@ use std::alloc::{AllocError, Global};
 
 const SPACE: u8 = b' ';
 
-/// What an ISON does (RFC 2812 section 4.9).
+/// What an ISON of the nicknames in some parameters does (RFC 2812 section 4.9).
 ///
 /// # Errors
 /// Where memory runs out.
@@ -31,9 +30,6 @@ const SPACE: u8 = b' ';
 pub fn steps(context: &Context<'_>, params: &[&[u8]]) -> Result<Vec<Act, Global>, AllocError>
     ensures { IfOk result (λ steps. steps.items ≡ ison_here context.now (words_now params.now)) }
 {
-    if params.is_empty() {
-        return only(context.alloc, need_more_params(b"ISON"));
-    }
     let users = users_named(context, params)?;
     only(context.alloc, users_on(users.as_slice()))
 }

@@ -6,7 +6,7 @@ ghost use Rattle.irc_tables.specs.RowViews.{row_entry};
 ghost use Rattle.irc_numerics.specs.declared.replies.Mark.TheVariants.{Plain};
 ghost use Rattle.irc_routes.specs.Known.{place_of};
 ghost use Rattle.irc_acts.specs.declared.act.Act.TheVariants.{Answer};
-ghost use Rattle.irc_queries.specs.Who.{asks_for_operators, end_of_who, hops_to, is_asked_for, is_channel_asked, user_line};
+ghost use Rattle.irc_queries.specs.Who.{asks_for_operators, end_of_who, hops_to, is_asked_for, user_line};
 ghost use Rattle.irc_queries.specs.Loops.Saying.{AnswersWho, SaysAll, SaysAllMembers, SaysAllUsers, SaysFound, SaysMembers, SaysSeen, SaysTold, SaysUsers};
 ghost use Rattle.irc_queries.specs.Laws.WhoLaw.{WhoOnlyAnswers};
 
@@ -14,7 +14,7 @@ use crate::own_rows::own_rows;
 use crate::saying::say;
 use irc_acts::Context;
 use irc_acts::standing::{is_known, is_seen, mark_of};
-use irc_acts::words::client_words;
+use irc_acts::words::{client_words, names_channel};
 use irc_batch::Batch;
 use irc_channels::{Channel, Flags};
 use irc_names::{ChannelName, ServerName};
@@ -113,20 +113,10 @@ fn say_told(
     ensures ok { OnOk result (SaysSeen context.now own.now asked.now conn out.old out.new) }
     ensures grew { Grew out.old.outs out.new.outs }
 {
-    if is_channel_asked(asked) {
+    if names_channel(asked) {
         say_channel(context, own, asked, conn, out)
     } else {
         say_users(context, own, asked, conn, out)
-    }
-}
-
-/// Whether a word asks for a channel.
-fn is_channel_asked(asked: &[u8]) -> bool
-    ensures { result ≡ is_channel_asked asked.now }
-{
-    match asked.first() {
-        Some(byte) => *byte == b'#',
-        None => false,
     }
 }
 

@@ -1,5 +1,5 @@
 -- The steps of an INVITE can be done, each does something, and they look at no invitation.
-use Rattle.std.proofs.Common.{◌≡◌, ℕ, true, Option, Some, None, List, [], ◌∷◌, refl, sym, ◌∙◌, ap}
+use Rattle.std.proofs.Common.{◌≡◌, ℕ, true, Option, Some, None, List, refl, sym, ◌∙◌, ap}
 use Rattle.std.specs.Option.{option_map}
 use Rattle.irc_names.specs.Fold.{key}
 use Rattle.irc_names.specs.Tables.{row}
@@ -16,20 +16,21 @@ use Rattle.irc_membership.specs.Laws.InviteLaw.{all_so, invite_is_own}
 
 -- A user's INVITE can be done.
 abbrev pub InviteIsPossible : Type 0
-InviteIsPossible = (me : User) (room : Room) (params : List (List ℕ)) → IsWellFormed room → has_user room me.nick ≡ true
-    → ArePossible room (invite_steps room me params)
+InviteIsPossible = (me : User) (room : Room) (nick name : List ℕ) → IsWellFormed room → has_user room me.nick ≡ true
+    → ArePossible room (invite_steps room me nick name)
 
 -- It does something: whoever is invited is told.
 abbrev pub InviteDoes : Type 0
-InviteDoes = (me : User) (room : Room) (params : List (List ℕ)) → AreDoing room (invite_steps room me params)
+InviteDoes = (me : User) (room : Room) (nick name : List ℕ) → AreDoing room (invite_steps room me nick name)
 
 -- Whoever is invited already, its steps are the same.
 abbrev pub InviteLooksAtNoInvitation : Type 0
-InviteLooksAtNoInvitation = (me : User) (room other : Room) (params : List (List ℕ)) → AreAlike room other
-    → invite_steps room me params ≡ invite_steps other me params
+InviteLooksAtNoInvitation = (me : User) (room other : Room) (nick name : List ℕ) → AreAlike room other
+    → invite_steps room me nick name ≡ invite_steps other me nick name
 
 pub invite_is_possible : InviteIsPossible
-invite_is_possible me room params well there = own_are_possible me room (invite_steps room me params) well there (invite_is_own me room params)
+invite_is_possible me room nick name well there =
+    own_are_possible me room (invite_steps room me nick name) well there (invite_is_own me room nick name)
 
 pub invite_does : InviteDoes
 invite_does me room = all_so DoesSomething me room (record { invites_it = λ nick name other known named. refl })
@@ -49,8 +50,6 @@ user_alike me room now nick name alike (Some other) =
 
 pub invite_looks_at_no_invitation : InviteLooksAtNoInvitation
 unfolding invite_steps
-invite_looks_at_no_invitation me room other [] alike = refl
-invite_looks_at_no_invitation me room other (nick ∷ []) alike = refl
-invite_looks_at_no_invitation me room other (nick ∷ name ∷ more) alike =
+invite_looks_at_no_invitation me room other nick name alike =
     user_alike me room other nick name alike (row room.users (key nick))
     ∙ ap (λ users. invites_user other me nick name (row users (key nick))) alike.users

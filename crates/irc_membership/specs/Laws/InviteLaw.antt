@@ -21,7 +21,7 @@ use Rattle.irc_membership.specs.Invite.{invite_refusals, invites, invites_found,
 use Rattle.irc_membership.specs.Laws.KickLaw.{refused_so}
 
 abbrev pub InviteIsOwn : Type 0
-InviteIsOwn = (me : User) (room : Room) (params : List (List ℕ)) → AreOwn me room (invite_steps room me params)
+InviteIsOwn = (me : User) (room : Room) (nick name : List ℕ) → AreOwn me room (invite_steps room me nick name)
 
 -- ---- what is so of each Invite of a user to a channel's name is so of each effect of an INVITE
 
@@ -47,12 +47,10 @@ module _ (Q : Room → Effect → Type 0) (me : User) (room : Room) (so : IsSoOf
   user_so None known = tt
   user_so (Some other) known = found_so other known (row room.channels (key name)) refl
 
-pub all_so : (Q : Room → Effect → Type 0) (me : User) (room : Room) → IsSoOfInvites Q me room → (params : List (List ℕ))
-    → EachInTurn Q room (effects_among (invite_steps room me params))
+pub all_so : (Q : Room → Effect → Type 0) (me : User) (room : Room) → IsSoOfInvites Q me room → (nick name : List ℕ)
+    → EachInTurn Q room (effects_among (invite_steps room me nick name))
 unfolding invite_steps
-all_so Q me room so [] = tt
-all_so Q me room so (nick ∷ []) = tt
-all_so Q me room so (nick ∷ name ∷ more) = user_so Q me room so nick name (row room.users (key nick)) refl
+all_so Q me room so nick name = user_so Q me room so nick name (row room.users (key nick)) refl
 
 pub invite_is_own : InviteIsOwn
 invite_is_own me room = all_so (IsOwn me) me room (record { invites_it = λ nick name other known named. own.invites nick name other known named })

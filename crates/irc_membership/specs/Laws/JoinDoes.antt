@@ -28,19 +28,19 @@ use Rattle.irc_acts.specs.Own.{AreOwn}
 use Rattle.irc_acts.specs.Standing.{is_banned}
 use Rattle.irc_answers.specs.Names.{names_of, end_of_names}
 use Rattle.irc_membership.specs.Limits.{max_joined}
-use Rattle.irc_membership.specs.Join.{Asked, asked_for, opens, is_full, is_zero, keys_given, kept_out, topic_for_joiner, joins, admitted, joins_found, joins_asked, join_one, join_steps, leaves}
+use Rattle.irc_membership.specs.Join.{Asked, asked_for, opens, is_full, is_zero, kept_out, topic_for_joiner, joins, admitted, joins_found, joins_asked, join_one, join_steps, leaves}
 use Rattle.irc_membership.specs.Laws.JoinLaw.{join_is_own_or_leaves, leaving_all_is_own}
 use Rattle.irc_membership.specs.Laws.JoinWalk.{found_by_users, one_so}
 
 -- Each effect of a JOIN does something: the user is no member yet of what it joins, and a member of what it leaves.
 abbrev pub JoinDoes : Type 0
-JoinDoes = (me : User) (room : Room) (params : List (List ℕ)) → IsWellFormed room → has_user room me.nick ≡ true
-    → AreDoing room (join_steps room me params)
+JoinDoes = (me : User) (room : Room) (list keys : List ℕ) → IsWellFormed room → has_user room me.nick ≡ true
+    → AreDoing room (join_steps room me list keys)
 
 -- Whoever else is invited, its steps are the same.
 abbrev pub JoinLooksAtOwnInvitations : Type 0
-JoinLooksAtOwnInvitations = (me : User) (room other : Room) (params : List (List ℕ)) → AreAlikeFor me.nick room other
-    → join_steps room me params ≡ join_steps other me params
+JoinLooksAtOwnInvitations = (me : User) (room other : Room) (list keys : List ℕ) → AreAlikeFor me.nick room other
+    → join_steps room me list keys ≡ join_steps other me list keys
 
 either_does : (me : User) (room : Room) (acts : List Act) → IsWellFormed room → has_user room me.nick ≡ true
     → AreOwn me room acts ⊎ (acts ≡ map (leaves me) (own_channels room me)) → AreDoing room acts
@@ -49,7 +49,7 @@ either_does me room acts well there (inr all) =
     own_are_doing me room acts well there (subst (AreOwn me room) (sym all) (leaving_all_is_own me room well))
 
 pub join_does : JoinDoes
-join_does me room params well there = either_does me room (join_steps room me params) well there (join_is_own_or_leaves me room params)
+join_does me room list keys well there = either_does me room (join_steps room me list keys) well there (join_is_own_or_leaves me room list keys)
 
 -- ---- it looks at its own user's invitations alone
 
@@ -130,9 +130,8 @@ one_keeps me room asked = one_so (IsKeeping (AreAlikeFor me.nick)) me room asked
 
 pub join_looks_at_own_invitations : JoinLooksAtOwnInvitations
 unfolding join_steps
-join_looks_at_own_invitations me room other [] so = refl
-join_looks_at_own_invitations me room other (list ∷ more) so =
-    let asked = asked_for list (keys_given more) in
+join_looks_at_own_invitations me room other list keys so =
+    let asked = asked_for list keys in
     ap (λ acts. cond (is_zero list) acts (in_turn (join_one me) room asked))
     (own_alike (map (leaves me)) (map_changed uninviting (leaves me) (λ channel. refl)) room other so.alike me)
     ∙ ap (cond (is_zero list) (map (leaves me) (own_channels other me)))

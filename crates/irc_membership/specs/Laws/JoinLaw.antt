@@ -1,5 +1,5 @@
 -- The steps of a JOIN are its user's own.
-use Rattle.std.proofs.Common.{◌≡◌, ℕ, Bool, true, false, List, [], ◌∷◌, map, refl, sym, ◌∙◌, ap, if◌then◌else◌, ◌⊎◌, inl, inr}
+use Rattle.std.proofs.Common.{◌≡◌, ℕ, Bool, true, false, List, map, refl, sym, ◌∙◌, ap, if◌then◌else◌, ◌⊎◌, inl, inr}
 use Rattle.std.specs.Option.{option_map_or}
 use Rattle.irc_names.specs.Fold.{key}
 use Rattle.irc_users.specs.declared.user.User.{User}
@@ -11,14 +11,14 @@ use Rattle.irc_acts.specs.AheadLaws.{each-in_turn}
 use Rattle.irc_acts.specs.Moves.{own_channels}
 use Rattle.irc_acts.specs.Own as own
 use Rattle.irc_acts.specs.Own.{IsOwn, AreOwn}
-use Rattle.irc_membership.specs.Join.{Asked, asked_for, is_zero, join_one, join_steps, keys_given, leaves}
+use Rattle.irc_membership.specs.Join.{Asked, asked_for, is_zero, join_one, join_steps, leaves}
 use Rattle.irc_membership.specs.Laws.JoinWalk.{one_so}
 use Rattle.irc_membership.specs.Laws.JoinZero.{leaving_own}
 
 -- The steps of a JOIN are its user's own in any room, or they leave all the channels that the user is in.
 abbrev pub JoinIsOwnOrLeaves : Type 0
-JoinIsOwnOrLeaves = (me : User) (room : Room) (params : List (List ℕ))
-    → AreOwn me room (join_steps room me params) ⊎ (join_steps room me params ≡ map (leaves me) (own_channels room me))
+JoinIsOwnOrLeaves = (me : User) (room : Room) (list keys : List ℕ)
+    → AreOwn me room (join_steps room me list keys) ⊎ (join_steps room me list keys ≡ map (leaves me) (own_channels room me))
 
 -- To leave all channels is its user's own doing too, where the room is well formed.
 abbrev pub LeavingAllIsOwn : Type 0
@@ -40,8 +40,7 @@ own_or_leaves me room asked false = inl (each-in_turn (IsOwn me) (join_one me) (
 
 pub join_is_own_or_leaves : JoinIsOwnOrLeaves
 unfolding join_steps
-join_is_own_or_leaves me room [] = inl tt
-join_is_own_or_leaves me room (list ∷ more) = own_or_leaves me room (asked_for list (keys_given more)) (is_zero list)
+join_is_own_or_leaves me room list keys = own_or_leaves me room (asked_for list keys) (is_zero list)
 
 pub leaving_all_is_own : LeavingAllIsOwn
 leaving_all_is_own me room well = leaving_own room me well

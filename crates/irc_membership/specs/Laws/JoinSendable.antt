@@ -14,7 +14,7 @@ use Rattle.irc_acts.specs.ByTest.{by_test}
 use Rattle.irc_acts.specs.CarriedWords.{cut_carried}
 use Rattle.irc_acts.specs.Moves.{own_channels}
 use Rattle.irc_acts.specs.Sendable.{CarriesSendable, CarrySendable}
-use Rattle.irc_membership.specs.Join.{asked_for, is_zero, join_one, join_steps, keys_given, leaves}
+use Rattle.irc_membership.specs.Join.{asked_for, is_zero, join_one, join_steps, leaves}
 use Rattle.irc_membership.specs.Laws.JoinWalk.{one_so}
 
 pub leaving_carries : (me : User) → IsCarried me.nick → (room : Room) (channels : List Channel) → CarrySendable room (map (leaves me) channels)
@@ -24,13 +24,12 @@ leaving_carries me nick room (channel ∷ channels) = record {
   later = leaving_carries me nick (after room (Part me.nick channel.name (cut_words me.nick))) channels;
 }
 
-pub join_carries : (me : User) (room : Room) (params : List (List ℕ)) → IsCarried me.nick → CarrySendable room (join_steps room me params)
+pub join_carries : (me : User) (room : Room) (list keys : List ℕ) → IsCarried me.nick → CarrySendable room (join_steps room me list keys)
 unfolding join_steps
-join_carries me room [] nick = tt
-join_carries me room (list ∷ more) nick =
+join_carries me room list keys nick =
     by_test (λ (acts : List Act). CarrySendable room acts) (is_zero list) (map (leaves me) (own_channels room me))
-    (in_turn (join_one me) room (asked_for list (keys_given more)))
+    (in_turn (join_one me) room (asked_for list keys))
     (λ zero. leaving_carries me nick room (own_channels room me))
     (λ other. each-in_turn CarriesSendable (join_one me)
     (λ now asked. one_so CarriesSendable me now asked (record { makes = λ outside named none. tt; enters = λ outside channel is. tt })) room
-    (asked_for list (keys_given more)))
+    (asked_for list keys))

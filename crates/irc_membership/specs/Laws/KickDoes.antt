@@ -1,5 +1,5 @@
 -- The steps of a KICK can be done, each does something, and they look at no invitation.
-use Rattle.std.proofs.Common.{◌≡◌, ℕ, true, Option, Some, None, List, [], ◌∷◌, refl}
+use Rattle.std.proofs.Common.{◌≡◌, ℕ, true, Option, Some, None, List, refl}
 use Rattle.std.specs.Option.{option_map}
 use Rattle.irc_names.specs.Fold.{key}
 use Rattle.irc_names.specs.Tables.{Table}
@@ -23,24 +23,26 @@ use Rattle.irc_membership.specs.Laws.KickLaw.{kick_is_own, one_so}
 
 -- A user's KICK can be done, effect by effect.
 abbrev pub KickIsPossible : Type 0
-KickIsPossible = (me : User) (room : Room) (params : List (List ℕ)) → IsWellFormed room → has_user room me.nick ≡ true
-    → ArePossible room (kick_steps room me params)
+KickIsPossible = (me : User) (room : Room) (channels nicks : List ℕ) (more : List (List ℕ)) → IsWellFormed room → has_user room me.nick ≡ true
+    → ArePossible room (kick_steps room me channels nicks more)
 
 -- Each of its effects does something: whoever is kicked is a member then.
 abbrev pub KickDoes : Type 0
-KickDoes = (me : User) (room : Room) (params : List (List ℕ)) → IsWellFormed room → has_user room me.nick ≡ true
-    → AreDoing room (kick_steps room me params)
+KickDoes = (me : User) (room : Room) (channels nicks : List ℕ) (more : List (List ℕ)) → IsWellFormed room → has_user room me.nick ≡ true
+    → AreDoing room (kick_steps room me channels nicks more)
 
 -- Whoever is invited, its steps are the same.
 abbrev pub KickLooksAtNoInvitation : Type 0
-KickLooksAtNoInvitation = (me : User) (room other : Room) (params : List (List ℕ)) → AreAlike room other
-    → kick_steps room me params ≡ kick_steps other me params
+KickLooksAtNoInvitation = (me : User) (room other : Room) (channels nicks : List ℕ) (more : List (List ℕ)) → AreAlike room other
+    → kick_steps room me channels nicks more ≡ kick_steps other me channels nicks more
 
 pub kick_is_possible : KickIsPossible
-kick_is_possible me room params well there = own_are_possible me room (kick_steps room me params) well there (kick_is_own me room params)
+kick_is_possible me room channels nicks more well there =
+    own_are_possible me room (kick_steps room me channels nicks more) well there (kick_is_own me room channels nicks more)
 
 pub kick_does : KickDoes
-kick_does me room params well there = own_are_doing me room (kick_steps room me params) well there (kick_is_own me room params)
+kick_does me room channels nicks more well there =
+    own_are_doing me room (kick_steps room me channels nicks more) well there (kick_is_own me room channels nicks more)
 
 -- ---- it looks at no invitation
 
@@ -65,7 +67,5 @@ all_alike me text room other alike (Some asked) = in_turn_alike AreAlike (kick_o
 
 pub kick_looks_at_no_invitation : KickLooksAtNoInvitation
 unfolding kick_steps
-kick_looks_at_no_invitation me room other [] alike = refl
-kick_looks_at_no_invitation me room other (channels ∷ []) alike = refl
-kick_looks_at_no_invitation me room other (channels ∷ nicks ∷ more) alike =
+kick_looks_at_no_invitation me room other channels nicks more alike =
     all_alike me (reason_given more me.nick) room other alike (kicks_asked (entries channels) (entries nicks))

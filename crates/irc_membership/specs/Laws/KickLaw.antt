@@ -1,5 +1,5 @@
 -- The steps of a KICK are its user's own.
-use Rattle.std.proofs.Common.{◌≡◌, ℕ, true, Option, Some, None, List, [], ◌∷◌, refl}
+use Rattle.std.proofs.Common.{◌≡◌, ℕ, true, Option, Some, None, List, refl}
 use Rattle.irc_names.specs.Fold.{key}
 use Rattle.irc_names.specs.Tables.{row}
 use Rattle.irc_users.specs.declared.user.User.{User}
@@ -22,7 +22,7 @@ use Rattle.irc_acts.specs.Words.{reason_given}
 use Rattle.irc_membership.specs.Kick.{Kicking, kicks_asked, member_named, kick_refusals, kicks, kicks_found, kick_one, kick_all, kick_steps}
 
 abbrev pub KickIsOwn : Type 0
-KickIsOwn = (me : User) (room : Room) (params : List (List ℕ)) → AreOwn me room (kick_steps room me params)
+KickIsOwn = (me : User) (room : Room) (channels nicks : List ℕ) (more : List (List ℕ)) → AreOwn me room (kick_steps room me channels nicks more)
 
 -- ---- what is so of each Kick of a member is so of each effect of a KICK of one nickname
 
@@ -72,6 +72,4 @@ all_own me text room (Some asked) = each-in_turn (IsOwn me) (kick_one me text) (
 
 pub kick_is_own : KickIsOwn
 unfolding kick_steps
-kick_is_own me room [] = tt
-kick_is_own me room (channels ∷ []) = tt
-kick_is_own me room (channels ∷ nicks ∷ more) = all_own me (reason_given more me.nick) room (kicks_asked (entries channels) (entries nicks))
+kick_is_own me room channels nicks more = all_own me (reason_given more me.nick) room (kicks_asked (entries channels) (entries nicks))

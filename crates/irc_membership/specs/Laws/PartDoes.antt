@@ -1,5 +1,5 @@
 -- The steps of a PART each do something, and they look at no invitation.
-use Rattle.std.proofs.Common.{◌≡◌, ℕ, true, Option, Some, None, List, [], ◌∷◌, refl}
+use Rattle.std.proofs.Common.{◌≡◌, ℕ, true, Option, Some, None, List, refl}
 use Rattle.std.specs.Option.{option_map}
 use Rattle.irc_names.specs.Fold.{key}
 use Rattle.irc_names.specs.Tables.{Table, row}
@@ -21,16 +21,16 @@ use Rattle.irc_membership.specs.Laws.PartLaw.{found_so, part_is_own}
 
 -- Each effect of a PART does something: the user is a member of what it leaves.
 abbrev pub PartDoes : Type 0
-PartDoes = (me : User) (room : Room) (params : List (List ℕ)) → IsWellFormed room → has_user room me.nick ≡ true
-    → AreDoing room (part_steps room me params)
+PartDoes = (me : User) (room : Room) (list : List ℕ) (more : List (List ℕ)) → IsWellFormed room → has_user room me.nick ≡ true
+    → AreDoing room (part_steps room me list more)
 
 -- Whoever is invited, its steps are the same.
 abbrev pub PartLooksAtNoInvitation : Type 0
-PartLooksAtNoInvitation = (me : User) (room other : Room) (params : List (List ℕ)) → AreAlike room other
-    → part_steps room me params ≡ part_steps other me params
+PartLooksAtNoInvitation = (me : User) (room other : Room) (list : List ℕ) (more : List (List ℕ)) → AreAlike room other
+    → part_steps room me list more ≡ part_steps other me list more
 
 pub part_does : PartDoes
-part_does me room params well there = own_are_doing me room (part_steps room me params) well there (part_is_own me room params)
+part_does me room list more well there = own_are_doing me room (part_steps room me list more) well there (part_is_own me room list more)
 
 left_aside : (me : User) (text name : List ℕ) (users : Table User) (found : Option Channel)
     → left_by me text name found ≡ left_by me text name (option_map uninviting found)
@@ -47,7 +47,6 @@ one_keeps me text room name =
 
 pub part_looks_at_no_invitation : PartLooksAtNoInvitation
 unfolding part_steps
-part_looks_at_no_invitation me room other [] alike = refl
-part_looks_at_no_invitation me room other (list ∷ more) alike =
+part_looks_at_no_invitation me room other list more alike =
     let text = reason_given more me.nick in
     in_turn_alike AreAlike (part_one me text) (one_alike me text) (one_keeps me text) room other alike (entries list)

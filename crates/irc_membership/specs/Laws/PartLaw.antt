@@ -22,7 +22,7 @@ use Rattle.irc_acts.specs.Words.{reason_given}
 use Rattle.irc_membership.specs.Part.{left_by, part_one, part_steps}
 
 abbrev pub PartIsOwn : Type 0
-PartIsOwn = (me : User) (room : Room) (params : List (List ℕ)) → AreOwn me room (part_steps room me params)
+PartIsOwn = (me : User) (room : Room) (list : List ℕ) (more : List (List ℕ)) → AreOwn me room (part_steps room me list more)
 
 -- ---- what is so of each Part of a member is so of each effect of a PART of one channel
 
@@ -45,7 +45,6 @@ one_own me text room name =
 
 pub part_is_own : PartIsOwn
 unfolding part_steps
-part_is_own me room [] = tt
-part_is_own me room (list ∷ more) =
+part_is_own me room list more =
     let text = reason_given more me.nick in
     each-in_turn (IsOwn me) (part_one me text) (one_own me text) room (entries list)

@@ -50,8 +50,8 @@ IsDoing room (UserMode nick invisible) = (user : User) → row room.users (key n
 IsDoing room other = ⊤
 
 abbrev pub ModeDoesSomething : Type 0
-ModeDoesSomething = (me : User) (room : Room) (params : List (List ℕ)) → IsWellFormed room → row room.users (key me.nick) ≡ Some me
-    → EachInTurn IsDoing room (effects_among (mode_steps room me params))
+ModeDoesSomething = (me : User) (room : Room) (name : List ℕ) (words : List (List ℕ)) → IsWellFormed room → row room.users (key me.nick) ≡ Some me
+    → EachInTurn IsDoing room (effects_among (mode_steps room me name words))
 
 -- ---- what is another
 
@@ -214,7 +214,7 @@ one_found : {X : Type 0} (a b : X) → Some a ≡ Some b → a ≡ b
 one_found a b e = ap (λ o. unwrap_or o a) e
 
 pub mode_does_something : ModeDoesSomething
-mode_does_something me room params well mine = mode_so IsDoing me room params (λ name words given. record {
+mode_does_something me room name words well mine = mode_so IsDoing me room name words (record {
   changes_it = λ channel is operator some found at.
       subst (λ (c : Channel). EachChanges c (changed_by room channel words))
       (one_found channel found (sym is ∙ ap (row room.channels) (sym ((well.channels_sound (key name) channel is).named)) ∙ at))

@@ -18,12 +18,13 @@ use Rattle.irc_acts.specs.Standing.{is_operator}
 use Rattle.irc_moderation.specs.Judging.{judge}
 use Rattle.irc_moderation.specs.UserMode.{user_mode}
 use Rattle.irc_moderation.specs.ChannelMode.{Outcome, outcome_of, told, one_served, served, denied, in_one, asked_of, channel_mode}
-use Rattle.irc_moderation.specs.Mode.{names_channel, mode_steps}
+use Rattle.irc_acts.specs.Words.{names_channel}
+use Rattle.irc_moderation.specs.Mode.{mode_steps}
 
 -- In rooms that differ in invitations alone a MODE does the same.
 abbrev pub ModeLooksAtNoInvitations : Type 0
-ModeLooksAtNoInvitations = (me : User) (room other : Room) (params : List (List ℕ)) → AreAlike room other
-    → mode_steps room me params ≡ mode_steps other me params
+ModeLooksAtNoInvitations = (me : User) (room other : Room) (target : List ℕ) (more : List (List ℕ)) → AreAlike room other
+    → mode_steps room me target more ≡ mode_steps other me target more
 
 letter_aside : (plus : Bool) (which : ModeLetter) (word : Option (List ℕ)) (now : Channel)
     → letter_changed plus which word (uninviting now) ≡ uninviting (letter_changed plus which word now)
@@ -110,8 +111,7 @@ channel_aside users me name (letters ∷ words) (Some channel) = asked_aside use
 
 pub mode_looks_at_no_invitations : ModeLooksAtNoInvitations
 unfolding mode_steps
-mode_looks_at_no_invitations me room other [] alike = refl
-mode_looks_at_no_invitations me room other (target ∷ more) alike =
+mode_looks_at_no_invitations me room other target more alike =
     ap (λ acts. cond (names_channel target) acts (user_mode me target more))
     (sym (channel_aside room.users me target more (row room.channels (key target)))
     ∙ ap (channel_mode room.users me target more) (alike.channels (key target))

@@ -27,12 +27,13 @@ use Rattle.irc_moderation.specs.Judging.{judge}
 use Rattle.irc_moderation.specs.ModesShown.{ban_shown}
 use Rattle.irc_moderation.specs.UserMode.{differs, is_unknown_flag, invisible_after, unknown_told, made_invisible, own_mode, user_mode}
 use Rattle.irc_acts.specs.Standing.{is_operator}
+use Rattle.irc_acts.specs.Words.{names_channel}
 use Rattle.irc_moderation.specs.ChannelMode.{outcome_of, told, one_served, served, denied, changing, in_one, asked_of, channel_mode}
-use Rattle.irc_moderation.specs.Mode.{names_channel, mode_steps}
+use Rattle.irc_moderation.specs.Mode.{mode_steps}
 use Rattle.std.specs.List.{list_any}
 
 abbrev pub ModeIsOwn : Type 0
-ModeIsOwn = (me : User) (room : Room) (params : List (List ℕ)) → AreOwn me room (mode_steps room me params)
+ModeIsOwn = (me : User) (room : Room) (name : List ℕ) (words : List (List ℕ)) → AreOwn me room (mode_steps room me name words)
 
 -- ---- the replies are no effects
 
@@ -132,18 +133,16 @@ channel_so Q me room name more so None is = tt
 channel_so Q me room name [] so (Some channel) is = tt
 channel_so Q me room name (letters ∷ words) so (Some channel) is = asked_so Q me room name channel (letters ∷ words) so is
 
-pub mode_so : (Q : Room → Effect → Type 0) (me : User) (room : Room) (params : List (List ℕ))
-    → ((name : List ℕ) (words : List (List ℕ)) → params ≡ name ∷ words → IsSoOfModes Q me room name words)
-    → EachInTurn Q room (effects_among (mode_steps room me params))
+pub mode_so : (Q : Room → Effect → Type 0) (me : User) (room : Room) (target : List ℕ) (more : List (List ℕ))
+    → IsSoOfModes Q me room target more → EachInTurn Q room (effects_among (mode_steps room me target more))
 unfolding mode_steps
-mode_so Q me room [] so = tt
-mode_so Q me room (target ∷ more) so =
+mode_so Q me room target more so =
     by_test (λ (acts : List Act). EachInTurn Q room (effects_among acts)) (names_channel target)
     (channel_mode room.users me target more (row room.channels (key target))) (user_mode me target more)
-    (λ channel. channel_so Q me room target more (so target more refl) (row room.channels (key target)) refl) (λ user. user_so Q me room target more (so target more refl))
+    (λ channel. channel_so Q me room target more so (row room.channels (key target)) refl) (λ user. user_so Q me room target more so)
 
 pub mode_is_own : ModeIsOwn
-mode_is_own me room params = mode_so (IsOwn me) me room params (λ name words given. record {
+mode_is_own me room name words = mode_so (IsOwn me) me room name words (record {
   changes_it = λ channel is operator some. own.changes_modes name (changed_by room channel words) channel is;
   sets_own = λ invisible apart. own.sets_user_mode invisible;
 })

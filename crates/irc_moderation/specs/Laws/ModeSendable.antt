@@ -39,8 +39,8 @@ use Rattle.irc_moderation.specs.Laws.WordsCarried.{IsCarriedAsked, read_carried}
 
 -- of a user that is there, in a room within limits, where a line can carry its words
 abbrev pub ModeIsSendable : Type 0
-ModeIsSendable = (me : User) (room : Room) (params : List (List ℕ)) → IsWellFormed room → IsWithinLimits room → row room.users (key me.nick) ≡ Some me
-    → AllByRecursion IsCarried params → AreSendable room (mode_steps room me params)
+ModeIsSendable = (me : User) (room : Room) (name : List ℕ) (words : List (List ℕ)) → IsWellFormed room → IsWithinLimits room
+    → row room.users (key me.nick) ≡ Some me → AllByRecursion IsCarried words → AreSendable room (mode_steps room me name words)
 
 -- ---- words that are written
 
@@ -159,15 +159,13 @@ module _ (room : Room) (well : IsWellFormed room) (limits : IsWithinLimits room)
       let changes = all_served channel channel within (modes_read words) (read_carried words carried) in
       record { changes_readable = some_asked_are_readable words (changed_by room channel words) changes.asked filled; words_sent = changes.sent }
 
-  pub mode_carries : (me : User) (params : List (List ℕ)) → AllByRecursion IsCarried params → CarrySendable room (mode_steps room me params)
-  mode_carries me params carried = mode_so CarriesSendable me room params (λ name words given. record {
-    changes_it = λ channel is operator filled.
-        let all = subst (AllByRecursion IsCarried) given carried in
-        sent_whole channel (limits.channels (key name) channel is) words all.1 filled;
+  pub mode_carries : (me : User) (name : List ℕ) (words : List (List ℕ)) → AllByRecursion IsCarried words → CarrySendable room (mode_steps room me name words)
+  mode_carries me name words carried = mode_so CarriesSendable me room name words (record {
+    changes_it = λ channel is operator filled. sent_whole channel (limits.channels (key name) channel is) words carried filled;
     sets_own = λ invisible other. tt;
   })
 
 pub mode_is_sendable : ModeIsSendable
-mode_is_sendable me room params well limits mine carried =
-    own_are_sendable me room (mode_steps room me params) well (nick_stored room well (key me.nick) me mine) (mode_is_own me room params)
-    (mode_carries room well limits me params carried)
+mode_is_sendable me room name words well limits mine carried =
+    own_are_sendable me room (mode_steps room me name words) well (nick_stored room well (key me.nick) me mine) (mode_is_own me room name words)
+    (mode_carries room well limits me name words carried)

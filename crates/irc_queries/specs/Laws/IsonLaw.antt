@@ -1,5 +1,5 @@
 -- The steps of an ISON are answers.
-use Rattle.std.proofs.Common.{◌≡◌, ℕ, List, [], ◌∷◌, refl}
+use Rattle.std.proofs.Common.{◌≡◌, ℕ, List, [], refl}
 use Rattle.irc_room.specs.Room.{Room}
 use Rattle.irc_acts.specs.Acts.{effects_among}
 use Rattle.irc_queries.specs.Ison.{ison_steps}
@@ -10,5 +10,4 @@ IsonOnlyAnswers = (room : Room) (params : List (List ℕ)) → effects_among (is
 
 pub ison_only_answers : IsonOnlyAnswers
 unfolding ison_steps
-ison_only_answers room [] = refl
-ison_only_answers room (words ∷ more) = refl
+ison_only_answers room params = refl

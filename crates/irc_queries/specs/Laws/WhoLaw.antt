@@ -16,7 +16,8 @@ use Rattle.irc_acts.specs.Acts.{effects_among}
 use Rattle.irc_acts.specs.AheadLaws.{none-both}
 use Rattle.irc_acts.specs.Marks.{asterisk}
 use Rattle.irc_acts.specs.Standing.{is_known, is_seen, mark_of}
-use Rattle.irc_queries.specs.Who.{user_line, member_if_seen, member_line, members_told, users_told, is_asked_for, is_channel_asked, told, asks_for_operators, end_of_who, who_steps}
+use Rattle.irc_acts.specs.Words.{names_channel}
+use Rattle.irc_queries.specs.Who.{user_line, member_if_seen, member_line, members_told, users_told, is_asked_for, told, asks_for_operators, end_of_who, who_steps}
 
 -- a WHO changes nothing and says nothing to others
 abbrev pub WhoOnlyAnswers : Type 0
@@ -58,7 +59,7 @@ channel_answers room place seen me (Some channel) =
 told_answers : (room : Room) (place : Place) (me : User) (asked : List ℕ) → effects_among (told room place me asked) ≡ []
 told_answers room place me asked =
     let seen = λ (user : User). is_seen room me user in
-    either (is_channel_asked asked) (members_told room place seen me (row room.channels (key asked))) (users_told place seen asked (values room.users))
+    either (names_channel asked) (members_told room place seen me (row room.channels (key asked))) (users_told place seen asked (values room.users))
     (channel_answers room place seen me (row room.channels (key asked)))
     (lines_answer place (filter (λ user. is_asked_for asked user && seen user) (values room.users)))
 

@@ -6,7 +6,7 @@ use Rattle.irc_line.specs.MessageViews.{optional_now}
 use Rattle.irc_acts.specs.CommaLists.{pieces_left}
 use Rattle.irc_membership.proofs.JoinAsked.{all_to_serve, none_so_far, served, some_name}
 use Rattle.irc_membership.proofs.JoinOne.{joins_more}
-use Rattle.irc_membership.proofs.JoinedRows.{count_of_entries}
+use Rattle.irc_acts.specs.OwnRows.{count_of_entries}
 use Rattle.irc_membership.proofs.join.join_list.Goals as goal
 
 pub loop-names-init : goal.loop-names-init

@@ -2,7 +2,7 @@ use Rattle.std.proofs.Common.{ℕ, List, filter, ◌∙◌, ap}
 use Rattle.std.specs.FinMap.{entries}
 use Rattle.irc_names.specs.Fold.{key}
 use Rattle.irc_channels.specs.Channels.{has_member}
-use Rattle.irc_queries.proofs.OwnRows.{own_of_rows}
+use Rattle.irc_acts.specs.OwnRows.{own_of_rows}
 use Rattle.irc_queries.proofs.own_rows.own_rows.Goals as goal
 
 pub returns : goal.returns

@@ -10,9 +10,7 @@ use Rattle.irc_users.specs.declared.user.User.{User}
 use Rattle.irc_channels.specs.declared.channel.Channel.{Channel}
 use Rattle.irc_channels.specs.Channels.{has_member}
 use Rattle.irc_room.specs.Room.{Room}
-use Rattle.irc_acts.specs.declared.act.Act.{Act}
 use Rattle.irc_acts.specs.Moves.{own_channels}
-use Rattle.irc_membership.specs.Join.{leaves}
 
 kept_entries : (p : Channel → Bool) (es : List (List ℕ × Channel)) → filter p (map (λ e. e.1) es) ≡ map (λ e. e.1) (filter (λ e. p e.1) es)
 kept_entries p [] = refl
@@ -28,15 +26,15 @@ count_of_entries room me =
     sym (length-map (filter (λ e. has_member (key me.nick) e.1) (entries room.channels)) (λ e. e.1))
     ∙ ap length (sym (kept_entries (has_member (key me.nick)) (entries room.channels)))
 
-mapped_entries : (f : Channel → Act) (rows : List (Bor (Row Channel)))
-    → map (λ (row : Bor (Row Channel)). f row.now.value) rows ≡ map f (map (λ e. e.1) (map (λ (row : Bor (Row Channel)). row_entry row.now) rows))
-mapped_entries f [] = refl
-mapped_entries f (row ∷ rows) = ap (λ acts. f row.now.value ∷ acts) (mapped_entries f rows)
+values_of_entries : (rows : List (Bor (Row Channel)))
+    → map (λ (row : Bor (Row Channel)). row.now.value) rows ≡ map (λ e. e.1) (map (λ (row : Bor (Row Channel)). row_entry row.now) rows)
+values_of_entries [] = refl
+values_of_entries (row ∷ rows) = ap (λ values. row.now.value ∷ values) (values_of_entries rows)
 
-pub leaves_of_rows : (room : Room) (me : User) (rows : List (Bor (Row Channel)))
-    → map (λ (row : Bor (Row Channel)). row_entry row.now) rows ≡ filter (λ e. has_member (key me.nick) e.1) (entries room.channels)
-    → map (λ (row : Bor (Row Channel)). leaves me row.now.value) rows ≡ map (leaves me) (own_channels room me)
-leaves_of_rows room me rows are =
-    mapped_entries (leaves me) rows
-    ∙ ap (λ es. map (leaves me) (map (λ (e : List ℕ × Channel). e.1) es)) are
-    ∙ ap (map (leaves me)) (sym (kept_entries (has_member (key me.nick)) (entries room.channels)))
+pub own_of_rows : (room : Room) (user : User) (rows : List (Bor (Row Channel)))
+    → map (λ (row : Bor (Row Channel)). row_entry row.now) rows ≡ filter (λ e. has_member (key user.nick) e.1) (entries room.channels)
+    → map (λ (row : Bor (Row Channel)). row.now.value) rows ≡ own_channels room user
+own_of_rows room user rows are =
+    values_of_entries rows
+    ∙ ap (λ es. map (λ (e : List ℕ × Channel). e.1) es) are
+    ∙ sym (kept_entries (has_member (key user.nick)) (entries room.channels))
