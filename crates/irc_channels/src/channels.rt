@@ -1,13 +1,13 @@
 //! The channels of a room, by name.
-ghost use Rattle.std.specs.Prelude.{◌≡◌, Some, None, IsTrue, IsOk, OnOk, OnErr, false, is_some, map, unwrap_or};
-ghost use Rattle.std.specs.Option.{option_copied, option_map, option_map_or, option_and_then};
+ghost use Rattle.std.specs.Prelude.{◌≡◌, Some, None, OnErr, is_some, map};
+ghost use Rattle.std.specs.Option.{option_copied, option_map, option_and_then};
 ghost use Rattle.std.specs.Result.{result_err};
 ghost use Rattle.std.specs.FinMap.{empty, entries};
 ghost use Rattle.irc_names.specs.Fold.{key};
-ghost use Rattle.irc_names.specs.Tables.{row, alter, each};
+ghost use Rattle.irc_names.specs.Tables.{row, each};
 ghost use Rattle.irc_tables.specs.RowViews.{row_entry};
-ghost use Rattle.irc_channels.specs.Channels.{new_channel, adds_none, has_member, is_invited, joined, left, without_user, renamed, invited_too, uninvited, with_topic, all_changed};
-ghost use Rattle.irc_channels.specs.ChannelTable.{members_in, channel_fault, leaving_fault, IsOwedOrMemory};
+ghost use Rattle.irc_channels.specs.Channels.{adds_none, has_member, is_invited, left, without_user, renamed, invited_too, uninvited, with_topic, all_changed};
+ghost use Rattle.irc_channels.specs.ChannelTable.{entry_at, fault_at, joined_or_made, leaving_fault_at, members_in, Alters, GoesWellWhere, IsOwedOrMemory};
 
 use crate::channel::Channel;
 use crate::fault::ChannelsFault;
@@ -64,7 +64,7 @@ impl Channels {
 
     /// The row of a channel's name, if there is such a channel.
     pub fn find_row(&self, name: &[u8]) -> Option<&Row<Channel>>
-        ensures { option_map row_entry (option_copied result) ≡ option_map (λ channel. (key name.now, channel)) (row self.now (key name.now)) }
+        ensures { option_map row_entry (option_copied result) ≡ entry_at self.now name.now }
     {
         self.rows.get_row(name)
     }
@@ -102,9 +102,9 @@ impl Channels {
         op: bool,
     ) -> Result<(), ChannelsFault>
         ensures fault { IsOwedOrMemory None (result_err result) }
-        ensures ok { OnOk result (self.new ≡ alter (key channel.now) (λ c. Some (joined (key nick.now) op (unwrap_or c (new_channel channel.now)))) self.old) }
+        ensures ok { Alters result channel.now (joined_or_made nick.now op channel.now) self.old self.new }
         ensures refused { OnErr result (self.new ≡ self.old) }
-        ensures member { IsTrue (option_map_or (has_member (key nick.now)) (row self.old (key channel.now)) false) → IsOk result }
+        ensures member { GoesWellWhere (has_member (key nick.now)) channel.now self.old result }
     {
         if self.has(channel) {
             self.rows.try_at(channel.as_bytes(), &Joining { nick, op })?;
@@ -118,8 +118,8 @@ impl Channels {
 
     /// A member leaves a channel, which ends with its last member (RFC 2811 section 3). It takes no memory.
     pub fn part(&mut self, nick: &Nick, channel: &ChannelName) -> Result<(), ChannelsFault>
-        ensures fault { result_err result ≡ leaving_fault (key nick.now) (row self.old (key channel.now)) }
-        ensures ok { OnOk result (self.new ≡ alter (key channel.now) (option_and_then (left (key nick.now))) self.old) }
+        ensures fault { result_err result ≡ leaving_fault_at nick.now self.old channel.now }
+        ensures ok { Alters result channel.now (option_and_then (left (key nick.now))) self.old self.new }
         ensures refused { OnErr result (self.new ≡ self.old) }
     {
         let Some(found) = self.find(channel.as_bytes()) else {
@@ -138,10 +138,10 @@ impl Channels {
         channel: &ChannelName,
         changes: &[ModeChange],
     ) -> Result<(), ChannelsFault>
-        ensures fault { IsOwedOrMemory (channel_fault (row self.old (key channel.now))) (result_err result) }
-        ensures ok { OnOk result (self.new ≡ alter (key channel.now) (option_map (all_changed changes.now)) self.old) }
+        ensures fault { IsOwedOrMemory (fault_at self.old channel.now) (result_err result) }
+        ensures ok { Alters result channel.now (option_map (all_changed changes.now)) self.old self.new }
         ensures refused { OnErr result (self.new ≡ self.old) }
-        ensures none_added { IsTrue (option_map_or (adds_none changes.now) (row self.old (key channel.now)) false) → IsOk result }
+        ensures none_added { GoesWellWhere (adds_none changes.now) channel.now self.old result }
     {
         if !self.has(channel) {
             return Err(ChannelsFault::NoSuchChannel);
@@ -152,8 +152,8 @@ impl Channels {
 
     /// Gives a channel another topic. It takes no memory.
     pub fn set_topic(&mut self, channel: &ChannelName, topic: &Words) -> Result<(), ChannelsFault>
-        ensures fault { result_err result ≡ channel_fault (row self.old (key channel.now)) }
-        ensures ok { OnOk result (self.new ≡ alter (key channel.now) (option_map (with_topic topic.now)) self.old) }
+        ensures fault { result_err result ≡ fault_at self.old channel.now }
+        ensures ok { Alters result channel.now (option_map (with_topic topic.now)) self.old self.new }
         ensures refused { OnErr result (self.new ≡ self.old) }
     {
         if !self.has(channel) {
@@ -166,10 +166,10 @@ impl Channels {
 
     /// Invites a user to a channel. One who is invited already takes no memory.
     pub fn invite(&mut self, nick: &Nick, channel: &ChannelName) -> Result<(), ChannelsFault>
-        ensures fault { IsOwedOrMemory (channel_fault (row self.old (key channel.now))) (result_err result) }
-        ensures ok { OnOk result (self.new ≡ alter (key channel.now) (option_map (invited_too (key nick.now))) self.old) }
+        ensures fault { IsOwedOrMemory (fault_at self.old channel.now) (result_err result) }
+        ensures ok { Alters result channel.now (option_map (invited_too (key nick.now))) self.old self.new }
         ensures refused { OnErr result (self.new ≡ self.old) }
-        ensures there { IsTrue (option_map_or (is_invited (key nick.now)) (row self.old (key channel.now)) false) → IsOk result }
+        ensures there { GoesWellWhere (is_invited (key nick.now)) channel.now self.old result }
     {
         if !self.has(channel) {
             return Err(ChannelsFault::NoSuchChannel);
@@ -180,8 +180,8 @@ impl Channels {
 
     /// Takes the invitation of a user to a channel back; where there is none nothing changes. It takes no memory.
     pub fn uninvite(&mut self, nick: &Nick, channel: &ChannelName) -> Result<(), ChannelsFault>
-        ensures fault { result_err result ≡ channel_fault (row self.old (key channel.now)) }
-        ensures ok { OnOk result (self.new ≡ alter (key channel.now) (option_map (uninvited (key nick.now))) self.old) }
+        ensures fault { result_err result ≡ fault_at self.old channel.now }
+        ensures ok { Alters result channel.now (option_map (uninvited (key nick.now))) self.old self.new }
         ensures refused { OnErr result (self.new ≡ self.old) }
     {
         if !self.has(channel) {
