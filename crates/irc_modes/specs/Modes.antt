@@ -3,7 +3,7 @@ use Rattle.std.specs.Prelude.{ℕ, Bool, true, false, not, ◌&&◌, Option, Som
 use Rattle.std.specs.List.{list_any, list_all}
 use Rattle.std.specs.Char.{is_ascii_digit}
 use Rattle.std.specs.Ordering.{is_lt}
-use Rattle.irc_names.specs.Fold.{key, same, name_cmp}
+use Rattle.irc_names.specs.Fold.{same, name_cmp}
 use Rattle.irc_names.specs.Names.{fits, is_key, is_ban_mask}
 use Rattle.irc_names.specs.Digits.{number_of}
 use Rattle.irc_modes.specs.Limits.{max_limit, max_limit_digits}

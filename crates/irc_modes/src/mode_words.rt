@@ -2,7 +2,7 @@
 ghost use Rattle.std.specs.Prelude.{◌≡◌, ◌≤◌, [], ◌∷◌, ◌++◌, true, drop, length, IfOk, if◌then◌else◌};
 ghost use Rattle.std.specs.Option.{option_copied};
 ghost use Rattle.irc_line.specs.PartViews.{words_now};
-ghost use Rattle.irc_modes.specs.ModeWords.{answer, change, counted, is_sign, letter_asks, letters_read, mode_of, modes_read, needs, next_word, once, reading, takes, words_after};
+ghost use Rattle.irc_modes.specs.ModeWords.{answer, change, is_sign, letter_asks, mode_of, modes_read, needs, next_word, once, reading, takes, words_after};
 ghost use Rattle.irc_modes.specs.ModeViews.{all_asked, asked, letter_read};
 ghost use Rattle.irc_modes.specs.Loops.ModeLimits.{Judges};
 
@@ -81,7 +81,7 @@ fn read_letters<'a>(
     letters: &[u8],
     words: &[&'a [u8]],
 ) -> Result<Vec<ModeItem<'a>>, AllocError>
-    ensures { IfOk result (λ items. all_asked items.items ≡ counted [] (letters_read true letters.now (words_now words.now))) }
+    ensures { IfOk result (λ items. all_asked items.items ≡ modes_read (letters.now ∷ words_now words.now)) }
 {
     let mut plus = true;
     let mut used = 0;
