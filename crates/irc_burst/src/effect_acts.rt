@@ -1,12 +1,9 @@
 //! What an effect comes to, of which a line of a link tells: where two users would have one nickname, they quit (RFC 2812 section 3.7.1).
-ghost use Rattle.std.specs.Prelude.{◌≡◌, ◌∷◌, ◌++◌, [], Some, map, IfOk, OnOk};
-ghost use Rattle.std.specs.List.{flat_map};
+ghost use Rattle.std.specs.Prelude.{◌≡◌, ◌∷◌, [], Some, IfOk, OnOk};
 ghost use Rattle.std.specs.Option.{option_copied};
 ghost use Rattle.irc_room.specs.Seen.{stored_nick};
-ghost use Rattle.irc_merge.specs.BurstRead.{introduced};
-ghost use Rattle.irc_merge.specs.Deeds.{kills};
-ghost use Rattle.irc_burst.specs.DeedsMeant.{a_deed, collided, kept_prefix, renamed, takes_anothers};
-ghost use Rattle.irc_burst.specs.Loops.Acts.{act_told, acts_told};
+ghost use Rattle.irc_burst.specs.DeedsMeant.{a_deed, kept_prefix, takes_anothers};
+ghost use Rattle.irc_burst.specs.Loops.Acts.{Appended, act_told, acts_told, all_collided_at, collided_at, introduced_at, kills_at, renamed_at};
 
 use crate::acts::BurstAct;
 use irc_link_reader::Arrival;
@@ -23,7 +20,7 @@ pub(crate) fn all_collided(
     effects: Vec<Effect, Global>,
 ) -> Result<Vec<BurstAct, Global>, AllocError>
     ensures { IfOk result (λ acts. acts_told acts.items
-        ≡ map a_deed (flat_map (collided at.entry.routes.now.name at.entry.room.now.room (option_copied server.entry)) effects.items)) }
+        ≡ all_collided_at at.entry (option_copied server.entry) effects.items) }
 {
     let mut acts = Vec::new(alloc);
     let mut left = effects.into_iter();
@@ -40,8 +37,8 @@ fn push_collided(
     server: Option<&ServerName>,
     effect: Effect,
 ) -> Result<(), AllocError>
-    ensures { OnOk result (acts_told acts.new.items ≡ acts_told acts.old.items
-        ++ map a_deed (collided at.entry.routes.now.name at.entry.room.now.room (option_copied server.entry) effect)) }
+    ensures { OnOk result (Appended acts.old
+        (collided_at at.entry (option_copied server.entry) effect) acts.new) }
 {
     match effect {
         Effect::AddUser(user) => put(acts, introduced(at, user)),
@@ -52,7 +49,7 @@ fn push_collided(
 
 /// Appends an act.
 fn put(acts: &mut Vec<BurstAct, Global>, act: BurstAct) -> Result<(), AllocError>
-    ensures { OnOk result (acts_told acts.new.items ≡ acts_told acts.old.items ++ act_told act ∷ []) }
+    ensures { OnOk result (Appended acts.old (act_told act ∷ []) acts.new) }
 {
     acts.push(act)?;
     Ok(())
@@ -60,7 +57,7 @@ fn put(acts: &mut Vec<BurstAct, Global>, act: BurstAct) -> Result<(), AllocError
 
 /// A user comes; where its nickname is held, the holder is killed, and it is not taken.
 fn introduced(at: Arrival<'_>, user: User) -> BurstAct
-    ensures { act_told result ∷ [] ≡ map a_deed (introduced at.entry.routes.now.name at.entry.room.now.room user) }
+    ensures { act_told result ∷ [] ≡ introduced_at at.entry user }
 {
     match at.room.user(user.nick.as_bytes()) {
         Some(holder) => BurstAct::Kill {
@@ -78,7 +75,7 @@ fn push_renamed(
     nick: Nick,
     new: Nick,
 ) -> Result<(), AllocError>
-    ensures { OnOk result (acts_told acts.new.items ≡ acts_told acts.old.items ++ map a_deed (renamed at.entry.routes.now.name at.entry.room.now.room nick new)) }
+    ensures { OnOk result (Appended acts.old (renamed_at at.entry nick new) acts.new) }
 {
     if !takes_anothers(at, &nick, &new) {
         return put(acts, BurstAct::Does(Effect::Rename { nick, new }));
@@ -99,8 +96,8 @@ fn kill_both(
     one: Nick,
     other: Nick,
 ) -> Result<(), AllocError>
-    ensures { OnOk result (acts_told acts.new.items ≡ acts_told acts.old.items
-        ++ (a_deed (kills at.entry.routes.now.name one) ∷ a_deed (kills at.entry.routes.now.name other) ∷ [])) }
+    ensures { OnOk result (Appended acts.old
+        (kills_at at.entry one ∷ kills_at at.entry other ∷ []) acts.new) }
 {
     put(acts, kill(at, one))?;
     put(acts, kill(at, other))
@@ -108,7 +105,7 @@ fn kill_both(
 
 /// A user is killed in the name of this server.
 fn kill(at: Arrival<'_>, nick: Nick) -> BurstAct
-    ensures { act_told result ≡ a_deed (kills at.entry.routes.now.name nick) }
+    ensures { act_told result ≡ kills_at at.entry nick }
 {
     let server = at.routes.name().copy();
     BurstAct::Kill { server, nick }

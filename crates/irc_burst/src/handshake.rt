@@ -1,6 +1,6 @@
 //! Lines of a link whose neighbour has not named itself yet (RFC 2813 section 4.1).
 ghost use Rattle.irc_line.specs.MessageViews.{parsed};
-ghost use Rattle.irc_burst.specs.Loops.Handshakes.{IsOpened, IsOutOfPlace, meant_at, opening_at};
+ghost use Rattle.irc_burst.specs.Loops.Handshakes.{IsOpenedAt, IsOutOfPlace, meant_at};
 
 use crate::fault::BurstFault;
 use crate::reading::read_burst_line;
@@ -24,7 +24,7 @@ pub fn read_handshake_line(
     at: Arrival<'_>,
     has_password: bool,
 ) -> Result<Opening, BurstFault>
-    ensures { IsOpened (parsed message.now) (opening_at has_password at.entry (parsed message.now)) result }
+    ensures { IsOpenedAt has_password at.entry (parsed message.now) result }
 {
     match read_opening(message, has_password) {
         Some(Ok(opening)) => Ok(opening),

@@ -1,10 +1,8 @@
 //! KILL: a nickname that two users have (RFC 2812 section 3.7.1).
-ghost use Rattle.std.specs.Prelude.{◌≡◌, Ok, Err, Some, codes, map, option_to_list, if◌then◌else◌};
+ghost use Rattle.std.specs.Prelude.{◌≡◌, Ok, Err, codes, if◌then◌else◌};
 ghost use Rattle.std.specs.Str.{bytes_eq};
 ghost use Rattle.irc_link_words.specs.declared.fault.WireFault.TheVariants.{Parameters};
-ghost use Rattle.irc_link_reader.specs.Loops.Readings.{reader};
-ghost use Rattle.irc_burst.specs.DeedsMeant.{a_deed, first_reason, kill_line, killed};
-ghost use Rattle.irc_burst.specs.Loops.Acts.{act_told, closes, found};
+ghost use Rattle.irc_burst.specs.Loops.Acts.{Comes, kill_line_at, killed_at, told_if};
 
 use crate::acts::BurstAct;
 use crate::fault::BurstFault;
@@ -18,7 +16,7 @@ pub(crate) fn kill_line(
     server: &[u8],
     mut params: Params<'_>,
 ) -> Result<Option<BurstAct>, BurstFault>
-    ensures { found result ≡ closes (first_reason (kill_line (reader at.entry) at.entry.room.now.room (Some server.now) params.entry)) }
+    ensures { Comes (kill_line_at at.entry server.now params.entry) result }
 {
     let nick = params.next()?;
     let text = params.next()?;
@@ -43,7 +41,7 @@ fn expect_collision(text: &[u8]) -> Result<(), WireFault>
 
 /// The holder of a nickname is killed, if there is one.
 fn killed(at: Arrival<'_>, server: ServerName, nick: &[u8]) -> Option<BurstAct>
-    ensures { map act_told (option_to_list result) ≡ map a_deed (killed server at.entry.room.now.room nick.now) }
+    ensures { told_if result ≡ killed_at at.entry server nick.now }
 {
     match at.room.user(nick) {
         Some(user) => Some(BurstAct::Kill {

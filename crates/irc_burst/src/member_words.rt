@@ -1,11 +1,10 @@
 //! The members that an NJOIN names: nicknames with their marks, parted by commas (RFC 2813 section 4.2.2). Nothing here takes memory.
-ghost use Rattle.std.specs.Prelude.{◌≡◌, ◌<◌, Ok, Err, count_by, length, nat_le, if◌then◌else◌};
+ghost use Rattle.std.specs.Prelude.{◌≡◌, ◌<◌, Ok, Err, count_by, length, if◌then◌else◌};
 ghost use Rattle.std.specs.List.{after_first, before_first, list_all, position_or_len, slice_split};
-ghost use Rattle.irc_names.specs.Names.{is_nick};
-ghost use Rattle.irc_merge.specs.Bursts.{members_a_line};
 ghost use Rattle.irc_channels.specs.declared.flags.Flags.{Flags};
 ghost use Rattle.irc_link_words.specs.declared.fault.WireFault.TheVariants.{BadName, Parameters};
-ghost use Rattle.irc_burst.specs.DeedsMeant.{has_mark, is_comma, member_of, members_of, without_mark};
+ghost use Rattle.irc_burst.specs.DeedsMeant.{has_mark, is_comma, member_of, without_mark};
+ghost use Rattle.irc_burst.specs.Loops.Acts.{are_few, are_named, has_nick};
 
 use irc_burst_lines::MEMBERS_A_LINE;
 use irc_channels::Flags;
@@ -15,7 +14,7 @@ use irc_names::is_nick;
 /// Refuses more members than one line may bring.
 #[tactic(auto, using(crate::proofs::MemberWords::few_told))]
 pub(crate) fn expect_few(text: &[u8]) -> Result<(), WireFault>
-    ensures { result ≡ (if nat_le (length (members_of text.now)) members_a_line then Ok tt else Err Parameters) }
+    ensures { result ≡ (if are_few text.now then Ok tt else Err Parameters) }
 {
     if commas(text) < MEMBERS_A_LINE {
         Ok(())
@@ -34,7 +33,7 @@ fn commas(text: &[u8]) -> usize
 /// Refuses members of whom one has no nickname.
 #[tactic(auto, using(crate::proofs::MemberWords::nicks_told))]
 pub(crate) fn expect_nicks(text: &[u8]) -> Result<(), WireFault>
-    ensures { result ≡ (if list_all (λ member. is_nick member.0) (members_of text.now) then Ok tt else Err BadName) }
+    ensures { result ≡ (if are_named text.now then Ok tt else Err BadName) }
 {
     if are_nicks(text) {
         Ok(())
@@ -45,7 +44,7 @@ pub(crate) fn expect_nicks(text: &[u8]) -> Result<(), WireFault>
 
 /// Whether each word between commas is a nickname behind its marks.
 fn are_nicks(text: &[u8]) -> bool
-    ensures { result ≡ list_all (λ word. is_nick (member_of word).0) (slice_split is_comma text.now) }
+    ensures { result ≡ list_all has_nick (slice_split is_comma text.now) }
 {
     let mut rest = text;
     while first_comma(rest) < rest.len() {
@@ -82,7 +81,7 @@ fn first_comma(text: &[u8]) -> usize
 
 /// Whether a word is a nickname behind its marks.
 fn has_nick(word: &[u8]) -> bool
-    ensures { result ≡ is_nick (member_of word.now).0 }
+    ensures { result ≡ has_nick word.now }
 {
     is_nick(nick_of(word))
 }

@@ -3,14 +3,11 @@ ghost use Rattle.std.specs.Prelude.{◌≡◌, ◌&&◌, [], Some, None, fold, m
 ghost use Rattle.std.specs.List.{list_any, slice_split};
 ghost use Rattle.irc_line.specs.PartViews.{words_now};
 ghost use Rattle.irc_names.specs.Fold.{key, same};
-ghost use Rattle.irc_room.specs.Effects.{is_member};
 ghost use Rattle.irc_room.specs.Room.{IsWellFormed};
-ghost use Rattle.irc_room.specs.Seen.{stored_nick};
-ghost use Rattle.irc_merge.specs.Bursts.{home_passes};
 ghost use Rattle.irc_merge.specs.BurstRead.{brought, new_members};
 ghost use Rattle.irc_link_reader.specs.Loops.Readings.{reader};
 ghost use Rattle.irc_burst.specs.DeedsMeant.{a_deed, as_stored, first_reason, is_comma, member_of, members_of, njoin_line};
-ghost use Rattle.irc_burst.specs.Loops.Acts.{IsRead, act_told, closes, is_among, members_found, members_told, njoin_line_at, taken_as_stored};
+ghost use Rattle.irc_burst.specs.Loops.Acts.{IsRead, act_told, closes, is_among, members_brought, members_found, members_told, new_nick, njoin_line_at, taken_as_stored, told_if};
 
 use crate::acts::{BurstAct, NewMember};
 use crate::fault::BurstFault;
@@ -43,7 +40,7 @@ fn brought(
     channel: ChannelName,
     members: Vec<NewMember, Global>,
 ) -> Option<BurstAct>
-    ensures { map act_told (option_to_list result) ≡ map a_deed (brought server channel (members_told members.items)) }
+    ensures { told_if result ≡ members_brought server channel members.items }
 {
     if members.is_empty() {
         None
@@ -168,8 +165,7 @@ fn is_named(members: &[NewMember], nick: &[u8]) -> bool
 
 /// The nickname, as it is stored, of one who becomes a member: a user behind the link who is none yet.
 fn new_nick(at: Arrival<'_>, channel: &[u8], nick: &[u8]) -> Option<Nick>
-    ensures { result ≡ (if home_passes (reader at.entry).is_far at.entry.room.now.room.users (key nick.now)
-        && not (is_member at.entry.room.now.room nick.now channel.now) then Some (stored_nick at.entry.room.now.room nick.now) else None) }
+    ensures { result ≡ new_nick at.entry nick.now channel.now }
 {
     match at.room.user(nick) {
         Some(user) if is_far(at, user.home.as_bytes()) && at.room.member(nick, channel).is_none() =>

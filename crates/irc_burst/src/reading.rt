@@ -1,11 +1,9 @@
 //! Lines of servers, read as what they mean (RFC 2813 section 4, RFC 2812 section 3.7.1).
 ghost use Rattle.std.specs.Prelude.{◌≡◌, Some};
 ghost use Rattle.irc_line.specs.MessageViews.{optional_now, parsed};
-ghost use Rattle.irc_link_reader.specs.Loops.Readings.{reader};
-ghost use Rattle.irc_burst.specs.DeedsMeant.{deeds_meant, effects_told, first_reason, server_of};
-ghost use Rattle.irc_burst.specs.Loops.Acts.{IsBurstMeant, IsListed, IsRead};
-ghost use Rattle.irc_link_reader.specs.Means.{means};
-ghost use Rattle.irc_burst.specs.Loops.Commands.{row};
+ghost use Rattle.irc_burst.specs.DeedsMeant.{server_of};
+ghost use Rattle.irc_burst.specs.Loops.Acts.{IsBurstMeant, IsListed, IsRead, IsReadIn, effects_at};
+ghost use Rattle.irc_burst.specs.Loops.Commands.{comes_to};
 
 use crate::acts::BurstAct;
 use crate::commands::{Command, command_of};
@@ -37,7 +35,7 @@ pub fn read_burst_line(
     routes: &Routes,
     link: u64,
 ) -> Result<Vec<BurstAct, Global>, BurstFault>
-    ensures { IsBurstMeant (parsed message.now) (deeds_meant room.now.room routes.now link (parsed message.now)) result }
+    ensures { IsReadIn room.now.room routes.now link (parsed message.now) result }
 {
     let at = Arrival { room, routes, link };
     match command_of(message.command) {
@@ -69,8 +67,7 @@ fn read_effects(
     at: Arrival<'_>,
     message: &Message<'_>,
 ) -> Result<Vec<BurstAct, Global>, BurstFault>
-    ensures { IsBurstMeant (parsed message.now) (effects_told at.entry.routes.now.name at.entry.room.now.room (parsed message.now).prefix
-        (means at.entry.room.now.room at.entry.routes.now at.entry.link (parsed message.now))) result }
+    ensures { IsBurstMeant (parsed message.now) (effects_at at.entry (parsed message.now)) result }
 {
     let server = server_of(message.prefix);
     match read_effect(alloc, message, at.room, at.routes, at.link) {
@@ -100,8 +97,8 @@ fn read_command(
     command: Command,
     message: &Message<'_>,
 ) -> Result<Option<BurstAct>, BurstFault>
-    ensures { IsRead (first_reason ((row command).judge (reader at.entry) at.entry.routes.now at.entry.room.now.room
-        (parsed message.now).prefix (parsed message.now).params)) result }
+    ensures { IsRead (comes_to command at.entry
+        (parsed message.now).prefix (parsed message.now).params) result }
 {
     let params = Params::new(message.params.as_slice());
     match command {
@@ -123,7 +120,7 @@ fn line_of_server(
     server: &[u8],
     params: Params<'_>,
 ) -> Result<Option<BurstAct>, BurstFault>
-    ensures { IsRead (first_reason ((row command).judge (reader at.entry) at.entry.routes.now at.entry.room.now.room (Some server.now) params.entry)) result }
+    ensures { IsRead (comes_to command at.entry (Some server.now) params.entry) result }
 {
     match command {
         Command::Server => server_line(at, Some(server), params),

@@ -5,8 +5,8 @@ ghost use Rattle.irc_line.specs.MessageViews.{optional_now};
 ghost use Rattle.irc_link_reader.specs.Loops.Readings.{reader};
 ghost use Rattle.irc_routes.specs.Info.{is_info};
 ghost use Rattle.irc_routes.specs.Known.{is_known};
-ghost use Rattle.irc_burst.specs.DeedsMeant.{first_reason, is_next_distance, only_first, pass_line};
-ghost use Rattle.irc_burst.specs.Loops.Acts.{closes, found, is_one_further, may_be_lost, server_judged_at, server_line_at, squit_line_at, Comes};
+ghost use Rattle.irc_burst.specs.DeedsMeant.{first_reason, only_first, pass_line};
+ghost use Rattle.irc_burst.specs.Loops.Acts.{closes, found, is_next_at, is_one_further, may_be_lost, server_judged_at, server_line_at, squit_line_at, Comes};
 
 use crate::acts::BurstAct;
 use crate::fault::BurstFault;
@@ -101,7 +101,7 @@ fn read_info(bytes: &[u8]) -> Result<Info, WireFault>
 
 /// Refuses a distance that is not one more than that of the server to which the new one is linked.
 fn expect_next_distance(at: Arrival<'_>, uplink: &[u8], distance: u32) -> Result<(), WireFault>
-    ensures { result ≡ (if is_next_distance (reader at.entry) uplink.now distance then Ok tt else Err Parameters) }
+    ensures { result ≡ (if is_next_at at.entry uplink.now distance then Ok tt else Err Parameters) }
 {
     if is_one_further(at, uplink, distance) && distance < MAX_NUMBER {
         Ok(())
@@ -135,7 +135,7 @@ pub(crate) fn pass_line(
     prefix: Option<&[u8]>,
     params: Params<'_>,
 ) -> Result<Option<BurstAct>, BurstFault>
-    ensures { found result ≡ closes (first_reason (pass_line (optional_now prefix.entry) params.entry)) }
+    ensures { Comes (pass_line (optional_now prefix.entry) params.entry) result }
 {
     match prefix {
         Some(_) => Err(BurstFault::Closes(CloseReason::Parameters)),

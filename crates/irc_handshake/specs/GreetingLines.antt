@@ -1,7 +1,7 @@
 -- The two lines with which a link begins (RFC 2813 section 4.1); each end writes both:
 --   PASS pw 0210010000 TREE|
 --   SERVER a.net 1 1 :A
-use Rattle.std.specs.Prelude.{ℕ, Some, None, List, [], ◌∷◌, codes}
+use Rattle.std.specs.Prelude.{ℕ, Option, Some, None, List, [], ◌∷◌, codes}
 use Rattle.irc_line.specs.Messages.{Written, nobody}
 use Rattle.irc_routes.specs.Known.{Known}
 
@@ -14,14 +14,13 @@ version = codes "0210010000"
 abbrev pub agreement : List ℕ
 agreement = codes "TREE|"
 
+-- a line from nobody
+abbrev pub from_nobody : List ℕ → List (List ℕ) → Option (List ℕ) → Written
+from_nobody command middle last = record { sender = nobody; command = command; middle = middle; last = last }
+
 abbrev pub pass_parts : List ℕ → Written
-pass_parts password = record { sender = nobody; command = codes "PASS"; middle = password ∷ version ∷ agreement ∷ []; last = None }
+pass_parts password = from_nobody (codes "PASS") (password ∷ version ∷ agreement ∷ []) None
 
 -- A server names itself, one link away and with number 1 (RFC 2813 section 4.1.2).
 abbrev pub greeting : Known → Written
-greeting known = record {
-  sender = nobody;
-  command = codes "SERVER";
-  middle = known.name ∷ codes "1" ∷ codes "1" ∷ [];
-  last = Some known.info;
-}
+greeting known = from_nobody (codes "SERVER") (known.name ∷ codes "1" ∷ codes "1" ∷ []) (Some known.info)

@@ -1,9 +1,9 @@
 //! The two lines with which a link begins, written (RFC 2813 section 4.1). Nothing here takes memory.
 ghost use Rattle.std.specs.Prelude.{◌≡◌};
-ghost use Rattle.irc_line.specs.Messages.{nobody, text};
+ghost use Rattle.irc_line.specs.Messages.{text};
 ghost use Rattle.irc_line.specs.MessageViews.{optional_now};
 ghost use Rattle.irc_line.specs.PartViews.{words_now};
-ghost use Rattle.irc_handshake.specs.GreetingLines.{greeting, pass_parts};
+ghost use Rattle.irc_handshake.specs.GreetingLines.{from_nobody, greeting, pass_parts};
 
 use crate::{AGREEMENT, VERSION};
 use irc_line::{Parts, Prefix, Text, write_message};
@@ -29,7 +29,7 @@ pub fn greeting_text(routes: &Routes) -> Text
 
 /// A line from nobody.
 fn plain_line<'a>(command: &'a [u8], middle: &'a [&'a [u8]], last: Option<&'a [u8]>) -> Text
-    ensures { result.items ≡ text (record { sender = nobody; command = command.now; middle = words_now middle.now; last = optional_now last.entry }) }
+    ensures { result.items ≡ text (from_nobody command.now (words_now middle.now) (optional_now last.entry)) }
 {
     write_message(&Parts {
         prefix: Prefix::Nothing,

@@ -1,12 +1,12 @@
 //! The links behind which a channel has members, kept for as long as nothing changes.
-ghost use Rattle.std.specs.Prelude.{◌≡◌, ◌++◌, None, option_to_list, IfOk, OnOk};
+ghost use Rattle.std.specs.Prelude.{◌≡◌, None, option_to_list, IfOk, OnOk};
 ghost use Rattle.std.specs.List.{filter_map};
 ghost use Rattle.std.specs.Option.{option_and_then};
 ghost use Rattle.irc_names.specs.Fold.{key};
 ghost use Rattle.irc_room.specs.Readers.{home_under};
 ghost use Rattle.irc_routes.specs.Known.{next_hop};
-ghost use Rattle.irc_links.specs.Ways.{homes_in, homes_of, links_toward};
-ghost use Rattle.irc_links.specs.Loops.Branching.{AreBranches, hops_of, is_of, link_toward};
+ghost use Rattle.irc_links.specs.Ways.{homes_of};
+ghost use Rattle.irc_links.specs.Loops.Branching.{Added, AreBranches, hops_of, is_of, link_toward, links_of};
 
 use irc_names::{ChannelName, Nick};
 use irc_room::Room;
@@ -61,7 +61,7 @@ impl Branches {
         channel: &ChannelName,
     ) -> Result<(), AllocError>
         requires { AreBranches self.old room.now.room routes.now }
-        ensures found { OnOk result (self.new.links.items ≡ links_toward routes.now (homes_in room.now.room channel.now)) }
+        ensures found { OnOk result (self.new.links.items ≡ links_of room.now.room routes.now channel.now) }
         ensures so { OnOk result (AreBranches self.new room.now.room routes.now) }
     {
         if self.are_of(channel) {
@@ -85,7 +85,7 @@ fn add_hops(
     nicks: &[Nick],
     links: &mut Vec<u64, Global>,
 ) -> Result<(), AllocError>
-    ensures { OnOk result (links.new.items ≡ links.old.items ++ hops_of room.now.room routes.now nicks.now) }
+    ensures { OnOk result (Added links.old (hops_of room.now.room routes.now nicks.now) links.new) }
 {
     for nick in nicks {
         add_link(links, toward(room, routes, nick))?;
@@ -95,7 +95,7 @@ fn add_hops(
 
 /// Adds a link, if there is one.
 pub(crate) fn add_link(links: &mut Vec<u64, Global>, link: Option<u64>) -> Result<(), AllocError>
-    ensures { OnOk result (links.new.items ≡ links.old.items ++ option_to_list link) }
+    ensures { OnOk result (Added links.old (option_to_list link) links.new) }
 {
     if let Some(link) = link {
         links.push(link)?;

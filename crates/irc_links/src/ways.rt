@@ -1,8 +1,7 @@
 //! On which links a line goes.
 ghost use Rattle.std.specs.Prelude.{◌≡◌, ◌++◌, option_to_list, OnOk};
-ghost use Rattle.irc_links.specs.Ways.{but, met_links};
-ghost use Rattle.irc_links.specs.Loops.Branching.{IsRight, KnowsNothing, toward_members, toward_user, ways_around};
-ghost use Rattle.irc_links.specs.Loops.Numbered.{numbered};
+ghost use Rattle.irc_links.specs.Ways.{but};
+ghost use Rattle.irc_links.specs.Loops.Branching.{Added, IsRight, KnowsNothing, but_met, but_toward, toward_members, ways_around};
 
 use crate::branches::{Branches, toward};
 use crate::link_end::LinkEnd;
@@ -60,7 +59,7 @@ impl Ways {
         arrival: Option<u64>,
         ends: &BTreeMap<u64, LinkEnd, Global>,
     ) -> Result<(), AllocError>
-        ensures found { OnOk result (self.new.links.items ≡ but arrival (met_links (numbered ends.now))) }
+        ensures found { OnOk result (self.new.links.items ≡ but_met arrival ends.now) }
         ensures same { self.new.branches ≡ self.old.branches }
     {
         self.links.clear();
@@ -119,7 +118,7 @@ fn add_others(
     arrival: Option<u64>,
     more: &[u64],
 ) -> Result<(), AllocError>
-    ensures { OnOk result (links.new.items ≡ links.old.items ++ but arrival more.now) }
+    ensures { OnOk result (Added links.old (but arrival more.now) links.new) }
 {
     for link in more {
         add_unless(links, arrival, Some(*link))?;
@@ -135,7 +134,7 @@ fn add_toward(
     arrival: Option<u64>,
     nick: &Nick,
 ) -> Result<(), AllocError>
-    ensures { OnOk result (links.new.items ≡ links.old.items ++ but arrival (toward_user around.entry nick.now)) }
+    ensures { OnOk result (Added links.old (but_toward around.entry arrival nick.now) links.new) }
 {
     add_unless(links, arrival, toward(around.room, around.routes, nick))
 }
@@ -146,7 +145,7 @@ fn add_met(
     arrival: Option<u64>,
     ends: &BTreeMap<u64, LinkEnd, Global>,
 ) -> Result<(), AllocError>
-    ensures { OnOk result (links.new.items ≡ links.old.items ++ but arrival (met_links (numbered ends.now))) }
+    ensures { OnOk result (Added links.old (but_met arrival ends.now) links.new) }
 {
     for (link, end) in ends.iter() {
         if end.is_met() {
@@ -162,7 +161,7 @@ fn add_unless(
     arrival: Option<u64>,
     link: Option<u64>,
 ) -> Result<(), AllocError>
-    ensures { OnOk result (links.new.items ≡ links.old.items ++ but arrival (option_to_list link)) }
+    ensures { OnOk result (Added links.old (but arrival (option_to_list link)) links.new) }
 {
     match link {
         Some(link) if arrival != Some(link) => {

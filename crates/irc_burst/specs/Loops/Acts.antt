@@ -1,9 +1,9 @@
 -- What the code that reads a line of a server gives.
 use Rattle.std.specs.Global.{Vec}
 use Rattle.irc_line.specs.Messages.{Parsed}
-use Rattle.irc_link_reader.specs.Means.{is_mode_line}
-use Rattle.std.specs.Prelude.{◌≡◌, ◌⊎◌, ⊤, true, ℕ, Bool, not, ◌&&◌, ◌++◌, IsOk, if◌then◌else◌, Option, Result, Ok, Err, List, [], ◌∷◌, map, option_to_list, Some, ◌||◌, ◌+◌, nat_eq}
-use Rattle.std.specs.List.{list_any}
+use Rattle.irc_link_reader.specs.Means.{is_mode_line, means}
+use Rattle.std.specs.Prelude.{◌≡◌, ◌⊎◌, ⊤, true, ℕ, Bool, not, length, nat_le, ◌&&◌, ◌++◌, IsOk, if◌then◌else◌, Option, Result, Ok, Err, List, [], ◌∷◌, map, option_to_list, Some, None, ◌||◌, ◌+◌, nat_eq}
+use Rattle.std.specs.List.{flat_map, list_all, list_any}
 use Rattle.std.specs.Option.{option_map_or}
 use Rattle.irc_batch.specs.declared.close_reason.CloseReason.{CloseReason}
 use Rattle.irc_batch.specs.declared.close_reason.CloseReason.TheVariants as reason
@@ -18,10 +18,16 @@ use Rattle.irc_burst.specs.declared.fault.BurstFault.{BurstFault}
 use Rattle.irc_burst.specs.declared.fault.BurstFault.TheVariants.{Closes, Memory}
 use Rattle.irc_burst.specs.declared.server_lines.ServerWords.{ServerWords}
 use Rattle.irc_burst.specs.declared.njoin_line.MemberWords.{MemberWords}
-use Rattle.irc_merge.specs.BurstRead.{is_new_member, new_members, brought}
-use Rattle.irc_names.specs.Fold.{same}
+use Rattle.irc_merge.specs.BurstRead.{is_new_member, new_members, brought, introduced}
+use Rattle.irc_merge.specs.Bursts.{home_passes, members_a_line}
+use Rattle.irc_names.specs.Fold.{key, same}
+use Rattle.irc_names.specs.Names.{is_nick}
+use Rattle.irc_room.specs.Effects.{is_member}
+use Rattle.irc_room.specs.Seen.{stored_nick}
+use Rattle.irc_room.specs.declared.effect.Effect.{Effect}
+use Rattle.irc_users.specs.declared.user.User.{User}
 use Rattle.irc_room.specs.Room.{Room}
-use Rattle.irc_burst.specs.DeedsMeant.{Told, a_deed, a_server, Judged, first_reason, later_server, server_line, squit_line, njoin_line, as_stored, members_of}
+use Rattle.irc_burst.specs.DeedsMeant.{Told, a_deed, a_server, Judged, first_reason, later_server, server_line, squit_line, kill_line, killed, njoin_line, as_stored, collided, deeds_meant, effects_told, is_next_distance, member_of, members_of, renamed}
 use Rattle.irc_link_reader.specs.Reader.{Reader}
 use Rattle.irc_link_reader.specs.declared.arrival.Arrival.{Arrival}
 use Rattle.irc_link_reader.specs.Loops.Readings.{reader}
@@ -45,6 +51,37 @@ act_told (act.Topic server channel text) = a_deed (tops server channel text)
 
 abbrev pub acts_told : List BurstAct → List Told
 acts_told acts = map act_told acts
+
+-- what is told more of
+abbrev pub Appended : Vec BurstAct → List Told → Vec BurstAct → Type 0
+Appended old told new = acts_told new.items ≡ acts_told old.items ++ told
+
+-- the act that there is, as a list
+abbrev pub told_if : Option BurstAct → List Told
+told_if one = map act_told (option_to_list one)
+
+-- ---- what effects come to
+
+abbrev pub introduced_at : Arrival → User → List Told
+introduced_at at user = map a_deed (introduced at.routes.now.name at.room.now.room user)
+
+abbrev pub renamed_at : Arrival → List ℕ → List ℕ → List Told
+renamed_at at nick new = map a_deed (renamed at.routes.now.name at.room.now.room nick new)
+
+abbrev pub kills_at : Arrival → List ℕ → Told
+kills_at at nick = a_deed (kills at.routes.now.name nick)
+
+abbrev pub collided_at : Arrival → Option (List ℕ) → Effect → List Told
+collided_at at server effect = map a_deed (collided at.routes.now.name at.room.now.room server effect)
+
+abbrev pub all_collided_at : Arrival → Option (List ℕ) → List Effect → List Told
+all_collided_at at server effects = map a_deed (flat_map (collided at.routes.now.name at.room.now.room server) effects)
+
+abbrev pub effects_at : Arrival → Parsed → Result (List Told) CloseReason
+effects_at at message =
+    effects_told at.routes.now.name at.room.now.room message.prefix (means at.room.now.room at.routes.now at.link message)
+
+-- ---- what is read
 
 -- what is read, as a list
 abbrev pub found : Result (Option BurstAct) BurstFault → Result (List Told) BurstFault
@@ -75,6 +112,12 @@ squit_line_at at server words = squit_line (reader at) at.routes.now (Some serve
 abbrev pub njoin_line_at : Arrival → List ℕ → List (List ℕ) → Judged
 njoin_line_at at server words = njoin_line (reader at) at.room.now.room (Some server) words
 
+abbrev pub kill_line_at : Arrival → List ℕ → List (List ℕ) → Judged
+kill_line_at at server words = kill_line (reader at) at.room.now.room (Some server) words
+
+abbrev pub killed_at : Arrival → List ℕ → List ℕ → List Told
+killed_at at server nick = map a_deed (killed server at.room.now.room nick)
+
 -- what is read is what such a line comes to
 abbrev pub Comes : Judged → Result (Option BurstAct) BurstFault → Type 0
 Comes judged result = found result ≡ closes (first_reason judged)
@@ -90,6 +133,9 @@ server_judged_at at uplink words = server_judged (reader at) at.routes.now uplin
 abbrev pub is_one_further : Arrival → List ℕ → ℕ → Bool
 is_one_further at uplink distance = option_map_or (λ links. nat_eq distance (links + 1)) ((reader at).distance uplink) true
 
+abbrev pub is_next_at : Arrival → List ℕ → ℕ → Bool
+is_next_at at uplink distance = is_next_distance (reader at) uplink distance
+
 abbrev pub may_be_lost : Arrival → List ℕ → Bool
 may_be_lost at name = not (is_known at.routes.now name) || (reader at).is_far name
 
@@ -98,6 +144,25 @@ may_be_lost at name = not (is_known at.routes.now name) || (reader at).is_far na
 -- whether a nickname is one of those of some members
 abbrev pub is_among : List (List ℕ × Flags) → List ℕ → Bool
 is_among members nick = list_any (λ (member : List ℕ × Flags). same member.0 nick) members
+
+-- whether a text names no more members than one line may bring, and each by a nickname
+abbrev pub are_few : List ℕ → Bool
+are_few text = nat_le (length (members_of text)) members_a_line
+
+abbrev pub has_nick : List ℕ → Bool
+has_nick word = is_nick (member_of word).0
+
+abbrev pub are_named : List ℕ → Bool
+are_named text = list_all (λ member. is_nick member.0) (members_of text)
+
+abbrev pub members_brought : List ℕ → List ℕ → List NewMember → List Told
+members_brought server channel members = map a_deed (brought server channel (members_told members))
+
+-- the nickname of one who becomes a member, as it is stored
+abbrev pub new_nick : Arrival → List ℕ → List ℕ → Option (List ℕ)
+new_nick at nick channel =
+    if home_passes (reader at).is_far at.room.now.room.users (key nick) && not (is_member at.room.now.room nick channel)
+    then Some (stored_nick at.room.now.room nick) else None
 
 -- one more becomes a member, if it is a new one and none of those before
 abbrev pub taken_as_stored : (List ℕ → Bool) → Room → List ℕ → List (List ℕ × Flags) → List ℕ × Flags → List (List ℕ × Flags)
@@ -133,3 +198,7 @@ abbrev pub IsBurstMeant : Parsed → Result (List Told) CloseReason → Result (
 IsBurstMeant message meant (Ok acts) = meant ≡ Ok (acts_told acts.items)
 IsBurstMeant message meant (Err Memory) = (is_mode_line message ≡ true) ⊎ IsOk meant
 IsBurstMeant message meant (Err (Closes reason)) = meant ≡ Err reason
+
+-- the same of a line that came by a link, in a room and by routes
+abbrev pub IsReadIn : Room → Known → ℕ → Parsed → Result (Vec BurstAct) BurstFault → Type 0
+IsReadIn room known link message result = IsBurstMeant message (deeds_meant room known link message) result

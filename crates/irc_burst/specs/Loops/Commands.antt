@@ -1,8 +1,11 @@
 -- What is looked at in a line of each command of servers.
-use Rattle.std.specs.Prelude.{codes}
+use Rattle.std.specs.Prelude.{ℕ, Option, Result, List, codes}
+use Rattle.irc_batch.specs.declared.close_reason.CloseReason.{CloseReason}
+use Rattle.irc_link_reader.specs.Loops.Readings.{reader}
+use Rattle.irc_link_reader.specs.declared.arrival.Arrival.{Arrival}
 use Rattle.irc_burst.specs.declared.commands.Command.{Command}
 use Rattle.irc_burst.specs.declared.commands.Command.TheVariants as command
-use Rattle.irc_burst.specs.DeedsMeant.{Row, line, server_line, squit_line, kill_line, njoin_line, pass_line}
+use Rattle.irc_burst.specs.DeedsMeant.{Row, Told, first_reason, line, server_line, squit_line, kill_line, njoin_line, pass_line}
 
 abbrev pub row : Command → Row
 row command.Server = line (codes "SERVER") (λ reader known room. server_line reader known)
@@ -10,3 +13,7 @@ row command.Squit = line (codes "SQUIT") (λ reader known room. squit_line reade
 row command.Kill = line (codes "KILL") (λ reader known room. kill_line reader room)
 row command.Njoin = line (codes "NJOIN") (λ reader known room. njoin_line reader room)
 row command.Pass = line (codes "PASS") (λ reader known room. pass_line)
+
+-- what a line of a command comes to that came so
+abbrev pub comes_to : Command → Arrival → Option (List ℕ) → List (List ℕ) → Result (List Told) CloseReason
+comes_to command at prefix words = first_reason ((row command).judge (reader at) at.routes.now at.room.now.room prefix words)

@@ -1,5 +1,7 @@
 -- The links on which a line goes, as the code keeps them.
-use Rattle.std.specs.Prelude.{◌≡◌, ℕ, Bool, false, Option, Some, None, List, filter, map, option_to_list}
+use Rattle.std.specs.Prelude.{◌≡◌, ℕ, Bool, false, Option, Some, None, List, ◌++◌, filter, map, option_to_list}
+use Rattle.std.specs.BTreeMap.{BTreeMap}
+use Rattle.std.specs.Global.{Vec}
 use Rattle.std.specs.List.{flat_map}
 use Rattle.std.specs.Option.{option_and_then}
 use Rattle.irc_names.specs.Fold.{key, same}
@@ -11,7 +13,7 @@ use Rattle.irc_links.specs.Ends.{End, is_met}
 use Rattle.irc_links.specs.declared.branches.Branches.{Branches}
 use Rattle.irc_links.specs.declared.ways.Around.{Around}
 use Rattle.irc_links.specs.declared.ways.Ways.{Ways}
-use Rattle.irc_links.specs.Ways.{homes_in, links_toward, ways}
+use Rattle.irc_links.specs.Ways.{but, homes_in, links_toward, met_links, ways}
 use Rattle.irc_links.specs.Loops.Numbered.{numbered}
 
 -- whether a channel, if there is one, has this name
@@ -35,6 +37,18 @@ link_toward room known nick = option_and_then (next_hop known) (home_under room 
 abbrev pub hops_of : Room → Known → List (List ℕ) → List ℕ
 hops_of room known nicks = flat_map (λ nick. option_to_list (link_toward room known nick)) nicks
 
+-- a list with these links more
+abbrev pub Added : Vec ℕ → List ℕ → Vec ℕ → Type 0
+Added old links new = new.items ≡ old.items ++ links
+
+-- the links behind which a channel has members
+abbrev pub links_of : Room → Known → List ℕ → List ℕ
+links_of room known channel = links_toward known (homes_in room channel)
+
+-- the links whose ends are met, but for the one by which a line came
+abbrev pub but_met : Option ℕ → BTreeMap ℕ End → List ℕ
+but_met arrival ends = but arrival (met_links (numbered ends))
+
 -- what decides on which links a line goes
 abbrev pub ways_around : Around → Option ℕ → Effect → List ℕ
 ways_around around arrival effect = ways (numbered around.ends.now) around.routes.now around.room.now.room arrival effect
@@ -55,6 +69,9 @@ toward_members around channel = links_toward around.routes.now (homes_in around.
 
 abbrev pub toward_user : Around → List ℕ → List ℕ
 toward_user around nick = links_toward around.routes.now (option_to_list (home_under around.room.now.room (key nick)))
+
+abbrev pub but_toward : Around → Option ℕ → List ℕ → List ℕ
+but_toward around arrival nick = but arrival (toward_user around nick)
 
 -- the links that count among these ends
 abbrev pub met_among : List (ℕ × End) → List ℕ
