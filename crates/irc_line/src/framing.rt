@@ -3,7 +3,7 @@ ghost use Rattle.std.specs.Prelude.{◌≡◌, ℕ, ◌<◌, ◌≤◌, Bool, tr
 ghost use Rattle.std.specs.List.{list_any, flat_map};
 ghost use Rattle.irc_line.specs.Bytes.{is_line_end, has_nul};
 ghost use Rattle.irc_line.specs.Lines.{lines, has_nothing, nothing_begun, stream_for, HasTaken, Takes, TellsTail, EndsNoLine, IsLine};
-ghost use Rattle.irc_line.specs.Loops.Framing.{go_on, HasEnded, IsReady, TakesRun, TakesInto};
+ghost use Rattle.irc_line.specs.Loops.Framing.{go_on, HasEnded, IsReady, TakesRun, TakesPiece};
 ghost use Rattle.irc_line.specs.Framed.{found_in, bytes_of};
 
 use crate::cutting::push_cut;
@@ -167,7 +167,7 @@ pub fn lines_of_pieces(alloc: Global, pieces: &[&[u8]]) -> Result<Vec<Line>, All
 
 /// Takes a whole piece, and appends each line that ends in it.
 fn take_all(framer: &mut Framer, piece: &[u8], found: &mut Vec<Line>) -> Result<(), AllocError>
-    ensures { OnOk result (TakesInto framer.old piece.now (bytes_of found.old.items) framer.new (bytes_of found.new.items)) }
+    ensures { OnOk result (TakesPiece framer.old piece.now found.old framer.new found.new) }
 {
     let mut rest = piece;
     while !rest.is_empty() {

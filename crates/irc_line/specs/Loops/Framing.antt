@@ -1,7 +1,10 @@
 -- What the parts of a framer do, and what its loops are at.
 use Rattle.std.specs.Prelude.{◌≡◌, ℕ, Bool, true, false, ◌||◌, Option, Some, None, List, [], ◌∷◌, ◌++◌, if◌then◌else◌}
+use Rattle.std.specs.Global.{Vec}
+use Rattle.arrayvec.specs.ArrayVec.{ArrayVec}
 use Rattle.irc_line.specs.Bytes.{has_nul, cut}
 use Rattle.irc_line.specs.Lines.{is_empty, Begun, nothing_begun, Takes}
+use Rattle.irc_line.specs.Framed.{bytes_of}
 
 -- the line that a piece with this beginning is, if it ends now
 abbrev pub line_begun : Begun → Option (List ℕ)
@@ -30,3 +33,7 @@ pub record TakesInto (old : Begun) (bytes : List ℕ) (before : List (List ℕ))
   pub found : List (List ℕ)
   pub after_is : after ≡ before ++ found
   pub takes : Takes old bytes found new
+
+-- A whole piece takes the framer from old to new, and each line that ends in it is appended to those that were found before.
+abbrev pub TakesPiece : Begun → List ℕ → Vec (ArrayVec ℕ) → Begun → Vec (ArrayVec ℕ) → Type 0
+TakesPiece old piece before new after = TakesInto old piece (bytes_of before.items) new (bytes_of after.items)
