@@ -15,7 +15,7 @@ use Rattle.irc_room.specs.declared.effect.Effect.{Effect}
 use Rattle.irc_room.specs.declared.effect.Effect.TheVariants.{AddUser, Rename, Quit, Join, Part, Kick, ChangeModes, SetTopic, Say, Invite, UserMode}
 use Rattle.irc_room.specs.declared.effect.Target.TheVariants as target
 use Rattle.irc_room.specs.After.{after}
-use Rattle.irc_room.specs.Effects.{has_user, is_idle, is_member, needs_users, target_users}
+use Rattle.irc_room.specs.Effects.{has_user, is_idle, is_member, needs_users, target_users, doer_of}
 use Rattle.irc_room.specs.Invitations.{is_at, of_home}
 use Rattle.irc_room.specs.Readers.{home_under, nicks_in}
 use Rattle.irc_room.specs.Room.{Room}
@@ -23,7 +23,6 @@ use Rattle.irc_room.specs.Seen.{sees, shown_line}
 use Rattle.irc_room.specs.Viewers.{line_for, shows_to}
 use Rattle.irc_room.specs.Lemmas.Rows.{same_some}
 use Rattle.irc_room.proofs.HomeLaw.{home_follows}
-use Rattle.irc_commands.specs.Doers.{doer_of}
 use Rattle.irc_links.specs.Ways.{homes_in, homes_of, told_homes}
 use Rattle.irc_merge.specs.Deeds.{does, gains, loses, kills, brings, sets, tops, shown_by}
 use Rattle.irc_relay.specs.Links.{Name, same, toward, distance, AreJoined, AreLinked, OneWay, forth, return}

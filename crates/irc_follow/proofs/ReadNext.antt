@@ -12,7 +12,7 @@ use Rattle.irc_users.specs.declared.user.User.{User}
 use Rattle.irc_room.specs.declared.effect.By.TheVariants as by
 use Rattle.irc_room.specs.declared.effect.Effect.{Effect}
 use Rattle.irc_room.specs.declared.effect.Effect.TheVariants.{AddUser, Rename, Quit, Join, Part, Kick, ChangeModes, SetTopic, Say, Invite, UserMode}
-use Rattle.irc_room.specs.Effects.{has_user, needs_users, target_users}
+use Rattle.irc_room.specs.Effects.{has_user, needs_users, target_users, doer_of}
 use Rattle.irc_room.specs.OtherInvitations.{AreAlike}
 use Rattle.irc_room.specs.Readers.{home_under}
 use Rattle.irc_room.specs.Seen.{stored_nick}
@@ -20,7 +20,6 @@ use Rattle.irc_room.specs.Sendable.{IsSendable}
 use Rattle.irc_room.specs.Lemmas.Rows.{is_some_map, same_some}
 use Rattle.irc_room.proofs.AlikeLaw.{home_is_alike}
 use Rattle.irc_room.proofs.SendingAlike.{alike_keep_limits, alike_send_alike}
-use Rattle.irc_commands.specs.Doers.{doer_of}
 use Rattle.irc_relay.specs.Distances.{IsAmong}
 use Rattle.irc_relay.specs.Links.{Name, same, toward, distance, AreLinked}
 use Rattle.irc_relay.specs.Relay.{TakesFrom}

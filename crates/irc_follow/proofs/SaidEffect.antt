@@ -15,7 +15,7 @@ use Rattle.irc_room.specs.declared.effect.Effect.TheVariants.{AddUser, Rename, Q
 use Rattle.irc_room.specs.declared.fault.RoomFault.TheVariants.{NoSuchUser, NoSuchChannel}
 use Rattle.irc_room.specs.After.{after}
 use Rattle.irc_room.specs.Applying.{does as does_in}
-use Rattle.irc_room.specs.Effects.{brings_free, has_channel, has_user, is_idle, needs_channel, needs_users, IsPossible}
+use Rattle.irc_room.specs.Effects.{brings_free, has_channel, has_user, is_idle, needs_channel, needs_users, IsPossible, doer_of}
 use Rattle.irc_room.specs.Invitations.{after_at, is_at, of_home}
 use Rattle.irc_room.specs.OtherInvitations.{AreAlike, IsTakenAlike}
 use Rattle.irc_room.specs.Readers.{home_under}
@@ -23,7 +23,6 @@ use Rattle.irc_room.specs.Room.{Room}
 use Rattle.irc_room.specs.Lemmas.Rows.{is_some_map}
 use Rattle.irc_room.proofs.AlikeLaw.{alike_take_alike, home_is_alike}
 use Rattle.irc_room.proofs.HomeLaw.{home_follows}
-use Rattle.irc_commands.specs.Doers.{doer_of}
 use Rattle.irc_merge.specs.Deeds.{does}
 use Rattle.irc_relay.specs.Links.{Name, same, toward}
 use Rattle.irc_relay.specs.Relay.{TakesFrom}

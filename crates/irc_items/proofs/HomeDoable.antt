@@ -17,7 +17,7 @@ use Rattle.irc_users.specs.UserTable.{is_home}
 use Rattle.irc_room.specs.declared.effect.Effect.{Effect}
 use Rattle.irc_room.specs.declared.effect.Effect.TheVariants.{AddUser, Quit}
 use Rattle.irc_room.specs.After.{after}
-use Rattle.irc_room.specs.Effects.{is_idle}
+use Rattle.irc_room.specs.Effects.{is_idle, doer_of}
 use Rattle.irc_room.specs.InTurn.{EachInTurn}
 use Rattle.irc_room.specs.Limits.{IsCarriedText, IsWithinLimits}
 use Rattle.irc_room.specs.Readers.{home_under}
@@ -35,7 +35,7 @@ use Rattle.irc_commands.specs.Comings.{AddsFirst, is_effect}
 use Rattle.irc_commands.specs.Decide.{decide}
 use Rattle.irc_commands.specs.Decisions.{Decided}
 use Rattle.irc_commands.specs.Decisions.{Registered as Given}
-use Rattle.irc_commands.specs.Doers.{doer_of, IsDoneBy}
+use Rattle.irc_commands.specs.Doers.{IsDoneBy}
 use Rattle.irc_commands.specs.Doing.{DecidedDoes}
 use Rattle.irc_commands.specs.Register.{register}
 use Rattle.irc_commands.specs.Sendable.{DecidedIsSendable, IsPendingWithin, RegisteringIsSendable}
