@@ -24,7 +24,7 @@ use Rattle.irc_stage.specs.Linked.{with_far}
 use Rattle.irc_stage.specs.Lemmas.Numbers.{same_number-refl}
 use Rattle.irc_stage.specs.Lemmas.Steps.{nothing_behind}
 use Rattle.irc_stage.specs.declared.stage.Stage.{Stage}
-use Rattle.irc_stage.specs.Loops.Stage.{behind, view_of}
+use Rattle.irc_stage.specs.Loops.Stage.{behind_sent, view_of}
 use Rattle.irc_deeds.specs.DeedTold.{link_lost, told_by}
 use Rattle.irc_deeds.specs.Heard.{Heard, ignored, closes, password, meets, tells, heard, met_unless, of_met, opened}
 use Rattle.irc_deeds.specs.LinkServed.{met_by, on_link, owed_by, owes}
@@ -78,7 +78,7 @@ met_now view link name = by (get view.ends link)
 
 -- a link is closed
 pub closed_lost : (link : ℕ) (why : CloseReason) (view : View) (out closed : List Sent) (new : Served) → closed ≡ out ++ end_of_link link why ∷ []
-    → new ≡ link_lost link (record { view = view; out = closed }) → new ≡ behind out (link_lost link (with_sent (end_of_link link why ∷ []) (in_silence view)))
+    → new ≡ link_lost link (record { view = view; out = closed }) → new ≡ behind_sent out (link_lost link (with_sent (end_of_link link why ∷ []) (in_silence view)))
 closed_lost link why view out closed new is lost =
     lost ∙ ap (λ o. link_lost link (record { view = view; out = o })) is
     ∙ lost_link_behind link out (record { view = view; out = end_of_link link why ∷ [] })
@@ -86,19 +86,19 @@ closed_lost link why view out closed new is lost =
 -- the server at the other end is answered, and told of
 pub met_served : (link : ℕ) (name info : List ℕ) (view far : View) (out answered : List Sent) (new : Served)
     → answered ≡ out ++ on_link link (owes view link name) → far ≡ with_far link name view
-    → new ≡ told_by link (a_server view.routes.name name 1 1 info) (record { view = far; out = answered }) → new ≡ behind out (met_by link name info view)
+    → new ≡ told_by link (a_server view.routes.name name 1 1 info) (record { view = far; out = answered }) → new ≡ behind_sent out (met_by link name info view)
 met_served link name info view far out answered new owed named told =
     told ∙ ap (λ o. told_by link (a_server view.routes.name name 1 1 info) (record { view = far; out = o })) owed
     ∙ ap (λ v. told_by link (a_server view.routes.name name 1 1 info) (record { view = v; out = out ++ on_link link (owes view link name) })) named
     ∙ told_by_behind link (a_server view.routes.name name 1 1 info) out (record { view = with_far link name view; out = on_link link (owes view link name) })
 
 -- nothing is put out
-pub served_silently : (view seen : View) (out : List Sent) → view ≡ seen → record { view = view; out = out } ≡ behind out (in_silence seen)
-served_silently view seen out is = nothing_behind view out ∙ ap (λ v. behind out (in_silence v)) is
+pub served_silently : (view seen : View) (out : List Sent) → view ≡ seen → record { view = view; out = out } ≡ behind_sent out (in_silence seen)
+served_silently view seen out is = nothing_behind view out ∙ ap (λ v. behind_sent out (in_silence v)) is
 
 -- this is put out
 pub served_with : (view seen : View) (out more sent : List Sent) → view ≡ seen → more ≡ out ++ sent
-    → record { view = view; out = more } ≡ behind out (with_sent sent (in_silence seen))
+    → record { view = view; out = more } ≡ behind_sent out (with_sent sent (in_silence seen))
 served_with view seen out more sent is put = ap (λ v. record { view = v; out = more }) is ∙ ap (λ o. record { view = seen; out = o }) put
 
 pub at_stage : (link : ℕ) (what : Heard) (stage : Stage) → IsHearableAt (get (view_of stage).ends link) what → IsHearable link what stage

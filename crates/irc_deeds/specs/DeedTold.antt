@@ -12,7 +12,7 @@ use Rattle.std.specs.FinMap.{get}
 use Rattle.irc_merge.specs.Deeds.{Deed, does, gains, loses, kills, effects_of}
 use Rattle.irc_merge.specs.Quits.{collision_text}
 use Rattle.irc_names.specs.Spellings.{exactly_same}
-use Rattle.irc_routes.specs.Known.{behind}
+use Rattle.irc_routes.specs.Known.{names_behind}
 use Rattle.irc_burst_lines.specs.DeedLines.{deed_parts}
 use Rattle.irc_burst.specs.DeedsMeant.{Told, a_deed, a_server}
 use Rattle.irc_stage.specs.View.{End, View}
@@ -75,7 +75,7 @@ losses own far (name ∷ names) = loses own name (split_text own far) ∷ losses
 
 abbrev pub lost_behind : View → ℕ → Option End → List Deed
 lost_behind view link None = []
-lost_behind view link (Some end) = option_map_or (λ far. losses view.routes.name far (behind view.routes link)) end.far []
+lost_behind view link (Some end) = option_map_or (λ far. losses view.routes.name far (names_behind view.routes link)) end.far []
 
 -- a link that is lost, or is closed: each server behind it is lost, of which the others are told, and then it is open no more
 abbrev pub link_lost : ℕ → Served → Served

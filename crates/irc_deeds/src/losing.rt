@@ -2,7 +2,7 @@
 ghost use Rattle.std.specs.Prelude.{◌≡◌, OnOk, IfOk};
 ghost use Rattle.std.specs.Option.{option_copied};
 ghost use Rattle.irc_batch.specs.Growing.{Grew};
-ghost use Rattle.irc_routes.specs.Known.{behind};
+ghost use Rattle.irc_routes.specs.Known.{names_behind};
 ghost use Rattle.irc_stage.specs.Loops.Stage.{view_of, IsServing};
 ghost use Rattle.irc_stage.specs.Loops.Linking.{IsMetAt};
 ghost use Rattle.irc_deeds.specs.DeedTold.{split_text};
@@ -107,7 +107,7 @@ fn split_text(near: &ServerName, far: &ServerName) -> Words
 
 /// The names of the servers behind a link, in order.
 fn names_behind(stage: &Stage, link: u64) -> Result<Vec<ServerName, Global>, AllocError>
-    ensures { IfOk result (λ names. names.items ≡ behind (view_of stage.now).routes link) }
+    ensures { IfOk result (λ names. names.items ≡ names_behind (view_of stage.now).routes link) }
 {
     let mut names = Vec::new(stage.alloc());
     let found = stage.routes().behind(link)?;

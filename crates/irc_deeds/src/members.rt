@@ -2,7 +2,7 @@
 ghost use Rattle.std.specs.Prelude.{◌≡◌, Some, [], ◌∷◌, map, IfOk, OnOk};
 ghost use Rattle.std.specs.List.{flat_map};
 ghost use Rattle.irc_batch.specs.Growing.{Grew};
-ghost use Rattle.irc_burst.specs.Loops.Acts.{members_told};
+ghost use Rattle.irc_burst.specs.Loops.Acts.{member_told, members_told};
 ghost use Rattle.irc_burst_lines.specs.Loops.Telling.{told_members};
 ghost use Rattle.irc_merge.specs.Deeds.{member_comes};
 ghost use Rattle.irc_stage.specs.Loops.Linking.{IsMetAt};

@@ -4,7 +4,7 @@ ghost use Rattle.irc_batch.specs.Growing.{Grew};
 ghost use Rattle.irc_burst.specs.Loops.Acts.{act_told, acts_told};
 ghost use Rattle.irc_stage.specs.Loops.Linking.{IsMetAt};
 ghost use Rattle.irc_stage.specs.Loops.Stage.{IsServing};
-ghost use Rattle.irc_deeds.specs.Loops.Telling.{loses_of, sets_of, tops_of, DoesDeed, Gains, Kills, Tells, TellsAll};
+ghost use Rattle.irc_deeds.specs.Loops.Telling.{loses_of, sets_of, tops_of, DoesDeed, Gains, Kills, DoesTold, DoesAllTold};
 
 use crate::members::{Arrivals, bring_all};
 use crate::quitting::quit_all;
@@ -44,7 +44,7 @@ pub(crate) fn tell_all(
 ) -> Result<(), AllocError>
     requires serving { IsServing stage.old }
     requires met { IsMetAt link stage.old }
-    ensures ok { OnOk result (TellsAll link (acts_told acts.now) stage.old out.old stage.new out.new) }
+    ensures ok { OnOk result (DoesAllTold link (acts_told acts.now) stage.old out.old stage.new out.new) }
     ensures serving { OnOk result (IsServing stage.new) }
     ensures grew { Grew out.old.outs out.new.outs }
 {
@@ -58,7 +58,7 @@ pub(crate) fn tell_all(
 fn tell(stage: &mut Stage, link: u64, act: &BurstAct, out: &mut Batch) -> Result<(), AllocError>
     requires serving { IsServing stage.old }
     requires met { IsMetAt link stage.old }
-    ensures ok { OnOk result (Tells link (act_told act.now) stage.old out.old stage.new out.new) }
+    ensures ok { OnOk result (DoesTold link (act_told act.now) stage.old out.old stage.new out.new) }
     ensures serving { OnOk result (IsServing stage.new) }
     ensures met { OnOk result (IsMetAt link stage.new) }
     ensures grew { Grew out.old.outs out.new.outs }

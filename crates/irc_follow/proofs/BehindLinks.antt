@@ -14,7 +14,7 @@ use Rattle.irc_relay.proofs.TakingOut.{sides, taken_out, tests_tell, without_tur
 use Rattle.irc_routes.specs.declared.server_row.ServerRow.{ServerRow}
 use Rattle.irc_routes.specs.Known.{Known, is_behind, row_of}
 use Rattle.irc_world.specs.World.{is_server}
-use Rattle.irc_follow.specs.Tree.{Shape, place_in, shape, shape_in}
+use Rattle.irc_follow.specs.Tree.{Shape, index_in, shape, shape_in}
 use Rattle.irc_follow.specs.Part.{Fixed, info_in, number, IsFixed}
 use Rattle.irc_follow.specs.AtRest.{AreRight, BehindIsThatSide}
 use Rattle.irc_follow.proofs.AtRest.{joined_among, joined_so}
@@ -101,7 +101,7 @@ module _ (s : Fixed) (links : List Link) (routes : Name → Known) (t u : Name) 
       let says = row_says s links routes t right t_among q r is in
       let known = there_among q says.joined in
       let hop = next_hop links t q forest (sym says.joined) (λ e. says.apart (sym e)) in
-      let same_place : place_in s.names (toward links t q) ≡ place_in s.names u =
+      let same_place : index_in s.names (toward links t q) ≡ index_in s.names u =
       sym (ap (λ (x : Shape). x.link) says.shape) ∙ eqb-true r.link (number s u) behind_it in
       let way : toward links t q ≡ u =
       one_place s.names (toward links t q) u (ends (toward links t q) t (linked_back links t (toward links t q) hop.linked)) same_place in
@@ -117,7 +117,7 @@ module _ (s : Fixed) (links : List Link) (routes : Name → Known) (t u : Name) 
       let found = row_is_there s links routes t right t_among q together two in
       let way : toward links t q ≡ u = of_link.behind q (subst (λ ls. AreJoined ls q u) (sym turned) on_side) in
       let behind_it : is_behind (number s u) found.r ≡ true =
-      eq-eqb found.r.link (number s u) (ap (λ (x : Shape). x.link) found.shape ∙ ap (place_in s.names) way) in
+      eq-eqb found.r.link (number s u) (ap (λ (x : Shape). x.link) found.shape ∙ ap (index_in s.names) way) in
       ap (λ o. option_and_then (λ (x : ServerRow). Some (mark x)) (option_and_then (if_passes (λ (r : ServerRow). r.name) passing) o)) found.is
       ∙ ap (λ b. option_and_then (λ (x : ServerRow). Some (mark x)) (cond b (Some found.r) None)) behind_it
 

@@ -20,7 +20,7 @@ use Rattle.irc_stage.specs.declared.clients.Client.TheVariants.{Registering, Reg
 use Rattle.irc_stage.specs.Handle.{is_client, to_viewer}
 use Rattle.irc_stage.specs.RoomMachine.{Clients}
 use Rattle.irc_stage.specs.Lemmas.Numbers.{none_behind, one_number, same_number, same_number-refl}
-use Rattle.irc_server.specs.Owed.{line_for, lines_to}
+use Rattle.irc_server.specs.Owed.{line_to_conn, lines_to}
 
 -- the order of two nicknames plays no part
 same_turned : (a b : List ℕ) → same a b ≡ same b a
@@ -85,7 +85,7 @@ module _ (who : ℕ) where
   of_showings : (clients : Clients) (showings : List Showing) → lines_to who (flat_map (to_viewer clients) showings) ≡ told_lines (get clients who) showings
   of_showings clients [] = refl
   of_showings clients (showing ∷ showings) =
-      filter_map-append (line_for who) (to_viewer clients showing) (flat_map (to_viewer clients) showings)
+      filter_map-append (line_to_conn who) (to_viewer clients showing) (flat_map (to_viewer clients) showings)
       ∙ ap (λ l. l ++ lines_to who (flat_map (to_viewer clients) showings)) (to_one clients showing)
       ∙ ap (λ l. told_line showing (get clients who) ++ l) (of_showings clients showings)
 

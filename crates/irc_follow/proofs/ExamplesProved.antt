@@ -8,7 +8,7 @@ use Rattle.irc_routes.specs.declared.server_row.ServerRow.{ServerRow}
 use Rattle.irc_routes.specs.Known.{Known, added, is_itself, is_known, row_of, smallest_free, smallest_free_in, token_out}
 use Rattle.irc_stage.specs.Lemmas.Alone.{knows_no_other}
 use Rattle.irc_follow.specs.Examples.{a, b, c, three, itself_only, first_routes, two_of_three, all_three, NumbersOfThree}
-use Rattle.irc_follow.specs.Tree.{told_of, told_token}
+use Rattle.irc_follow.specs.Tree.{known_told, told_token}
 
 -- a table of one row
 one_row : (q : List ℕ) (r : ServerRow) → values (alter q (λ _. Some r) empty) ≡ r ∷ []
@@ -58,7 +58,7 @@ kept_a : row_of (all_three.routes a) c
     ≡ Some (record { link = 1; uplink = b; name = c; distance = 2; token = 3; ours = 3; info = codes "A server" })
 unfolding toward distance part
 kept_a =
-    ap (λ x. row_of (if not x then told_of three two_of_three b c (codes "A server") a else first_routes a) c) (unknown 1 a b refl refl)
+    ap (λ x. row_of (if not x then known_told three two_of_three b c (codes "A server") a else first_routes a) c) (unknown 1 a b refl refl)
     ∙ row-alter_same c (λ _. Some (record {
       link = 1;
       uplink = b;
@@ -75,7 +75,7 @@ kept_b : row_of (all_three.routes b) c
     ≡ Some (record { link = 2; uplink = b; name = c; distance = 1; token = 1; ours = 3; info = codes "A server" })
 unfolding toward distance part
 kept_b =
-    ap (λ x. row_of (if not x then told_of three two_of_three b c (codes "A server") b else first_routes b) c) (unknown 0 b a refl refl)
+    ap (λ x. row_of (if not x then known_told three two_of_three b c (codes "A server") b else first_routes b) c) (unknown 0 b a refl refl)
     ∙ row-alter_same c (λ _. Some (record {
       link = 2;
       uplink = b;
@@ -100,13 +100,13 @@ numbers_of_three = record {
     other_a : is_itself (all_three.routes a) c ≡ false
     other_a = by (is_known (first_routes a) c)
       where
-        by : (x : Bool) → is_itself (if not x then told_of three two_of_three b c (codes "A server") a else first_routes a) c ≡ false
+        by : (x : Bool) → is_itself (if not x then known_told three two_of_three b c (codes "A server") a else first_routes a) c ≡ false
         by true = refl
         by false = refl
 
     other_b : is_itself (all_three.routes b) c ≡ false
     other_b = by (is_known (first_routes b) c)
       where
-        by : (x : Bool) → is_itself (if not x then told_of three two_of_three b c (codes "A server") b else first_routes b) c ≡ false
+        by : (x : Bool) → is_itself (if not x then known_told three two_of_three b c (codes "A server") b else first_routes b) c ≡ false
         by true = refl
         by false = refl

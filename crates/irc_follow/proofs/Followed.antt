@@ -8,7 +8,7 @@ use Rattle.irc_stage.specs.View.{View}
 use Rattle.irc_server.specs.Owed.{lines_to}
 use Rattle.irc_follow.specs.Part.{Fixed, Part, is_home_of, number, IsFixed}
 use Rattle.irc_follow.specs.Laws.{AsideStays, GoesOn, IsGood, PassedByStays, SaidDeedFits, SaidDeedGoesOn, SaidDeedShows, SaidEffectGoesOn, SaidGainGoesOn, SaidKillGoesOn, SaidLossGoesOn, SaidMembersGoOn, SaidModesGoOn, SaidTopicGoesOn, ServersFollow, told, passed}
-use Rattle.irc_follow.specs.Says.{asked, lines_on, machine, play, terms}
+use Rattle.irc_follow.specs.Says.{neighbour_served, lines_on, machine, play, terms}
 
 -- ---- every deed goes on
 
@@ -59,15 +59,15 @@ follows known s client good fixed all_good links = record {
   passed_on = λ t u w deed takes passes. (known.passed s t w deed passes).goes_on u takes;
 }
   where
-    nothing_shown : (t p : Name) (view : View) (line : List ℕ) → (asked s p view line).out ≡ [] → (machine s client).shows t p view line ≡ []
+    nothing_shown : (t p : Name) (view : View) (line : List ℕ) → (neighbour_served s p view line).out ≡ [] → (machine s client).shows t p view line ≡ []
     nothing_shown t p view line silent = ap (λ out. if is_home_of s.homes t client then lines_to client out else []) silent ∙ either (is_home_of s.homes t client)
       where
         either : (b : Bool) → (if b then lines_to client [] else []) ≡ []
         either true = refl
         either false = refl
 
-    nothing_sent : (u p : Name) (view : View) (line : List ℕ) → (asked s p view line).out ≡ []
-        → (if same u p then [] else lines_on (number s u) (asked s p view line).out) ≡ []
+    nothing_sent : (u p : Name) (view : View) (line : List ℕ) → (neighbour_served s p view line).out ≡ []
+        → (if same u p then [] else lines_on (number s u) (neighbour_served s p view line).out) ≡ []
     nothing_sent u p view line silent = ap (λ out. if same u p then [] else lines_on (number s u) out) silent ∙ either (same u p)
       where
         either : (b : Bool) → (if b then [] else lines_on (number s u) []) ≡ []

@@ -23,7 +23,7 @@ use Rattle.irc_stage.specs.Handle.{is_client, to_viewer}
 use Rattle.irc_stage.specs.RoomMachine.{Clients}
 use Rattle.irc_stage.specs.View.{View}
 use Rattle.irc_stage.specs.Lemmas.Numbers.{one_number, same_number, same_number-is}
-use Rattle.irc_follow.specs.Says.{body, line_for, lines_on}
+use Rattle.irc_follow.specs.Says.{body, line_on_link, lines_on}
 
 told : (b : Bool) → T b → b ≡ true
 told true h = refl
@@ -70,7 +70,7 @@ module _ (k : ℕ) where
   is_it n = nat_eq n k
 
   pub lines_behind : (one other : List Sent) → lines_on k (one ++ other) ≡ lines_on k one ++ lines_on k other
-  lines_behind one other = filter_map-append (line_for k) one other
+  lines_behind one other = filter_map-append (line_on_link k) one other
 
   -- a line on some links
   pub on_these : (links : List ℕ) (parts : Written) → lines_on k (on_links links parts) ≡ map (λ _. line_text parts) (filter is_it links)

@@ -15,7 +15,7 @@ use Rattle.irc_routes.specs.Known.{Known, link_key, links_of, others}
 use Rattle.irc_routes.specs.Lemmas.TableRows.{row_passes, some_stands}
 use Rattle.irc_routes.proofs.DistinctLinks.{both_so}
 use Rattle.irc_world.specs.World.{has_end}
-use Rattle.irc_follow.specs.Tree.{Shape, place_in}
+use Rattle.irc_follow.specs.Tree.{Shape, index_in}
 use Rattle.irc_follow.specs.Part.{Fixed}
 use Rattle.irc_follow.specs.AtRest.{AreRight}
 use Rattle.irc_follow.proofs.BehindLinks.{row_is_there, row_says}
@@ -68,7 +68,7 @@ any_mapped test (r ∷ rows) = ap (λ b. test r.link || b) (any_mapped test rows
 record HasNeighbour (names : List Name) (t : Name) (links : List Link) (k : ℕ) : Type 0 where
   pub u : Name
   pub linked : AreLinked links t u
-  pub is : k ≡ place_in names u
+  pub is : k ≡ index_in names u
 
 or_second : (a b : Bool) → b ≡ true → (a || b) ≡ true
 or_second true b is = refl
@@ -76,8 +76,8 @@ or_second false b is = is
 
 module _ (names : List Name) (t : Name) where
   abbrev with_number : (near far : Bool) → Link → List ℕ → List ℕ
-  with_number true far l rest = place_in names l.far ∷ rest
-  with_number false true l rest = place_in names l.near ∷ rest
+  with_number true far l rest = index_in names l.far ∷ rest
+  with_number false true l rest = index_in names l.near ∷ rest
   with_number false false l rest = rest
 
   abbrev numbers : List Link → List ℕ
@@ -87,7 +87,7 @@ module _ (names : List Name) (t : Name) where
   older : (l : Link) (links : List Link) (k : ℕ) → HasNeighbour names t links k → HasNeighbour names t (l ∷ links) k
   older l links k was = record { u = was.u; linked = inr was.linked; is = was.is }
 
-  first_or : (l : Link) (links : List Link) (k n : ℕ) (u : Name) → HasEnds l t u → n ≡ place_in names u → (is_it k n || list_any (is_it k) (numbers links)) ≡ true
+  first_or : (l : Link) (links : List Link) (k n : ℕ) (u : Name) → HasEnds l t u → n ≡ index_in names u → (is_it k n || list_any (is_it k) (numbers links)) ≡ true
       → (list_any (is_it k) (numbers links) ≡ true → HasNeighbour names t links k) → HasNeighbour names t (l ∷ links) k
   first_or l links k n u has is any later = by (is_it k n) refl
     where
@@ -104,52 +104,52 @@ module _ (names : List Name) (t : Name) where
       to a b e f = sym (λ i. list_any (is_it k) (with_number (e i) (f i) l (numbers links))) ∙ any
 
       by : Telling l.near t → Telling l.far t → (list_any (is_it k) (numbers links) ≡ true → HasNeighbour names t links k) → HasNeighbour names t (l ∷ links) k
-      by (alike x e) far later = first_or l links k (place_in names l.far) l.far (inl (e, refl)) refl (to true (same l.far t) x refl) later
-      by (unlike x _) (alike y f) later = first_or l links k (place_in names l.near) l.near (inr (refl, f)) refl (to false true x y) later
+      by (alike x e) far later = first_or l links k (index_in names l.far) l.far (inl (e, refl)) refl (to true (same l.far t) x refl) later
+      by (unlike x _) (alike y f) later = first_or l links k (index_in names l.near) l.near (inr (refl, f)) refl (to false true x y) later
       by (unlike x _) (unlike y _) later = older l links k (later (to false false x y))
 
   in_rest : (a b : Bool) (l : Link) (rest : List ℕ) (k : ℕ) → list_any (is_it k) rest ≡ true → list_any (is_it k) (with_number a b l rest) ≡ true
-  in_rest true b l rest k there = or_second (is_it k (place_in names l.far)) (list_any (is_it k) rest) there
-  in_rest false true l rest k there = or_second (is_it k (place_in names l.near)) (list_any (is_it k) rest) there
+  in_rest true b l rest k there = or_second (is_it k (index_in names l.far)) (list_any (is_it k) rest) there
+  in_rest false true l rest k there = or_second (is_it k (index_in names l.near)) (list_any (is_it k) rest) there
   in_rest false false l rest k there = there
 
   first_it : (k n : ℕ) (rest : List ℕ) → n ≡ k → (is_it k n || list_any (is_it k) rest) ≡ true
   first_it k n rest e = ap (λ m. is_it k m || list_any (is_it k) rest) e ∙ ap (λ b. b || list_any (is_it k) rest) (itself_it k)
 
   -- and each neighbour's number is one
-  has_number : (links : List Link) (u : Name) → IsForest links → AreLinked links t u → list_any (is_it (place_in names u)) (numbers links) ≡ true
+  has_number : (links : List Link) (u : Name) → IsForest links → AreLinked links t u → list_any (is_it (index_in names u)) (numbers links) ≡ true
   has_number [] u forest linked = absurd linked
   has_number (l ∷ links) u forest (inr linked) =
-      in_rest (same l.near t) (same l.far t) l (numbers links) (place_in names u) (has_number links u forest.1 linked)
+      in_rest (same l.near t) (same l.far t) l (numbers links) (index_in names u) (has_number links u forest.1 linked)
   has_number (l ∷ links) u forest (inl (inl (near, far))) = by (tell l.near t)
     where
-      by : Telling l.near t → list_any (is_it (place_in names u)) (numbers (l ∷ links)) ≡ true
+      by : Telling l.near t → list_any (is_it (index_in names u)) (numbers (l ∷ links)) ≡ true
       by (alike x _) =
-          ap (λ b. list_any (is_it (place_in names u)) (with_number b (same l.far t) l (numbers links))) x
-          ∙ first_it (place_in names u) (place_in names l.far) (numbers links) (ap (place_in names) far)
+          ap (λ b. list_any (is_it (index_in names u)) (with_number b (same l.far t) l (numbers links))) x
+          ∙ first_it (index_in names u) (index_in names l.far) (numbers links) (ap (index_in names) far)
       by (unlike _ two) = absurd (two near)
   has_number (l ∷ links) u forest (inl (inr (near, far))) = by (tell l.near t) (tell l.far t)
     where
-      by : Telling l.near t → Telling l.far t → list_any (is_it (place_in names u)) (numbers (l ∷ links)) ≡ true
+      by : Telling l.near t → Telling l.far t → list_any (is_it (index_in names u)) (numbers (l ∷ links)) ≡ true
       by (alike _ e) far_so = absurd (forest.0 (ap (part links) (e ∙ sym far)))
       by (unlike x _) (alike y _) =
-          (λ i. list_any (is_it (place_in names u)) (with_number (x i) (y i) l (numbers links)))
-          ∙ first_it (place_in names u) (place_in names l.near) (numbers links) (ap (place_in names) near)
+          (λ i. list_any (is_it (index_in names u)) (with_number (x i) (y i) l (numbers links)))
+          ∙ first_it (index_in names u) (index_in names l.near) (numbers links) (ap (index_in names) near)
       by (unlike _ _) (unlike _ two) = absurd (two far)
 
   -- a neighbour over the newest link is none over the others
   is_new : (l : Link) (links : List Link) (u : Name) → IsForest (l ∷ links) → EndsAreAmong names (l ∷ links) → HasEnds l t u
-      → list_any (is_it (place_in names u)) (numbers links) ≡ false
-  is_new l links u forest ends has = by (list_any (is_it (place_in names u)) (numbers links)) refl
+      → list_any (is_it (index_in names u)) (numbers links) ≡ false
+  is_new l links u forest ends has = by (list_any (is_it (index_in names u)) (numbers links)) refl
     where
       never : HasEnds l t u → part links t ≡ part links u → ⊥
       never (inl (near, far)) so = forest.0 (ap (part links) near ∙ so ∙ ap (part links) (sym far))
       never (inr (near, far)) so = forest.0 (ap (part links) near ∙ sym so ∙ ap (part links) (sym far))
 
-      by : (b : Bool) → list_any (is_it (place_in names u)) (numbers links) ≡ b → b ≡ false
+      by : (b : Bool) → list_any (is_it (index_in names u)) (numbers links) ≡ b → b ≡ false
       by false none = refl
       by true any =
-          let other = is_neighbours links (place_in names u) any in
+          let other = is_neighbours links (index_in names u) any in
           let one : u ≡ other.u = one_place names u other.u (ends u t (linked_back (l ∷ links) t u (inl has))) other.is in
           absurd (never has (linked_joined links t u (subst (λ x. AreLinked links t x) (sym one) other.linked)))
 
@@ -176,11 +176,11 @@ module _ (names : List Name) (t : Name) where
       by : Telling l.near t → Telling l.far t → len (set_of (numbers links)) ≡ count_by (has_end t) links
           → len (set_of (numbers (l ∷ links))) ≡ cond {A = ℕ} (has_end t l) 1 0 + count_by (has_end t) links
       by (alike x e) far rest =
-          counted true (same l.far t) x refl (added (len (set_of (place_in names l.far ∷ numbers links))) (len (set_of (numbers links))) (count_by (has_end t) links)
-          (one_more (numbers links) (place_in names l.far) (is_new l links l.far forest ends (inl (e, refl)))) rest)
+          counted true (same l.far t) x refl (added (len (set_of (index_in names l.far ∷ numbers links))) (len (set_of (numbers links))) (count_by (has_end t) links)
+          (one_more (numbers links) (index_in names l.far) (is_new l links l.far forest ends (inl (e, refl)))) rest)
       by (unlike x _) (alike y f) rest =
-          counted false true x y (added (len (set_of (place_in names l.near ∷ numbers links))) (len (set_of (numbers links))) (count_by (has_end t) links)
-          (one_more (numbers links) (place_in names l.near) (is_new l links l.near forest ends (inr (refl, f)))) rest)
+          counted false true x y (added (len (set_of (index_in names l.near ∷ numbers links))) (len (set_of (numbers links))) (count_by (has_end t) links)
+          (one_more (numbers links) (index_in names l.near) (is_new l links l.near forest ends (inr (refl, f)))) rest)
       by (unlike x _) (unlike y _) rest = counted false false x y (not_added (len (set_of (numbers links))) (count_by (has_end t) links) rest)
 
 module _ (s : Fixed) (links : List Link) (routes : Name → Known) (t : Name) (forest : IsForest links) (ends : EndsAreAmong s.names links)
@@ -193,7 +193,7 @@ module _ (s : Fixed) (links : List Link) (routes : Name → Known) (t : Name) (f
       let at = some_stands (λ (r : ServerRow). is_it q r.link) (routes t).rows (sym (any_mapped (is_it q) (others (routes t))) ∙ any) in
       let says = row_says s links routes t right among at.name at.value at.there in
       let hop = next_hop links t at.name forest (sym says.joined) (λ e. says.apart (sym e)) in
-      let is : q ≡ place_in s.names (toward links t at.name) = one_number q at.value.link at.passes ∙ ap (λ (x : Shape). x.link) says.shape in
+      let is : q ≡ index_in s.names (toward links t at.name) = one_number q at.value.link at.passes ∙ ap (λ (x : Shape). x.link) says.shape in
       ap (λ n. list_any (is_it n) (numbers s.names t links)) is
       ∙ has_number s.names t links (toward links t at.name) forest hop.linked
 
@@ -203,7 +203,7 @@ module _ (s : Fixed) (links : List Link) (routes : Name → Known) (t : Name) (f
       let found = row_is_there s links routes t right among next.u (sym (linked_joined links t next.u next.linked))
       (λ e. linked_other links t next.u forest next.linked (sym e)) in
       let is : q ≡ found.r.link =
-      next.is ∙ sym (ap (λ (x : Shape). x.link) found.shape ∙ ap (place_in s.names) (toward_linked links t next.u forest next.linked)) in
+      next.is ∙ sym (ap (λ (x : Shape). x.link) found.shape ∙ ap (index_in s.names) (toward_linked links t next.u forest next.linked)) in
       any_mapped (is_it q) (others (routes t))
       ∙ row_passes (λ (r : ServerRow). is_it q r.link) (routes t).rows next.u found.r found.is (ap (is_it q) (sym is) ∙ itself_it q)
 

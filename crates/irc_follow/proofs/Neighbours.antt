@@ -34,7 +34,7 @@ use Rattle.irc_follow.specs.Part.{Fixed, info_in, number, IsSoundPart}
 use Rattle.irc_follow.specs.Part as of_side
 use Rattle.irc_follow.specs.Fits.{far_end, far_of, Fits}
 use Rattle.irc_follow.specs.Laws.{GoesOn, told}
-use Rattle.irc_follow.specs.Says.{asked, lines_on, machine, saying, IsDoable, IsFar}
+use Rattle.irc_follow.specs.Says.{neighbour_served, lines_on, machine, saying, IsDoable, IsFar}
 use Rattle.irc_follow.proofs.LinesOn.{among_met, but_another, lines_behind, on_these}
 use Rattle.irc_follow.proofs.Places.{one_place}
 use Rattle.irc_follow.proofs.ReadNext.{link_of, shape_at}
@@ -167,10 +167,10 @@ module _ (s : Fixed) (p t u : Name) (w : of_side.Part) (view other : View) (take
     -- one line goes there, and says the deed
     pub goes_on : AreCarriedParts parts → (deed : Deed) (said : List Told) (line : List ℕ) (client : ℕ) → saying s w t u deed ≡ tells said
         → deeds_meant other.room other.routes (number s t) (message_of parts) ≡ Ok said → IsDoable s w deed
-        → lines_on (number s u) (asked s p view line).out ≡ line_text parts ∷ []
+        → lines_on (number s u) (neighbour_served s p view line).out ≡ line_text parts ∷ []
         → GoesOn s t u w other deed ((machine s client).sends t p view line u)
     goes_on carried deed said line client saying_is meant doable lines = told (line_text parts)
-        (ap (λ b. if b then [] else lines_on (number s u) (asked s p view line).out) (same_unless u p apart) ∙ lines)
+        (ap (λ b. if b then [] else lines_on (number s u) (neighbour_served s p view line).out) (same_unless u p apart) ∙ lines)
         (record {
           is_line = known.as_line parts carried;
           end = readers_end.end;

@@ -10,7 +10,7 @@ use Rattle.irc_relay.proofs.TakingOut.{made}
 use Rattle.irc_room.specs.Lemmas.Rows.{same_some}
 use Rattle.irc_routes.specs.declared.server_row.ServerRow.{ServerRow}
 use Rattle.irc_routes.specs.Known.{row_of, token_out}
-use Rattle.irc_follow.specs.Tree.{Tree, Shape, place_in, shape, shape_in, IsSoundTree}
+use Rattle.irc_follow.specs.Tree.{Tree, Shape, index_in, shape, shape_in, IsSoundTree}
 use Rattle.irc_follow.specs.Part.{info_in}
 use Rattle.irc_follow.specs.Relinked.{with_links, CanLink, PartAfterLink, TreeAfterLink}
 use Rattle.irc_follow.proofs.Places.{one_place}
@@ -32,9 +32,9 @@ parent_is_linked links source t p forest covers takes =
 pub shape_stays : (names : List Name) (info : Name → List ℕ) (few more : List Link) (t x : Name) → IsKept few more t x → IsKept few more x t
     → shape_in names info few t x ≡ shape_in names info more t x
 shape_stays names info few more t x forth back =
-    ap (λ next. record { link = place_in names next; uplink = toward few x t; name = x; distance = distance few t x; info = info x }) forth.toward_same
-    ∙ ap (λ last. record { link = place_in names (toward more t x); uplink = last; name = x; distance = distance few t x; info = info x }) back.toward_same
-    ∙ ap (λ far. record { link = place_in names (toward more t x); uplink = toward more x t; name = x; distance = far; info = info x }) forth.distance_same
+    ap (λ next. record { link = index_in names next; uplink = toward few x t; name = x; distance = distance few t x; info = info x }) forth.toward_same
+    ∙ ap (λ last. record { link = index_in names (toward more t x); uplink = last; name = x; distance = distance few t x; info = info x }) back.toward_same
+    ∙ ap (λ far. record { link = index_in names (toward more t x); uplink = toward more x t; name = x; distance = far; info = info x }) forth.distance_same
 
 -- so it does with the row that is to be there, if there is to be one
 pub kept_row : (b c : Bool) (one other : Shape) → (b ≡ true → one ≡ other) → (if b && c then Some one else None) ≡ (if b && c then Some other else None)
@@ -62,7 +62,7 @@ module _ (names : List Name) (info : Name → List ℕ) (tree : Tree) (l : Link)
 
   -- a server behind which a row stands is joined
   behind_is_joined : (u x : Name) (r : ServerRow) → tree.here u ≡ true → row_of (tree.routes u) x ≡ Some r → (t : Name) → IsAmong names t
-      → r.link ≡ place_in names t → AreJoined tree.forest t u
+      → r.link ≡ index_in names t → AreJoined tree.forest t u
   behind_is_joined u x r here there t among link = by (tree.knows x) (same x u) refl refl (sym (ap (option_map shape) there) ∙ sound.rows u x here)
     where
       by : (b c : Bool) → tree.knows x ≡ b → same x u ≡ c
@@ -90,7 +90,7 @@ module _ (names : List Name) (info : Name → List ℕ) (tree : Tree) (l : Link)
           next_is = one_place names t (toward tree.forest u x) among (sym link ∙ ap (λ (kept : Shape). kept.link) shaped)
 
   tokens_now : (t u x : Name) (r : ServerRow) → tree.here u ≡ true → AreLinked (l ∷ tree.forest) t u → row_of (tree.routes u) x ≡ Some r
-      → r.link ≡ place_in names t → token_out (tree.routes t) x ≡ Some r.token
+      → r.link ≡ index_in names t → token_out (tree.routes t) x ≡ Some r.token
   tokens_now t u x r here (inr linked) there link = sound.tokens t u x r here linked there link
   tokens_now t u x r here (inl (inl (near, far))) there link =
       absurd (can.apart (ap (part tree.forest) near

@@ -3,7 +3,7 @@ use Rattle.std.proofs.Common.{[], count_by, sym, ◌∙◌, ap}
 use Rattle.std.specs.FinMap.{values}
 use Rattle.std.specs.Option.{option_map_or}
 use Rattle.irc_names.specs.Tables.{tabulate}
-use Rattle.irc_world.specs.World.{Setting, has_end, known_from, place_in}
+use Rattle.irc_world.specs.World.{Setting, has_end, known_from, joined_place}
 use Rattle.irc_routes.specs.Place.{alone}
 use Rattle.irc_follow.specs.AtRest.{PlaceIsWorlds}
 use Rattle.irc_follow.proofs.LinksCounted.{links_counted}
@@ -22,4 +22,4 @@ place_is_worlds s links routes t fixed forest ends right among =
       servers = (servers_listed s links routes t fixed forest ends right among
           ∙ ap (λ n. values (tabulate (names_of s.settings) (known_from s.settings links n))) name) i;
     })
-    ∙ sym (ap (λ o. option_map_or (place_in s.settings links) o (alone t [] [])) setting.is)
+    ∙ sym (ap (λ o. option_map_or (joined_place s.settings links) o (alone t [] [])) setting.is)

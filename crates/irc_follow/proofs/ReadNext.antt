@@ -38,7 +38,7 @@ use Rattle.irc_stage.specs.View.{View}
 use Rattle.irc_wire.specs.EachReadBack.{AgreesOnServer}
 use Rattle.irc_wire.specs.Introductions.{IsIntroduced}
 use Rattle.irc_wire.specs.ReadBack.{IsReadable, is_user_far}
-use Rattle.irc_follow.specs.Tree.{Shape, place_in, shape, shape_in}
+use Rattle.irc_follow.specs.Tree.{Shape, index_in, shape, shape_in}
 use Rattle.irc_follow.specs.Part.{Fixed, info_in, number, IsFixed, IsSoundPart}
 use Rattle.irc_follow.specs.Part as of_side
 use Rattle.irc_follow.specs.Fits.{Fits}
@@ -159,7 +159,7 @@ module _ (s : Fixed) (fixed : IsFixed s) (t u : Name) (w : of_side.Part) (view o
       ap (λ routes. of_known.next_hop routes home) reader.routes
       ∙ link_of (row_of (w.tree.routes u) home) (shape_in s.names (info_in s.settings) w.tree.forest u home)
       (shape_at s w sound u home reader.here known (far_is_another s t u w other takes reader home far))
-      ∙ ap (λ n. Some (place_in s.names n)) (far u t reader.here takes)
+      ∙ ap (λ n. Some (index_in s.names n)) (far u t reader.here takes)
 
   is_far : (home : Name) → w.tree.knows home ≡ true → IsFar s w home → is_behind_link other.routes (number s t) home ≡ true
   is_far home known far =
@@ -270,8 +270,8 @@ module _ (s : Fixed) (fixed : IsFixed s) (t u : Name) (w : of_side.Part) (view o
         by (Some r) is some = record {
           row = r;
           there = is;
-          link = same_some r.link (place_in s.names (toward w.tree.forest u home)) (ap (option_map (λ (x : Shape). x.link)) some)
-              ∙ ap (place_in s.names) (far u t reader.here takes);
+          link = same_some r.link (index_in s.names (toward w.tree.forest u home)) (ap (option_map (λ (x : Shape). x.link)) some)
+              ∙ ap (index_in s.names) (far u t reader.here takes);
         }
 
     token_is : token_out (w.tree.routes t) home ≡ Some has_row.row.token

@@ -38,7 +38,7 @@ use Rattle.irc_world.specs.World.{home_in}
 use Rattle.irc_follow.specs.Part.{Fixed, clients_elsewhere, done, is_home_of, number, IsSoundPart}
 use Rattle.irc_follow.specs.Part as of_side
 use Rattle.irc_follow.specs.Fits.{far_end, Fits}
-use Rattle.irc_follow.specs.Says.{asked, Says, IsDoableKill, IsDoableLoss}
+use Rattle.irc_follow.specs.Says.{neighbour_served, Says, IsDoableKill, IsDoableLoss}
 use Rattle.irc_follow.proofs.DeedEffects.{AllCalm, AllQuiet, all_view, members_calm, members_quiet, quiet_counted, quits_calm}
 use Rattle.irc_follow.proofs.LostUsers.{lost_are_of, lost_counted}
 use Rattle.irc_follow.proofs.PartDeeds.{brings_keeps, kills_keeps, loses_keeps, sets_keeps, there_to_kill, tops_keeps}
@@ -59,14 +59,14 @@ module _ (s : Fixed) (p t : Name) (w : of_side.Part) (view : View) (takes : Take
   after_deed_of deed = told_by (number s p) (a_deed deed) (in_silence view)
 
   pub deed_served : (deed : Deed) (line : List ℕ) (end : End) → get view.ends (number s p) ≡ Some end
-      → heard view (number s p) end (read_of line) ≡ tells (a_deed deed ∷ []) → asked s p view line ≡ after_deed_of deed
+      → heard view (number s p) end (read_of line) ≡ tells (a_deed deed ∷ []) → neighbour_served s p view line ≡ after_deed_of deed
   unfolding served
   deed_served deed line end is_end means =
       ap (line_served view (number s p) (read_of line)) is_end
       ∙ ap (after_heard view (number s p)) means
 
   asked_is : (deed : Deed) (line : List ℕ) (end : End) → get view.ends (number s p) ≡ Some end → heard view (number s p) end (read_of line) ≡ tells (a_deed deed ∷ [])
-      → (asked s p view line).view ≡ (after_deed_of deed).view
+      → (neighbour_served s p view line).view ≡ (after_deed_of deed).view
   asked_is deed line end is_end means = ap (λ (so : Served). so.view) (deed_served deed line end is_end means)
 
   -- ---- members, modes and a topic
@@ -93,7 +93,7 @@ module _ (s : Fixed) (p t : Name) (w : of_side.Part) (view : View) (takes : Take
   possible = each-so DoesSomething IsPossible (λ room effect does_it. does_it.possible) w.hall.room
 
   pub said_brings_fits : (server channel : List ℕ) (members : List (List ℕ × Flags)) (line : List ℕ) → Says s p t w view (brings server channel members) line
-      → Fits s t (done s w (brings server channel members)) (asked s p view line).view
+      → Fits s t (done s w (brings server channel members)) (neighbour_served s p view line).view
   unfolding done told_by deed_told after_deed
   said_brings_fits server channel members line says =
       let effects = effects_of w.hall.room (brings server channel members) in
@@ -105,7 +105,7 @@ module _ (s : Fixed) (p t : Name) (w : of_side.Part) (view : View) (takes : Take
       (with_room_fits (after_all view.room effects) (after_all w.hall.room effects) (brings_keeps s w sound server channel members says.doable) room_is)
 
   pub said_sets_fits : (server channel : List ℕ) (changes : List ModeChange) (line : List ℕ) → Says s p t w view (sets server channel changes) line
-      → Fits s t (done s w (sets server channel changes)) (asked s p view line).view
+      → Fits s t (done s w (sets server channel changes)) (neighbour_served s p view line).view
   unfolding done told_by deed_told after_deed
   said_sets_fits server channel changes line says =
       let effects = effects_of w.hall.room (sets server channel changes) in
@@ -116,7 +116,7 @@ module _ (s : Fixed) (p t : Name) (w : of_side.Part) (view : View) (takes : Take
       (with_room_fits (after_all view.room effects) (after_all w.hall.room effects) (sets_keeps s w sound server channel changes says.doable) room_is)
 
   pub said_tops_fits : (server channel topic : List ℕ) (line : List ℕ) → Says s p t w view (tops server channel topic) line
-      → Fits s t (done s w (tops server channel topic)) (asked s p view line).view
+      → Fits s t (done s w (tops server channel topic)) (neighbour_served s p view line).view
   unfolding done told_by deed_told after_deed
   said_tops_fits server channel topic line says =
       let effects = effects_of w.hall.room (tops server channel topic) in
@@ -209,7 +209,7 @@ module _ (s : Fixed) (p t : Name) (w : of_side.Part) (view : View) (takes : Take
     }
 
   pub said_loses_fits : (server name text : List ℕ) (line : List ℕ) → Says s p t w view (loses server name text) line
-      → Fits s t (done s w (loses server name text)) (asked s p view line).view
+      → Fits s t (done s w (loses server name text)) (neighbour_served s p view line).view
   unfolding told_by deed_told
   said_loses_fits server name text line says =
       subst (Fits s t (done s w (loses server name text)))
@@ -262,7 +262,7 @@ module _ (s : Fixed) (p t : Name) (w : of_side.Part) (view : View) (takes : Take
     killed_view = ap (λ b. (client_ended nick collision_text (if b then changed (Quit nick collision_text) (in_silence view) else in_silence view)).view) there
 
   pub said_kills_fits : (server nick : List ℕ) (line : List ℕ) → Says s p t w view (kills server nick) line
-      → Fits s t (done s w (kills server nick)) (asked s p view line).view
+      → Fits s t (done s w (kills server nick)) (neighbour_served s p view line).view
   unfolding told_by deed_told
   said_kills_fits server nick line says =
       subst (Fits s t (done s w (kills server nick)))

@@ -42,7 +42,7 @@ use Rattle.irc_follow.specs.Part.{Fixed, client_sees, is_home_of, number, told_e
 use Rattle.irc_follow.specs.Part as of_side
 use Rattle.irc_follow.specs.Fits.{Fits}
 use Rattle.irc_follow.specs.Laws.{SaidDeedShows}
-use Rattle.irc_follow.specs.Says.{asked, Says, IsDoableLoss}
+use Rattle.irc_follow.specs.Says.{neighbour_served, Says, IsDoableLoss}
 use Rattle.irc_follow.proofs.ClientLines.{client_shown, to_one, told_line}
 use Rattle.irc_follow.proofs.DeedEffects.{AllCalm, AllQuiet, IsCounted, members_calm, members_quiet, quiet_counted, quits_calm}
 use Rattle.irc_follow.proofs.LostUsers.{lost_are_of, lost_counted}
@@ -117,7 +117,7 @@ module _ (s : Fixed) (p t : Name) (w : of_side.Part) (view : View) (takes : Take
   -- ---- each deed
 
   pub said_brings_shows : (server channel : List ℕ) (members : List (List ℕ × Flags)) (line : List ℕ) → Says s p t w view (brings server channel members) line
-      → lines_to who (asked s p view line).out ≡ client_sees (brings server channel members) w.hall.room mine
+      → lines_to who (neighbour_served s p view line).out ≡ client_sees (brings server channel members) w.hall.room mine
   unfolding told_by deed_told
   said_brings_shows server channel members line says =
       let effects = effects_of view.room (brings server channel members) in
@@ -127,7 +127,7 @@ module _ (s : Fixed) (p t : Name) (w : of_side.Part) (view : View) (takes : Take
       ∙ along_sees (brings server channel members) (λ _. refl) mine
 
   pub said_sets_shows : (server channel : List ℕ) (changes : List ModeChange) (line : List ℕ) → Says s p t w view (sets server channel changes) line
-      → lines_to who (asked s p view line).out ≡ client_sees (sets server channel changes) w.hall.room mine
+      → lines_to who (neighbour_served s p view line).out ≡ client_sees (sets server channel changes) w.hall.room mine
   unfolding told_by deed_told
   said_sets_shows server channel changes line says =
       let effects = effects_of view.room (sets server channel changes) in
@@ -137,7 +137,7 @@ module _ (s : Fixed) (p t : Name) (w : of_side.Part) (view : View) (takes : Take
       ∙ along_sees (sets server channel changes) (λ _. refl) mine
 
   pub said_tops_shows : (server channel topic : List ℕ) (line : List ℕ) → Says s p t w view (tops server channel topic) line
-      → lines_to who (asked s p view line).out ≡ client_sees (tops server channel topic) w.hall.room mine
+      → lines_to who (neighbour_served s p view line).out ≡ client_sees (tops server channel topic) w.hall.room mine
   unfolding told_by deed_told
   said_tops_shows server channel topic line says =
       let effects = effects_of view.room (tops server channel topic) in
@@ -158,7 +158,7 @@ module _ (s : Fixed) (p t : Name) (w : of_side.Part) (view : View) (takes : Take
       ∙ sym (ap (λ users. client_along who view.room (quits_of text (users_at name (record view.room { users = users }))) mine) same_users)
 
   pub said_loses_shows : (server name text : List ℕ) (line : List ℕ) → Says s p t w view (loses server name text) line
-      → lines_to who (asked s p view line).out ≡ client_sees (loses server name text) w.hall.room mine
+      → lines_to who (neighbour_served s p view line).out ≡ client_sees (loses server name text) w.hall.room mine
   unfolding told_by deed_told
   said_loses_shows server name text line says =
       ap (λ (so : Served). lines_to who so.out) (deed_served s p t w view takes fits (loses server name text) line says.end says.is_end says.means)
@@ -180,7 +180,7 @@ module _ (s : Fixed) (p t : Name) (w : of_side.Part) (view : View) (takes : Take
       (sym (append_nil (option_to_list (shows_to w.hall.room (Quit nick collision_text) viewer))))
 
   pub said_kills_shows : (server nick : List ℕ) (line : List ℕ) → Says s p t w view (kills server nick) line
-      → lines_to who (asked s p view line).out ≡ client_sees (kills server nick) w.hall.room mine
+      → lines_to who (neighbour_served s p view line).out ≡ client_sees (kills server nick) w.hall.room mine
   unfolding told_by deed_told
   said_kills_shows server nick line says =
       let error : Showing = record { viewer = nick; line = error_line collision_text } in
@@ -215,7 +215,7 @@ module _ (s : Fixed) (p t : Name) (w : of_side.Part) (view : View) (takes : Take
       ∙ none_of_link who (number s p) (owes view (number s p) name)
 
   pub said_gain_shows : (uplink name info : List ℕ) (line : List ℕ) → Says s p t w view (gains uplink name info) line
-      → lines_to who (asked s p view line).out ≡ client_sees (gains uplink name info) w.hall.room mine
+      → lines_to who (neighbour_served s p view line).out ≡ client_sees (gains uplink name info) w.hall.room mine
   unfolding served
   said_gain_shows uplink name info line says =
       ap (λ o. lines_to who (line_served view (number s p) (read_of line) o).out) says.is_end
@@ -229,7 +229,7 @@ module _ (s : Fixed) (p t : Name) (w : of_side.Part) (view : View) (takes : Take
       by false = none_of_gain who (number s p) uplink name (distance w.tree.forest t name) (told_token w.tree p name) info (in_silence view)
 
   pub said_lines : (deed : Deed) (line : List ℕ) → Says s p t w view deed line
-      → lines_to who (asked s p view line).out ≡ client_sees deed w.hall.room mine
+      → lines_to who (neighbour_served s p view line).out ≡ client_sees deed w.hall.room mine
   said_lines (does effect) line says = said_effect_shows s p t w view takes fits who at_home effect line says
   said_lines (gains uplink name info) line says = said_gain_shows uplink name info line says
   said_lines (loses server name text) line says = said_loses_shows server name text line says
@@ -242,6 +242,6 @@ pub said_deed_shows : SaidDeedShows
 said_deed_shows s p t w view deed line who takes fits says = by (is_home_of s.homes t who) refl
   where
     by : (b : Bool) → is_home_of s.homes t who ≡ b
-        → (if b then lines_to who (asked s p view line).out else []) ≡ (if b then client_sees deed w.hall.room (get w.hall.clients who) else [])
+        → (if b then lines_to who (neighbour_served s p view line).out else []) ≡ (if b then client_sees deed w.hall.room (get w.hall.clients who) else [])
     by true at_home = said_lines s p t w view takes fits who at_home deed line says
     by false away = refl

@@ -47,7 +47,7 @@ use Rattle.irc_follow.specs.Tree.{shape, shape_in}
 use Rattle.irc_follow.specs.Part.{Fixed, clients_left, done, hall_after, info_in, is_home_of, number, IsSoundPart}
 use Rattle.irc_follow.specs.Part as of_side
 use Rattle.irc_follow.specs.Fits.{Fits}
-use Rattle.irc_follow.specs.Says.{asked, Says, IsDoableEffect, IsFar}
+use Rattle.irc_follow.specs.Says.{neighbour_served, Says, IsDoableEffect, IsFar}
 use Rattle.irc_follow.proofs.PartEffects.{effect_keeps}
 
 pub doing : (room : Room) (effect : Effect) → IsPossible room effect → is_idle room effect ≡ false → does_in room effect ≡ true
@@ -267,7 +267,7 @@ module _ (s : Fixed) (p t : Name) (w : of_side.Part) (view : View) (takes : Take
   }
 
   pub effect_served : (effect : Effect) (line : List ℕ) → Says s p t w view (does effect) line
-      → asked s p view line ≡ effect_told (Some (number s p)) effect (in_silence view)
+      → neighbour_served s p view line ≡ effect_told (Some (number s p)) effect (in_silence view)
   unfolding served told_by deed_told
   effect_served effect line says =
       ap (line_served view (number s p) (read_of line)) says.is_end
@@ -275,5 +275,5 @@ module _ (s : Fixed) (p t : Name) (w : of_side.Part) (view : View) (takes : Take
       ∙ ap (λ b. if b then effect_told (Some (number s p)) effect (in_silence view) else in_silence view) (effect_counts effect says.doable)
 
   pub said_effect_fits : (effect : Effect) (line : List ℕ) → Says s p t w view (does effect) line
-      → Fits s t (done s w (does effect)) (asked s p view line).view
+      → Fits s t (done s w (does effect)) (neighbour_served s p view line).view
   said_effect_fits effect line says = subst (Fits s t (done s w (does effect))) (sym (ap (λ (so : Served). so.view) (effect_served effect line says))) (effect_fits effect says.doable)

@@ -25,7 +25,7 @@ use Rattle.irc_follow.specs.Tree.{gained, told_token}
 use Rattle.irc_follow.specs.Part.{Fixed, done, info_in, number, IsFixed, IsSoundPart}
 use Rattle.irc_follow.specs.Part as of_side
 use Rattle.irc_follow.specs.Fits.{far_end, far_of, Fits, IsNumberOf}
-use Rattle.irc_follow.specs.Says.{asked, saying, Says, IsDoableGain}
+use Rattle.irc_follow.specs.Says.{neighbour_served, saying, Says, IsDoableGain}
 use Rattle.irc_follow.proofs.Places.{one_place}
 use Rattle.irc_follow.proofs.TreeGains as tree_of
 use Rattle.irc_follow.proofs.PartEffects.{gain_keeps}
@@ -231,7 +231,7 @@ module _ (s : Fixed) (fixed : IsFixed s) (p t : Name) (w : of_side.Part) (view :
 
 pub said_gain_fits : (s : Fixed) → IsFixed s → (p t : Name) (w : of_side.Part) (view : View) → TakesFrom s.streams t p → Fits s t w view
     → (uplink name words : List ℕ) (line : List ℕ) → Says s p t w view (gains uplink name words) line
-    → Fits s t (done s w (gains uplink name words)) (asked s p view line).view
+    → Fits s t (done s w (gains uplink name words)) (neighbour_served s p view line).view
 unfolding done served
 said_gain_fits s fixed p t w view takes fits uplink name words line says =
     subst (λ (o : Option End). Fits s t (done s w (gains uplink name words)) (line_served view (number s p) (read_of line) o).view) (sym says.is_end)

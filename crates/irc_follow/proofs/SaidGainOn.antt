@@ -45,7 +45,7 @@ use Rattle.irc_follow.specs.Part.{Fixed, info_in, number, IsFixed, IsSoundPart}
 use Rattle.irc_follow.specs.Part as of_side
 use Rattle.irc_follow.specs.Fits.{Fits}
 use Rattle.irc_follow.specs.Laws.{GoesOn, SaidGainGoesOn}
-use Rattle.irc_follow.specs.Says.{asked, body, lines_on, machine, saying, Says, IsDoableGain}
+use Rattle.irc_follow.specs.Says.{neighbour_served, body, lines_on, machine, saying, Says, IsDoableGain}
 use Rattle.irc_follow.proofs.CarriedLines.{server_carried}
 use Rattle.irc_follow.proofs.MemberLines.{other_byte}
 use Rattle.irc_follow.proofs.Neighbours.{IsKnownOfLines, both}
@@ -342,7 +342,7 @@ module _ (known : IsKnownOfLines) (uplink name words : List ℕ) (s : Fixed) (p 
         (own_name s p t w view takes writer ∙ sym (gain_of.is_t s fixed p t w view takes writer uplink name words doable is_p end is_end))
         ∙ told_lines before refl other_end (none_on_another (number s u) k (beside.not_back s p t u w view other takes next apart writer reader) (owes view k name))
 
-  lines : lines_on (number s u) (asked s p view line).out ≡ line_text parts ∷ []
+  lines : lines_on (number s u) (neighbour_served s p view line).out ≡ line_text parts ∷ []
   unfolding served
   lines =
       ap (λ o. lines_on (number s u) (line_served view k (read_of line) o).out) says.is_end

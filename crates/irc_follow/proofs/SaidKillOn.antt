@@ -36,7 +36,7 @@ use Rattle.irc_follow.specs.Part.{Fixed, number, IsFixed, IsSoundPart}
 use Rattle.irc_follow.specs.Part as of_side
 use Rattle.irc_follow.specs.Fits.{Fits}
 use Rattle.irc_follow.specs.Laws.{GoesOn, SaidKillGoesOn}
-use Rattle.irc_follow.specs.Says.{asked, lines_on, machine, Says, IsDoableKill}
+use Rattle.irc_follow.specs.Says.{neighbour_served, lines_on, machine, Says, IsDoableKill}
 use Rattle.irc_follow.proofs.CarriedLines.{kill_carried}
 use Rattle.irc_follow.proofs.LinesOn.{lines_behind, none_to_viewer, none_to_viewers}
 use Rattle.irc_follow.proofs.Neighbours.{IsKnownOfLines, both}
@@ -144,7 +144,7 @@ module _ (known : IsKnownOfLines) (server nick : List ℕ) (s : Fixed) (p t u : 
       ∙ ap (λ l. l ++ lines_on (number s u) (ends_of nick view.clients)) (none_to_viewer (number s u) error (entries view.clients))
       ∙ none_of_ends (number s u) nick (entries view.clients)
 
-  lines : lines_on (number s u) (asked s p view line).out ≡ line_text parts ∷ []
+  lines : lines_on (number s u) (neighbour_served s p view line).out ≡ line_text parts ∷ []
   unfolding told_by deed_told
   lines =
       let back = exactly_same server view.routes.name in

@@ -47,7 +47,7 @@ use Rattle.irc_follow.specs.Part.{Fixed, number, IsFixed, IsSoundPart}
 use Rattle.irc_follow.specs.Part as of_side
 use Rattle.irc_follow.specs.Fits.{Fits}
 use Rattle.irc_follow.specs.Laws.{GoesOn, told, passed, SaidEffectGoesOn}
-use Rattle.irc_follow.specs.Says.{asked, lines_on, machine, Says, IsDoableEffect}
+use Rattle.irc_follow.specs.Says.{neighbour_served, lines_on, machine, Says, IsDoableEffect}
 use Rattle.irc_follow.proofs.LinesOn.{among_keys, but_another, lines_behind, none_by_effect, on_these}
 use Rattle.irc_follow.proofs.PassingBy.{told_known}
 use Rattle.irc_follow.proofs.Neighbours as beside
@@ -221,7 +221,7 @@ module _ (read_back : EachIsReadBack) (s : Fixed) (fixed : IsFixed s) (p t u : N
   those homes = filter (λ n. nat_eq n (number s u)) (ways_toward view.ends view.routes homes)
 
   lines_are : (line : List ℕ) → Says s p t w view (does effect) line
-      → lines_on (number s u) (asked s p view line).out ≡ map (λ _. line_text parts) (those (told_homes w.hall.room effect))
+      → lines_on (number s u) (neighbour_served s p view line).out ≡ map (λ _. line_text parts) (those (told_homes w.hall.room effect))
   lines_are line says =
       ap (λ (so : Served). lines_on (number s u) so.out) (effect_served s p t w view takes writer effect line says)
       ∙ lines_behind (number s u) (shown_at view effect) (on_links (ways_at view (Some (number s p)) effect) parts)
@@ -313,7 +313,7 @@ module _ (read_back : EachIsReadBack) (s : Fixed) (fixed : IsFixed s) (p t u : N
 
     goes_on : Goes ((machine s client).sends t p view line u)
     goes_on =
-        subst Goes (sym (ap (λ b. if b then [] else lines_on (number s u) (asked s p view line).out) (same_unless u p apart) ∙ lines_are line says))
+        subst Goes (sym (ap (λ b. if b then [] else lines_on (number s u) (neighbour_served s p view line).out) (same_unless u p apart) ∙ lines_are line says))
         (by_homes (told_homes w.hall.room effect) refl)
 
 pub said_effect_goes_on : EachIsReadBack → SaidEffectGoesOn

@@ -43,7 +43,7 @@ use Rattle.irc_follow.specs.Part.{Fixed, number, IsFixed, IsSoundPart}
 use Rattle.irc_follow.specs.Part as of_side
 use Rattle.irc_follow.specs.Fits.{Fits}
 use Rattle.irc_follow.specs.Laws.{GoesOn, SaidLossGoesOn, SaidMembersGoOn, SaidModesGoOn, SaidTopicGoesOn}
-use Rattle.irc_follow.specs.Says.{asked, lines_on, machine, Says, AreOfFar, AreToldMembers, IsDoableByServer, IsDoableLoss, IsFar, IsFarChannel, IsOfFar, IsToldMember}
+use Rattle.irc_follow.specs.Says.{neighbour_served, lines_on, machine, Says, AreOfFar, AreToldMembers, IsDoableByServer, IsDoableLoss, IsFar, IsFarChannel, IsOfFar, IsToldMember}
 use Rattle.irc_follow.proofs.CarriedLines.{members_carried, modes_carried, squit_carried, topic_carried}
 use Rattle.irc_follow.proofs.LinesOn.{ends_by_all, none_by_all}
 use Rattle.irc_follow.proofs.MemberLines.{AreNicks, all_new}
@@ -85,7 +85,7 @@ module _ (known : IsKnownOfLines) (s : Fixed) (p t u : Name) (w : of_side.Part) 
   lines_of : (deed : Deed) (effects : List Effect) (parts : Written) (after : Served → Served)
       → ((before : Served) → (after before).out ≡ before.out) → ((before : Served) → (after before).view.ends ≡ before.view.ends)
       → told_by (number s p) (a_deed deed) (in_silence view) ≡ told_on_all (Some (number s p)) parts (after (all_changed effects (in_silence view)))
-      → told_by (number s p) (a_deed deed) (in_silence view) ≡ asked s p view line → lines_on (number s u) (asked s p view line).out ≡ line_text parts ∷ []
+      → told_by (number s p) (a_deed deed) (in_silence view) ≡ neighbour_served s p view line → lines_on (number s u) (neighbour_served s p view line).out ≡ line_text parts ∷ []
   lines_of deed effects parts after same_out same_ends is asked_is =
       let before = all_changed effects (in_silence view) in
       ap (λ (so : Served). lines_on (number s u) so.out) (sym asked_is ∙ is)
@@ -124,7 +124,7 @@ module _ (known : IsKnownOfLines) (s : Fixed) (p t u : Name) (w : of_side.Part) 
         (or_so (not (is_known other.routes name)) (is_behind_link other.routes (number s t) name) (far_behind name doable.can.known doable.far)))
         (both (is_server server) (is_server name && is_known other.routes name) server_named (both (is_server name) (is_known other.routes name) name_named known_there))
 
-    loss_lines : lines_on (number s u) (asked s p view line).out ≡ line_text parts ∷ []
+    loss_lines : lines_on (number s u) (neighbour_served s p view line).out ≡ line_text parts ∷ []
     unfolding told_by deed_told
     loss_lines = lines_of (loses server name text) (quits_of text (users_at name view.room)) parts (forgotten name) (λ _. refl) (λ _. refl) refl
         (sym (deed_served s p t w view takes writer (loses server name text) line says.end says.is_end says.means))
@@ -179,7 +179,7 @@ module _ (known : IsKnownOfLines) (s : Fixed) (p t u : Name) (w : of_side.Part) 
         ∙ ap (λ (deeds : List Deed). Ok (map a_deed deeds))
         (read_alike.one (tops server channel topic) ∙ ap (λ b. if b then tops server channel topic ∷ [] else []) (far_channel channel by_server.told))
 
-    topic_lines : lines_on (number s u) (asked s p view line).out ≡ line_text topic_written ∷ []
+    topic_lines : lines_on (number s u) (neighbour_served s p view line).out ≡ line_text topic_written ∷ []
     unfolding told_by deed_told
     topic_lines = lines_of (tops server channel topic) (effects_of view.room (tops server channel topic)) topic_written (λ before. before) (λ _. refl) (λ _. refl) refl
         (sym (deed_served s p t w view takes writer (tops server channel topic) line says.end says.is_end says.means))
@@ -207,7 +207,7 @@ module _ (known : IsKnownOfLines) (s : Fixed) (p t u : Name) (w : of_side.Part) 
         ∙ ap (λ (deeds : List Deed). Ok (map a_deed deeds))
         (read_alike.one (sets server channel changes) ∙ ap (λ b. if b then sets server channel changes ∷ [] else []) (far_channel channel by_setter.told.far))
 
-    modes_lines : lines_on (number s u) (asked s p view line).out ≡ line_text modes_written ∷ []
+    modes_lines : lines_on (number s u) (neighbour_served s p view line).out ≡ line_text modes_written ∷ []
     unfolding told_by deed_told
     modes_lines = lines_of (sets server channel changes) (effects_of view.room (sets server channel changes)) modes_written (λ before. before) (λ _. refl) (λ _. refl)
         refl (sym (deed_served s p t w view takes writer (sets server channel changes) line says.end says.is_end says.means))
@@ -276,7 +276,7 @@ module _ (known : IsKnownOfLines) (s : Fixed) (p t u : Name) (w : of_side.Part) 
         ∙ ap (brought server channel) (spelled members told_members.each)
         ∙ brought_some server channel members told_members.some)
 
-    members_lines : lines_on (number s u) (asked s p view line).out ≡ line_text members_written ∷ []
+    members_lines : lines_on (number s u) (neighbour_served s p view line).out ≡ line_text members_written ∷ []
     unfolding told_by deed_told
     members_lines = lines_of (brings server channel members) (effects_of view.room (brings server channel members)) members_written (λ before. before) (λ _. refl)
         (λ _. refl) refl (sym (deed_served s p t w view takes writer (brings server channel members) line says.end says.is_end says.means))

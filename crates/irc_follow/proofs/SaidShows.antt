@@ -37,12 +37,12 @@ use Rattle.irc_stage.specs.declared.clients.Client.TheVariants.{Registering, Reg
 use Rattle.irc_stage.specs.EffectTold.{Served, all_changed, changed, is_elsewhere, on_links, shown_at, ways_at}
 use Rattle.irc_stage.specs.Handle.{to_viewer}
 use Rattle.irc_stage.specs.View.{View}
-use Rattle.irc_server.specs.Owed.{line_for as line_to_client, lines_to}
+use Rattle.irc_server.specs.Owed.{line_to_conn as line_to_client, lines_to}
 use Rattle.irc_world.specs.ClientsUsers.{fold_of}
 use Rattle.irc_follow.specs.Part.{Fixed, client_sees, is_home_of, number, IsSoundPart}
 use Rattle.irc_follow.specs.Part as of_side
 use Rattle.irc_follow.specs.Fits.{Fits}
-use Rattle.irc_follow.specs.Says.{asked, Says, IsDoableEffect}
+use Rattle.irc_follow.specs.Says.{neighbour_served, Says, IsDoableEffect}
 use Rattle.irc_follow.proofs.ClientLines.{client_shown, effect_lines}
 use Rattle.irc_follow.proofs.DeedEffects.{AllCalm, IsCounted, at_room, calm_view, counted_there, in_room, is_calm}
 use Rattle.irc_follow.proofs.SaidEffect.{client_here, effect_served, invited_elsewhere, rooms_alike, users_there}
@@ -224,7 +224,7 @@ module _ (s : Fixed) (p t : Name) (w : of_side.Part) (view : View) (takes : Take
       sym (append_nil (shown_along nick w.hall.room (effect ∷ [])) ∙ append_nil (option_to_list (shows_to w.hall.room effect nick)))
 
   pub said_effect_shows : (effect : Effect) (line : List ℕ) → Says s p t w view (does effect) line
-      → lines_to who (asked s p view line).out ≡ client_sees (does effect) w.hall.room (get w.hall.clients who)
+      → lines_to who (neighbour_served s p view line).out ≡ client_sees (does effect) w.hall.room (get w.hall.clients who)
   said_effect_shows effect line says =
       ap (λ (so : Served). lines_to who so.out) (effect_served s p t w view takes fits effect line says)
       ∙ but_links who (shown_at view effect) (ways_at view (Some (number s p)) effect)

@@ -12,7 +12,7 @@ use Rattle.irc_routes.specs.declared.server_row.ServerRow.{ServerRow}
 use Rattle.irc_routes.specs.Known.{Known, is_behind, is_told_before, others, put_among, servers_told}
 use Rattle.irc_routes.specs.Lemmas.TableRows.{row_passes, some_stands}
 use Rattle.irc_routes.proofs.DistinctLinks.{both_so}
-use Rattle.irc_follow.specs.Tree.{Shape, place_in, shape, shape_in}
+use Rattle.irc_follow.specs.Tree.{Shape, index_in, shape, shape_in}
 use Rattle.irc_follow.specs.Part.{Fixed, info_in, number}
 use Rattle.irc_follow.specs.AtRest.{AreRight, ToldAreThisSide}
 use Rattle.irc_follow.proofs.AtRest.{joined_so}
@@ -98,7 +98,7 @@ module _ (s : Fixed) (links : List Link) (routes : Name → Known) (t u x : Name
       let two : x ≢ t = subst (λ n. n ≢ t) named says.apart in
       let not_over : toward links t x ≡ u → ⊥ = λ way. not_so (is_behind (number s u) at.value) parts.0
       (eq-eqb at.value.link (number s u)
-      (ap (λ (sh : Shape). sh.link) says.shape ∙ ap (λ n. place_in s.names (toward links t n)) named ∙ ap (place_in s.names) way)) in
+      (ap (λ (sh : Shape). sh.link) says.shape ∙ ap (λ n. index_in s.names (toward links t n)) named ∙ ap (index_in s.names) way)) in
       and_from _ _ (joined_test left x t (this_side together not_over)) (ap not (same_unless x t two))
     where
       this_side : AreJoined links x t → (toward links t x ≡ u → ⊥) → AreJoined left x t

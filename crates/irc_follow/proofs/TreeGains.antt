@@ -20,7 +20,7 @@ use Rattle.irc_routes.specs.Limits.{max_servers}
 use Rattle.irc_routes.specs.Lemmas.TableRows.{length-values, some_stands}
 use Rattle.irc_routes.proofs.SmallestFree.{smallest_is_low}
 use Rattle.irc_routes.proofs.RouteLaws.{added_gets_smallest, stays_numbered}
-use Rattle.irc_follow.specs.Tree.{Tree, place_in, shape, shape_in, told_token, told_of, gained, gained_at, IsSoundTree, AreServers, CanGain}
+use Rattle.irc_follow.specs.Tree.{Tree, index_in, shape, shape_in, told_token, known_told, gained, gained_at, IsSoundTree, AreServers, CanGain}
 use Rattle.irc_follow.proofs.Places.{one_place}
 use Rattle.irc_follow.proofs.FewRows.{two_more}
 use Rattle.irc_follow.proofs.ToldNumbers.{same_some, told_apart, known_number, new_number, none_found}
@@ -119,27 +119,27 @@ module _ (names : List Name) (info : Name → List ℕ) (servers : AreServers na
         by false true false x y z = refl
 
     -- the neighbour's number for it is free
-    pub number_free : (t : Name) → tree.here t ≡ true → token_in (tree.routes t) (place_in names (next t)) (told_token tree (next t) name) ≡ None
+    pub number_free : (t : Name) → tree.here t ≡ true → token_in (tree.routes t) (index_in names (next t)) (told_token tree (next t) name) ≡ None
     number_free t here = ap (option_map (λ (r : ServerRow). r.name)) (none_found test (others (tree.routes t)) (by (list_any test (others (tree.routes t))) refl))
       where
         test : ServerRow → Bool
-        test = has_token (place_in names (next t)) (told_token tree (next t) name)
+        test = has_token (index_in names (next t)) (told_token tree (next t) name)
 
         by : (b : Bool) → list_any test (others (tree.routes t)) ≡ b → b ≡ false
         by false is = refl
         by true is =
             let at = some_stands test (tree.routes t).rows is in
-            let parts = and_parts (nat_eq at.value.link (place_in names (next t))) (nat_eq at.value.token (told_token tree (next t) name)) at.passes in
+            let parts = and_parts (nat_eq at.value.link (index_in names (next t))) (nat_eq at.value.token (told_token tree (next t) name)) at.passes in
             let other : at.name ≢ name = λ e. cc (sym (no_row t name here can.unknown) ∙ ap (row_of (tree.routes t)) (sym e) ∙ at.there) in
             absurd (told_apart (tree.routes (next t)) (sound.numbered (next t) (next_among t here)) at.name name at.value.token other
             (sound.tokens (next t) t at.name at.value here (linked_back tree.forest t (next t) (hop t here).linked) at.there
-            ((Decides-eqb at.value.link (place_in names (next t))).0 parts.0))
+            ((Decides-eqb at.value.link (index_in names (next t))).0 parts.0))
             (sym ((Decides-eqb at.value.token (told_token tree (next t) name)).0 parts.1)))
 
     -- what is kept of it
     abbrev new_row : Name → ServerRow
     new_row t = record {
-      link = place_in names (next t);
+      link = index_in names (next t);
       uplink = uplink;
       name = name;
       distance = distance tree.forest t name;
@@ -148,28 +148,28 @@ module _ (names : List Name) (info : Name → List ℕ) (servers : AreServers na
       info = words;
     }
 
-    pub told_here : (t : Name) → tree.here t ≡ true → gained_at names tree uplink name words t ≡ told_of names tree uplink name words t
+    pub told_here : (t : Name) → tree.here t ≡ true → gained_at names tree uplink name words t ≡ known_told names tree uplink name words t
     told_here t here =
-        ap (λ b. if b && not (is_known (tree.routes t) name) then told_of names tree uplink name words t else tree.routes t) here
-        ∙ ap (λ b. if not b then told_of names tree uplink name words t else tree.routes t) (not_known t name here can.unknown)
+        ap (λ b. if b && not (is_known (tree.routes t) name) then known_told names tree uplink name words t else tree.routes t) here
+        ∙ ap (λ b. if not b then known_told names tree uplink name words t else tree.routes t) (not_known t name here can.unknown)
 
-    row_told : (t q : Name) → row_of (told_of names tree uplink name words t) q ≡ cond (same_fold q name) (Some (new_row t)) (row_of (tree.routes t) q)
+    row_told : (t q : Name) → row_of (known_told names tree uplink name words t) q ≡ cond (same_fold q name) (Some (new_row t)) (row_of (tree.routes t) q)
     row_told t q = row-alter name (λ _. Some (new_row t)) (tree.routes t).rows q
 
     -- either a server is told, or it is as it was
-    by_moment : (P : Known → Type 0) (t : Name) → (tree.here t ≡ true → P (told_of names tree uplink name words t)) → (tree.here t ≡ false → P (tree.routes t))
+    by_moment : (P : Known → Type 0) (t : Name) → (tree.here t ≡ true → P (known_told names tree uplink name words t)) → (tree.here t ≡ false → P (tree.routes t))
         → P (gained_at names tree uplink name words t)
     by_moment P t told still = by (tree.here t) refl
       where
         by : (b : Bool) → tree.here t ≡ b → P (gained_at names tree uplink name words t)
         by true here = subst P (sym (told_here t here)) (told here)
         by false away =
-            subst P (sym (ap (λ b. if b && not (is_known (tree.routes t) name) then told_of names tree uplink name words t else tree.routes t) away)) (still away)
+            subst P (sym (ap (λ b. if b && not (is_known (tree.routes t) name) then known_told names tree uplink name words t else tree.routes t) away)) (still away)
 
     shape_new : (t : Name) → tree.here t ≡ true → shape (new_row t) ≡ shape_in names info tree.forest t name
     shape_new t here =
-        ap (λ u. record { link = place_in names (next t); uplink = u; name = name; distance = distance tree.forest t name; info = words }) (sym (can.beside t here))
-        ∙ ap (λ i. record { link = place_in names (next t); uplink = toward tree.forest name t; name = name; distance = distance tree.forest t name; info = i }) can.described
+        ap (λ u. record { link = index_in names (next t); uplink = u; name = name; distance = distance tree.forest t name; info = words }) (sym (can.beside t here))
+        ∙ ap (λ i. record { link = index_in names (next t); uplink = toward tree.forest name t; name = name; distance = distance tree.forest t name; info = i }) can.described
 
     known_now : (b c : Bool) → (b || c) ≡ cond c true b
     known_now true true = refl
@@ -202,7 +202,7 @@ module _ (names : List Name) (info : Name → List ℕ) (servers : AreServers na
 
     numbered_now : (t : Name) → IsAmong names t → IsNumbered (gained_at names tree uplink name words t)
     numbered_now t among = by_moment IsNumbered t
-        (λ here. stays_numbered.added (tree.routes t) (place_in names (next t)) uplink name (distance tree.forest t name) (told_token tree (next t) name) words
+        (λ here. stays_numbered.added (tree.routes t) (index_in names (next t)) uplink name (distance tree.forest t name) (told_token tree (next t) name) words
         (sound.numbered t among) (servers.named uplink (sound.known_among uplink can.uplink_known))
         (subst IsInfo (sym can.described) (servers.described name can.among)) (added_so t here) (number_free t here))
         (λ away. sound.numbered t among)
@@ -212,7 +212,7 @@ module _ (names : List Name) (info : Name → List ℕ) (servers : AreServers na
 
     -- ---- one number at both ends
 
-    token_told : (t q : Name) → same_fold q name ≡ false → token_out (told_of names tree uplink name words t) q ≡ token_out (tree.routes t) q
+    token_told : (t q : Name) → same_fold q name ≡ false → token_out (known_told names tree uplink name words t) q ≡ token_out (tree.routes t) q
     token_told t q two =
         ap (λ o. cond (is_itself (tree.routes t) q) (Some 1) (option_map (λ (r : ServerRow). r.ours) o))
         (row_told t q ∙ ap (λ b. cond b (Some (new_row t)) (row_of (tree.routes t) q)) two)
@@ -222,19 +222,19 @@ module _ (names : List Name) (info : Name → List ℕ) (servers : AreServers na
         → token_out (gained_at names tree uplink name words t) name ≡ Some (told_token tree t name)
     token_new t among (inl here) =
         ap (λ known. token_out known name) (told_here t here)
-        ∙ added_gets_smallest (tree.routes t) (place_in names (next t)) uplink name (distance tree.forest t name) (told_token tree (next t) name) words
+        ∙ added_gets_smallest (tree.routes t) (index_in names (next t)) uplink name (distance tree.forest t name) (told_token tree (next t) name) words
         (not_itself t name here can.unknown)
         ∙ ap Some (sym (new_number (tree.routes t) (sound.numbered t among) name (not_known t name here can.unknown)))
     token_new t among (inr there) =
         ap (λ known. token_out known name) (by (tree.here t))
         ∙ known_number (tree.routes t) (sound.numbered t among) name there
       where
-        by : (b : Bool) → (if b && not (is_known (tree.routes t) name) then told_of names tree uplink name words t else tree.routes t) ≡ tree.routes t
-        by true = ap (λ b. if not b then told_of names tree uplink name words t else tree.routes t) there
+        by : (b : Bool) → (if b && not (is_known (tree.routes t) name) then known_told names tree uplink name words t else tree.routes t) ≡ tree.routes t
+        by true = ap (λ b. if not b then known_told names tree uplink name words t else tree.routes t) there
         by false = refl
 
     tokens_now : (t u x : Name) (r : ServerRow) → tree.here u ≡ true → AreLinked tree.forest t u → row_of (gained_at names tree uplink name words u) x ≡ Some r
-        → r.link ≡ place_in names t → token_out (gained_at names tree uplink name words t) x ≡ Some r.token
+        → r.link ≡ index_in names t → token_out (gained_at names tree uplink name words t) x ≡ Some r.token
     tokens_now t u x r here linked there link =
         by (same_fold x name) refl (sym (row_told u x) ∙ sym (ap (λ known. row_of known x) (told_here u here)) ∙ there)
       where

@@ -8,7 +8,7 @@ use Rattle.irc_routes.specs.declared.server_row.ServerRow.{ServerRow}
 use Rattle.irc_routes.specs.Known.{Known, is_itself, row_of, token_out, without_server, IsNumbered}
 use Rattle.irc_routes.specs.Limits.{max_servers}
 use Rattle.irc_routes.proofs.RouteLaws.{stays_numbered}
-use Rattle.irc_follow.specs.Tree.{Tree, shape, shape_in, lost, lost_at, place_in, IsSoundTree, CanLose}
+use Rattle.irc_follow.specs.Tree.{Tree, shape, shape_in, lost, lost_at, index_in, IsSoundTree, CanLose}
 
 module _ (names : List Name) (info : Name → List ℕ) (tree : Tree) (sound : IsSoundTree names info tree) (name : List ℕ) (can : CanLose tree name) where
   here_is : (t : Name) → tree.here t ≡ true → lost_at tree name t ≡ without_server name (tree.routes t)
@@ -53,7 +53,7 @@ module _ (names : List Name) (info : Name → List ℕ) (tree : Tree) (sound : I
           ∙ all_here (tree.knows x) (not (same x t)))
 
   tokens_now : (t u x : Name) (r : ServerRow) → tree.here u ≡ true → AreLinked tree.forest t u → row_of (lost_at tree name u) x ≡ Some r
-      → r.link ≡ place_in names t → token_out (lost_at tree name t) x ≡ Some r.token
+      → r.link ≡ index_in names t → token_out (lost_at tree name t) x ≡ Some r.token
   tokens_now t u x r here linked there link =
       by (same_fold x name) refl (sym (row_left u x) ∙ sym (ap (λ known. row_of known x) (here_is u here)) ∙ there)
     where

@@ -8,12 +8,12 @@ use Rattle.irc_relay.specs.Links.{Name, same, Link, joined, links_without, AreLi
 use Rattle.irc_relay.specs.Relay.{TakesFrom}
 use Rattle.irc_routes.specs.Limits.{max_servers}
 use Rattle.irc_routes.specs.declared.server_row.ServerRow.{ServerRow}
-use Rattle.irc_routes.specs.Known.{Known, behind, place_of, row_of, servers_told, token_out, IsNumbered}
+use Rattle.irc_routes.specs.Known.{Known, names_behind, place_of, row_of, servers_told, token_out, IsNumbered}
 use Rattle.irc_tables.specs.FoldedRows.{IsInFoldedOrder}
 use Rattle.irc_world.specs.Stepping.{servers_on_side}
 use Rattle.irc_world.specs.World.{Setting, World, place_at, setting_of}
 use Rattle.irc_world.specs.WorldHolds.{IsWorld}
-use Rattle.irc_follow.specs.Tree.{place_in, shape, shape_in}
+use Rattle.irc_follow.specs.Tree.{index_in, shape, shape_in}
 use Rattle.irc_follow.specs.Part.{Fixed, Part, info_in, number, IsFixed, IsSoundPart}
 
 abbrev pub part_of : Fixed → World → (Name → Known) → Name → Part
@@ -42,7 +42,7 @@ pub record AreRight (s : Fixed) (links : List Link) (routes : Name → Known) : 
       ≡ (if joined links x t && not (same x t) then Some (shape_in s.names (info_in s.settings) links t x) else None)
   pub numbered : (t : Name) → IsAmong s.names t → IsNumbered (routes t)
   pub low : (t x : Name) (r : ServerRow) → IsAmong s.names t → row_of (routes t) x ≡ Some r → r.ours ≤ max_servers
-  pub tokens : (t u x : Name) (r : ServerRow) → IsAmong s.names u → AreLinked links t u → row_of (routes u) x ≡ Some r → r.link ≡ place_in s.names t
+  pub tokens : (t u x : Name) (r : ServerRow) → IsAmong s.names u → AreLinked links t u → row_of (routes u) x ≡ Some r → r.link ≡ index_in s.names t
       → token_out (routes t) x ≡ Some r.token
 
 -- what stays is that of this network: the homes are its clients', and lines come along its links
@@ -59,7 +59,7 @@ PartAtRestIsSound = (s : Fixed) (world : World) (routes : Name → Known) (serve
 abbrev pub BehindIsThatSide : Type 0
 BehindIsThatSide = (s : Fixed) (links : List Link) (routes : Name → Known) (t u : Name) → IsFixed s → IsForest links → EndsAreAmong s.names links
     → AreRight s links routes → AreLinked links t u
-    → behind (routes t) (number s u) ≡ servers_on_side s.settings (links_without links t u) u
+    → names_behind (routes t) (number s u) ≡ servers_on_side s.settings (links_without links t u) u
 
 -- What a decision may know of a server's network is what the world has of it.
 abbrev pub PlaceIsWorlds : Type 0

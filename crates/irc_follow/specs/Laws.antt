@@ -11,7 +11,7 @@ use Rattle.irc_stage.specs.EffectTold.{Served}
 use Rattle.irc_stage.specs.View.{View}
 use Rattle.irc_follow.specs.Fits.{Fits}
 use Rattle.irc_follow.specs.Part.{Fixed, Part, done, IsFixed, IsSoundPart}
-use Rattle.irc_follow.specs.Says.{Aside, PassesBy, asked, machine, play, terms, Says, IsDoable}
+use Rattle.irc_follow.specs.Says.{Aside, PassesBy, neighbour_served, machine, play, terms, Says, IsDoable}
 
 -- A side stays sound by each deed that can be done.
 abbrev pub DoneStaysSound : Type 0
@@ -20,7 +20,7 @@ DoneStaysSound = (s : Fixed) (w : Part) (deed : Deed) → IsFixed s → IsSoundP
 -- A server that fits its side takes a line that says a deed, and fits the side after that deed.
 abbrev pub SaidDeedFits : Type 0
 SaidDeedFits = (s : Fixed) (p t : Name) (w : Part) (view : View) (deed : Deed) (line : List ℕ) → IsFixed s → TakesFrom s.streams t p → Fits s t w view
-    → Says s p t w view deed line → Fits s t (done s w deed) (asked s p view line).view
+    → Says s p t w view deed line → Fits s t (done s w deed) (neighbour_served s p view line).view
 
 -- And it shows to each client what the network shows to that by the deed.
 abbrev pub SaidDeedShows : Type 0
@@ -35,7 +35,7 @@ pub record PutsOutNothing (s : Fixed) (t : Name) (w : Part) (after : Served) : T
 -- A line that says no deed changes nothing, and nothing is told on or shown upon it.
 abbrev pub AsideStays : Type 0
 AsideStays = (s : Fixed) (p t : Name) (w : Part) (view : View) (line : List ℕ) → Fits s t w view → Aside s p t w view line
-    → PutsOutNothing s t w (asked s p view line)
+    → PutsOutNothing s t w (neighbour_served s p view line)
 
 -- A server that an effect passes by fits as it is; its clients are shown nothing; and the effect passes by whoever takes its lines.
 pub record PassedStays (s : Fixed) (t : Name) (w : Part) (deed : Deed) : Type 0 where

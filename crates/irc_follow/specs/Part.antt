@@ -27,7 +27,7 @@ use Rattle.irc_stage.specs.RoomMachine.{Clients}
 use Rattle.irc_world.specs.ClientsUsers.{HaveOneHome, registered_as}
 use Rattle.irc_world.specs.Homes.{HomesPass}
 use Rattle.irc_world.specs.World.{Setting, Hall, home_in, is_server, setting_of}
-use Rattle.irc_follow.specs.Tree.{Tree, gained, lost, place_in, AreServers, IsSoundTree}
+use Rattle.irc_follow.specs.Tree.{Tree, gained, lost, index_in, AreServers, IsSoundTree}
 
 -- What stays meanwhile: the servers as they are configured, and their names; the home of each client that ever connected; and where each server's lines come from.
 pub record Fixed : Type 0 where
@@ -38,7 +38,7 @@ pub record Fixed : Type 0 where
 
 -- a server's number, which is that of the link to it
 abbrev pub number : Fixed → Name → ℕ
-number s server = place_in s.names server
+number s server = index_in s.names server
 
 -- how a server describes itself
 abbrev pub info_in : List Setting → Name → List ℕ

@@ -40,27 +40,27 @@ use Rattle.irc_follow.specs.Part.{Fixed, Part, number, info_in, is_home_of, done
 -- ---- a server, line by line
 
 -- what a server does with a line of its neighbour p
-abbrev pub asked : Fixed → Name → View → List ℕ → Served
-asked s p view line = served view (link_says (number s p) (read_of line))
+abbrev pub neighbour_served : Fixed → Name → View → List ℕ → Served
+neighbour_served s p view line = served view (link_says (number s p) (read_of line))
 
 -- a line without its CR LF
 abbrev pub body : List ℕ → List ℕ
 body line = take (length line - 2) line
 
-abbrev pub line_for : ℕ → Sent → Option (List ℕ)
-line_for link (line_on to line) = if nat_eq to link then Some (body line) else None
-line_for link other = None
+abbrev pub line_on_link : ℕ → Sent → Option (List ℕ)
+line_on_link link (line_on to line) = if nat_eq to link then Some (body line) else None
+line_on_link link other = None
 
 -- what is put out on a link
 abbrev pub lines_on : ℕ → List Sent → List (List ℕ)
-lines_on link out = filter_map (line_for link) out
+lines_on link out = filter_map (line_on_link link) out
 
 -- as one client of the network sees it
 abbrev pub machine : Fixed → ℕ → Machine View (List ℕ) (List ℕ)
 machine s client = record {
-  step = λ t p view line. (asked s p view line).view;
-  sends = λ t p view line u. if same u p then [] else lines_on (number s u) (asked s p view line).out;
-  shows = λ t p view line. if is_home_of s.homes t client then lines_to client (asked s p view line).out else [];
+  step = λ t p view line. (neighbour_served s p view line).view;
+  sends = λ t p view line u. if same u p then [] else lines_on (number s u) (neighbour_served s p view line).out;
+  shows = λ t p view line. if is_home_of s.homes t client then lines_to client (neighbour_served s p view line).out else [];
 }
 
 -- ---- deeds that a line can say

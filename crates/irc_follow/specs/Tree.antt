@@ -15,9 +15,9 @@ use Rattle.irc_routes.specs.declared.server_row.ServerRow.{ServerRow}
 use Rattle.irc_routes.specs.Known.{Known, added, is_known, row_of, smallest_free, token_out, without_server, IsNumbered}
 
 -- a server's place among the names, which is the number of the link to it at each other server. One that is none of them has the number of all
-abbrev pub place_in : List Name → Name → ℕ
-place_in [] name = 0
-place_in (first ∷ names) name = if same first name then 0 else suc (place_in names name)
+abbrev pub index_in : List Name → Name → ℕ
+index_in [] name = 0
+index_in (first ∷ names) name = if same first name then 0 else suc (index_in names name)
 
 -- The links, all of them, a new one and a lost one too; the servers of this side, which are told of all that changes; the servers that those know by now; and what
 -- each server keeps. Servers that are not of this side keep what they had at the start.
@@ -34,14 +34,14 @@ abbrev pub told_token : Tree → Name → Name → ℕ
 told_token tree p name = unwrap_or (token_out (tree.routes p) name) (smallest_free (tree.routes p))
 
 -- what a server keeps once the next one toward a new server has told it of that
-abbrev pub told_of : List Name → Tree → (uplink name info : List ℕ) → Name → Known
-told_of names tree uplink name info t =
-    added (place_in names (toward tree.forest t name)) uplink name (distance tree.forest t name) (told_token tree (toward tree.forest t name) name) info
+abbrev pub known_told : List Name → Tree → (uplink name info : List ℕ) → Name → Known
+known_told names tree uplink name info t =
+    added (index_in names (toward tree.forest t name)) uplink name (distance tree.forest t name) (told_token tree (toward tree.forest t name) name) info
     (tree.routes t)
 
 abbrev pub gained_at : List Name → Tree → (uplink name info : List ℕ) → Name → Known
 gained_at names tree uplink name info t =
-    if tree.here t && not (is_known (tree.routes t) name) then told_of names tree uplink name info t else tree.routes t
+    if tree.here t && not (is_known (tree.routes t) name) then known_told names tree uplink name info t else tree.routes t
 
 -- this side knows a server more, or one less
 abbrev pub gained : List Name → (uplink name info : List ℕ) → Tree → Tree
@@ -72,7 +72,7 @@ shape r = record { link = r.link; uplink = r.uplink; name = r.name; distance = r
 -- what t is to keep of another server
 abbrev pub shape_in : List Name → (Name → List ℕ) → List Link → Name → Name → Shape
 shape_in names info forest t name = record {
-  link = place_in names (toward forest t name);
+  link = index_in names (toward forest t name);
   uplink = toward forest name t;
   name = name;
   distance = distance forest t name;
@@ -93,7 +93,7 @@ pub record IsSoundTree (names : List Name) (info : Name → List ℕ) (tree : Tr
   pub named : (t : Name) → IsAmong names t → (tree.routes t).name ≡ t
   pub low : (t x : Name) (r : ServerRow) → tree.here t ≡ true → row_of (tree.routes t) x ≡ Some r → r.ours ≤ max_servers
   pub tokens : (t u x : Name) (r : ServerRow) → tree.here u ≡ true → AreLinked tree.forest t u → row_of (tree.routes u) x ≡ Some r
-      → r.link ≡ place_in names t → token_out (tree.routes t) x ≡ Some r.token
+      → r.link ≡ index_in names t → token_out (tree.routes t) x ≡ Some r.token
 
 -- the servers keep the rules of names, and are not too many
 pub record AreServers (names : List Name) (info : Name → List ℕ) : Type 0 where

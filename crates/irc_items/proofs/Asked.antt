@@ -12,7 +12,7 @@ use Rattle.irc_server.specs.Served.{IsSetAlike, Occurrence, ServedKeepsItsSettin
 use Rattle.irc_stage.specs.View.{View}
 use Rattle.irc_world.specs.World.{home_in}
 use Rattle.irc_follow.specs.Says.{lines_on}
-use Rattle.irc_follow.specs.Tree.{place_in}
+use Rattle.irc_follow.specs.Tree.{index_in}
 use Rattle.irc_network.specs.Network.{Course, Reply, Site, all_sent_out, asked, asked_at, is_taken, received_by, reply, with_reply, with_site}
 use Rattle.irc_items.specs.Relayed.{way_at}
 use Rattle.irc_items.specs.SetUp.{setting_now, settings_of, view_at, HasPassword, IsConfigured, IsSetUp}
@@ -56,7 +56,7 @@ setting_alike old new alike i = record { name = alike.name i; info = alike.info 
 
 module _ (kept : ServedKeepsItsSetting) (old : Course) (set_up : IsSetUp old.net) (t : Name) (among : IsAmong old.net.names t) (occurrence : Occurrence) where
   abbrev place : ℕ
-  place = place_in old.net.names t
+  place = index_in old.net.names t
 
   abbrev view : View
   view = view_at old.net t
@@ -144,7 +144,7 @@ module _ (kept : ServedKeepsItsSetting) (old : Course) (set_up : IsSetUp old.net
 
 pub asked_there : ServedKeepsItsSetting → (old : Course) → IsSetUp old.net → length old.net.received ≡ length old.net.homes → (t : Name)
     → IsAmong old.net.names t → (occurrence : Occurrence)
-    → IsAskedAt t (reply (view_at old.net t) occurrence) old (asked (place_in old.net.names t) occurrence old)
+    → IsAskedAt t (reply (view_at old.net t) occurrence) old (asked (index_in old.net.names t) occurrence old)
 asked_there kept old set_up inboxes t among occurrence =
     subst (IsAskedAt t (reply (view_at old.net t) occurrence) old) (sym (asked_is kept old set_up t among occurrence))
     (asked_so kept old set_up t among occurrence inboxes)

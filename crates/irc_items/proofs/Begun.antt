@@ -4,7 +4,7 @@ use Rattle.irc_merge.specs.Deeds.{Deed}
 use Rattle.irc_relay.specs.Distances.{IsAmong}
 use Rattle.irc_relay.specs.Following.{Follows, GoesWell, IsFollowing, Starts, all_done, all_seen}
 use Rattle.irc_relay.specs.Links.{Name, IsForest}
-use Rattle.irc_relay.specs.Relay.{Machine, Net, Streams, streams_from, Covers, GoesAway, after, shown_upon, coming, coming_within, final, told}
+use Rattle.irc_relay.specs.Relay.{Machine, Net, Streams, streams_from, Covers, GoesAway, after, shown_upon, coming, coming_within, final, final_shown}
 use Rattle.irc_relay.proofs.TellingOn.{all_well, followed}
 use Rattle.irc_routes.specs.Known.{Known}
 use Rattle.irc_stage.specs.View.{View}
@@ -78,10 +78,10 @@ module _ (s : Fixed) (asks : Answering) (world : World) (source : Name → Name)
   has_shown : (t : Name) → is_home_of s.homes t client ≡ true → (relayed s net client).shown t ≡ received_by net client
   has_shown t home = ap (λ b. cond b (received_by net client) []) home
 
-  will_receive : (t : Name) → is_home_of s.homes t client ≡ true → told (machine s client) s.streams (relayed s net client) t ≡ owed
+  will_receive : (t : Name) → is_home_of s.homes t client ≡ true → final_shown (machine s client) s.streams (relayed s net client) t ≡ owed
   will_receive t home = by (s.streams.depth t) refl
     where
-      by : (n : ℕ) → s.streams.depth t ≡ n → told (machine s client) s.streams (relayed s net client) t ≡ owed
+      by : (n : ℕ) → s.streams.depth t ≡ n → final_shown (machine s client) s.streams (relayed s net client) t ≡ owed
       by zero none =
           ap (λ lines. (relayed s net client).shown t ++ shown_upon (machine s client) t (s.streams.parent t) (view_at net t) lines)
           (none_at_source (machine s client) s.streams (relayed s net client) t none)

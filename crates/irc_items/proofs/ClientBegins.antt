@@ -32,7 +32,7 @@ use Rattle.irc_follow.specs.AtRest.{part_of}
 use Rattle.irc_follow.specs.Fits.{Fits}
 use Rattle.irc_follow.specs.Part.{Fixed, is_home_of, number}
 use Rattle.irc_follow.specs.Says.{lines_on, machine, play}
-use Rattle.irc_follow.specs.Tree.{place_in}
+use Rattle.irc_follow.specs.Tree.{index_in}
 use Rattle.irc_follow.proofs.AtRest.{joined_alike}
 use Rattle.irc_follow.proofs.Followed.{IsKnownOfLine}
 use Rattle.irc_follow.proofs.SaidShows.{append_nil}
@@ -128,8 +128,8 @@ module _ (laws : AreClientLaws) (net base new : Network) (world : World) (h : Na
       by (unlike _ two) = ap (λ view. owed_to s view y) (given.served.other_views x two)
           ∙ among (list_any (same x) net.names) refl
 
-  same_place : (y : Name) → place_in new.names y ≡ number s y
-  same_place y = ap (λ names. place_in names y) given.served.names
+  same_place : (y : Name) → index_in new.names y ≡ number s y
+  same_place y = ap (λ names. index_in names y) given.served.names
 
   queued_home : (y : Name) → unwrap_or (way_between new h y) [] ≡ lines_on (number s y) out
   queued_home y =
@@ -151,7 +151,7 @@ module _ (laws : AreClientLaws) (net base new : Network) (world : World) (h : Na
 
   queued_elsewhere : (x y : Name) → x ≢ h → unwrap_or (way_between new x y) [] ≡ []
   queued_elsewhere x y two =
-      ap (λ o. unwrap_or o []) (given.served.other_ways x (place_in new.names y) two) ∙ quiet_ways laws.quiet net given.rest x (place_in new.names y)
+      ap (λ o. unwrap_or o []) (given.served.other_ways x (index_in new.names y) two) ∙ quiet_ways laws.quiet net given.rest x (index_in new.names y)
 
   module _ (client : ℕ) where
     pub from_home : (y : Name) → under_way (relayed s new client) h y ≡ lines_on (number s y) out

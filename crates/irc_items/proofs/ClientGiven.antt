@@ -15,7 +15,7 @@ use Rattle.irc_world.specs.Stepping.{Item, connect, gone, line}
 use Rattle.irc_world.specs.World.{home_in}
 use Rattle.irc_follow.specs.Part.{is_home_of}
 use Rattle.irc_follow.specs.Says.{lines_on}
-use Rattle.irc_follow.specs.Tree.{place_in}
+use Rattle.irc_follow.specs.Tree.{index_in}
 use Rattle.irc_network.specs.Network.{Course, Network, Reply, asked, asked_of, begun, done_by, given, home_place, is_taken, next_client, place_of, received_by, reply, view_of, with_client}
 use Rattle.irc_network.specs.Refusing.{fault_at_rest, has_client, is_there}
 use Rattle.irc_items.specs.OneRoom.{IsOneRoom}
@@ -70,7 +70,7 @@ module _ (stays : ServedKeepsItsSetting) (net : Network) (homes : List Name) (re
   base = homed net homes received
 
   abbrev course : Course
-  course = asked (place_in net.names h) (of_client happening) (begun base)
+  course = asked (index_in net.names h) (of_client happening) (begun base)
 
   answered : IsAskedAt h (reply (view_at net h) (of_client happening)) (begun base) course
   answered = asked_there stays (begun base) (set_up_besides net net.links homes received net.items net.taken set_up) inboxes h among (of_client happening)
@@ -153,7 +153,7 @@ pub record IsDoneAtHome (net : Network) (client : ℕ) (happening : Happening) (
   pub at_home : IsAtHome net client home
   pub served : IsServedFor net net (given item net).net home happening item
 
-home_asked : (net : Network) → IsSetUp net → (client : ℕ) (home : Name) → IsAtHome net client home → home_place net client ≡ Some (place_in net.names home)
+home_asked : (net : Network) → IsSetUp net → (client : ℕ) (home : Name) → IsAtHome net client home → home_place net client ≡ Some (index_in net.names home)
 home_asked net set_up client home at_home =
     ap (option_and_then (place_of net)) at_home.is_home ∙ (there net set_up home at_home.among).place
 
@@ -167,7 +167,7 @@ done_at_home stays net sound client happening item taken done is =
       home = found.home;
       at_home = found.at_home;
       served = subst (λ new. IsServedFor net net new found.home happening item)
-          (sym (given_where item net net (home_place net client) (place_in net.names found.home) (of_client happening) done
+          (sym (given_where item net net (home_place net client) (index_in net.names found.home) (of_client happening) done
           (home_asked net sound.set_up client found.home found.at_home)))
           (served_for stays net net.homes net.received sound.set_up sound.inboxes (λ c. refl) found.home found.at_home.among happening
           (taken (view_at net found.home) found.at_home.connected) item);
@@ -242,7 +242,7 @@ connect_is_given stays net sound room server host taken =
       among = among;
       is_new = next_is_new net room server among;
       served = subst (λ new. IsServedFor net (with_client server net) new server (connects (next_client net) host) (connect server host))
-          (sym (given_where (connect server host) net (with_client server net) (place_of net server) (place_in net.names server)
+          (sym (given_where (connect server host) net (with_client server net) (place_of net server) (index_in net.names server)
           (of_client (connects (next_client net) host)) refl (there net sound.set_up server among).place))
           (served_for stays net (net.homes ++ server ∷ []) (net.received ++ [] ∷ []) sound.set_up (long_behind net.received net.homes [] server sound.inboxes)
           (received_as_before net server) server among (connects (next_client net) host)

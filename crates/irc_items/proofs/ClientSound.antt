@@ -28,7 +28,7 @@ use Rattle.irc_follow.specs.AtRest.{part_of, AreRight}
 use Rattle.irc_follow.specs.Fits.{Fits, far_of}
 use Rattle.irc_follow.specs.Part.{Fixed, number}
 use Rattle.irc_follow.specs.Says.{lines_on, machine, play}
-use Rattle.irc_follow.specs.Tree.{place_in}
+use Rattle.irc_follow.specs.Tree.{index_in}
 use Rattle.irc_network.specs.Network.{Network}
 use Rattle.irc_items.specs.GoodLines.{no_answers}
 use Rattle.irc_items.specs.Relayed.{fixed_of, is_met_with, relayed, way_at, way_between}
@@ -251,7 +251,7 @@ module _ (laws : AreClientLaws) (net base new : Network) (world : World) (h : Na
 
   ways_now : (x y : Name) → is_some (way_between new x y) ≡ linked new.links x y
   ways_now x y =
-      ap (λ names. is_some (way_at new x (place_in names y))) given.served.names ∙ by (tell x h)
+      ap (λ names. is_some (way_at new x (index_in names y))) given.served.names ∙ by (tell x h)
       ∙ given.sound.ways x y ∙ ap (λ links. linked links x y) (sym given.served.links)
     where
       by : Telling x h → is_some (way_at new x (number s y)) ≡ is_some (way_between net x y)
@@ -275,7 +275,7 @@ module _ (laws : AreClientLaws) (net base new : Network) (world : World) (h : Na
       by p = record {
         server = p.server;
         among = subst (λ names. IsAmong names p.server) (sym given.served.names) p.among;
-        is = ap (λ names. place_in names p.server) given.served.names ∙ p.is;
+        is = ap (λ names. index_in names p.server) given.served.names ∙ p.is;
       }
 
   pub client_sound : IsSound new

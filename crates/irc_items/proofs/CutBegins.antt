@@ -14,7 +14,7 @@ use Rattle.irc_relay.specs.Relay.{under_way, from_near_end, GoesAway, TakesFrom}
 use Rattle.irc_relay.proofs.Flowing.{source_is_one}
 use Rattle.irc_relay.proofs.GoingToward.{linked_back, linked_joined, linked_other, next_hop, toward_linked}
 use Rattle.irc_relay.proofs.TakingOut.{tests_tell, without_turned}
-use Rattle.irc_routes.specs.Known.{Known, behind}
+use Rattle.irc_routes.specs.Known.{Known, names_behind}
 use Rattle.irc_stage.specs.Lemmas.Numbers.{one_number, same_number, same_number-is}
 use Rattle.irc_stage.specs.View.{View}
 use Rattle.irc_world.specs.Stepping.{parted, split_text}
@@ -23,7 +23,7 @@ use Rattle.irc_follow.specs.AtRest.{part_of}
 use Rattle.irc_follow.specs.Fits.{Fits}
 use Rattle.irc_follow.specs.Part.{Fixed, Part, number}
 use Rattle.irc_follow.specs.Says.{lines_on, machine, play}
-use Rattle.irc_follow.specs.Tree.{place_in}
+use Rattle.irc_follow.specs.Tree.{index_in}
 use Rattle.irc_follow.proofs.AtRest.{joined_alike, joined_among}
 use Rattle.irc_follow.proofs.Places.{one_place}
 use Rattle.irc_follow.proofs.SaidShows.{append_nil}
@@ -47,7 +47,7 @@ use Rattle.irc_items.proofs.SourceFacts.{next_to}
 
 -- the lines by which an end tells its neighbours of what it has lost
 abbrev pub squits_told : Fixed → (Name → Known) → Name → Name → List (List ℕ)
-squits_told s routes a b = map (λ x. line_text (squit_parts a x (split_text a b))) (behind (routes a) (number s b))
+squits_told s routes a b = map (λ x. line_text (squit_parts a x (split_text a b))) (names_behind (routes a) (number s b))
 
 -- no line of a cut is answered
 abbrev pub terms_of_cut : Network → Name → Name → Terms View (List ℕ) Part Deed
@@ -102,8 +102,8 @@ module _ (quiet : RestStays) (net new : Network) (near far : Name) (given : IsCu
 
   -- ---- what is under way
 
-  same_place : (y : Name) → place_in new.names y ≡ number s y
-  same_place y = ap (λ names. place_in names y) given.cut_so.names
+  same_place : (y : Name) → index_in new.names y ≡ number s y
+  same_place y = ap (λ names. index_in names y) given.cut_so.names
 
   still_there : (x y : Name) → is_some (way_between net x y) ≡ linked world.links x y
   still_there x y = given.sound.ways x y ∙ ap (λ links. linked links x y) given.sound.links
@@ -117,7 +117,7 @@ module _ (quiet : RestStays) (net new : Network) (near far : Name) (given : IsCu
 
   queued_elsewhere : (x y : Name) → x ≢ near → x ≢ far → unwrap_or (way_between new x y) [] ≡ []
   queued_elsewhere x y m n =
-      ap (λ o. unwrap_or o []) (given.cut_so.other_ways x (place_in new.names y) m n) ∙ quiet_ways quiet net given.rest x (place_in new.names y)
+      ap (λ o. unwrap_or o []) (given.cut_so.other_ways x (index_in new.names y) m n) ∙ quiet_ways quiet net given.rest x (index_in new.names y)
 
   under_way_elsewhere : (client : ℕ) (x y : Name) → x ≢ near → x ≢ far → under_way (relayed s new client) x y ≡ []
   under_way_elsewhere client x y m n = ap (λ lines. lines ++ owed_to s (view_at new x) y) (queued_elsewhere x y m n) ∙ owes_nobody_elsewhere x y m n

@@ -25,7 +25,7 @@ use Rattle.irc_follow.specs.AtRest.{part_of, AreRight, IsOfWorld}
 use Rattle.irc_follow.specs.Fits.{far_of, peers_of, Fits, IsNumberOf}
 use Rattle.irc_follow.specs.Part.{Fixed, info_in, is_home_of, number, IsFixed, IsSoundPart}
 use Rattle.irc_follow.specs.Says.{play}
-use Rattle.irc_follow.specs.Tree.{place_in, shape_in}
+use Rattle.irc_follow.specs.Tree.{index_in, shape_in}
 use Rattle.irc_follow.proofs.AtRest.{joined_alike}
 use Rattle.irc_follow.proofs.BehindLinks.{joined_test}
 use Rattle.irc_follow.proofs.NewLink.{kept_row, parent_is_linked, shape_stays}
@@ -192,7 +192,7 @@ module _ (law : IsKnownOfCuts) (s : Fixed) (world : World) (routes : Name → Kn
 
   -- u's number for a server behind its neighbour t is the one that t has for it
   one_number_for : (t u x : Name) (r : ServerRow) → IsAmong s.names u → AreLinked left t u → StandsBy left a b u → row_of (routes_now u) x ≡ Some r
-      → r.link ≡ place_in s.names t → token_out (routes_now t) x ≡ Some r.token
+      → r.link ≡ index_in s.names t → token_out (routes_now t) x ≡ Some r.token
   one_number_for t u x r among linked (by_near here) there link =
       ap (λ known. token_out known x) (near_is t (linked_joined left t u linked ∙ here))
       ∙ side_tokens law s world routes left a b near_side t u x r here linked

@@ -13,7 +13,7 @@ use Rattle.irc_world.specs.Stepping.{cut}
 use Rattle.irc_world.specs.World.{home_in}
 use Rattle.irc_follow.specs.Fits.{far_of}
 use Rattle.irc_follow.specs.Says.{lines_on}
-use Rattle.irc_follow.specs.Tree.{place_in}
+use Rattle.irc_follow.specs.Tree.{index_in}
 use Rattle.irc_network.specs.Network.{Course, Network, Reply, asked, begun, changed_at, ends_of, given, kept, lost, place_of, received_by, reply, without_way}
 use Rattle.irc_network.specs.Refusing.{fault_at_rest, is_server}
 use Rattle.irc_items.specs.OneRoom.{IsOneRoom}
@@ -33,7 +33,7 @@ pub record IsParting (net : Network) (near far : Name) : Type 0 where
 
 -- what the server at one end does when the link is lost
 abbrev pub parted_at : Network → Name → Name → Served
-parted_at net t other = served (view_at net t) (link_down (place_in net.names other))
+parted_at net t other = served (view_at net t) (link_down (index_in net.names other))
 
 -- Both ends have lost the link and done what there is to do; the way between them is gone. Nothing else has changed.
 pub record IsCut (net new : Network) (near far : Name) : Type 0 where
@@ -48,12 +48,12 @@ pub record IsCut (net new : Network) (near far : Name) : Type 0 where
   pub near_view : view_at new near ≡ (parted_at net near far).view
   pub far_view : view_at new far ≡ (parted_at net far near).view
   pub other_views : (u : Name) → u ≢ near → u ≢ far → view_at new u ≡ view_at net u
-  pub near_way : (place : ℕ) → place ≢ place_in net.names far
+  pub near_way : (place : ℕ) → place ≢ index_in net.names far
       → way_at new near place ≡ option_map (λ lines. lines ++ lines_on place (parted_at net near far).out) (way_at net near place)
-  pub far_way : (place : ℕ) → place ≢ place_in net.names near
+  pub far_way : (place : ℕ) → place ≢ index_in net.names near
       → way_at new far place ≡ option_map (λ lines. lines ++ lines_on place (parted_at net far near).out) (way_at net far place)
-  pub near_closed : way_at new near (place_in net.names far) ≡ None
-  pub far_closed : way_at new far (place_in net.names near) ≡ None
+  pub near_closed : way_at new near (index_in net.names far) ≡ None
+  pub far_closed : way_at new far (index_in net.names near) ≡ None
   pub other_ways : (u : Name) (place : ℕ) → u ≢ near → u ≢ far → way_at new u place ≡ way_at net u place
   pub received : (client : ℕ) (home : Name) → home_in net.homes client ≡ Some home
       → received_by new client
@@ -92,10 +92,10 @@ some_far f None y e = absurd (cc e)
 
 module _ (stays : ServedKeepsItsSetting) (net : Network) (sound : IsSound net) (room : IsOneRoom net) (near far : Name) (m : IsParting net near far) where
   abbrev p : ℕ
-  p = place_in net.names near
+  p = index_in net.names near
 
   abbrev q : ℕ
-  q = place_in net.names far
+  q = index_in net.names far
 
   forest : IsForest net.links
   forest = subst IsForest (sym sound.links) (room.servers near m.near_among).sound.tree.forest
@@ -108,9 +108,9 @@ module _ (stays : ServedKeepsItsSetting) (net : Network) (sound : IsSound net) (
 
   -- the end of the link is there
   has_end : (a b : Name) → IsAmong net.names a → IsAmong net.names b → AreLinked net.links a b
-      → is_some (get (view_at net a).ends (place_in net.names b)) ≡ true
+      → is_some (get (view_at net a).ends (index_in net.names b)) ≡ true
   has_end a b here there_too are_linked =
-      some_far far_of (get (view_at net a).ends (place_in net.names b)) (if joined (world_now net).links b a then Some b else None)
+      some_far far_of (get (view_at net a).ends (index_in net.names b)) (if joined (world_now net).links b a then Some b else None)
       ((room.servers a here).ends b there_too
       ∙ ap (λ c. if c then Some (if joined (world_now net).links b a then Some b else None) else None)
       (sym (ap (λ links. linked links a b) sound.links) ∙ (tests_tell net.links a b b).2.1 are_linked))
@@ -165,7 +165,7 @@ module _ (stays : ServedKeepsItsSetting) (net : Network) (sound : IsSound net) (
   far_asked : IsAskedAt far (reply (view_at near_parted.net far) (link_down p)) near_parted both_parted
   far_asked =
       subst (λ place. IsAskedAt far (reply (view_at near_parted.net far) (link_down p)) near_parted (asked place (link_down p) near_parted))
-      (ap (λ names. place_in names far) near_asked.names)
+      (ap (λ names. index_in names far) near_asked.names)
       (asked_there stays near_parted near_asked.set_up (near_asked.inboxes ∙ sound.inboxes ∙ ap length (sym near_asked.homes)) far
       (subst (λ names. IsAmong names far) (sym near_asked.names) m.far_among) (link_down p))
 

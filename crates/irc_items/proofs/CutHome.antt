@@ -18,7 +18,7 @@ use Rattle.irc_relay.specs.Links.{Name, Link, joined, links_without, same, AreJo
 use Rattle.irc_relay.specs.Lemmas.TellingNames.{Telling, alike, unlike, tell}
 use Rattle.irc_relay.proofs.GoingToward.{linked_back, linked_joined, linked_other, next_hop, toward_linked}
 use Rattle.irc_relay.proofs.TakingOut.{Ending, ends, ending, passes, taken_out, tests_tell, without-ends, without-passes, without_turned}
-use Rattle.irc_routes.specs.Known.{Known, behind, without_link, without_server, IsNumbered}
+use Rattle.irc_routes.specs.Known.{Known, names_behind, without_link, without_server, IsNumbered}
 use Rattle.irc_burst_lines.specs.DeedLines.{squit_parts}
 use Rattle.irc_links.specs.Ends.{is_met}
 use Rattle.irc_links.specs.Ways.{but, met_links}
@@ -140,7 +140,7 @@ module _ (s : Fixed) (world : World) (routes : Name → Known) (left : List Link
   -- ---- who is lost
 
   abbrev pub lost : List Name
-  lost = behind (routes a) (number s b)
+  lost = names_behind (routes a) (number s b)
 
   pub lost_are : lost ≡ servers_on_side s.settings left b
   lost_are =
@@ -170,14 +170,14 @@ module _ (s : Fixed) (world : World) (routes : Name → Known) (left : List Link
 -- what it is then, and what it puts out
 pub record IsParted (s : Fixed) (world : World) (routes : Name → Known) (left : List Link) (a b : Name) (view : View) (now : Served) : Type 0 where
   pub peers : now.view.peers ≡ view.peers
-  pub forgets : now.view.routes ≡ all_forgotten (behind (routes a) (number s b)) (routes a)
+  pub forgets : now.view.routes ≡ all_forgotten (names_behind (routes a) (number s b)) (routes a)
   pub knows : now.view.routes ≡ (cut_after s world routes left a b).tree.routes a
   pub end_gone : get now.view.ends (number s b) ≡ None
   pub ends_stay : (k : ℕ) → k ≢ number s b → get now.view.ends k ≡ get view.ends k
   pub clients : now.view.clients ≡ view.clients
   pub room : now.view.room ≡ of_home a (split (split_text a b) (servers_on_side s.settings left b) (world.hall a).room)
   pub told : (u : Name) → AreLinked left a u
-      → lines_on (number s u) now.out ≡ map (λ x. line_text (squit_parts a x (split_text a b))) (behind (routes a) (number s b))
+      → lines_on (number s u) now.out ≡ map (λ x. line_text (squit_parts a x (split_text a b))) (names_behind (routes a) (number s b))
   pub untold : (u : Name) → (AreLinked left a u → ⊥) → lines_on (number s u) now.out ≡ []
   pub shown : (client : ℕ) → lines_to client now.out
       ≡ (if is_home_of s.homes a client then leaving_lines s.settings left a b (world.hall a).room (get (world.hall a).clients client) else [])
@@ -189,7 +189,7 @@ module _ (s : Fixed) (world : World) (routes : Name → Known) (left : List Link
   k = number s b
 
   abbrev gone : List Name
-  gone = behind (routes a) (number s b)
+  gone = names_behind (routes a) (number s b)
 
   abbrev room : Room
   room = (world.hall a).room
@@ -212,8 +212,8 @@ module _ (s : Fixed) (world : World) (routes : Name → Known) (left : List Link
   loses_them =
       let its_end = met b cut.linked_ends in
       ap (lost_behind view k) its_end.there
-      ∙ ap (λ o. option_map_or (λ far. losses view.routes.name far (behind view.routes k)) o []) its_end.named
-      ∙ (λ i. losses (own i) b (behind (fits.routes i) k))
+      ∙ ap (λ o. option_map_or (λ far. losses view.routes.name far (names_behind view.routes k)) o []) its_end.named
+      ∙ (λ i. losses (own i) b (names_behind (fits.routes i) k))
 
   abbrev first : Served
   first = serving view a b k (routes a) room []

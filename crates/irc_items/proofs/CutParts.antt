@@ -8,7 +8,7 @@ use Rattle.irc_relay.specs.Relay.{from_near_end, streams_from, Streams, TakesFro
 use Rattle.irc_relay.proofs.Flowing.{sources_are}
 use Rattle.irc_relay.proofs.GoingToward.{distance_self, linked_back, linked_joined, linked_other, next_hop, toward_linked}
 use Rattle.irc_relay.proofs.TakingOut.{tests_tell}
-use Rattle.irc_routes.specs.Known.{Known, behind}
+use Rattle.irc_routes.specs.Known.{Known, names_behind}
 use Rattle.irc_burst_lines.specs.DeedLines.{squit_parts}
 use Rattle.irc_deeds.specs.DeedTold.{split_text}
 use Rattle.irc_stage.specs.View.{View}
@@ -192,7 +192,7 @@ module _ (s : Fixed) (world : World) (routes : Name → Known) (left : List Link
     -- and is told of all that are lost
     pub said_next : IsKnownOfLines → (u : Name) (other : View) → AreLinked left e u → Fits s u (cut_side world routes left u) other
         → SaysInTurn s e u (IsLossOfCut world.links left e) (cut_side world routes left u) other (deeds_of_cut s routes e o)
-        (map (λ x. line_text (squit_parts e x (split_text e o))) (behind (routes e) (number s o)))
+        (map (λ x. line_text (squit_parts e x (split_text e o))) (names_behind (routes e) (number s o)))
     said_next known u other near reader =
         said_to known s world routes left e o cut ways_of_end u (next_takes u near) (cut_side world routes left u) other
         (record { forest = refl; here = λ x. joined_alike left x u e on })
@@ -207,7 +207,7 @@ module _ (s : Fixed) (world : World) (routes : Name → Known) (left : List Link
         → ((w : Part) (view : View) (deed : Deed) (line : List ℕ) → IsLossOfCut world.links left e w deed → Says s e u w view deed line
         → x.says e u w view deed line)
         → Tells (machine s client) (play s client) x e u (cut_side world routes left u) other (deeds_of_cut s routes e o)
-        (map (λ x. line_text (squit_parts e x (split_text e o))) (behind (routes e) (number s o)))
+        (map (λ x. line_text (squit_parts e x (split_text e o))) (names_behind (routes e) (number s o)))
     tells_next known client x u other near reader so =
         tells_in_turn s client e u (IsLossOfCut world.links left e) x so (cut_side world routes left u) other (deeds_of_cut s routes e o) _
         (said_next known u other near reader)

@@ -13,7 +13,7 @@ use Rattle.irc_relay.specs.Distances.{EndsAreAmong, IsAmong}
 use Rattle.irc_relay.specs.Following.{all_done, all_seen}
 use Rattle.irc_relay.specs.Links.{Name, Link, part, joined, links_without, same, AreJoined, AreLinked, IsForest}
 use Rattle.irc_routes.specs.declared.server_row.ServerRow.{ServerRow}
-use Rattle.irc_routes.specs.Known.{Known, behind, row_of, token_out, IsNumbered}
+use Rattle.irc_routes.specs.Known.{Known, names_behind, row_of, token_out, IsNumbered}
 use Rattle.irc_routes.specs.Limits.{max_servers}
 use Rattle.irc_stage.specs.declared.clients.Client.{Client}
 use Rattle.irc_stage.specs.declared.clients.Client.TheVariants.{Registering, Registered}
@@ -27,7 +27,7 @@ use Rattle.irc_follow.specs.Fits.{Fits}
 use Rattle.irc_follow.specs.Part.{Fixed, Part, info_in, number, is_home_of, IsFixed, IsSoundPart}
 use Rattle.irc_follow.specs.Relinked.{with_links, TreeAfterCut}
 use Rattle.irc_follow.specs.Says.{play}
-use Rattle.irc_follow.specs.Tree.{place_in, shape, shape_in, IsSoundTree}
+use Rattle.irc_follow.specs.Tree.{index_in, shape, shape_in, IsSoundTree}
 use Rattle.irc_follow.proofs.AtRest.{ends_there, joined_alike, joined_among, joined_so}
 use Rattle.irc_follow.proofs.BehindLinks.{joined_test}
 use Rattle.irc_items.proofs.CutEnds.{AreCutEnds, cut_ends, not_beyond, side_joined}
@@ -91,7 +91,7 @@ module _ (known : IsKnownOfCuts) (s : Fixed) (world : World) (routes : Name → 
   abbrev gone : List Name
   gone = servers_on_side s.settings left b
 
-  gone_are : behind (routes a) (number s b) ≡ gone
+  gone_are : names_behind (routes a) (number s b) ≡ gone
   gone_are =
       known.behind s world.links routes a b so.fixed forest ends_are so.right so.linked
       ∙ ap (λ links. servers_on_side s.settings links b) so.is_left
@@ -110,7 +110,7 @@ module _ (known : IsKnownOfCuts) (s : Fixed) (world : World) (routes : Name → 
   lost_side : HasLost s a b gone (cut_side world routes left a) (cut_after s world routes left a b)
   lost_side =
       subst (λ names. HasLost s a b names (cut_side world routes left a) (cut_after s world routes left a b)) gone_are
-      (all_lost s 0 a b (behind (routes a) (number s b)) (cut_side world routes left a))
+      (all_lost s 0 a b (names_behind (routes a) (number s b)) (cut_side world routes left a))
 
   -- that side
   abbrev pub side_left : Part
@@ -157,7 +157,7 @@ module _ (known : IsKnownOfCuts) (s : Fixed) (world : World) (routes : Name → 
 
   -- one number at both ends of a link
   pub side_tokens : (t u x : Name) (r : ServerRow) → AreJoined left u a → AreLinked left t u → row_of (routes_now u) x ≡ Some r
-      → r.link ≡ place_in s.names t → token_out (routes_now t) x ≡ Some r.token
+      → r.link ≡ index_in s.names t → token_out (routes_now t) x ≡ Some r.token
   side_tokens t u x r here linked is link = side_tree.tokens t u x r (joined_test left u a here) linked is link
 
   -- each server of the side meets the loss with the same side

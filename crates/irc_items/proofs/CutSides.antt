@@ -4,14 +4,14 @@ use Rattle.irc_deeds.specs.DeedTold.{losses}
 use Rattle.irc_merge.specs.Deeds.{Deed}
 use Rattle.irc_relay.specs.Following.{all_done}
 use Rattle.irc_relay.specs.Links.{Name, Link, joined}
-use Rattle.irc_routes.specs.Known.{Known, behind}
+use Rattle.irc_routes.specs.Known.{Known, names_behind}
 use Rattle.irc_world.specs.World.{World}
 use Rattle.irc_follow.specs.Part.{Fixed, Part, number}
 use Rattle.irc_follow.specs.Says.{play}
 
 -- the deeds by which the side of a loses the servers of b's side, in order of name
 abbrev pub deeds_of_cut : Fixed → (Name → Known) → Name → Name → List Deed
-deeds_of_cut s routes a b = losses a b (behind (routes a) (number s b))
+deeds_of_cut s routes a b = losses a b (names_behind (routes a) (number s b))
 
 -- the side of t, of which nobody knows that the link is lost; its servers are those that are joined to t by the links that are left
 abbrev pub cut_side : World → (Name → Known) → List Link → Name → Part

@@ -14,7 +14,7 @@ use Rattle.irc_relay.specs.Links.{Name, Link, part, joined, linked, links_withou
 use Rattle.irc_relay.specs.Relay.{streams_from, from_near_end, coming, lines_coming, lines_pending, under_way, Covers}
 use Rattle.irc_relay.proofs.GoingToward.{distance_self, linked_back, linked_joined}
 use Rattle.irc_relay.proofs.TakingOut.{tests_tell, without_turned}
-use Rattle.irc_routes.specs.Known.{Known, behind}
+use Rattle.irc_routes.specs.Known.{Known, names_behind}
 use Rattle.irc_stage.specs.Lemmas.Numbers.{one_number, same_number, same_number-is}
 use Rattle.irc_stage.specs.View.{View}
 use Rattle.irc_server.specs.Owed.{lines_to}
@@ -29,7 +29,7 @@ use Rattle.irc_follow.specs.AtRest.{part_of, AreRight, BehindIsThatSide}
 use Rattle.irc_follow.specs.Fits.{Fits}
 use Rattle.irc_follow.specs.Part.{Fixed, is_home_of, number}
 use Rattle.irc_follow.specs.Says.{lines_on, machine, play}
-use Rattle.irc_follow.specs.Tree.{place_in}
+use Rattle.irc_follow.specs.Tree.{index_in}
 use Rattle.irc_follow.proofs.Followed.{IsKnownOfLine}
 use Rattle.irc_follow.proofs.Places.{one_place}
 use Rattle.irc_follow.proofs.SaidShows.{append_nil}
@@ -233,11 +233,11 @@ module _ (laws : AreCutLaws) (net new : Network) (near far : Name) (given : IsCu
     abbrev lost_far : ℕ
     lost_far = part_size (settings_of net) left near
 
-    behind_near_end : length (behind (routes_in net near) (number s far)) ≡ lost_near
+    behind_near_end : length (names_behind (routes_in net near) (number s far)) ≡ lost_near
     behind_near_end = ap length (laws.behind s world.links (routes_in net) near far (fixed_here net new near far given) given.holds.sound.forest
         (old_ends net new near far given) (right_here net new near far given) (linked_before net new near far given))
 
-    behind_far_end : length (behind (routes_in net far) (number s near)) ≡ lost_far
+    behind_far_end : length (names_behind (routes_in net far) (number s near)) ≡ lost_far
     behind_far_end = ap length (laws.behind s world.links (routes_in net) far near (fixed_here net new near far given) given.holds.sound.forest
         (old_ends net new near far given) (right_here net new near far given) (linked_back world.links near far (linked_before net new near far given)))
         ∙ ap (λ links. part_size (settings_of net) links near) (sym (without_turned world.links near far))
@@ -268,8 +268,8 @@ module _ (laws : AreCutLaws) (net new : Network) (near far : Name) (given : IsCu
     none_at_depth : (t : Name) → s.streams.depth t ≡ 0 → count t ≡ 0
     none_at_depth t none = ap (λ (lines : List (List ℕ)). length lines) (none_at_source (machine s client) s.streams (relayed s new client) t none)
 
-    squits_long : (a b : Name) → length (squits_told s (routes_in net) a b) ≡ length (behind (routes_in net a) (number s b))
-    squits_long a b = length-map (behind (routes_in net a) (number s b)) (λ x. line_text (squit_parts a x (split_text a b)))
+    squits_long : (a b : Name) → length (squits_told s (routes_in net) a b) ≡ length (names_behind (routes_in net a) (number s b))
+    squits_long a b = length-map (names_behind (routes_in net a) (number s b)) (λ x. line_text (squit_parts a x (split_text a b)))
 
     near_count : (t : Name) → t ≢ near → joined left near t ≡ true → count t ≤ lost_near
     near_count t two so = by (stands net new near far given t)
@@ -283,7 +283,7 @@ module _ (laws : AreCutLaws) (net new : Network) (near far : Name) (given : IsCu
         by (behind_near _ _ _ _ below) = takers_few t near lost_near (squits_told s (routes_in net) near far) below
             (λ one. (next laws.quiet net new near far given sides near t on (near_source net new near far given t on) one).0)
             (from_near laws.quiet net new near far given sides client) (squits_long near far ∙ behind_near_end)
-            (ap length (acts_near laws.quiet net new near far given sides t on) ∙ losses_long near far (behind (routes_in net near) (number s far))
+            (ap length (acts_near laws.quiet net new near far given sides t on) ∙ losses_long near far (names_behind (routes_in net near) (number s far))
             ∙ behind_near_end)
         by (behind_far other _ _ _ _) = absurd (apart net new near far given (sym on ∙ other))
         by (aside m _ _) = absurd (m on)
@@ -301,7 +301,7 @@ module _ (laws : AreCutLaws) (net new : Network) (near far : Name) (given : IsCu
         by (behind_far _ _ _ _ below) = takers_few t far lost_far (squits_told s (routes_in net) far near) below
             (λ one. (next laws.quiet net new near far given sides far t on (far_source net new near far given t on) one).0)
             (from_far laws.quiet net new near far given sides client) (squits_long far near ∙ behind_far_end)
-            (ap length (acts_far laws.quiet net new near far given sides t on) ∙ losses_long far near (behind (routes_in net far) (number s near))
+            (ap length (acts_far laws.quiet net new near far given sides t on) ∙ losses_long far near (names_behind (routes_in net far) (number s near))
             ∙ behind_far_end)
         by (aside _ n _) = absurd (n on)
 
@@ -426,8 +426,8 @@ module _ (laws : AreCutLaws) (net new : Network) (near far : Name) (given : IsCu
 
   -- ---- ways
 
-  same_place : (y : Name) → place_in new.names y ≡ number s y
-  same_place y = ap (λ names. place_in names y) given.cut_so.names
+  same_place : (y : Name) → index_in new.names y ≡ number s y
+  same_place y = ap (λ names. index_in names y) given.cut_so.names
 
   still_there : (x y : Name) → is_some (way_at net x (number s y)) ≡ linked world.links x y
   still_there x y = given.sound.ways x y ∙ ap (λ links. linked links x y) given.sound.links
@@ -530,7 +530,7 @@ module _ (laws : AreCutLaws) (net new : Network) (near far : Name) (given : IsCu
       by p = record {
         server = p.server;
         among = subst (λ names. IsAmong names p.server) (sym given.cut_so.names) p.among;
-        is = ap (λ names. place_in names p.server) given.cut_so.names ∙ p.is;
+        is = ap (λ names. index_in names p.server) given.cut_so.names ∙ p.is;
       }
 
   nobody_now : (client : ℕ) → home_in new.homes client ≡ None → owed_now new client ≡ []

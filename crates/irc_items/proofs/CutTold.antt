@@ -27,7 +27,7 @@ use Rattle.irc_relay.specs.Relay.{TakesFrom}
 use Rattle.irc_relay.specs.Lemmas.TellingNames.{same_unless}
 use Rattle.irc_relay.proofs.TakingOut.{tests_tell}
 use Rattle.irc_routes.specs.declared.server_row.ServerRow.{ServerRow}
-use Rattle.irc_routes.specs.Known.{Known, behind, is_itself, is_known, row_of}
+use Rattle.irc_routes.specs.Known.{Known, names_behind, is_itself, is_known, row_of}
 use Rattle.irc_routes.specs.Known as of_known
 use Rattle.irc_burst.specs.DeedsMeant.{a_deed, deeds_meant}
 use Rattle.irc_burst.specs.HandshakeMeant.{handshake_meant}
@@ -44,7 +44,7 @@ use Rattle.irc_follow.specs.Tree.{shape_in}
 use Rattle.irc_follow.specs.Fits.{Fits}
 use Rattle.irc_follow.specs.Laws.{DoneStaysSound}
 use Rattle.irc_follow.specs.Part.{Fixed, Part, done, info_in, number, IsFixed, IsSoundPart}
-use Rattle.irc_follow.specs.Says.{asked, machine, play, IsDoableLoss, IsFar, Says}
+use Rattle.irc_follow.specs.Says.{neighbour_served, machine, play, IsDoableLoss, IsFar, Says}
 use Rattle.irc_follow.proofs.CarriedLines.{squit_carried}
 use Rattle.irc_follow.proofs.Neighbours.{both, met_end, HasEnd, IsKnownOfLines}
 use Rattle.irc_follow.proofs.ServerLines.{all_so}
@@ -174,7 +174,7 @@ module _ (known : IsKnownOfLines) (s : Fixed) (fixed : IsFixed s) (t u : Name) (
 pub data SaysInTurn (s : Fixed) (p t : Name) (Q : Part → Deed → Type 0) : Part → View → List Deed → List (List ℕ) → Type 0 where
   says_none : {w : Part} {view : View} → SaysInTurn s p t Q w view [] []
   says_first : {w : Part} {view : View} {deed : Deed} {deeds : List Deed} {line : List ℕ} {lines : List (List ℕ)} → Q w deed → Says s p t w view deed line
-      → SaysInTurn s p t Q (done s w deed) (asked s p view line).view deeds lines → SaysInTurn s p t Q w view (deed ∷ deeds) (line ∷ lines)
+      → SaysInTurn s p t Q (done s w deed) (neighbour_served s p view line).view deeds lines → SaysInTurn s p t Q w view (deed ∷ deeds) (line ∷ lines)
 
 -- So they tell of the deeds, in whatever terms ask no more.
 pub tells_in_turn : (s : Fixed) (client : ℕ) (p t : Name) (Q : Part → Deed → Type 0) (x : Terms View (List ℕ) Part Deed)
@@ -185,7 +185,7 @@ tells_in_turn s client p t Q x so w view [] [] says_none = nothing
 tells_in_turn s client p t Q x so w view [] (line ∷ lines) never = elim never [ ]
 tells_in_turn s client p t Q x so w view (deed ∷ deeds) [] never = elim never [ ]
 tells_in_turn s client p t Q x so w view (deed ∷ deeds) (line ∷ lines) (says_first is said later) =
-    by_line (so w view deed line is said) (tells_in_turn s client p t Q x so (done s w deed) (asked s p view line).view deeds lines later)
+    by_line (so w view deed line is said) (tells_in_turn s client p t Q x so (done s w deed) (neighbour_served s p view line).view deeds lines later)
 
 -- ---- the servers of one side are lost one by one on the other
 
@@ -267,7 +267,7 @@ module _ (known : IsKnownOfLines) (s : Fixed) (world : World) (routes : Name →
         let doable = doable_loss w name side reader.sound knows_a knows.0 beyond.0 in
         let said = loss_said known s cut.fixed a u w other next reader name text doable in
         says_first (record { side = side; loss = tt }) said
-        (said_along names (done s w (loses a name text)) (asked s a other (line_text (squit_parts a name text))).view
+        (said_along names (done s w (loses a name text)) (neighbour_served s a other (line_text (squit_parts a name text))).view
         (record { forest = side.forest; here = side.here })
         (said_loses_fits s a u w other next reader a name text (line_text (squit_parts a name text)) said)
         (λ i. knows_a i && not (same_unless a name (λ e. (rest s world routes left a b cut).parted (subst (λ v. AreJoined left v b) (sym e) beyond.0)) i))
@@ -276,11 +276,11 @@ module _ (known : IsKnownOfLines) (s : Fixed) (world : World) (routes : Name →
     -- whoever fits the side that it is on is told of all of them
     pub said_to : (w : Part) (other : View) → IsOfCut world.links left a w → ((x : Name) → AreJoined world.links x a → w.tree.knows x ≡ true) → Fits s u w other
         → SaysInTurn s a u (IsLossOfCut world.links left a) w other (deeds_of_cut s routes a b)
-        (map (λ x. line_text (squit_parts a x text)) (behind (routes a) (number s b)))
+        (map (λ x. line_text (squit_parts a x text)) (names_behind (routes a) (number s b)))
     said_to w other side knows reader =
-        said_along (behind (routes a) (number s b)) w other side reader (knows a refl)
+        said_along (names_behind (routes a) (number s b)) w other side reader (knows a refl)
         (of_cut.all_so (λ x. AreJoined left x b) (λ x. w.tree.knows x ≡ true) (λ x on. knows x (of_cut.lost_joined s world routes left a b cut x on))
-        (behind (routes a) (number s b)) (lost_beyond s world routes left a b cut))
+        (names_behind (routes a) (number s b)) (lost_beyond s world routes left a b cut))
         (lost_beyond s world routes left a b cut) (lost_once s world routes left a b cut)
 
   -- ---- what they come to
@@ -301,7 +301,7 @@ module _ (known : IsKnownOfLines) (s : Fixed) (world : World) (routes : Name →
   pub side_without : DoneStaysSound → (w : Part) → IsOfCut world.links left a w → ((x : Name) → AreJoined world.links x a → w.tree.knows x ≡ true)
       → IsSoundPart s w → IsSoundPart s (all_done (play s 0) w (deeds_of_cut s routes a b))
   side_without law w side knows sound =
-      lost_along law (behind (routes a) (number s b)) w side sound (knows a refl)
+      lost_along law (names_behind (routes a) (number s b)) w side sound (knows a refl)
       (of_cut.all_so (λ x. AreJoined left x b) (λ x. w.tree.knows x ≡ true) (λ x on. knows x (of_cut.lost_joined s world routes left a b cut x on))
-      (behind (routes a) (number s b)) (lost_beyond s world routes left a b cut))
+      (names_behind (routes a) (number s b)) (lost_beyond s world routes left a b cut))
       (lost_beyond s world routes left a b cut) (lost_once s world routes left a b cut)

@@ -8,7 +8,7 @@ use Rattle.irc_relay.specs.Lemmas.TellingNames.{Telling, alike, unlike, tell}
 use Rattle.irc_relay.specs.Links.{Name}
 use Rattle.irc_stage.specs.Lemmas.Numbers.{get-with, one_number, same_number, same_number-refl}
 use Rattle.irc_server.specs.Served.{link_says}
-use Rattle.irc_follow.specs.Tree.{place_in}
+use Rattle.irc_follow.specs.Tree.{index_in}
 use Rattle.irc_network.specs.Network.{Course, Site, asked, counted, delivered, left, site_at, taken_of, waiting, with_site}
 use Rattle.irc_items.specs.Relayed.{way_at, way_between}
 use Rattle.irc_items.specs.SetUp.{settings_of, view_at, IsSetUp}
@@ -24,8 +24,8 @@ pub record IsDeliveredTo (p t : Name) (line : List ℕ) (old new : Course) : Typ
   pub waited : way_between old.net p t ≡ Some (line ∷ rest)
   pub mid : Course
   pub set_up : IsSetUp mid.net
-  pub left_is : way_at mid.net p (place_in old.net.names t) ≡ Some rest
-  pub other_ways : (x : Name) (place : ℕ) → (x ≡ p → place ≡ place_in old.net.names t → ⊥) → way_at mid.net x place ≡ way_at old.net x place
+  pub left_is : way_at mid.net p (index_in old.net.names t) ≡ Some rest
+  pub other_ways : (x : Name) (place : ℕ) → (x ≡ p → place ≡ index_in old.net.names t → ⊥) → way_at mid.net x place ≡ way_at old.net x place
   pub views : (x : Name) → view_at mid.net x ≡ view_at old.net x
   pub names : mid.net.names ≡ old.net.names
   pub links : mid.net.links ≡ old.net.links
@@ -34,7 +34,7 @@ pub record IsDeliveredTo (p t : Name) (line : List ℕ) (old new : Course) : Typ
   pub received : mid.net.received ≡ old.net.received
   pub settings : settings_of mid.net ≡ settings_of old.net
   pub counted_is : mid.net.taken ≡ min (old.net.taken + 1) 18446744073709551615
-  pub asked_is : new ≡ asked (place_in old.net.names t) (link_says (place_in old.net.names p) (read_of line)) mid
+  pub asked_is : new ≡ asked (index_in old.net.names t) (link_says (index_in old.net.names p) (read_of line)) mid
 
 pub record IsDelivery (old new : Course) : Type 0 where
   pub giver : Name
@@ -43,46 +43,46 @@ pub record IsDelivery (old new : Course) : Type 0 where
   pub delivered_to : IsDeliveredTo giver taker line old new
 
 module _ (old : Course) (set_up : IsSetUp old.net) (p t : Name) (p_among : IsAmong old.net.names p) (t_among : IsAmong old.net.names t)
-    (line : List ℕ) (rest : List (List ℕ)) (waited : waiting (there old.net set_up p p_among).site (place_in old.net.names t) ≡ line ∷ rest)
+    (line : List ℕ) (rest : List (List ℕ)) (waited : waiting (there old.net set_up p p_among).site (index_in old.net.names t) ≡ line ∷ rest)
     (new : Course)
-    (new_is : new ≡ asked (place_in old.net.names t) (link_says (place_in old.net.names p) (read_of line))
+    (new_is : new ≡ asked (index_in old.net.names t) (link_says (index_in old.net.names p) (read_of line))
     (record old {
-      net = counted (with_site (place_in old.net.names p)
-          (left (place_in old.net.names t) rest (there old.net set_up p p_among).site) old.net);
+      net = counted (with_site (index_in old.net.names p)
+          (left (index_in old.net.names t) rest (there old.net set_up p p_among).site) old.net);
     })) where
   abbrev site : Site
   site = (there old.net set_up p p_among).site
 
   abbrev after : Site
-  after = left (place_in old.net.names t) rest site
+  after = left (index_in old.net.names t) rest site
 
   abbrev mid : Course
-  mid = record old { net = counted (with_site (place_in old.net.names p) after old.net) }
+  mid = record old { net = counted (with_site (index_in old.net.names p) after old.net) }
 
-  changed : IsSiteChanged (place_in old.net.names p) after old.net mid.net
-  changed = site_set (place_in old.net.names p) site after old.net mid.net (there old.net set_up p p_among).is_site (same_server site after refl) refl
+  changed : IsSiteChanged (index_in old.net.names p) after old.net mid.net
+  changed = site_set (index_in old.net.names p) site after old.net mid.net (there old.net set_up p p_among).is_site (same_server site after refl) refl
 
   now : IsSetUpAfter p (view_at old.net p) after old.net mid.net
   now = set_up_after old.net mid.net set_up p p_among after (view_at old.net p) changed (there old.net set_up p p_among).is_view (set_up.configured p p_among)
 
-  queued : (o : Option (List (List ℕ))) → get site.queues (place_in old.net.names t) ≡ o → unwrap_or o [] ≡ line ∷ rest → o ≡ Some (line ∷ rest)
+  queued : (o : Option (List (List ℕ))) → get site.queues (index_in old.net.names t) ≡ o → unwrap_or o [] ≡ line ∷ rest → o ≡ Some (line ∷ rest)
   queued None is e = cc e
   queued (Some lines) is e = ap Some e
 
-  queue_is : get site.queues (place_in old.net.names t) ≡ Some (line ∷ rest)
-  queue_is = queued (get site.queues (place_in old.net.names t)) refl waited
+  queue_is : get site.queues (index_in old.net.names t) ≡ Some (line ∷ rest)
+  queue_is = queued (get site.queues (index_in old.net.names t)) refl waited
 
-  other_way : (x : Name) (place : ℕ) → (x ≡ p → place ≡ place_in old.net.names t → ⊥) → Telling x p → way_at mid.net x place ≡ way_at old.net x place
+  other_way : (x : Name) (place : ℕ) → (x ≡ p → place ≡ index_in old.net.names t → ⊥) → Telling x p → way_at mid.net x place ≡ way_at old.net x place
   other_way x place two (unlike _ n) = ap (option_and_then (λ (s : Site). get s.queues place)) (now.other_sites x n)
   other_way x place two (alike _ e) =
       ap (λ v. way_at mid.net v place) e ∙ ap (option_and_then (λ (s : Site). get s.queues place)) now.site
-      ∙ get-with site.queues (place_in old.net.names t) rest place
-      ∙ ap (λ b. cond b (Some rest) (get site.queues place)) (not_it (same_number place (place_in old.net.names t)) refl)
+      ∙ get-with site.queues (index_in old.net.names t) rest place
+      ∙ ap (λ b. cond b (Some rest) (get site.queues place)) (not_it (same_number place (index_in old.net.names t)) refl)
       ∙ sym (ap (option_and_then (λ (s : Site). get s.queues place)) (site_there old.net set_up p p_among))
       ∙ sym (ap (λ v. way_at old.net v place) e)
     where
-      not_it : (b : Bool) → same_number place (place_in old.net.names t) ≡ b → same_number place (place_in old.net.names t) ≡ false
-      not_it true is = absurd (two e (one_number place (place_in old.net.names t) is))
+      not_it : (b : Bool) → same_number place (index_in old.net.names t) ≡ b → same_number place (index_in old.net.names t) ≡ false
+      not_it true is = absurd (two e (one_number place (index_in old.net.names t) is))
       not_it false is = is
 
   view_same : (x : Name) → Telling x p → view_at mid.net x ≡ view_at old.net x
@@ -94,12 +94,12 @@ module _ (old : Course) (set_up : IsSetUp old.net) (p t : Name) (p_among : IsAmo
     p_among = p_among;
     t_among = t_among;
     rest = rest;
-    waited = ap (option_and_then (λ (s : Site). get s.queues (place_in old.net.names t))) (site_there old.net set_up p p_among) ∙ queue_is;
+    waited = ap (option_and_then (λ (s : Site). get s.queues (index_in old.net.names t))) (site_there old.net set_up p p_among) ∙ queue_is;
     mid = mid;
     set_up = now.set_up;
-    left_is = ap (option_and_then (λ (s : Site). get s.queues (place_in old.net.names t))) now.site
-        ∙ get-with site.queues (place_in old.net.names t) rest (place_in old.net.names t)
-        ∙ ap (λ b. cond b (Some rest) (get site.queues (place_in old.net.names t))) (same_number-refl (place_in old.net.names t));
+    left_is = ap (option_and_then (λ (s : Site). get s.queues (index_in old.net.names t))) now.site
+        ∙ get-with site.queues (index_in old.net.names t) rest (index_in old.net.names t)
+        ∙ ap (λ b. cond b (Some rest) (get site.queues (index_in old.net.names t))) (same_number-refl (index_in old.net.names t));
     other_ways = λ x place two. other_way x place two (tell x p);
     views = λ x. view_same x (tell x p);
     names = refl;
@@ -132,8 +132,8 @@ delivered_between old sound from to new is = by (site_at old.net from) refl
           (record old { net = counted (with_site from (left to rest s) old.net) })) one_site
           ∙ ap (λ n. asked to (link_says n (read_of line))
           (record old { net = counted (with_site n (left to rest (there old.net sound.set_up p.server p.among).site) old.net) })) (sym p.is)
-          ∙ ap (λ n. asked n (link_says (place_in old.net.names p.server) (read_of line))
-          (record old { net = counted (with_site (place_in old.net.names p.server) (left n rest (there old.net sound.set_up p.server p.among).site) old.net) }))
+          ∙ ap (λ n. asked n (link_says (index_in old.net.names p.server) (read_of line))
+          (record old { net = counted (with_site (index_in old.net.names p.server) (left n rest (there old.net sound.set_up p.server p.among).site) old.net) }))
           (sym t.is));
     }
       where

@@ -33,8 +33,8 @@ use Rattle.irc_world.specs.WorldHolds.{IsWorld, TakenMakeWorld}
 use Rattle.irc_follow.specs.AtRest.{part_of, AreRight}
 use Rattle.irc_follow.specs.Fits.{Fits}
 use Rattle.irc_follow.specs.Part.{Fixed, is_home_of, number}
-use Rattle.irc_follow.specs.Says.{asked as asked_line, lines_on, machine}
-use Rattle.irc_follow.specs.Tree.{place_in}
+use Rattle.irc_follow.specs.Says.{neighbour_served as asked_line, lines_on, machine}
+use Rattle.irc_follow.specs.Tree.{index_in}
 use Rattle.irc_follow.proofs.Places.{one_place}
 use Rattle.irc_follow.proofs.SaidShows.{append_nil}
 use Rattle.irc_network.specs.Network.{Course, Network, Reply, asked, delivered, received_by, reply}
@@ -119,20 +119,20 @@ module _ (laws : AreDeliveryLaws) (old new : Course) (sound : IsSound old.net) (
 
   -- ---- what it makes
 
-  reply_is : reply view (link_says (place_in old.net.names p) (read_of line)) ≡ record { view = after.view; out = after.out }
+  reply_is : reply view (link_says (index_in old.net.names p) (read_of line)) ≡ record { view = after.view; out = after.out }
   reply_is = ap (λ b. if b then record { view = after.view; out = after.out } else record { view = view; out = [] }) (ap is_some well.is_end)
 
   answered : IsAskedAt t (record { view = after.view; out = after.out }) d.mid new
   answered =
       subst (IsAskedAt t (record { view = after.view; out = after.out }) d.mid) (sym d.asked_is ∙ refl)
       (subst (λ place. IsAskedAt t (record { view = after.view; out = after.out }) d.mid
-      (asked place (link_says (place_in old.net.names p) (read_of line)) d.mid))
-      (ap (λ names. place_in names t) d.names)
-      (subst (λ r. IsAskedAt t r d.mid (asked (place_in d.mid.net.names t) (link_says (place_in old.net.names p) (read_of line)) d.mid))
-      (ap (λ v. reply v (link_says (place_in old.net.names p) (read_of line))) (d.views t) ∙ reply_is)
+      (asked place (link_says (index_in old.net.names p) (read_of line)) d.mid))
+      (ap (λ names. index_in names t) d.names)
+      (subst (λ r. IsAskedAt t r d.mid (asked (index_in d.mid.net.names t) (link_says (index_in old.net.names p) (read_of line)) d.mid))
+      (ap (λ v. reply v (link_says (index_in old.net.names p) (read_of line))) (d.views t) ∙ reply_is)
       (asked_there laws.kept d.mid d.set_up
       (ap (λ (boxes : List (List (List ℕ))). length boxes) d.received ∙ sound.inboxes ∙ ap (λ (homes : List Name). length homes) (sym d.homes)) t
-      (subst (λ names. IsAmong names t) (sym d.names) d.t_among) (link_says (place_in old.net.names p) (read_of line)))))
+      (subst (λ names. IsAmong names t) (sym d.names) d.t_among) (link_says (index_in old.net.names p) (read_of line)))))
 
   names_same : new.net.names ≡ old.net.names
   names_same = answered.names ∙ d.names
@@ -147,11 +147,11 @@ module _ (laws : AreDeliveryLaws) (old new : Course) (sound : IsSound old.net) (
   way_taker : (place : ℕ) → way_at new.net t place ≡ option_map (λ lines. lines ++ lines_on place after.out) (way_at old.net t place)
   way_taker place = answered.way place ∙ ap (option_map (λ lines. lines ++ lines_on place after.out)) (d.other_ways t place (λ e _. two (sym e)))
 
-  way_other : (x : Name) (place : ℕ) → x ≢ t → (x ≡ p → place ≡ place_in old.net.names t → ⊥) → way_at new.net x place ≡ way_at old.net x place
+  way_other : (x : Name) (place : ℕ) → x ≢ t → (x ≡ p → place ≡ index_in old.net.names t → ⊥) → way_at new.net x place ≡ way_at old.net x place
   way_other x place n none = answered.other_ways x place n ∙ d.other_ways x place none
 
-  place_same : (u : Name) → place_in new.net.names u ≡ number s u
-  place_same u = ap (λ names. place_in names u) names_same
+  place_same : (u : Name) → index_in new.net.names u ≡ number s u
+  place_same u = ap (λ names. index_in names u) names_same
 
   queue_taker : (u : Name) → unwrap_or (way_between new.net t u) [] ≡ unwrap_or (way_between old.net t u) [] ++ lines_on (number s u) after.out
   queue_taker u =
@@ -366,7 +366,7 @@ module _ (laws : AreDeliveryLaws) (old new : Course) (sound : IsSound old.net) (
   greeting_same x = by (tell x t)
     where
       alike_after : IsSetAlike view after.view
-      alike_after = subst (λ (r : Reply). IsSetAlike view r.view) reply_is (reply_alike laws.kept view (link_says (place_in old.net.names p) (read_of line)))
+      alike_after = subst (λ (r : Reply). IsSetAlike view r.view) reply_is (reply_alike laws.kept view (link_says (index_in old.net.names p) (read_of line)))
 
       by : Telling x t → greeting (view_at new.net x).routes ≡ greeting (view_at old.net x).routes
       by (unlike _ n) = ap (λ (v : View). greeting v.routes) (view_other x n)
@@ -481,19 +481,19 @@ module _ (laws : AreDeliveryLaws) (old new : Course) (sound : IsSound old.net) (
   }
 
   some_way : (x : Name) (place : ℕ) → is_some (way_at new.net x place) ≡ is_some (way_at old.net x place)
-  some_way x place = by (tell x t) (tell x p) (same_number place (place_in old.net.names t)) refl
+  some_way x place = by (tell x t) (tell x p) (same_number place (index_in old.net.names t)) refl
     where
-      by : Telling x t → Telling x p → (b : Bool) → same_number place (place_in old.net.names t) ≡ b
+      by : Telling x t → Telling x p → (b : Bool) → same_number place (index_in old.net.names t) ≡ b
           → is_some (way_at new.net x place) ≡ is_some (way_at old.net x place)
       by (alike _ e) _ _ _ = ap (λ v. is_some (way_at new.net v place)) e ∙ ap is_some (way_taker place)
           ∙ stays_some (λ lines. lines ++ lines_on place after.out) (way_at old.net t place) ∙ sym (ap (λ v. is_some (way_at old.net v place)) e)
       by (unlike _ n) (alike _ e) true k =
-          let at = one_number place (place_in old.net.names t) k in
+          let at = one_number place (index_in old.net.names t) k in
           ap (λ v. is_some (way_at new.net v place)) e ∙ ap (λ k. is_some (way_at new.net p k)) at
-          ∙ ap is_some (answered.other_ways p (place_in old.net.names t) two ∙ d.left_is)
+          ∙ ap is_some (answered.other_ways p (index_in old.net.names t) two ∙ d.left_is)
           ∙ sym (ap is_some (ap (λ v. way_at old.net v place) e ∙ ap (λ k. way_at old.net p k) at ∙ d.waited))
       by (unlike _ n) (alike _ e) false k = ap is_some (way_other x place n
-          (λ _ f. let no = sym (same_number-is place (place_in old.net.names t) f) ∙ k in cc no))
+          (λ _ f. let no = sym (same_number-is place (index_in old.net.names t) f) ∙ k in cc no))
       by (unlike _ n) (unlike _ m) _ _ = ap is_some (way_other x place n (λ e _. m e))
 
   pub delivered_sound : IsSound new.net
@@ -521,7 +521,7 @@ module _ (laws : AreDeliveryLaws) (old new : Course) (sound : IsSound old.net) (
       placed place at = record {
         server = at.server;
         among = subst (λ names. IsAmong names at.server) (sym names_same) at.among;
-        is = ap (λ names. place_in names at.server) names_same ∙ at.is;
+        is = ap (λ names. index_in names at.server) names_same ∙ at.is;
       }
 
   fewer_now : pending_of new.net delivered_sound < pending_of old.net sound

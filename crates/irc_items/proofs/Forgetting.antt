@@ -5,7 +5,7 @@ use Rattle.std.specs.Option.{option_and_then, option_map}
 use Rattle.irc_names.specs.Tables.{each}
 use Rattle.irc_names.specs.TableLaws.{same_fold, same_fold-refl, one_fold, row-alter, row-each, same_table}
 use Rattle.irc_routes.specs.declared.server_row.ServerRow.{ServerRow}
-use Rattle.irc_routes.specs.Known.{Known, behind, is_behind, row_of, unless_behind, without_link, without_server, IsNumbered}
+use Rattle.irc_routes.specs.Known.{Known, names_behind, is_behind, row_of, unless_behind, without_link, without_server, IsNumbered}
 use Rattle.irc_routes.specs.Laws.{is_among}
 use Rattle.irc_routes.proofs.RouteLaws.{behind_of_link}
 use Rattle.std.proofs.lemmas.Bool.{eqb-true}
@@ -48,19 +48,19 @@ row_left (name ∷ names) known q =
 -- without those behind a link there is nobody behind it to forget
 module _ (known : Known) (link : ℕ) (numbered : IsNumbered known) where
   abbrev left : Known
-  left = all_forgotten (behind known link) known
+  left = all_forgotten (names_behind known link) known
 
   stays_there : (q : List ℕ) → option_and_then (unless_behind link) (row_of left q) ≡ row_of left q
   stays_there q = by (row_of left q) refl
     where
       gone : (r : ServerRow) → row_of left q ≡ Some r → is_behind link r ≡ true → ⊥
-      gone r there behind_it = on (is_among q (behind known link)) refl
+      gone r there behind_it = on (is_among q (names_behind known link)) refl
         where
-          on : (b : Bool) → is_among q (behind known link) ≡ b → ⊥
-          on true is = cc (sym there ∙ row_left (behind known link) known q ∙ ap (λ b. cond b None (row_of known q)) is)
+          on : (b : Bool) → is_among q (names_behind known link) ≡ b → ⊥
+          on true is = cc (sym there ∙ row_left (names_behind known link) known q ∙ ap (λ b. cond b None (row_of known q)) is)
           on false is = cc (sym is ∙ (behind_of_link known link q numbered).1
               (ap (option_map (λ (x : ServerRow). x.link))
-              (sym (row_left (behind known link) known q ∙ ap (λ b. cond b None (row_of known q)) is) ∙ there)
+              (sym (row_left (names_behind known link) known q ∙ ap (λ b. cond b None (row_of known q)) is) ∙ there)
               ∙ ap Some (eqb-true r.link link behind_it)))
 
       by_test : (r : ServerRow) → row_of left q ≡ Some r → (b : Bool) → is_behind link r ≡ b → cond b None (Some r) ≡ Some r

@@ -32,7 +32,7 @@ use Rattle.irc_server.specs.Owed.{lines_to}
 use Rattle.irc_follow.specs.Part.{Fixed, is_home_of, number}
 use Rattle.irc_follow.specs.Part as of_side
 use Rattle.irc_follow.specs.Fits.{Fits}
-use Rattle.irc_follow.specs.Says.{asked, lines_on, Says}
+use Rattle.irc_follow.specs.Says.{neighbour_served, lines_on, Says}
 use Rattle.irc_follow.proofs.ClientLines.{to_one, told_line}
 use Rattle.irc_follow.proofs.LinesOn.{but_another, ends_by_all, lines_behind, none_by_all, on_these}
 use Rattle.irc_follow.proofs.SaidDeed.{deed_served}
@@ -198,7 +198,7 @@ module _ (s : Fixed) (links : List Link) (p t : Name) (w : of_side.Part) (view :
     abbrev told_of : Served
     told_of = told_by (number s p) (a_deed deed) (in_silence view)
 
-    served_is : asked s p view line ≡ told_of
+    served_is : neighbour_served s p view line ≡ told_of
     served_is = deed_served s p t w view takes fits deed line end is_end means
 
     knows_p : w.tree.knows p ≡ true
@@ -206,9 +206,9 @@ module _ (s : Fixed) (links : List Link) (p t : Name) (w : of_side.Part) (view :
 
     deed_goes_well : (effects : List Effect) (parts : Written) → told_of.view.ends ≡ (all_changed effects (in_silence view)).view.ends
         → told_of.out ≡ (told_on_all (Some (number s p)) parts (all_changed effects (in_silence view))).out
-        → ((u : Name) → AreLinked links t u → u ≢ p → w.tree.knows u ≡ true) → IsGoodReply s links p t view (asked s p view line) []
+        → ((u : Name) → AreLinked links t u → u ≢ p → w.tree.knows u ≡ true) → IsGoodReply s links p t view (neighbour_served s p view line) []
     deed_goes_well effects parts same_ends same_out known =
-        told_reply (asked s p view line)
+        told_reply (neighbour_served s p view line)
         (record {
           effects = effects;
           parts = parts;
@@ -223,21 +223,21 @@ module _ (s : Fixed) (links : List Link) (p t : Name) (w : of_side.Part) (view :
   OthersAreKnown = (u : Name) → AreLinked links t u → u ≢ p → w.tree.knows u ≡ true
 
   pub brings_goes_well : (server channel : List ℕ) (members : List (List ℕ × Flags)) (line : List ℕ) → Says s p t w view (brings server channel members) line
-      → OthersAreKnown → IsGoodReply s links p t view (asked s p view line) []
+      → OthersAreKnown → IsGoodReply s links p t view (neighbour_served s p view line) []
   unfolding told_by deed_told
   brings_goes_well server channel members line says known =
       deed_goes_well (brings server channel members) line says.end says.is_end says.means (effects_of view.room (brings server channel members))
       (deed_parts view.room view.routes (brings server channel members)) refl refl known
 
   pub sets_goes_well : (server channel : List ℕ) (changes : List ModeChange) (line : List ℕ) → Says s p t w view (sets server channel changes) line
-      → OthersAreKnown → IsGoodReply s links p t view (asked s p view line) []
+      → OthersAreKnown → IsGoodReply s links p t view (neighbour_served s p view line) []
   unfolding told_by deed_told
   sets_goes_well server channel changes line says known =
       deed_goes_well (sets server channel changes) line says.end says.is_end says.means (effects_of view.room (sets server channel changes))
       (deed_parts view.room view.routes (sets server channel changes)) refl refl known
 
   pub tops_goes_well : (server channel topic : List ℕ) (line : List ℕ) → Says s p t w view (tops server channel topic) line
-      → OthersAreKnown → IsGoodReply s links p t view (asked s p view line) []
+      → OthersAreKnown → IsGoodReply s links p t view (neighbour_served s p view line) []
   unfolding told_by deed_told
   tops_goes_well server channel topic line says known =
       deed_goes_well (tops server channel topic) line says.end says.is_end says.means (effects_of view.room (tops server channel topic))
@@ -245,7 +245,7 @@ module _ (s : Fixed) (links : List Link) (p t : Name) (w : of_side.Part) (view :
 
   -- One server less is known then, but none that it is linked to.
   pub loses_goes_well : (server name text : List ℕ) (line : List ℕ) → Says s p t w view (loses server name text) line
-      → OthersAreKnown → IsGoodReply s links p t view (asked s p view line) []
+      → OthersAreKnown → IsGoodReply s links p t view (neighbour_served s p view line) []
   unfolding told_by deed_told
   loses_goes_well server name text line says known =
       deed_goes_well (loses server name text) line says.end says.is_end says.means (effects_of view.room (loses server name text))

@@ -32,7 +32,7 @@ use Rattle.irc_server.specs.Owed.{lines_to}
 use Rattle.irc_follow.specs.Part.{Fixed, done, is_home_of, number}
 use Rattle.irc_follow.specs.Part as of_side
 use Rattle.irc_follow.specs.Fits.{Fits}
-use Rattle.irc_follow.specs.Says.{asked, lines_on, Says}
+use Rattle.irc_follow.specs.Says.{neighbour_served, lines_on, Says}
 use Rattle.irc_follow.proofs.ClientLines.{client_shown, effect_lines}
 use Rattle.irc_follow.proofs.LinesOn.{but_another, lines_behind, none_by_effect, on_these}
 use Rattle.irc_follow.proofs.Places.{one_place}
@@ -133,7 +133,7 @@ module _ (s : Fixed) (links : List Link) (p t : Name) (w : of_side.Part) (view :
             cc (sym (but_links client (shown_at view effect) (ways_at view (Some (number s p)) effect) parts ∙ none_shown client away) ∙ is)
 
     module _ (line : List ℕ) (says : Says s p t w view (does effect) line) where
-      out_is : (asked s p view line).out ≡ put_out
+      out_is : (neighbour_served s p view line).out ≡ put_out
       out_is = ap (λ (so : Served). so.out) (effect_served s p t w view takes fits effect line says)
 
       knows_p : w.tree.knows p ≡ true
@@ -144,17 +144,17 @@ module _ (s : Fixed) (links : List Link) (p t : Name) (w : of_side.Part) (view :
       unfolding done
       later = record { forest = forest; knows = λ u known. known }
 
-      answer : Fits s t (done s w (does effect)) (asked s p view line).view → IsAnswer s links p t view (asked s p view line)
+      answer : Fits s t (done s w (does effect)) (neighbour_served s p view line).view → IsAnswer s links p t view (neighbour_served s p view line)
       answer after = record {
         closes_none = ap closings out_is ∙ none_closed;
         to_linked = λ u first lines is. to_linked u first lines (sym (ap (lines_on (number s u)) out_is) ∙ is);
         to_own = λ client first lines is. to_own client first lines (sym (ap (lines_to client) out_is) ∙ is);
-        pays = ap (λ l. l ++ owed_to s (asked s p view line).view p) (ap (lines_on (number s p)) out_is ∙ none_goes_back)
-            ∙ owes_none s links t (done s w (does effect)) (asked s p view line).view after later.forest p (λ there. later.knows p knows_p)
+        pays = ap (λ l. l ++ owed_to s (neighbour_served s p view line).view p) (ap (lines_on (number s p)) out_is ∙ none_goes_back)
+            ∙ owes_none s links t (done s w (does effect)) (neighbour_served s p view line).view after later.forest p (λ there. later.knows p knows_p)
             ∙ sym (owes_none s links t w view fits forest p (λ there. knows_p));
       }
 
-      pub effect_goes_well : Fits s t (done s w (does effect)) (asked s p view line).view
-          → ((u : Name) → AreLinked links t u → u ≢ p → w.tree.knows u ≡ true) → IsGoodReply s links p t view (asked s p view line) []
+      pub effect_goes_well : Fits s t (done s w (does effect)) (neighbour_served s p view line).view
+          → ((u : Name) → AreLinked links t u → u ≢ p → w.tree.knows u ≡ true) → IsGoodReply s links p t view (neighbour_served s p view line) []
       effect_goes_well after known =
-          good_reply s links p t w (done s w (does effect)) view (asked s p view line) fits after forest known later (answer after)
+          good_reply s links p t w (done s w (does effect)) view (neighbour_served s p view line) fits after forest known later (answer after)

@@ -24,7 +24,7 @@ use Rattle.irc_follow.specs.Tree.{told_token}
 use Rattle.irc_follow.specs.Part.{Fixed, done, number, IsFixed}
 use Rattle.irc_follow.specs.Part as of_side
 use Rattle.irc_follow.specs.Fits.{Fits}
-use Rattle.irc_follow.specs.Says.{asked, lines_on, Says}
+use Rattle.irc_follow.specs.Says.{neighbour_served, lines_on, Says}
 use Rattle.irc_follow.proofs.LinesOn.{but_another, lines_behind, on_these}
 use Rattle.irc_follow.proofs.SaidGain as gain_of
 use Rattle.irc_follow.proofs.SaidGainOn.{none_on_another}
@@ -111,7 +111,7 @@ module _ (s : Fixed) (links : List Link) (p t : Name) (w : of_side.Part) (view :
     abbrev heard_as : Bool → Heard
     heard_as b = if b then meets name words else tells (a_server uplink name (distance w.tree.forest t name) (told_token w.tree p name) words ∷ [])
 
-    served_as : (b : Bool) → same name p ≡ b → asked s p view line ≡ after_heard view k (heard_as b)
+    served_as : (b : Bool) → same name p ≡ b → neighbour_served s p view line ≡ after_heard view k (heard_as b)
     unfolding served
     served_as b is =
         ap (line_served view k (read_of line)) says.is_end
@@ -133,7 +133,7 @@ module _ (s : Fixed) (links : List Link) (p t : Name) (w : of_side.Part) (view :
         or_true false = refl
 
     -- by a line of a server that is there
-    told_there : same name p ≡ false → IsToldOn s p view (asked s p view line)
+    told_there : same name p ≡ false → IsToldOn s p view (neighbour_served s p view line)
     told_there other = record {
       answered = [];
       parts = parts;
@@ -147,7 +147,7 @@ module _ (s : Fixed) (links : List Link) (p t : Name) (w : of_side.Part) (view :
         parts : Written
         parts = deed_parts view.room (with_it view).routes (gains uplink name words)
 
-        is : asked s p view line ≡ gain_told k uplink name words (record (in_silence view) { view = with_it view })
+        is : neighbour_served s p view line ≡ gain_told k uplink name words (record (in_silence view) { view = with_it view })
         is = served_as false other
             ∙ gained_there k uplink name (distance w.tree.forest t name) (told_token w.tree p name) words (in_silence view)
             (gain_of.taken s fixed p t w view takes fits uplink name words says.doable)
@@ -171,7 +171,7 @@ module _ (s : Fixed) (links : List Link) (p t : Name) (w : of_side.Part) (view :
       abbrev parts : Written
       parts = deed_parts met_row.room met_row.routes (gains view.routes.name name words)
 
-      answer_is : asked s p view line ≡ gain_told k view.routes.name name words (record before { view = met_row })
+      answer_is : neighbour_served s p view line ≡ gain_told k view.routes.name name words (record before { view = met_row })
       answer_is =
           served_as true it
           ∙ ap (λ v. told_by k (a_server view.routes.name name 1 1 words) (with_sent (on_link k (owes view k name)) (in_silence v)))
@@ -191,7 +191,7 @@ module _ (s : Fixed) (links : List Link) (p t : Name) (w : of_side.Part) (view :
           ∙ sym (ap (λ o. option_map_or (owed_at s view p) o []) says.is_end
           ∙ ap (λ b. if b then [] else map line_text (owed_by view k p says.end)) not_met)
 
-      told_met : IsToldOn s p view (asked s p view line)
+      told_met : IsToldOn s p view (neighbour_served s p view line)
       told_met = record {
         answered = owes view k name;
         parts = parts;
@@ -200,7 +200,7 @@ module _ (s : Fixed) (links : List Link) (p t : Name) (w : of_side.Part) (view :
         owed = all_owed;
       }
 
-    told_on : Telling name p → IsToldOn s p view (asked s p view line)
+    told_on : Telling name p → IsToldOn s p view (neighbour_served s p view line)
     told_on (alike it is_p) = told_met it is_p
     told_on (unlike other _) = told_there other
 
@@ -211,8 +211,8 @@ module _ (s : Fixed) (links : List Link) (p t : Name) (w : of_side.Part) (view :
         (teller_is_met view k says.end (read_of line) (a_server uplink name (distance w.tree.forest t name) (told_token w.tree p name) words) []
         (says.means ∙ ap heard_as other)))
 
-    pub gain_goes_well : Fits s t (done s w (gains uplink name words)) (asked s p view line).view
-        → ((u : Name) → AreLinked links t u → u ≢ p → w.tree.knows u ≡ true) → IsGoodReply s links p t view (asked s p view line) []
+    pub gain_goes_well : Fits s t (done s w (gains uplink name words)) (neighbour_served s p view line).view
+        → ((u : Name) → AreLinked links t u → u ≢ p → w.tree.knows u ≡ true) → IsGoodReply s links p t view (neighbour_served s p view line) []
     gain_goes_well after known =
-        good_reply s links p t w later_side view (asked s p view line) fits after forest known later
-        (told_answer (asked s p view line) (told_on (tell name p)) later_side later after (knows_p (tell name p)))
+        good_reply s links p t w later_side view (neighbour_served s p view line) fits after forest known later
+        (told_answer (neighbour_served s p view line) (told_on (tell name p)) later_side later after (knows_p (tell name p)))

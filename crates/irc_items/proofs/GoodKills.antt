@@ -29,7 +29,7 @@ use Rattle.irc_server.specs.Owed.{lines_to}
 use Rattle.irc_follow.specs.Part.{Fixed, done, is_home_of, number}
 use Rattle.irc_follow.specs.Part as of_side
 use Rattle.irc_follow.specs.Fits.{Fits}
-use Rattle.irc_follow.specs.Says.{asked, lines_on, Says}
+use Rattle.irc_follow.specs.Says.{neighbour_served, lines_on, Says}
 use Rattle.irc_follow.proofs.ClientLines.{to_one, told_line}
 use Rattle.irc_follow.proofs.LinesOn.{among_met, but_another, lines_behind, none_by_effect, none_to_viewer, on_these}
 use Rattle.irc_follow.proofs.Neighbours.{but_none}
@@ -128,7 +128,7 @@ module _ (s : Fixed) (links : List Link) (p t : Name) (w : of_side.Part) (view :
     abbrev told_to_all : Served
     told_to_all = told_on_all (left_out (same server t)) parts (client_ended nick collision_text (changed (Quit nick collision_text) (in_silence view)))
 
-    after_is : asked s p view line ≡ told_to_all
+    after_is : neighbour_served s p view line ≡ told_to_all
     unfolding told_by deed_told
     after_is =
         deed_served s p t w view takes fits (kills server nick) line says.end says.is_end says.means
@@ -137,13 +137,13 @@ module _ (s : Fixed) (links : List Link) (p t : Name) (w : of_side.Part) (view :
         ∙ ap (λ b. told_on_all (left_out (same server t)) parts (client_ended nick collision_text
         (if b then changed (Quit nick collision_text) (in_silence view) else in_silence view))) (there s p t w view takes fits server nick says.doable)
 
-    out_is : (asked s p view line).out ≡ told_clients view nick ++ on_links (ways (same server t)) parts
+    out_is : (neighbour_served s p view line).out ≡ told_clients view nick ++ on_links (ways (same server t)) parts
     out_is = ap (λ (so : Served). so.out) after_is
 
-    ends_are : (asked s p view line).view.ends ≡ view.ends
+    ends_are : (neighbour_served s p view line).view.ends ≡ view.ends
     ends_are = ap (λ (so : Served). so.view.ends) after_is
 
-    none_closed : closings (asked s p view line).out ≡ []
+    none_closed : closings (neighbour_served s p view line).out ≡ []
     none_closed =
         ap closings out_is
         ∙ closed_behind (told_clients view nick) (on_links (ways (same server t)) parts) (none_closed_to_clients view nick)
@@ -151,7 +151,7 @@ module _ (s : Fixed) (links : List Link) (p t : Name) (w : of_side.Part) (view :
 
     -- ---- on its links
 
-    lines_are : (u : Name) → lines_on (number s u) (asked s p view line).out
+    lines_are : (u : Name) → lines_on (number s u) (neighbour_served s p view line).out
         ≡ map (λ _. line_text parts) (filter (is_on (number s u)) (ways (same server t)))
     lines_are u =
         ap (lines_on (number s u)) out_is
@@ -159,7 +159,7 @@ module _ (s : Fixed) (links : List Link) (p t : Name) (w : of_side.Part) (view :
         ∙ ap (λ l. l ++ lines_on (number s u) (on_links (ways (same server t)) parts)) (none_on view nick (number s u))
         ∙ on_these (number s u) (ways (same server t)) parts
 
-    to_linked : (u : Name) (first : List ℕ) (lines : List (List ℕ)) → lines_on (number s u) (asked s p view line).out ≡ first ∷ lines
+    to_linked : (u : Name) (first : List ℕ) (lines : List (List ℕ)) → lines_on (number s u) (neighbour_served s p view line).out ≡ first ∷ lines
         → AreLinked links t u
     to_linked u first lines is = by (same server t) (nat_eq k (number s u)) refl (sym (lines_are u) ∙ is)
       where
@@ -180,7 +180,7 @@ module _ (s : Fixed) (links : List Link) (p t : Name) (w : of_side.Part) (view :
     knows_p : w.tree.knows p ≡ true
     knows_p = met_known s links t w view fits forest p says.end says.is_end met
 
-    goes_back : lines_on k (asked s p view line).out ≡ (if same server t then line_text (kill_parts t nick) ∷ [] else [])
+    goes_back : lines_on k (neighbour_served s p view line).out ≡ (if same server t then line_text (kill_parts t nick) ∷ [] else [])
     goes_back = lines_are p ∙ by (same server t) refl
       where
         by : (own : Bool) → same server t ≡ own
@@ -195,7 +195,7 @@ module _ (s : Fixed) (links : List Link) (p t : Name) (w : of_side.Part) (view :
 
     -- ---- to its clients
 
-    to_own : (client : ℕ) (first : List ℕ) (lines : List (List ℕ)) → lines_to client (asked s p view line).out ≡ first ∷ lines
+    to_own : (client : ℕ) (first : List ℕ) (lines : List (List ℕ)) → lines_to client (neighbour_served s p view line).out ≡ first ∷ lines
         → is_home_of s.homes t client ≡ true
     to_own client first lines is = by (is_home_of s.homes t client) refl
       where
@@ -209,20 +209,20 @@ module _ (s : Fixed) (links : List Link) (p t : Name) (w : of_side.Part) (view :
 
     -- ---- what is owed
 
-    still_owes_none : (u : Name) → (AreLinked links t u → w.tree.knows u ≡ true) → owed_to s (asked s p view line).view u ≡ []
+    still_owes_none : (u : Name) → (AreLinked links t u → w.tree.knows u ≡ true) → owed_to s (neighbour_served s p view line).view u ≡ []
     unfolding done
     still_owes_none u known =
-        owes_none s links t (done s w (kills server nick)) (asked s p view line).view (said_kills_fits s p t w view takes fits server nick line says)
+        owes_none s links t (done s w (kills server nick)) (neighbour_served s p view line).view (said_kills_fits s p t w view takes fits server nick line says)
         forest u known
 
     pub kills_goes_well : ((u : Name) → AreLinked links t u → u ≢ p → w.tree.knows u ≡ true)
-        → IsGoodReply s links p t view (asked s p view line) (if same server t then line_text (kill_parts t nick) ∷ [] else [])
+        → IsGoodReply s links p t view (neighbour_served s p view line) (if same server t then line_text (kill_parts t nick) ∷ [] else [])
     kills_goes_well known = record {
       closes_none = none_closed;
       to_linked = to_linked;
       to_own = to_own;
-      pays = ap (λ l. lines_on k (asked s p view line).out ++ l) (still_owes_none p (λ there. knows_p))
-          ∙ append-nil (lines_on k (asked s p view line).out)
+      pays = ap (λ l. lines_on k (neighbour_served s p view line).out ++ l) (still_owes_none p (λ there. knows_p))
+          ∙ append-nil (lines_on k (neighbour_served s p view line).out)
           ∙ goes_back
           ∙ sym (ap (λ l. l ++ (if same server t then line_text (kill_parts t nick) ∷ [] else []))
           (owes_none s links t w view fits forest p (λ there. knows_p)));
@@ -230,7 +230,7 @@ module _ (s : Fixed) (links : List Link) (p t : Name) (w : of_side.Part) (view :
       met_stay = λ u is. ap (λ ends. option_map_or is_met (get ends (number s u)) false) ends_are ∙ is;
     }
       where
-        pays_nothing : (u : Name) → u ≢ p → PaysNothing s view (asked s p view line) u
+        pays_nothing : (u : Name) → u ≢ p → PaysNothing s view (neighbour_served s p view line) u
         pays_nothing u other =
             let before = owes_none s links t w view fits forest u (λ there. known u there other) in
             record { owes_as_before = still_owes_none u (λ there. known u there other) ∙ sym before; in_turn = inr before }

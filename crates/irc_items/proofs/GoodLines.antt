@@ -25,7 +25,7 @@ use Rattle.irc_follow.specs.AtRest.{part_of}
 use Rattle.irc_follow.specs.Fits.{Fits}
 use Rattle.irc_follow.specs.Laws.{PutsOutNothing}
 use Rattle.irc_follow.specs.Part.{Fixed, Part, number, IsFixed}
-use Rattle.irc_follow.specs.Says.{asked, lines_on, machine, play, terms, Aside, IsDoableKill, IsNothing, PassesBy, Says}
+use Rattle.irc_follow.specs.Says.{neighbour_served, lines_on, machine, play, terms, Aside, IsDoableKill, IsNothing, PassesBy, Says}
 use Rattle.irc_follow.proofs.Followed.{servers_follow, IsKnownOfLine}
 use Rattle.irc_items.specs.GoodLines.{closings, Answering, IsAnswered, IsGoodLine, IsGoodReply, IsUnheard}
 use Rattle.irc_items.specs.Relayed.{owed_at, owed_to}
@@ -129,7 +129,7 @@ module _ (s : Fixed) (asks : Answering) (world : World) (routes : Name → Known
   -- ---- of a line that says a deed
 
   module _ (known : IsKnownOfLine) (fixed : IsFixed s) where
-    unanswered : (deed : Deed) → Says s p t w view deed line → IsGoodReply s world.links p t view (asked s p view line) [] → Good
+    unanswered : (deed : Deed) → Says s p t w view deed line → IsGoodReply s world.links p t view (neighbour_served s p view line) [] → Good
     unanswered deed says good =
         record { is_line = says.is_line; end = says.end; is_end = says.is_end; back = []; good = good; answer = no_answer s asks world routes p t line }
 
@@ -181,21 +181,21 @@ module _ (s : Fixed) (asks : Answering) (world : World) (routes : Name → Known
   owed_stays end is_end (tells []) nothing = refl
   owed_stays end is_end (tells (told ∷ later)) nothing = absurd nothing
 
-  owed_after : Aside s p t w view line → owed_to s (asked s p view line).view p ≡ owed_to s view p
+  owed_after : Aside s p t w view line → owed_to s (neighbour_served s p view line).view p ≡ owed_to s view p
   unfolding served
   owed_after aside =
       ap (λ o. owed_to s (line_served view k (read_of line) o).view p) aside.is_end
       ∙ owed_stays aside.end aside.is_end (heard view k aside.end (read_of line)) aside.nothing
 
-  silent_reply : Aside s p t w view line → PutsOutNothing s t w (asked s p view line) → IsGoodReply s world.links p t view (asked s p view line) []
+  silent_reply : Aside s p t w view line → PutsOutNothing s t w (neighbour_served s p view line) → IsGoodReply s world.links p t view (neighbour_served s p view line) []
   silent_reply aside stays =
-      good_reply s world.links p t w w view (asked s p view line) fits stays.fits alike_here known_beside
+      good_reply s world.links p t w w view (neighbour_served s p view line) fits stays.fits alike_here known_beside
       (record { forest = alike_here; knows = λ u known. known })
       (record {
         closes_none = ap closings stays.silent;
         to_linked = λ u first lines is. cc (sym (ap (lines_on (number s u)) stays.silent) ∙ is);
         to_own = λ client first lines is. cc (sym (ap (lines_to client) stays.silent) ∙ is);
-        pays = ap (λ out. lines_on (number s p) out ++ owed_to s (asked s p view line).view p) stays.silent ∙ owed_after aside;
+        pays = ap (λ out. lines_on (number s p) out ++ owed_to s (neighbour_served s p view line).view p) stays.silent ∙ owed_after aside;
       })
 
   aside_good : IsKnownOfLine → Aside s p t w view line → Good

@@ -35,7 +35,7 @@ use Rattle.irc_follow.specs.Laws.{DoneStaysSound, GoesOn, told, passed}
 use Rattle.irc_follow.specs.Part.{Fixed, done, is_home_of, number, IsFixed}
 use Rattle.irc_follow.specs.Part as of_side
 use Rattle.irc_follow.specs.Relinked.{BehindSourceIsFar}
-use Rattle.irc_follow.specs.Says.{asked, lines_on, machine, play, ComesFar, IsDoableEffect, IsFar}
+use Rattle.irc_follow.specs.Says.{neighbour_served, lines_on, machine, play, ComesFar, IsDoableEffect, IsFar}
 use Rattle.irc_follow.specs.SideFlows.{IsToldOf, SourceTells}
 use Rattle.irc_follow.proofs.Followed.{IsKnownOfLine}
 use Rattle.irc_items.specs.GoodLines.{no_answers}
@@ -160,7 +160,7 @@ module _ (laws : AreTellingLaws) (s : Fixed) (fixed : IsFixed s) (links : List L
     one_more w other effect deeds first more side reader (told line is said) rest =
         subst (λ lines. AreToldTo w other (does effect ∷ deeds) (lines ++ more)) (sym is)
         (by_line (record { says = said; may = tt; side = subst (λ all. IsWithinSide s all w) (sym same_links) side })
-        (rest (asked s h other line).view (laws.line.fits s h u w other (does effect) line fixed next reader said)))
+        (rest (neighbour_served s h other line).view (laws.line.fits s h u w other (does effect) line fixed next reader said)))
     one_more w other effect deeds first more side reader (passed is passes) rest =
         subst (λ lines. AreToldTo w other (does effect ∷ deeds) (lines ++ more)) (sym is)
         (passing_by passes (rest other ((laws.line.passed s u w (does effect) passes).fits other reader)))

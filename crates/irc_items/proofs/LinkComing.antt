@@ -27,7 +27,7 @@ use Rattle.irc_follow.specs.AtRest.{part_of, AreRight, IsOfWorld, PartAtRestIsSo
 use Rattle.irc_follow.specs.Fits.{Fits}
 use Rattle.irc_follow.specs.Part.{Fixed, info_in, is_home_of, IsFixed, IsSoundPart}
 use Rattle.irc_follow.specs.Says.{play}
-use Rattle.irc_follow.specs.Tree.{place_in, shape_in}
+use Rattle.irc_follow.specs.Tree.{index_in, shape_in}
 use Rattle.irc_follow.proofs.AtRest.{ends_there}
 use Rattle.irc_follow.proofs.BehindLinks.{joined_test}
 use Rattle.irc_follow.proofs.NewLink.{kept_row, shape_stays}
@@ -173,7 +173,7 @@ module _ (s : Fixed) (l : Link) (world : World) (routes : Name → Known) (so : 
 
   -- u's number for a server behind its neighbour t is the one that t has for it
   abbrev OneNumber : Name → Name → Type 0
-  OneNumber t u = (x : Name) (r : ServerRow) → row_of (routes_now u) x ≡ Some r → r.link ≡ place_in s.names t → token_out (routes_now t) x ≡ Some r.token
+  OneNumber t u = (x : Name) (r : ServerRow) → row_of (routes_now u) x ≡ Some r → r.link ≡ index_in s.names t → token_out (routes_now t) x ≡ Some r.token
 
   number_known : (one other : Known) (x : Name) (r : ServerRow) → one ≡ other → row_of one x ≡ Some r → row_of other x ≡ Some r
   number_known one other x r is there = subst (λ known. row_of known x ≡ Some r) is there

@@ -19,7 +19,7 @@ use Rattle.irc_stage.specs.RoomMachine.{Clients}
 use Rattle.irc_world.specs.World.{Hall}
 use Rattle.irc_follow.specs.Part.{Fixed, Part, client_sees, done, is_home_of, shown_at}
 use Rattle.irc_follow.specs.Says.{play}
-use Rattle.irc_follow.specs.Tree.{Tree, gained, gained_at, place_in, told_of, told_token}
+use Rattle.irc_follow.specs.Tree.{Tree, gained, gained_at, index_in, known_told, told_token}
 use Rattle.irc_items.proofs.LinkSides.{IsReadDeed}
 
 -- ---- what a server keeps
@@ -52,7 +52,7 @@ numbered_known known x number is = by (is_itself known x) (row_of known x) is
 module _ (names : List Name) (tree : Tree) (uplink name info : List ℕ) (t : Name) where
   abbrev new_row : ServerRow
   new_row = record {
-    link = place_in names (toward tree.forest t name);
+    link = index_in names (toward tree.forest t name);
     uplink = uplink;
     name = name;
     distance = distance tree.forest t name;
@@ -62,7 +62,7 @@ module _ (names : List Name) (tree : Tree) (uplink name info : List ℕ) (t : Na
   }
 
   told_tokens : is_known (tree.routes t) name ≡ false → (x : Name) (number : ℕ) → token_out (tree.routes t) x ≡ Some number
-      → token_out (told_of names tree uplink name info t) x ≡ Some number
+      → token_out (known_told names tree uplink name info t) x ≡ Some number
   told_tokens unknown x number is =
       ap (λ o. cond (is_itself (tree.routes t) x) (Some 1) (option_map (λ (r : ServerRow). r.ours) o))
       (row-alter name (λ _. Some new_row) (tree.routes t).rows x ∙ by (same_fold x name) refl)
@@ -77,14 +77,14 @@ module _ (names : List Name) (tree : Tree) (uplink name info : List ℕ) (t : Na
   gained_keeps = by (tree.here t) (is_known (tree.routes t) name) refl
     where
       by : (b c : Bool) → is_known (tree.routes t) name ≡ c
-          → KeepsKnown (tree.routes t) (if b && not c then told_of names tree uplink name info t else tree.routes t)
+          → KeepsKnown (tree.routes t) (if b && not c then known_told names tree uplink name info t else tree.routes t)
       by true false unknown = record { info = refl; created = refl; tokens = told_tokens unknown }
       by true true known = keeps_itself (tree.routes t)
       by false c is = keeps_itself (tree.routes t)
 
   gained_elsewhere : tree.here t ≡ false → gained_at names tree uplink name info t ≡ tree.routes t
   gained_elsewhere away =
-      ap (λ b. if b && not (is_known (tree.routes t) name) then told_of names tree uplink name info t else tree.routes t) away
+      ap (λ b. if b && not (is_known (tree.routes t) name) then known_told names tree uplink name info t else tree.routes t) away
 
 -- ---- what becomes of the side
 

@@ -25,7 +25,7 @@ use Rattle.irc_world.specs.Stepping.{link}
 use Rattle.irc_world.specs.World.{home_in}
 use Rattle.irc_follow.specs.Fits.{far_of}
 use Rattle.irc_follow.specs.Says.{body, lines_on}
-use Rattle.irc_follow.specs.Tree.{place_in}
+use Rattle.irc_follow.specs.Tree.{index_in}
 use Rattle.irc_follow.proofs.LinesOn.{bare}
 use Rattle.irc_network.specs.Network.{Course, Network, Reply, asked, begun, changed_at, ends_of, given, kept, made, place_of, received_by, reply, view_of, with_way}
 use Rattle.irc_network.specs.Refusing.{are_peers, fault_at_rest, link_fault, meeting_fault}
@@ -62,12 +62,12 @@ pub record IsLinked (net new : Network) (near far : Name) : Type 0 where
   pub taken : new.taken ≡ 0
   pub settings : settings_of new ≡ settings_of net
   pub set_up : IsSetUp new
-  pub near_view : view_at new near ≡ with_end (place_in net.names far) (Some far) (view_at net near)
-  pub far_view : view_at new far ≡ with_end (place_in net.names near) None (view_at net far)
+  pub near_view : view_at new near ≡ with_end (index_in net.names far) (Some far) (view_at net near)
+  pub far_view : view_at new far ≡ with_end (index_in net.names near) None (view_at net far)
   pub other_views : (u : Name) → u ≢ near → u ≢ far → view_at new u ≡ view_at net u
   pub calls : way_between new near far ≡ Some (map line_text (opening_parts (view_at net near) far))
   pub waits : way_between new far near ≡ Some []
-  pub other_ways : (x : Name) (place : ℕ) → (x ≡ near → place ≡ place_in net.names far → ⊥) → (x ≡ far → place ≡ place_in net.names near → ⊥)
+  pub other_ways : (x : Name) (place : ℕ) → (x ≡ near → place ≡ index_in net.names far → ⊥) → (x ≡ far → place ≡ index_in net.names near → ⊥)
       → way_at new x place ≡ way_at net x place
 
 -- ---- what is not refused
@@ -192,8 +192,8 @@ pub new_link_is_open : NewLinkIsOpen
 new_link_is_open net near far sound taken =
     let m = meeting net sound.set_up near far taken in
     record {
-      calls = call_closes_none (view_at net near) (place_in net.names far) far m.word m.near_word;
-      waits = wait_closes_none (view_at net far) (place_in net.names near);
+      calls = call_closes_none (view_at net near) (index_in net.names far) far m.word m.near_word;
+      waits = wait_closes_none (view_at net far) (index_in net.names near);
     }
 
 all_on_it : (k : ℕ) (lines : List Written) → lines_on k (on_link k lines) ≡ map line_text lines
@@ -237,10 +237,10 @@ no_far f (Some x) e = absurd (cc e)
 
 module _ (stays : ServedKeepsItsSetting) (net : Network) (sound : IsSound net) (room : IsOneRoom net) (near far : Name) (m : IsMeeting net near far) where
   abbrev p : ℕ
-  p = place_in net.names near
+  p = index_in net.names near
 
   abbrev q : ℕ
-  q = place_in net.names far
+  q = index_in net.names far
 
   near_other : near ≢ far
   near_other e = m.apart (ap (part net.links) e)
@@ -257,9 +257,9 @@ module _ (stays : ServedKeepsItsSetting) (net : Network) (sound : IsSound net) (
 
   -- no end of that number is there yet
   no_end : (a b : Name) → IsAmong net.names a → IsAmong net.names b → part net.links a ≢ part net.links b
-      → get (view_at net a).ends (place_in net.names b) ≡ None
+      → get (view_at net a).ends (index_in net.names b) ≡ None
   no_end a b here there_too apart =
-      no_far far_of (get (view_at net a).ends (place_in net.names b))
+      no_far far_of (get (view_at net a).ends (index_in net.names b))
       ((room.servers a here).ends b there_too
       ∙ ap (λ c. if c then Some (if joined (world_now net).links b a then Some b else None) else None)
       (sym (ap (λ links. linked links a b) sound.links) ∙ not_linked a b apart))
@@ -311,7 +311,7 @@ module _ (stays : ServedKeepsItsSetting) (net : Network) (sound : IsSound net) (
   far_asked : IsAskedAt far (reply (view_at has_called.net far) (link_up p None)) has_called has_waited
   far_asked =
       subst (λ place. IsAskedAt far (reply (view_at has_called.net far) (link_up p None)) has_called (asked place (link_up p None) has_called))
-      (ap (λ names. place_in names far) near_asked.names)
+      (ap (λ names. index_in names far) near_asked.names)
       (asked_there stays has_called near_asked.set_up (near_asked.inboxes ∙ sound.inboxes ∙ ap length (sym near_asked.homes)) far
       (subst (λ names. IsAmong names far) (sym near_asked.names) m.far_among) (link_up p None))
 
@@ -413,8 +413,8 @@ module _ (stays : ServedKeepsItsSetting) (net : Network) (sound : IsSound net) (
     near_view = far_asked.other_views near near_other ∙ near_asked.view ∙ ap (λ (r : Reply). r.view) near_reply;
     far_view = far_asked.view ∙ ap (λ (r : Reply). r.view) far_reply;
     other_views = λ u not_near not_far. far_asked.other_views u not_far ∙ near_asked.other_views u not_near ∙ view_opened u;
-    calls = ap (λ names. way_at has_waited.net near (place_in names far)) same_names ∙ near_calls;
-    waits = ap (λ names. way_at has_waited.net far (place_in names near)) same_names ∙ far_way p ∙ far_opened.way;
+    calls = ap (λ names. way_at has_waited.net near (index_in names far)) same_names ∙ near_calls;
+    waits = ap (λ names. way_at has_waited.net far (index_in names near)) same_names ∙ far_way p ∙ far_opened.way;
     other_ways = ways_else;
   }
     where

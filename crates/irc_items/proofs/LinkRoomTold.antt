@@ -32,7 +32,7 @@ use Rattle.irc_wire.specs.EachReadBack.{EachIsReadBack}
 use Rattle.irc_world.specs.World.{Hall, World}
 use Rattle.irc_follow.specs.Fits.{Fits}
 use Rattle.irc_follow.specs.Part.{Fixed, Part, done, info_in, number}
-use Rattle.irc_follow.specs.Says.{asked, Aside, Says}
+use Rattle.irc_follow.specs.Says.{neighbour_served, Aside, Says}
 use Rattle.irc_follow.specs.Tree.{Shape, shape, shape_in}
 use Rattle.irc_follow.proofs.AtRest.{joined_so}
 use Rattle.irc_follow.proofs.BehindLinks.{joined_test}
@@ -178,7 +178,7 @@ module _ (laws : AreRoomLaws) (s : Fixed) (l : Link) (world : World) (routes : N
       read_aside : (line : List ℕ) → Aside s b t (w hall) view line → IsReadSo line []
       read_aside line aside more =
           aside_line (record { aside = aside; side = within laws.sides s l world routes t b is knows known_at hall })
-          (more (asked s b view line).view (laws.line.aside s b t (w hall) view line fits aside).fits)
+          (more (neighbour_served s b view line).view (laws.line.aside s b t (w hall) view line fits aside).fits)
 
       abbrev May : Deed → List ℕ → Type 0
       May deed line = MayKill s (answers_of l) (linked_world laws.sides s l world routes t b is)
@@ -187,9 +187,9 @@ module _ (laws : AreRoomLaws) (s : Fixed) (l : Link) (world : World) (routes : N
       read_said : (line : List ℕ) (deed : Deed) → IsReadDeed t deed → May deed line → Says s b t (w hall) view deed line → IsReadSo line (deed ∷ [])
       read_said line deed read may says more =
           by_line (record { says = says; may = may; side = within laws.sides s l world routes t b is knows known_at hall })
-          (subst (λ part. AreTold laws.sides s l world routes t b is client part (asked s b view line).view deeds lines) (sym done_is)
-          (more (asked s b view line).view
-          (subst (λ part. Fits s t part (asked s b view line).view) done_is
+          (subst (λ part. AreTold laws.sides s l world routes t b is client part (neighbour_served s b view line).view deeds lines) (sym done_is)
+          (more (neighbour_served s b view line).view
+          (subst (λ part. Fits s t part (neighbour_served s b view line).view) done_is
           (laws.line.fits s b t (w hall) view deed line is.fixed (takes_b laws.sides s l world routes t b is) fits says))))
         where
           done_is : done s (w hall) deed ≡ w (hall_left (deed ∷ []) hall)

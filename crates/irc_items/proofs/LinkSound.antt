@@ -32,7 +32,7 @@ use Rattle.irc_follow.specs.Fits.{Fits, far_of}
 use Rattle.irc_follow.specs.Part.{Fixed, Part, is_home_of, number}
 use Rattle.irc_follow.specs.Relinked.{PartAfterLink}
 use Rattle.irc_follow.specs.Says.{machine, play}
-use Rattle.irc_follow.specs.Tree.{place_in}
+use Rattle.irc_follow.specs.Tree.{index_in}
 use Rattle.irc_follow.proofs.Followed.{IsKnownOfLine}
 use Rattle.irc_follow.proofs.Places.{one_place}
 use Rattle.irc_follow.proofs.SaidShows.{append_nil}
@@ -450,8 +450,8 @@ module _ (laws : AreLinkLaws) (net new : Network) (near far : Name) (given : IsL
     few = few_now;
   }
 
-  same_place : (y : Name) → place_in new.names y ≡ number s y
-  same_place y = ap (λ names. place_in names y) given.linked.names
+  same_place : (y : Name) → index_in new.names y ≡ number s y
+  same_place y = ap (λ names. index_in names y) given.linked.names
 
   ways_now : (x y : Name) → is_some (way_between new x y) ≡ linked new.links x y
   ways_now x y = by (has_ends l x y) refl ∙ ap (λ links. linked links x y) (sym same_links)
@@ -489,7 +489,7 @@ module _ (laws : AreLinkLaws) (net new : Network) (near far : Name) (given : IsL
       old p = record {
         server = p.server;
         among = subst (λ names. IsAmong names p.server) (sym given.linked.names) p.among;
-        is = ap (λ names. place_in names p.server) given.linked.names ∙ p.is;
+        is = ap (λ names. index_in names p.server) given.linked.names ∙ p.is;
       }
 
       by : (a : Bool) → same_number place (number s far) ≡ a → (b : Bool) → same_number place (number s near) ≡ b → IsPlaceOf new place

@@ -50,8 +50,8 @@ use Rattle.irc_world.specs.WorldHolds.{IsWorld}
 use Rattle.irc_follow.specs.AtRest.{AreRight}
 use Rattle.irc_follow.specs.Fits.{Fits}
 use Rattle.irc_follow.specs.Part.{Fixed, Part, done, info_in, number, IsFixed, IsSoundPart}
-use Rattle.irc_follow.specs.Says.{IsDoableGain, IsNothing, asked, machine, play}
-use Rattle.irc_follow.specs.Tree.{Shape, gained_at, shape_in, told_of, told_token}
+use Rattle.irc_follow.specs.Says.{IsDoableGain, IsNothing, neighbour_served, machine, play}
+use Rattle.irc_follow.specs.Tree.{Shape, gained_at, shape_in, known_told, told_token}
 use Rattle.irc_follow.proofs.AsideLines.{aside_stays}
 use Rattle.irc_follow.proofs.AtRest.{joined_among, joined_so}
 use Rattle.irc_follow.proofs.BehindLinks.{joined_test, row_says, RowSays}
@@ -422,7 +422,7 @@ module _ (known : IsKnownOfSides) (s : Fixed) (l : Link) (world : World) (routes
   b_stays : (knows : Name → Bool) (known_at : Name → Known) (hall : Hall) (uplink name words : List ℕ) → known_at b ≡ routes b
       → gained_at s.names (moment knows known_at hall).tree uplink name words b ≡ routes b
   b_stays knows known_at hall uplink name words at_b =
-      ap (λ c. if c && not (is_known (known_at b) name) then told_of s.names (moment knows known_at hall).tree uplink name words b else known_at b)
+      ap (λ c. if c && not (is_known (known_at b) name) then known_told s.names (moment knows known_at hall).tree uplink name words b else known_at b)
       b_away ∙ at_b
 
   -- which servers are known, once these are
@@ -451,7 +451,7 @@ module _ (known : IsKnownOfSides) (s : Fixed) (l : Link) (world : World) (routes
       let says = r_says knows known_at hall view fits at_b b_known r next.0 in
       by_line says
       (tell_rows client rows (λ x. knows x || same x r.name) (gained_at s.names (moment knows known_at hall).tree r.uplink r.name r.info) hall
-      (asked s b view (server_line (routes b) r)).view (b_stays knows known_at hall r.uplink r.name r.info at_b)
+      (neighbour_served s b view (server_line (routes b) r)).view (b_stays knows known_at hall r.uplink r.name r.info at_b)
       (ap (λ c. c || same b r.name) b_known)
       (said_gain_fits s is.fixed b t (moment knows known_at hall) view takes_b fits r.uplink r.name r.info (server_line (routes b) r) says.says) next.1
       deeds lines (subst (λ now. IsToldThen client now hall deeds lines) one_more more))
@@ -487,7 +487,7 @@ module _ (known : IsKnownOfSides) (s : Fixed) (l : Link) (world : World) (routes
       let says = b_says knows_first routes (world.hall t) view fits refl (away b refl) word kept end is_end not_met given in
       by_line says
       (tell_rows client (servers_told (routes b) (number s t)) (λ x. joined links x t || same x b) (gained_at s.names first.tree t b (info b)) (world.hall t)
-      (asked s b view greeting_line).view (b_stays knows_first routes (world.hall t) t b (info b) refl) b_known
+      (neighbour_served s b view greeting_line).view (b_stays knows_first routes (world.hall t) t b (info b) refl) b_known
       (said_gain_fits s is.fixed b t first view takes_b fits t b (info b) greeting_line says.says)
       (come_in_turn s links routes b is.forest.1 is.right is.b_among ends_there t is.t_among over.apart
       (λ x. joined links x t || same x b) b_known
@@ -557,7 +557,7 @@ module _ (known : IsKnownOfSides) (s : Fixed) (l : Link) (world : World) (routes
         → AreTold client (side_of s l world routes t) view (deeds_of_link s world routes t b) told_lines
     link_tells client kept other_kept end is_end not_met no_word more =
         subst (AreTold client first view (deeds_of_link s world routes t b)) (sym (lines_are other_kept)) (aside_line aside (
-        from_greeting client (asked s b view pass_line).view word (record end { password = Some word })
+        from_greeting client (neighbour_served s b view pass_line).view word (record end { password = Some word })
         (aside_stays s b t first view pass_line fits aside.aside).fits
         (ap (λ (v : View). password_for v b) after ∙ kept)
         (ap (λ (v : View). get v.ends (number s b)) after ∙ word_kept laws word is_word view (number s b) end not_met no_word)
@@ -575,5 +575,5 @@ module _ (known : IsKnownOfSides) (s : Fixed) (l : Link) (world : World) (routes
           side = within knows_first routes (world.hall t);
         }
 
-        after : (asked s b view pass_line).view ≡ with_word laws word is_word view (number s b) end not_met no_word
+        after : (neighbour_served s b view pass_line).view ≡ with_word laws word is_word view (number s b) end not_met no_word
         after = pass_served laws word is_word view (number s b) end not_met no_word is_end

@@ -19,7 +19,7 @@ use Rattle.irc_world.specs.World.{World}
 use Rattle.irc_follow.specs.Fits.{IsNumberOf, far_of}
 use Rattle.irc_follow.specs.Part.{Fixed, number}
 use Rattle.irc_follow.specs.Relinked.{PartAfterLink}
-use Rattle.irc_follow.specs.Tree.{place_in}
+use Rattle.irc_follow.specs.Tree.{index_in}
 use Rattle.irc_follow.proofs.Places.{one_place}
 use Rattle.irc_network.specs.Laws.{RestStays}
 use Rattle.irc_network.specs.Network.{Network}
@@ -66,7 +66,7 @@ module _ (after_link : PartAfterLink) (quiet : RestStays) (net new : Network) (n
 
     queue_else : (x y : Name) → (HasEnds l x y → ⊥) → unwrap_or (way_between new x y) [] ≡ []
     queue_else x y none =
-        ap (λ names. unwrap_or (way_at new x (place_in names y)) []) given.linked.names
+        ap (λ names. unwrap_or (way_at new x (index_in names y)) []) given.linked.names
         ∙ ap (λ o. unwrap_or o []) (given.linked.other_ways x (number s y)
         (λ e same_place. none (inl (sym e, one_place net.names far y given.meeting.far_among (sym same_place))))
         (λ e same_place. none (inr (one_place net.names near y given.meeting.near_among (sym same_place), sym e))))

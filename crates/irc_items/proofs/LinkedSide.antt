@@ -17,7 +17,7 @@ use Rattle.irc_follow.specs.AtRest.{created_in, AreRight}
 use Rattle.irc_follow.specs.Fits.{Fits}
 use Rattle.irc_follow.specs.Part.{Fixed, Part, info_in, number, IsSoundPart}
 use Rattle.irc_follow.specs.Says.{play}
-use Rattle.irc_follow.specs.Tree.{place_in, shape, shape_in}
+use Rattle.irc_follow.specs.Tree.{index_in, shape, shape_in}
 use Rattle.irc_follow.proofs.BehindLinks.{joined_test}
 use Rattle.irc_items.proofs.LinkEnds.{AreEnds}
 use Rattle.irc_items.proofs.LinkGains.{HasGained, KeepsKnown, all_gained, burst_done, done_in_turn, hall_left, same_done}
@@ -135,11 +135,11 @@ module _ (s : Fixed) (l : Link) (world : World) (routes : Name → Known) (a b :
 
         -- one number at both ends of a link, where the nearer one is of this side
         pub side_tokens : (t u x : Name) (r : ServerRow) → AreJoined world.links u a → AreLinked (l ∷ world.links) t u → row_of (routes_now u) x ≡ Some r
-            → r.link ≡ place_in s.names t → token_out (routes_now t) x ≡ Some r.token
+            → r.link ≡ index_in s.names t → token_out (routes_now t) x ≡ Some r.token
         side_tokens t u x r here linked is link = side_sound.tree.tokens t u x r (joined_test world.links u a here) linked is link
 
         -- across the new link: the other end had that number from the beginning
-        pub end_tokens : (x : Name) (r : ServerRow) → row_of (routes_now a) x ≡ Some r → r.link ≡ place_in s.names b
+        pub end_tokens : (x : Name) (r : ServerRow) → row_of (routes_now a) x ≡ Some r → r.link ≡ index_in s.names b
             → token_out ((side_after s l world routes b a).tree.routes b) x ≡ Some r.token
         end_tokens x r is link =
             ((all_gained s 0 (told_rows s routes b a) (side_of s l world routes b)).keeps b).tokens x r.token

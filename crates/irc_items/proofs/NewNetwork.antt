@@ -28,7 +28,7 @@ use Rattle.irc_follow.specs.AtRest.{part_of, AreRight, PartAtRestIsSound}
 use Rattle.irc_follow.specs.Fits.{Fits, far_of}
 use Rattle.irc_follow.specs.Part.{Fixed, info_in, is_home_of, number}
 use Rattle.irc_follow.specs.Says.{machine}
-use Rattle.irc_follow.specs.Tree.{place_in, shape, shape_in}
+use Rattle.irc_follow.specs.Tree.{index_in, shape, shape_in}
 use Rattle.irc_network.specs.Network.{Network, Site, place_of, site_at}
 use Rattle.irc_items.specs.Laws.{NewNetworkIsSound}
 use Rattle.irc_items.specs.GoodLines.{no_answers, IsGoodLine}
@@ -233,7 +233,7 @@ module _ (world_holds : TakenMakeWorld) (side : PartAtRestIsSound) (net : Networ
     links = new.links ∙ sym (no_items (λ items. (world_of (settings_of net) items).links));
     homes = new.homes ∙ sym (no_items (λ items. (world_of (settings_of net) items).homes));
     inboxes = ap (λ (boxes : List (List (List ℕ))). length boxes) new.received ∙ sym (ap (λ (homes : List Name). length homes) new.homes);
-    ways = λ x y. ap is_some (no_ways x (place_in net.names y)) ∙ sym (no_links (λ links. linked links x y));
+    ways = λ x y. ap is_some (no_ways x (index_in net.names y)) ∙ sym (no_links (λ links. linked links x y));
     to_servers = λ x place is. absurd (let e = sym is ∙ ap is_some (no_ways x place) in cc e);
     nobody = λ client none. no_items (λ items. owed_by_network (settings_of net) items client) ∙ nothing_by_none (settings_of net) client;
     source = λ t. t;

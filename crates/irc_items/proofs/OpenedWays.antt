@@ -6,7 +6,7 @@ use Rattle.irc_relay.specs.Distances.{IsAmong}
 use Rattle.irc_relay.specs.Lemmas.TellingNames.{Telling, alike, unlike, tell}
 use Rattle.irc_relay.specs.Links.{Name}
 use Rattle.irc_stage.specs.Lemmas.Numbers.{get-with, one_number, same_number, same_number-refl}
-use Rattle.irc_follow.specs.Tree.{place_in}
+use Rattle.irc_follow.specs.Tree.{index_in}
 use Rattle.irc_network.specs.Network.{Network, Site, changed_at, with_site, with_way}
 use Rattle.irc_items.specs.Relayed.{way_at}
 use Rattle.irc_items.specs.SetUp.{settings_of, view_at, IsSetUp}
@@ -14,7 +14,7 @@ use Rattle.irc_items.proofs.SetUpFacts.{there, IsThere}
 use Rattle.irc_items.proofs.SiteChanged.{same_server, set_up_after, site_set, site_there, IsSetUpAfter, IsSiteChanged}
 
 abbrev pub opened_at : Network → Name → ℕ → Site → Network
-opened_at net t to site = with_site (place_in net.names t) (with_way to site) net
+opened_at net t to site = with_site (index_in net.names t) (with_way to site) net
 
 pub record IsOpened (t : Name) (to : ℕ) (old new : Network) : Type 0 where
   pub set_up : IsSetUp new
@@ -31,8 +31,8 @@ module _ (net : Network) (set_up : IsSetUp net) (t : Name) (among : IsAmong net.
   abbrev new : Network
   new = opened_at net t to at.site
 
-  changed : IsSiteChanged (place_in net.names t) (with_way to at.site) net new
-  changed = site_set (place_in net.names t) at.site (with_way to at.site) net new at.is_site (same_server at.site (with_way to at.site) refl) refl
+  changed : IsSiteChanged (index_in net.names t) (with_way to at.site) net new
+  changed = site_set (index_in net.names t) at.site (with_way to at.site) net new at.is_site (same_server at.site (with_way to at.site) refl) refl
 
   after : IsSetUpAfter t (view_at net t) (with_way to at.site) net new
   after = set_up_after net new set_up t among (with_way to at.site) (view_at net t) changed at.is_view (set_up.configured t among)
@@ -61,5 +61,5 @@ module _ (net : Network) (set_up : IsSetUp net) (t : Name) (among : IsAmong net.
       elsewhere place two false e = ap (λ b. cond b (Some []) (get at.site.queues place)) e
 
   -- the network opens it so
-  pub is_opened : changed_at (place_in net.names t) (with_way to) net ≡ new
-  is_opened = ap (λ o. option_map_or (λ site. with_site (place_in net.names t) (with_way to site) net) o net) at.is_site
+  pub is_opened : changed_at (index_in net.names t) (with_way to) net ≡ new
+  is_opened = ap (λ o. option_map_or (λ site. with_site (index_in net.names t) (with_way to site) net) o net) at.is_site

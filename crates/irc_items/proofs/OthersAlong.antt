@@ -39,7 +39,7 @@ use Rattle.irc_stage.specs.Handle.{Happening, connects, says, goes, Handled, han
 use Rattle.irc_stage.specs.Lemmas.Counting.{get-kept}
 use Rattle.irc_stage.specs.Lemmas.Matching.{key_by_same}
 use Rattle.irc_stage.specs.Lemmas.Numbers.{same_number, same_number-is, get-each, get-with, get-without}
-use Rattle.irc_server.specs.Owed.{line_for, lines_to}
+use Rattle.irc_server.specs.Owed.{line_to_conn, lines_to}
 use Rattle.irc_world.specs.Bounds.{effects_at, effects_left, effects_of_user, effects_said}
 use Rattle.irc_world.specs.ClientsUsers.{AreMatched, fold_of, registered_as}
 use Rattle.irc_world.specs.World.{Hall}
@@ -79,7 +79,7 @@ hall_of machine = record { clients = machine.clients; room = machine.room }
 
 -- what goes to another is nothing to a client
 lines_behind : (q : ℕ) (one other : List Sent) → lines_to q (one ++ other) ≡ lines_to q one ++ lines_to q other
-lines_behind q one other = filter_map-append (line_for q) one other
+lines_behind q one other = filter_map-append (line_to_conn q) one other
 
 module _ (conn : ℕ) where
   own_line : (q : ℕ) → same_number q conn ≡ false → (out : List Sent) (line : List ℕ) → lines_to q (out ++ line_to conn line ∷ []) ≡ lines_to q out

@@ -20,7 +20,7 @@ use Rattle.irc_world.specs.World.{World}
 use Rattle.irc_follow.specs.AtRest.{part_of}
 use Rattle.irc_follow.specs.Fits.{Fits, IsNumberOf, far_of}
 use Rattle.irc_follow.specs.Part.{Fixed, number}
-use Rattle.irc_follow.specs.Says.{asked, lines_on, machine}
+use Rattle.irc_follow.specs.Says.{neighbour_served, lines_on, machine}
 use Rattle.irc_network.specs.Network.{Network, Site, begun, delivered, is_at_rest, place_of, site_at, taken_of, waiting}
 use Rattle.irc_network.specs.Laws.{RestStays}
 use Rattle.irc_items.specs.GoodLines.{Answering, IsGoodLine}
@@ -91,7 +91,7 @@ owed_along s asks world routes client p t u two view (line ∷ lines) all =
 passed_back : (s : Fixed) (client : ℕ) (t p : Name) (view : View) (lines : List (List ℕ)) → passed_on (machine s client) t p view lines p ≡ []
 passed_back s client t p view [] = refl
 passed_back s client t p view (line ∷ lines) =
-    ap (λ b. cond b [] (lines_on (number s p) (asked s p view line).out)
+    ap (λ b. cond b [] (lines_on (number s p) (neighbour_served s p view line).out)
     ++ passed_on (machine s client) t p ((machine s client).step t p view line) lines p) (same_when p p refl)
     ∙ passed_back s client t p ((machine s client).step t p view line) lines
 

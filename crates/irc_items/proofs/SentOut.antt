@@ -6,8 +6,8 @@ use Rattle.std.specs.List.{filter_map, cons_option, slice_get, slice_set}
 use Rattle.std.specs.Option.{option_map_or}
 use Rattle.irc_batch.specs.Batches.{Sent, line_to, end_of, line_on, end_of_link}
 use Rattle.irc_stage.specs.Lemmas.Numbers.{get-with, one_number, same_number, same_number-is}
-use Rattle.irc_server.specs.Owed.{line_for as line_to_for, lines_to}
-use Rattle.irc_follow.specs.Says.{line_for, lines_on}
+use Rattle.irc_server.specs.Owed.{line_to_conn as line_to_for, lines_to}
+use Rattle.irc_follow.specs.Says.{line_on_link, lines_on}
 use Rattle.irc_network.specs.Network.{Course, Site, all_sent_out, body, has_received, has_received_at, queued, sent_out, site_at, with_site}
 use Rattle.irc_items.proofs.SiteChanged.{IsSiteChanged, changed_twice, not_changed, only_received, same_server, set_length, set_other, set_there, site_set}
 
@@ -209,7 +209,7 @@ sent_then place sent out site old mid new first rest = record {
   server = rest.server ∙ first.server;
   taken = rest.taken ∙ first.taken;
   ways = λ to. rest.ways to ∙ ap (option_map (λ lines. lines ++ lines_on to out)) (first.ways to)
-      ∙ joined (line_for to) sent out (get site.queues to);
+      ∙ joined (line_on_link to) sent out (get site.queues to);
   inboxes = rest.inboxes ∙ first.inboxes;
   received = λ earlier. rest.received earlier ∙ ap (option_map (λ lines. lines ++ lines_to (suc earlier) out)) (first.received earlier)
       ∙ joined (line_to_for (suc earlier)) sent out (slice_get old.net.received earlier);

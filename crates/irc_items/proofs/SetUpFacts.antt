@@ -6,7 +6,7 @@ use Rattle.std.proofs.lemmas.List.Sums.{sum_by-cons}
 use Rattle.std.proofs.lemmas.Option.{slice_get-map, slice_get_past}
 use Rattle.std.specs.List.{cons_option, filter_map, list_any, position_or_len, slice_get}
 use Rattle.std.specs.Option.{option_and_then, option_map, option_map_or}
-use Rattle.irc_forest.specs.Forests.{place_in as place_found}
+use Rattle.irc_forest.specs.Forests.{index_in as place_found}
 use Rattle.irc_relay.specs.Distances.{IsAmong}
 use Rattle.irc_relay.specs.Links.{Name, same}
 use Rattle.irc_relay.specs.Lemmas.TellingNames.{Telling, alike, unlike, tell, same_unless, same_when}
@@ -17,7 +17,7 @@ use Rattle.irc_names.specs.Names.{IsServer}
 use Rattle.irc_world.specs.WithinLimits.{AreNamed}
 use Rattle.irc_world.specs.World.{Setting, is_server, setting_of}
 use Rattle.irc_follow.specs.Part.{IsFixed}
-use Rattle.irc_follow.specs.Tree.{place_in}
+use Rattle.irc_follow.specs.Tree.{index_in}
 use Rattle.irc_network.specs.Network.{Network, Site, place_of, site_at, site_of, view_of}
 use Rattle.irc_items.specs.Relayed.{fixed_of}
 use Rattle.irc_items.specs.SetUp.{named_at, no_view, setting_at, setting_now, settings_of, view_at, IsSetUp}
@@ -25,13 +25,13 @@ use Rattle.irc_items.specs.Sound.{IsPlaceOf}
 
 -- ---- places among names
 
-place_is : (first a : Name) (names : List Name) (b : Bool) → same first a ≡ b → place_in (first ∷ names) a ≡ (if b then 0 else suc (place_in names a))
-place_is first a names b is = ap (λ c. if c then 0 else suc (place_in names a)) is
+place_is : (first a : Name) (names : List Name) (b : Bool) → same first a ≡ b → index_in (first ∷ names) a ≡ (if b then 0 else suc (index_in names a))
+place_is first a names b is = ap (λ c. if c then 0 else suc (index_in names a)) is
 
 -- a name that is there, at its place
 pub record IsPlaced (names : List Name) (a : Name) : Type 0 where
-  pub is_there : slice_get names (place_in names a) ≡ Some a
-  pub within : place_in names a < length names
+  pub is_there : slice_get names (index_in names a) ≡ Some a
+  pub within : index_in names a < length names
 
 pub placed : (names : List Name) (a : Name) → IsAmong names a → IsPlaced names a
 placed [] a among = cc among
@@ -57,42 +57,42 @@ placed (first ∷ names) a among = by (tell first a) (placed names a)
         }
 
 -- a name that is none has the number of all
-no_place : (names : List Name) (a : Name) → list_any (same a) names ≡ false → place_in names a ≡ length names
+no_place : (names : List Name) (a : Name) → list_any (same a) names ≡ false → index_in names a ≡ length names
 no_place [] a not_among = refl
 no_place (first ∷ names) a not_among = by (tell first a) (or_parts (same a first) (list_any (same a) names) not_among) (no_place names a)
   where
-    by : Telling first a → (same a first ≡ false) × (list_any (same a) names ≡ false) → (list_any (same a) names ≡ false → place_in names a ≡ length names)
-        → place_in (first ∷ names) a ≡ suc (length names)
+    by : Telling first a → (same a first ≡ false) × (list_any (same a) names ≡ false) → (list_any (same a) names ≡ false → index_in names a ≡ length names)
+        → index_in (first ∷ names) a ≡ suc (length names)
     by (alike _ e) parts rest = cc (parts.0, same_when a first (sym e))
     by (unlike f _) parts rest = place_is first a names false f ∙ ap suc (rest parts.1)
 
 -- the search of a network finds that place
-as_searched : (names : List Name) (a : Name) → position_or_len (λ (known : Name). same known a) names ≡ place_in names a
+as_searched : (names : List Name) (a : Name) → position_or_len (λ (known : Name). same known a) names ≡ index_in names a
 as_searched [] a = refl
 as_searched (first ∷ names) a = by (same first a) refl (as_searched names a)
   where
     one_more : (k : ℕ) → 1 + k ≡ suc k
     one_more k = omega arith
 
-    by : (b : Bool) → same first a ≡ b → position_or_len (λ (known : Name). same known a) names ≡ place_in names a
-        → position_or_len (λ (known : Name). same known a) (first ∷ names) ≡ place_in (first ∷ names) a
+    by : (b : Bool) → same first a ≡ b → position_or_len (λ (known : Name). same known a) names ≡ index_in names a
+        → position_or_len (λ (known : Name). same known a) (first ∷ names) ≡ index_in (first ∷ names) a
     by true is rest = ap (λ b. cond (not b) (1 + position_or_len (λ (known : Name). same known a) names) 0) is ∙ sym (place_is first a names true is)
     by false is rest =
         ap (λ b. cond (not b) (1 + position_or_len (λ (known : Name). same known a) names) 0) is
         ∙ one_more (position_or_len (λ (known : Name). same known a) names) ∙ ap suc rest ∙ sym (place_is first a names false is)
 
-found : (names : List Name) (a : Name) → place_found names a ≡ cond (ltb (place_in names a) (length names)) (Some (place_in names a)) None
+found : (names : List Name) (a : Name) → place_found names a ≡ cond (ltb (index_in names a) (length names)) (Some (index_in names a)) None
 found names a = ap (λ k. cond (ltb k (length names)) (Some k) None) (as_searched names a)
 
-found_there : (names : List Name) (a : Name) → IsAmong names a → place_found names a ≡ Some (place_in names a)
+found_there : (names : List Name) (a : Name) → IsAmong names a → place_found names a ≡ Some (index_in names a)
 found_there names a among =
-    found names a ∙ ap (λ b. cond b (Some (place_in names a)) None) (lt-ltb (place_in names a) (length names) (placed names a among).within)
+    found names a ∙ ap (λ b. cond b (Some (index_in names a)) None) (lt-ltb (index_in names a) (length names) (placed names a among).within)
 
 found_nowhere : (names : List Name) (a : Name) → list_any (same a) names ≡ false → place_found names a ≡ None
 found_nowhere names a not_among =
     found names a
-    ∙ ap (λ b. cond b (Some (place_in names a)) None)
-    (le-ltb (place_in names a) (length names) (not_less (place_in names a) (length names) (no_place names a not_among)))
+    ∙ ap (λ b. cond b (Some (index_in names a)) None)
+    (le-ltb (index_in names a) (length names) (not_less (index_in names a) (length names) (no_place names a not_among)))
   where
     not_less : (k n : ℕ) → k ≡ n → n ≤ k
     not_less k n e = omega (arith, e)
@@ -121,7 +121,7 @@ named_here : (net : Network) → IsSetUp net → (place : ℕ) → option_map na
 named_here net set_up place =
     sym (slice_get-map named_at net.sites place) ∙ ap (λ xs. slice_get xs place) set_up.named ∙ slice_get-map some_name net.names place
 
-seen_there : (net : Network) (server : Name) → IsAmong net.names server → (site : Site) → site_at net (place_in net.names server) ≡ Some site
+seen_there : (net : Network) (server : Name) → IsAmong net.names server → (site : Site) → site_at net (index_in net.names server) ≡ Some site
     → (view : View) → site.server ≡ Some view → view_at net server ≡ view
 seen_there net server among site at view is =
     ap (λ o. unwrap_or (option_and_then (λ (s : Site). s.server) (option_and_then (site_at net) o)) no_view) (found_there net.names server among)
@@ -131,19 +131,19 @@ seen_there net server among site at view is =
 -- the server of a name, at its place
 pub record IsThere (net : Network) (server : Name) : Type 0 where
   pub site : Site
-  pub place : place_of net server ≡ Some (place_in net.names server)
-  pub within : place_in net.names server < length net.names
-  pub is_site : site_at net (place_in net.names server) ≡ Some site
+  pub place : place_of net server ≡ Some (index_in net.names server)
+  pub within : index_in net.names server < length net.names
+  pub is_site : site_at net (index_in net.names server) ≡ Some site
   pub is_view : site.server ≡ Some (view_at net server)
   pub named : (view_at net server).routes.name ≡ server
 
 pub there : (net : Network) → IsSetUp net → (server : Name) → IsAmong net.names server → IsThere net server
-there net set_up server among = by_site (site_at net (place_in net.names server)) refl
+there net set_up server among = by_site (site_at net (index_in net.names server)) refl
   where
-    given : option_map named_at (site_at net (place_in net.names server)) ≡ Some (Some server)
-    given = named_here net set_up (place_in net.names server) ∙ ap (option_map some_name) (placed net.names server among).is_there
+    given : option_map named_at (site_at net (index_in net.names server)) ≡ Some (Some server)
+    given = named_here net set_up (index_in net.names server) ∙ ap (option_map some_name) (placed net.names server among).is_there
 
-    of_view : (site : Site) → site_at net (place_in net.names server) ≡ Some site → (view : View) → site.server ≡ Some view → IsThere net server
+    of_view : (site : Site) → site_at net (index_in net.names server) ≡ Some site → (view : View) → site.server ≡ Some view → IsThere net server
     of_view site at view is =
         let seen : view_at net server ≡ view = seen_there net server among site at view is in
         record {
@@ -156,12 +156,12 @@ there net set_up server among = by_site (site_at net (place_in net.names server)
               ∙ one_name (one_name (sym (ap (option_map named_at) at ∙ ap (λ o. Some (option_map (λ (v : View). v.routes.name) o)) is) ∙ given));
         }
 
-    by_view : (site : Site) → site_at net (place_in net.names server) ≡ Some site → (o : Option View) → site.server ≡ o → IsThere net server
+    by_view : (site : Site) → site_at net (index_in net.names server) ≡ Some site → (o : Option View) → site.server ≡ o → IsThere net server
     by_view site at (Some view) is = of_view site at view is
     by_view site at None is =
         not_named (one_name (sym (ap (option_map named_at) at ∙ ap (λ o. Some (option_map (λ (v : View). v.routes.name) o)) is) ∙ given))
 
-    by_site : (o : Option Site) → site_at net (place_in net.names server) ≡ o → IsThere net server
+    by_site : (o : Option Site) → site_at net (index_in net.names server) ≡ o → IsThere net server
     by_site (Some site) at = by_view site at site.server refl
     by_site None at = not_named (sym (ap (option_map named_at) at) ∙ given)
 
@@ -207,7 +207,7 @@ counted_once (first ∷ names) a among = by (same a first) refl (counted_once na
         (rest (sym (ap (λ c. c || list_any (same a) names) is) ∙ among))
 
 -- a name that is there once is at one place
-only_place : (names : List Name) (a : Name) (place : ℕ) → count_by (same a) names ≡ 1 → slice_get names place ≡ Some a → place_in names a ≡ place
+only_place : (names : List Name) (a : Name) (place : ℕ) → count_by (same a) names ≡ 1 → slice_get names place ≡ Some a → index_in names a ≡ place
 only_place [] a place once is = not_named is
 only_place (first ∷ names) a zero once is = place_is first a names true (same_when first a (one_name is))
 only_place (first ∷ names) a (suc place) once is = by (tell first a) (only_place names a place)
@@ -221,8 +221,8 @@ only_place (first ∷ names) a (suc place) once is = by (tell first a) (only_pla
     as_many : (n k : ℕ) → n ≡ 0 + k → n ≡ 1 → k ≡ 1
     as_many n k e one = omega (arith, e, one)
 
-    by : Telling first a → (count_by (same a) names ≡ 1 → slice_get names place ≡ Some a → place_in names a ≡ place)
-        → place_in (first ∷ names) a ≡ suc place
+    by : Telling first a → (count_by (same a) names ≡ 1 → slice_get names place ≡ Some a → index_in names a ≡ place)
+        → index_in (first ∷ names) a ≡ suc place
     by (alike t e) rest =
         twice (count_by (same a) (first ∷ names)) (count_by (same a) names) (step true (same_when a first (sym e))) once
         (counted_once names a (among_at names a place is))
@@ -256,25 +256,25 @@ one_tail e = cc e
 
 -- the settings stand in the order of the names, too
 setting_found : (sites : List Site) (names : List Name) (server : Name) → map named_at sites ≡ map some_name names
-    → setting_of (filter_map setting_at sites) server ≡ option_and_then setting_at (slice_get sites (place_in names server))
+    → setting_of (filter_map setting_at sites) server ≡ option_and_then setting_at (slice_get sites (index_in names server))
 setting_found [] names server named = refl
 setting_found (site ∷ sites) [] server named = absurd (cc named)
 setting_found (site ∷ sites) (first ∷ names) server named = by site.server refl (setting_found sites names server (one_tail named))
   where
     rest_is : Type 0
-    rest_is = setting_of (filter_map setting_at sites) server ≡ option_and_then setting_at (slice_get sites (place_in names server))
+    rest_is = setting_of (filter_map setting_at sites) server ≡ option_and_then setting_at (slice_get sites (index_in names server))
 
     head : named_at site ≡ Some first
     head = one_head named
 
     at_first : (view : View) → site.server ≡ Some view → (b : Bool) → same first server ≡ b → rest_is
         → cond b (Some (setting_now view)) (setting_of (filter_map setting_at sites) server)
-        ≡ option_and_then setting_at (slice_get (site ∷ sites) (if b then 0 else suc (place_in names server)))
+        ≡ option_and_then setting_at (slice_get (site ∷ sites) (if b then 0 else suc (index_in names server)))
     at_first view is true e rest = sym (ap (option_map setting_now) is)
     at_first view is false e rest = rest
 
     by : (o : Option View) → site.server ≡ o → rest_is
-        → setting_of (filter_map setting_at (site ∷ sites)) server ≡ option_and_then setting_at (slice_get (site ∷ sites) (place_in (first ∷ names) server))
+        → setting_of (filter_map setting_at (site ∷ sites)) server ≡ option_and_then setting_at (slice_get (site ∷ sites) (index_in (first ∷ names) server))
     by (Some view) is rest =
         ap (λ o. setting_of (cons_option (option_map setting_now o) (filter_map setting_at sites)) server) is
         ∙ ap (λ name. cond (same name server) (Some (setting_now view)) (setting_of (filter_map setting_at sites) server))

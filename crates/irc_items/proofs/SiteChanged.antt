@@ -2,13 +2,13 @@
 use Rattle.std.proofs.Common.{◌≡◌, ◌≢◌, ◌≤◌, ℕ, count_by, zero, suc, Bool, true, false, Option, Some, List, [], ◌∷◌, length, map, refl, sym, ◌∙◌, ap, subst, unwrap_or}
 use Rattle.std.specs.List.{filter_map, cons_option, list_any, slice_get, slice_set}
 use Rattle.std.specs.Option.{option_and_then}
-use Rattle.irc_forest.specs.Forests.{place_in as place_among}
+use Rattle.irc_forest.specs.Forests.{index_in as place_among}
 use Rattle.irc_relay.specs.Distances.{IsAmong}
 use Rattle.irc_relay.specs.Lemmas.TellingNames.{Telling, alike, unlike, tell}
 use Rattle.irc_relay.specs.Links.{Name, same}
 use Rattle.irc_routes.specs.Limits.{max_servers}
 use Rattle.irc_stage.specs.View.{View}
-use Rattle.irc_follow.specs.Tree.{place_in}
+use Rattle.irc_follow.specs.Tree.{index_in}
 use Rattle.irc_follow.proofs.Places.{one_place}
 use Rattle.irc_network.specs.Network.{Network, Site, place_of, site_at, site_of}
 use Rattle.irc_items.specs.SetUp.{named_at, no_view, setting_at, settings_of, view_at, IsConfigured, IsSetUp}
@@ -146,7 +146,7 @@ pub record IsSetUpAfter (t : Name) (now : View) (after : Site) (old new : Networ
   pub other_views : (u : Name) → u ≢ t → view_at new u ≡ view_at old u
 
 module _ (old new : Network) (set_up : IsSetUp old) (t : Name) (among : IsAmong old.names t) (after : Site) (now : View)
-    (changed : IsSiteChanged (place_in old.names t) after old new) where
+    (changed : IsSiteChanged (index_in old.names t) after old new) where
   other_site : (u : Name) → u ≢ t → site_of new u ≡ site_of old u
   other_site u two = by (list_any (same u) old.names) refl
     where
@@ -155,7 +155,7 @@ module _ (old new : Network) (set_up : IsSetUp old) (t : Name) (among : IsAmong 
       by true one =
           let at = there old set_up u one in
           ap (option_and_then (site_at new)) (place_after old new u changed.names ∙ at.place)
-          ∙ changed.others (place_in old.names u) (λ e. two (one_place old.names u t one e))
+          ∙ changed.others (index_in old.names u) (λ e. two (one_place old.names u t one e))
           ∙ at.is_site ∙ sym (site_there old set_up u one)
 
   other_view : (u : Name) → u ≢ t → view_at new u ≡ view_at old u

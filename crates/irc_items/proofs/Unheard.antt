@@ -13,7 +13,7 @@ use Rattle.irc_server.specs.Owed.{lines_to}
 use Rattle.irc_server.specs.Served.{served}
 use Rattle.irc_world.specs.World.{World}
 use Rattle.irc_follow.specs.Part.{Fixed, is_home_of, number}
-use Rattle.irc_follow.specs.Says.{asked, lines_on, machine}
+use Rattle.irc_follow.specs.Says.{neighbour_served, lines_on, machine}
 use Rattle.irc_items.specs.GoodLines.{Answering, IsGoodLine, IsGoodReply, IsUnheard}
 use Rattle.irc_items.specs.Relayed.{owed_to}
 use Rattle.irc_items.proofs.GoodLines.{no_answer}
@@ -22,7 +22,7 @@ module _ (s : Fixed) (t p : Name) (view : View) where
   abbrev silent : Served
   silent = record { view = view; out = [] }
 
-  nothing_comes : (line : List ℕ) → IsUnheard s t view line → asked s t view line ≡ silent
+  nothing_comes : (line : List ℕ) → IsUnheard s t view line → neighbour_served s t view line ≡ silent
   unfolding served
   nothing_comes line un =
       ap (line_served view (number s t) (read_of line)) un.is_end ∙ ap (after_heard view (number s t)) un.nothing
@@ -31,9 +31,9 @@ module _ (s : Fixed) (t p : Name) (view : View) where
     harmless : (line : List ℕ) → IsUnheard s t view line → IsHarmless (machine s client) p t view line
     harmless line un = record {
       same_state = ap (λ (after : Served). after.view) (nothing_comes line un);
-      shows_none = none_of (is_home_of s.homes p client) (lines_to client (asked s t view line).out)
+      shows_none = none_of (is_home_of s.homes p client) (lines_to client (neighbour_served s t view line).out)
           (ap (λ (after : Served). lines_to client after.out) (nothing_comes line un));
-      sends_none = λ u. none_unless (same u t) (lines_on (number s u) (asked s t view line).out)
+      sends_none = λ u. none_unless (same u t) (lines_on (number s u) (neighbour_served s t view line).out)
           (ap (λ (after : Served). lines_on (number s u) after.out) (nothing_comes line un));
     }
       where
@@ -67,7 +67,7 @@ module _ (s : Fixed) (t p : Name) (view : View) where
         end = un.end;
         is_end = un.is_end;
         back = [];
-        good = unheard_reply (asked s t view line) (nothing_comes line un);
+        good = unheard_reply (neighbour_served s t view line) (nothing_comes line un);
         answer = no_answer s asks world routes t p line;
       }
 

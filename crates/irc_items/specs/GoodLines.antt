@@ -25,7 +25,7 @@ use Rattle.irc_world.specs.World.{World}
 use Rattle.irc_follow.specs.AtRest.{part_of}
 use Rattle.irc_follow.specs.Fits.{Fits}
 use Rattle.irc_follow.specs.Part.{Fixed, number, is_home_of}
-use Rattle.irc_follow.specs.Says.{asked, lines_on}
+use Rattle.irc_follow.specs.Says.{neighbour_served, lines_on}
 use Rattle.irc_items.specs.Relayed.{is_met_with, owed_to}
 
 -- why a link is closed
@@ -83,5 +83,5 @@ pub record IsGoodLine (s : Fixed) (asks : Answering) (world : World) (routes : N
   pub end : End
   pub is_end : get view.ends (number s p) ≡ Some end
   pub back : List (List ℕ)
-  pub good : IsGoodReply s world.links p t view (asked s p view line) back
+  pub good : IsGoodReply s world.links p t view (neighbour_served s p view line) back
   pub answer : IsAnswered s asks world routes p t line back

@@ -1,7 +1,7 @@
 -- What holds of networks of servers, whatever the order in which lines are delivered.
 use Rattle.std.specs.Prelude.{◌≡◌, ℕ, true, Some, None, List, [], ◌∷◌}
 use Rattle.std.specs.List.{AllByRecursion}
-use Rattle.irc_follow.specs.Tree.{place_in}
+use Rattle.irc_follow.specs.Tree.{index_in}
 use Rattle.irc_line.specs.Lines.{IsLine}
 use Rattle.irc_line.specs.Reading.{read_of}
 use Rattle.irc_relay.specs.Links.{Name}
@@ -62,15 +62,15 @@ WaitingAreLines = (net : Network) (place to : ℕ) (site : Site) → IsSound net
 -- No server closes a link upon the line that it takes next from another.
 abbrev pub ClosesNoLink : Network → Type 0
 ClosesNoLink net = (from to : Name) (line : List ℕ) (rest : List (List ℕ)) → way_between net from to ≡ Some (line ∷ rest)
-    → closings (served (view_at net to) (link_says (place_in net.names from) (read_of line))).out ≡ []
+    → closings (served (view_at net to) (link_says (index_in net.names from) (read_of line))).out ≡ []
 
 abbrev pub NoLinkIsClosed : Type 0
 NoLinkIsClosed = (net : Network) → IsSound net → ClosesNoLink net
 
 -- Two servers that are to be linked both keep their end: the one that calls, and the one that is called.
 pub record OpensBothEnds (net : Network) (near far : Name) : Type 0 where
-  pub calls : closings (served (view_at net near) (link_up (place_in net.names far) (Some far))).out ≡ []
-  pub waits : closings (served (view_at net far) (link_up (place_in net.names near) None)).out ≡ []
+  pub calls : closings (served (view_at net near) (link_up (index_in net.names far) (Some far))).out ≡ []
+  pub waits : closings (served (view_at net far) (link_up (index_in net.names near) None)).out ≡ []
 
 abbrev pub NewLinkIsOpen : Type 0
 NewLinkIsOpen = (net : Network) (near far : Name) → IsSound net → fault_at_rest net (link near far) ≡ None → OpensBothEnds net near far

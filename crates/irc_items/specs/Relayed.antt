@@ -9,7 +9,7 @@ use Rattle.irc_stage.specs.View.{End, View}
 use Rattle.irc_links.specs.Ends.{is_met}
 use Rattle.irc_deeds.specs.LinkServed.{owed_by}
 use Rattle.irc_follow.specs.Part.{Fixed, number, is_home_of}
-use Rattle.irc_follow.specs.Tree.{place_in}
+use Rattle.irc_follow.specs.Tree.{index_in}
 use Rattle.irc_network.specs.Network.{Network, Site, received_by, site_of}
 use Rattle.irc_items.specs.SetUp.{settings_of, view_at}
 
@@ -22,7 +22,7 @@ abbrev pub way_at : Network → Name → ℕ → Option (List (List ℕ))
 way_at net from place = option_and_then (λ (site : Site). get site.queues place) (site_of net from)
 
 abbrev pub way_between : Network → Name → Name → Option (List (List ℕ))
-way_between net from to = way_at net from (place_in net.names to)
+way_between net from to = way_at net from (index_in net.names to)
 
 -- what a server is to tell another, without line ends, once that has named itself
 abbrev pub owed_at : Fixed → View → Name → End → List (List ℕ)

@@ -7,7 +7,7 @@ use Rattle.irc_handshake.specs.GreetingLines.{greeting}
 use Rattle.irc_relay.specs.Distances.{IsAmong}
 use Rattle.irc_relay.specs.Following.{GoesWell}
 use Rattle.irc_relay.specs.Links.{Name, linked, AreLinked}
-use Rattle.irc_relay.specs.Relay.{streams_from, Covers, GoesAway, final, lines_pending, told}
+use Rattle.irc_relay.specs.Relay.{streams_from, Covers, GoesAway, final, lines_pending, final_shown}
 use Rattle.irc_routes.specs.Known.{Known}
 use Rattle.irc_world.specs.Bounds.{most}
 use Rattle.irc_world.specs.Owed.{owed_by_network, world_of}
@@ -19,7 +19,7 @@ use Rattle.irc_follow.specs.AtRest.{part_of, AreRight}
 use Rattle.irc_follow.specs.Fits.{Fits}
 use Rattle.irc_follow.specs.Part.{Fixed, is_home_of}
 use Rattle.irc_follow.specs.Says.{machine}
-use Rattle.irc_follow.specs.Tree.{place_in}
+use Rattle.irc_follow.specs.Tree.{index_in}
 use Rattle.irc_network.specs.Network.{Network}
 use Rattle.irc_items.specs.GoodLines.{Answering, IsGoodLine}
 use Rattle.irc_items.specs.Relayed.{fixed_of, is_met_with, relayed, way_at, way_between}
@@ -52,7 +52,7 @@ WillFit s world routes net client = (t : Name) → IsAmong s.names t
 -- By then a client has received at its home all that it is owed.
 abbrev pub WillReceive : Fixed → Network → ℕ → List (List ℕ) → Type 0
 WillReceive s net client owed =
-    (home : Name) → is_home_of s.homes home client ≡ true → told (machine s client) s.streams (relayed s net client) home ≡ owed
+    (home : Name) → is_home_of s.homes home client ≡ true → final_shown (machine s client) s.streams (relayed s net client) home ≡ owed
 
 -- as one client sees it
 pub record IsUnderWay (s : Fixed) (asks : Answering) (world : World) (routes : Name → Known) (net : Network) (client : ℕ) (owed : List (List ℕ)) : Type 0 where
@@ -86,7 +86,7 @@ pub record IsSoundFrom (source : Name → Name) (routes : Name → Known) (asks 
 pub record IsPlaceOf (net : Network) (place : ℕ) : Type 0 where
   pub server : Name
   pub among : IsAmong net.names server
-  pub is : place_in net.names server ≡ place
+  pub is : index_in net.names server ≡ place
 
 pub record IsSound (net : Network) : Type 0 where
   pub set_up : IsSetUp net

@@ -14,7 +14,7 @@ use Rattle.irc_outbox.specs.declared.memory.Far.{Far}
 use Rattle.irc_outbox.specs.declared.wire.IoFault.{IoFault}
 use Rattle.irc_outbox.specs.declared.wire.Ready.{Ready}
 use Rattle.irc_outbox.specs.Calls.{Call, asks, reads, writes, closes, taken, taken_by, written, written_by, is_close_of}
-use Rattle.irc_outbox.specs.Memory.{Told, told, same_told, with_taken, with_written, with_close, far_of, told_at, IsTold, IsToldAt, AllFresh, AllTold, Changes, at_far, no_far, IsAdded, StillTold, Gives, fresh_told}
+use Rattle.irc_outbox.specs.Memory.{Told, told_by_far, same_told, with_taken, with_written, with_close, far_of, told_at, IsTold, IsToldAt, AllFresh, AllTold, Changes, at_far, no_far, IsAdded, StillTold, Gives, fresh_told}
 
 pub on_ok : {E : Type 0} (result : Result (Unit {0}) E) (P Q : Type 0) → (P → Q) → OnOk result P → OnOk result Q
 on_ok (Ok done) P Q so holds = so holds
@@ -51,7 +51,7 @@ by_order a b = by (is_eq (nat_cmp a b)) refl (nat_eq a b) refl
         sym e ∙ ap (λ n. is_eq (nat_cmp n b)) (one_number a b f) ∙ (eq_by_cmp_equiv nat_cmp_total).refl b
 
 pub changed : (conn : ℕ) (change : Told → Told) (old new : BTreeMap ℕ Far) (far now : Far) → Some far ≡ far_of old conn
-    → (IsSome (get_by (nat_cmp conn) old) → UpdatesBy nat_cmp (nat_cmp conn) old new (Some now)) → told now ≡ change (told far) → Changes conn change old new
+    → (IsSome (get_by (nat_cmp conn) old) → UpdatesBy nat_cmp (nat_cmp conn) old new (Some now)) → told_by_far now ≡ change (told_by_far far) → Changes conn change old new
 changed conn change old new far now is updates so =
     at_far far now (sym is)
     (λ q. (updates (sym (ap is_some is))).0 q ∙ ap (λ b. cond b (Some now) (far_of old q)) (by_order conn q))
@@ -60,7 +60,7 @@ changed conn change old new far now is updates so =
 other_told : (q : ℕ) (far : Option Far) (calls more : List Call) → IsToldAt q far calls → ((t : Told) → IsTold q t calls → IsTold q t (calls ++ more))
     → IsToldAt q far (calls ++ more)
 other_told q None calls more is on = tt
-other_told q (Some far) calls more is on = on (told far) is
+other_told q (Some far) calls more is on = on (told_by_far far) is
 
 all_told : (fars : BTreeMap ℕ Far) (calls more : List Call) → ((q : ℕ) (t : Told) → IsTold q t calls → IsTold q t (calls ++ more)) → AllTold fars calls
     → AllTold fars (calls ++ more)
@@ -76,16 +76,16 @@ told_on conn change old new calls more here others (no_far none same) all = λ q
     by : (q : ℕ) (f : Option Far) → far_of old q ≡ f → (t : Bool) → nat_eq conn q ≡ t → IsToldAt q f calls → IsToldAt q f (calls ++ more)
     by q None was t e is = tt
     by q (Some far) was true e is = let absent = ap (far_of old) (one_number conn q e) in cc
-    by q (Some far) was false e is = others q e (told far) is
+    by q (Some far) was false e is = others q e (told_by_far far) is
 told_on conn change old new calls more here others (at_far far now was set so) all = λ q.
     subst (λ (f : Option Far). IsToldAt q f (calls ++ more)) (sym (set q)) (by q (nat_eq conn q) refl)
   where
-    mine : IsTold conn (told now) (calls ++ more)
+    mine : IsTold conn (told_by_far now) (calls ++ more)
     mine = subst (λ (t : Told). IsTold conn t (calls ++ more)) (sym so)
-        (here (told far) (subst (λ (f : Option Far). IsToldAt conn f calls) was (all conn)))
+        (here (told_by_far far) (subst (λ (f : Option Far). IsToldAt conn f calls) was (all conn)))
 
     by : (q : ℕ) (t : Bool) → nat_eq conn q ≡ t → IsToldAt q (cond t (Some now) (far_of old q)) (calls ++ more)
-    by q true e = subst (λ (n : ℕ). IsTold n (told now) (calls ++ more)) (one_number conn q e) mine
+    by q true e = subst (λ (n : ℕ). IsTold n (told_by_far now) (calls ++ more)) (one_number conn q e) mine
     by q false e = other_told q (far_of old q) calls more (all q) (others q e)
 
 or_false : (b : Bool) → (b || false) ≡ b
@@ -179,12 +179,12 @@ closed_told conn old new changes = λ calls all.
     (λ q two t is. quiet q t calls (closes conn) refl refl two is) changes all
 
 unchanged_at : (conn : ℕ) (old new : BTreeMap ℕ Far) → Changes conn same_told old new → (q : ℕ) → told_at new q ≡ told_at old q
-unchanged_at conn old new (at_far far now was set so) q = ap (option_map told) (set q) ∙ by (nat_eq conn q) refl
+unchanged_at conn old new (at_far far now was set so) q = ap (option_map told_by_far) (set q) ∙ by (nat_eq conn q) refl
   where
-    by : (b : Bool) → nat_eq conn q ≡ b → option_map told (cond b (Some now) (far_of old q)) ≡ told_at old q
-    by true e = ap Some so ∙ ap (option_map told) (sym was ∙ ap (far_of old) (one_number conn q e))
+    by : (b : Bool) → nat_eq conn q ≡ b → option_map told_by_far (cond b (Some now) (far_of old q)) ≡ told_at old q
+    by true e = ap Some so ∙ ap (option_map told_by_far) (sym was ∙ ap (far_of old) (one_number conn q e))
     by false e = refl
-unchanged_at conn old new (no_far none same) q = ap (option_map told) (same q)
+unchanged_at conn old new (no_far none same) q = ap (option_map told_by_far) (same q)
 
 -- where a connection is the same, it is fresh still
 pub still_fresh : (conn : ℕ) (old new : BTreeMap ℕ Far) → Changes conn same_told old new → AllFresh old → AllFresh new
@@ -194,20 +194,20 @@ still_fresh conn old new changes all = λ q. subst (λ (t : Option Told). IfSome
     same q = unchanged_at conn old new changes q
 
 -- a new connection is fresh
-pub added_fresh : (old new : BTreeMap ℕ Far) (conn : ℕ) (far : Far) → told far ≡ fresh_told → IsAdded old conn far new → AllFresh old → AllFresh new
-added_fresh old new conn far fresh added all = λ q. subst (λ (f : Option Far). IfSome (option_map told f) (λ t. t ≡ fresh_told)) (sym (added q)) (by q (nat_eq conn q))
+pub added_fresh : (old new : BTreeMap ℕ Far) (conn : ℕ) (far : Far) → told_by_far far ≡ fresh_told → IsAdded old conn far new → AllFresh old → AllFresh new
+added_fresh old new conn far fresh added all = λ q. subst (λ (f : Option Far). IfSome (option_map told_by_far f) (λ t. t ≡ fresh_told)) (sym (added q)) (by q (nat_eq conn q))
   where
-    by : (q : ℕ) (b : Bool) → IfSome (option_map told (cond b (Some far) (far_of old q))) (λ t. t ≡ fresh_told)
+    by : (q : ℕ) (b : Bool) → IfSome (option_map told_by_far (cond b (Some far) (far_of old q))) (λ t. t ≡ fresh_told)
     by q true = fresh
     by q false = all q
 
 pub none_fresh : (fars : BTreeMap ℕ Far) → ((conn : ℕ) → far_of fars conn ≡ None) → AllFresh fars
-none_fresh fars none = λ conn. subst (λ (f : Option Far). IfSome (option_map told f) (λ t. t ≡ fresh_told)) (sym (none conn)) tt
+none_fresh fars none = λ conn. subst (λ (f : Option Far). IfSome (option_map told_by_far f) (λ t. t ≡ fresh_told)) (sym (none conn)) tt
 
 -- fresh connections are as no call has been made
 pub fresh_told_so : (fars : BTreeMap ℕ Far) → AllFresh fars → AllTold fars []
 fresh_told_so fars all = λ conn. by conn (far_of fars conn) (all conn)
   where
-    by : (conn : ℕ) (f : Option Far) → IfSome (option_map told f) (λ t. t ≡ fresh_told) → IsToldAt conn f []
+    by : (conn : ℕ) (f : Option Far) → IfSome (option_map told_by_far f) (λ t. t ≡ fresh_told) → IsToldAt conn f []
     by conn None is = tt
     by conn (Some far) is = record { taken_is = ap (λ (t : Told). t.taken) is; written_is = ap (λ (t : Told). t.written) is; closed_is = ap (λ (t : Told). t.closed) is }

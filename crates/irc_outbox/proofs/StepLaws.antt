@@ -11,7 +11,7 @@ use Rattle.irc_outbox.specs.declared.memory.WireStep.{WireStep}
 use Rattle.irc_outbox.specs.declared.memory.WireStep.TheVariants as step
 use Rattle.irc_outbox.specs.declared.memory.Way.{Way}
 use Rattle.irc_outbox.specs.declared.memory.Way.TheVariants as way
-use Rattle.irc_outbox.specs.Memory.{Told, told, told_at, far_of, Changes, at_far, no_far}
+use Rattle.irc_outbox.specs.Memory.{Told, told_by_far, told_at, far_of, Changes, at_far, no_far}
 use Rattle.irc_outbox.specs.Steps.{bytes_of, conn_of, failed_once, is_reported, is_reported_at, is_served, longest_of, meets, met}
 use Rattle.irc_outbox.proofs.MemoryLaws.{IsAlike, KeepsTold}
 
@@ -38,17 +38,17 @@ failed_keeps way.Out t = record { taken = refl; written = refl; closed = refl }
 -- what is told of each connection behind a change of one
 pub changed_at : (conn : ℕ) (change : Told → Told) (old new : BTreeMap ℕ Far) → Changes conn change old new → (q : ℕ)
     → told_at new q ≡ cond (nat_eq conn q) (option_map change (told_at old q)) (told_at old q)
-changed_at conn change old new (at_far far now was set so) q = ap (option_map told) (set q) ∙ by (nat_eq conn q) refl
+changed_at conn change old new (at_far far now was set so) q = ap (option_map told_by_far) (set q) ∙ by (nat_eq conn q) refl
   where
     by : (b : Bool) → nat_eq conn q ≡ b
-        → option_map told (cond b (Some now) (far_of old q)) ≡ cond b (option_map change (told_at old q)) (told_at old q)
-    by true e = ap Some so ∙ ap (λ (f : Option Far). option_map change (option_map told f)) (sym was ∙ ap (far_of old) (eqb-true conn q e))
+        → option_map told_by_far (cond b (Some now) (far_of old q)) ≡ cond b (option_map change (told_at old q)) (told_at old q)
+    by true e = ap Some so ∙ ap (λ (f : Option Far). option_map change (option_map told_by_far f)) (sym was ∙ ap (far_of old) (eqb-true conn q e))
     by false e = refl
-changed_at conn change old new (no_far none same) q = ap (option_map told) (same q) ∙ by (nat_eq conn q) refl
+changed_at conn change old new (no_far none same) q = ap (option_map told_by_far) (same q) ∙ by (nat_eq conn q) refl
   where
     by : (b : Bool) → nat_eq conn q ≡ b → told_at old q ≡ cond b (option_map change (told_at old q)) (told_at old q)
     by true e = let nobody = sym (ap (far_of old) (eqb-true conn q e)) ∙ none in
-        ap (option_map told) nobody ∙ sym (ap (λ (f : Option Far). option_map change (option_map told f)) nobody)
+        ap (option_map told_by_far) nobody ∙ sym (ap (λ (f : Option Far). option_map change (option_map told_by_far f)) nobody)
     by false e = refl
 
 unmet : (step : WireStep) (t : Option Told) → is_reported_at step t ≡ false → option_map (meets step) t ≡ t

@@ -21,8 +21,8 @@ pub record Told : Type 0 where
   pub write_fails : Bool
   pub room : ℕ
 
-abbrev pub told : Far → Told
-told far = record {
+abbrev pub told_by_far : Far → Told
+told_by_far far = record {
   taken = far.taken.items;
   written = far.written.items;
   closed = far.closed;
@@ -63,7 +63,7 @@ far_of fars conn = get nat_cmp fars conn
 
 -- what is told of a connection, if a step names it
 abbrev pub told_at : BTreeMap ℕ Far → ℕ → Option Told
-told_at fars conn = option_map told (far_of fars conn)
+told_at fars conn = option_map told_by_far (far_of fars conn)
 
 -- nothing is told of a connection that no step names
 abbrev pub told_or_none : Option Told → Told
@@ -78,7 +78,7 @@ pub record IsTold (conn : ℕ) (t : Told) (calls : List Call) : Type 0 where
 
 abbrev pub IsToldAt : ℕ → Option Far → List Call → Type 0
 IsToldAt conn None calls = ⊤
-IsToldAt conn (Some far) calls = IsTold conn (told far) calls
+IsToldAt conn (Some far) calls = IsTold conn (told_by_far far) calls
 
 -- so of each connection that a step names
 abbrev pub AllTold : BTreeMap ℕ Far → List Call → Type 0
@@ -90,7 +90,7 @@ AllFresh fars = (conn : ℕ) → IfSome (told_at fars conn) (λ t. t ≡ fresh_t
 
 -- what is told of one connection has changed so, if a step names it
 pub data Changes (conn : ℕ) (change : Told → Told) (old new : BTreeMap ℕ Far) : Type 0 where
-  at_far : (far now : Far) → far_of old conn ≡ Some far → ((q : ℕ) → far_of new q ≡ (if nat_eq conn q then Some now else far_of old q)) → told now ≡ change (told far)
+  at_far : (far now : Far) → far_of old conn ≡ Some far → ((q : ℕ) → far_of new q ≡ (if nat_eq conn q then Some now else far_of old q)) → told_by_far now ≡ change (told_by_far far)
       → Changes conn change old new
   no_far : far_of old conn ≡ None → ((q : ℕ) → far_of new q ≡ far_of old q) → Changes conn change old new
 

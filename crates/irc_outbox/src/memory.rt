@@ -1,6 +1,6 @@
 //! A wire in memory: it serves a list of steps, and keeps what each connection gave and took.
 ghost use Rattle.std.specs.Prelude.{◌≡◌, ◌≤◌, ◌++◌, [], length, false, take, IfOk, OnOk};
-ghost use Rattle.irc_outbox.specs.Memory.{fresh_told, same_told, told, told_at, told_or_none, with_close, with_taken, with_written, AllFresh, AllTold, Changes, Gives, IsAdded, StillTold};
+ghost use Rattle.irc_outbox.specs.Memory.{fresh_told, same_told, told_by_far, told_at, told_or_none, with_close, with_taken, with_written, AllFresh, AllTold, Changes, Gives, IsAdded, StillTold};
 ghost use Rattle.irc_outbox.specs.Steps.{bytes_of, conn_of, failed_once, fails, fails_at, giver_of, again_of, is_at_hand, is_reported, is_reported_at, left_of, longest_of, meets, report_of, GivesFirst, Reports, ServesNext};
 
 use crate::wire::{Got, IoFault, Ready, Wire};
@@ -137,7 +137,7 @@ fn append(to: &mut Vec<u8, Global>, bytes: &[u8]) -> usize
 impl Far {
     /// One that was not reported yet, and has given and taken nothing.
     fn new(alloc: Global) -> Self
-        ensures { told result ≡ fresh_told }
+        ensures { told_by_far result ≡ fresh_told }
     {
         Far {
             known: false,
@@ -155,7 +155,7 @@ impl Far {
 
     /// Makes the room for what a step gives or lets be written.
     fn plan(&mut self, step: &WireStep) -> Result<(), AllocError>
-        ensures { told self.new ≡ told self.old }
+        ensures { told_by_far self.new ≡ told_by_far self.old }
     {
         match step {
             WireStep::Bytes(_, bytes) => {
@@ -172,8 +172,8 @@ impl Far {
 
     /// A step comes. Tells whether it is one to report.
     fn meet(&mut self, step: &WireStep) -> bool
-        ensures reported { result ≡ is_reported step.now (told self.old) }
-        ensures met { told self.new ≡ meets step.now (told self.old) }
+        ensures reported { result ≡ is_reported step.now (told_by_far self.old) }
+        ensures met { told_by_far self.new ≡ meets step.now (told_by_far self.old) }
     {
         if let WireStep::Client(_, _) | WireStep::Linked(_, _) = step {
             return !replace(&mut self.known, true);
@@ -193,8 +193,8 @@ impl Far {
 
     /// Whether it fails now, as a step has said; it does so once.
     fn fails_now(&mut self, way: Way) -> bool
-        ensures fails { result ≡ fails way (told self.old) }
-        ensures once { told self.new ≡ failed_once way (told self.old) }
+        ensures fails { result ≡ fails way (told_by_far self.old) }
+        ensures once { told_by_far self.new ≡ failed_once way (told_by_far self.old) }
     {
         match way {
             Way::In => replace(&mut self.read_fails, false),
@@ -204,7 +204,7 @@ impl Far {
 
     /// Takes what it can of bytes that are written to it, and tells how many.
     fn take(&mut self, bytes: &[u8]) -> usize
-        ensures told { told self.new ≡ with_written (take result bytes.now) (told self.old) }
+        ensures told { told_by_far self.new ≡ with_written (take result bytes.now) (told_by_far self.old) }
         ensures within { result ≤ length bytes.now }
         ensures room { result ≤ self.old.room }
     {

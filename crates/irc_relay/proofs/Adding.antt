@@ -2,7 +2,7 @@
 use Rattle.std.proofs.Common.{◌≡◌, ◌≢◌, ℕ, zero, suc, List, [], ◌++◌, ◌⊎◌, inl, inr, refl, sym, ap, subst, ◌∙◌, arith}
 use Rattle.std.proofs.lemmas.List.{append-nil}
 use Rattle.irc_relay.specs.Links.{Name, Link}
-use Rattle.irc_relay.specs.Relay.{Machine, Net, Streams, after, passed_on, shown_upon, under_way, coming_within, coming, final, told, TakesFrom, AreHarmless}
+use Rattle.irc_relay.specs.Relay.{Machine, Net, Streams, after, passed_on, shown_upon, under_way, coming_within, coming, final, final_shown, TakesFrom, AreHarmless}
 use Rattle.irc_relay.specs.Lemmas.TellingNames.{alike, unlike, tell}
 use Rattle.irc_relay.proofs.Flowing.{IsFlow}
 use Rattle.irc_relay.proofs.Delivering.{after-append, passed_on-append, shown_upon-append, after_harmless, passed_on_harmless, shown_upon_harmless, coming_from_still}
@@ -126,7 +126,7 @@ module _ (State Line Shown : Type 0) (m : Machine State Line Shown) (links : Lis
           ap (λ s. after m u (streams.parent u) s (coming m streams new u)) (adds.states u)
           ∙ ap (λ v. after m u (streams.parent u) (old.state u) v) (coming_steady u o)
 
-  pub told_kept : (u : Name) → told m streams new u ≡ told m streams old u
+  pub told_kept : (u : Name) → final_shown m streams new u ≡ final_shown m streams old u
   told_kept u = ap (λ v. v ++ shown_upon m u (streams.parent u) (new.state u) (coming m streams new u)) (adds.shown u) ∙ ap (λ v. old.shown u ++ v) (elim (tell u y) [ alike _ e ↦ subst (λ v. shown_upon m v (streams.parent v) (new.state v) (coming m streams new v) ≡ shown_upon m v (streams.parent v) (old.state v) (coming m streams old v)) (sym e) at_receiver | unlike _ o ↦ elsewhere o ])
     where
       at_receiver : shown_upon m y (streams.parent y) (new.state y) (coming m streams new y) ≡ shown_upon m y (streams.parent y) (old.state y) (coming m streams old y)

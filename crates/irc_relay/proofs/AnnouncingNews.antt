@@ -3,7 +3,7 @@ use Rattle.std.proofs.Common.{◌≡◌, ◌≢◌, ℕ, zero, suc, ◌<◌, ◌
 use Rattle.std.proofs.lemmas.Bool.Decides.{eqb_tells}
 use Rattle.std.proofs.lemmas.List.{append-nil}
 use Rattle.irc_relay.specs.Links.{Name, Link, part, AreJoined, IsForest, AreLinked, IsNextHop, distance}
-use Rattle.irc_relay.specs.Relay.{Net, Streams, streams_from, from_one, IsAtRest, ComesInTurn, at_source, from_source, from_parent, after, shown_upon, under_way, final, told}
+use Rattle.irc_relay.specs.Relay.{Net, Streams, streams_from, from_one, IsAtRest, ComesInTurn, at_source, from_source, from_parent, after, shown_upon, under_way, final, final_shown}
 use Rattle.irc_relay.specs.Following.{Tells, nothing, by_line, aside_line, passing_by, Starts, IsFollowing}
 use Rattle.irc_relay.specs.Queue.{queue_of}
 use Rattle.irc_relay.specs.NewsNet.{name, number, links_of, reading, items_at, latest_of, sent_on, relaying, net_with, net_of, news_play, news_terms, streams_of, HasSettled, ShowAlike, HasAnnounced}
@@ -130,11 +130,11 @@ module _ (edges : List Edge) (latest : List ℕ) (shown : List Shown) (flying : 
       (news_follow edges from_it forest (one_covers links (name source))) given (λ _. last) (λ _. item ∷ []) starts
 
   -- a server that takes nothing stays as it is
-  stays : (u : Name) → from.depth u ≡ 0 → (final (relaying edges) from given u ≡ given.state u) × (told (relaying edges) from given u ≡ given.shown u)
+  stays : (u : Name) → from.depth u ≡ 0 → (final (relaying edges) from given u ≡ given.state u) × (final_shown (relaying edges) from given u ≡ given.shown u)
   stays u z = go (comes_in_turn (relaying edges) links from given u (covers_flows links from_it forest (one_covers links (name source))))
     where
       go : ComesInTurn (relaying edges) from given u
-          → (final (relaying edges) from given u ≡ given.state u) × (told (relaying edges) from given u ≡ given.shown u)
+          → (final (relaying edges) from given u ≡ given.state u) × (final_shown (relaying edges) from given u ≡ given.shown u)
       go (at_source _ e) = (
         ap (λ lines. after (relaying edges) u (from.parent u) (given.state u) lines) e,
         ap (λ lines. given.shown u ++ shown_upon (relaying edges) u (from.parent u) (given.state u) lines) e ∙ append-nil (given.shown u),
@@ -152,7 +152,7 @@ module _ (edges : List Edge) (latest : List ℕ) (shown : List Shown) (flying : 
     | unlike _ n ↦ (following u (takes u e n)).fits
   ]
 
-  shown_at_source : told (relaying edges) from given (name source) ≡ items_at shown (name source) ++ item ∷ []
+  shown_at_source : final_shown (relaying edges) from given (name source) ≡ items_at shown (name source) ++ item ∷ []
   shown_at_source =
       (stays (name source) no_depth).1 ∙ shown_more shown source item (name source) ∙ ap (λ v. items_at shown (name source) ++ v) (shown_there source item)
 
@@ -161,7 +161,7 @@ module _ (edges : List Edge) (latest : List ℕ) (shown : List Shown) (flying : 
       shown_more shown source item u ∙ ap (λ v. items_at shown u ++ v) (shown_elsewhere source item u n) ∙ append-nil (items_at shown u)
 
   shown_at_others : (u : Name) → AreJoined links u (name source) → u ≢ name source
-      → told (relaying edges) from given u ≡ items_at shown u ++ cond (item == last) [] (item ∷ [])
+      → final_shown (relaying edges) from given u ≡ items_at shown u ++ cond (item == last) [] (item ∷ [])
   shown_at_others u e n =
       (following u (takes u e n)).shown
       ∙ ap (λ v. v ++ (cond (item == last) [] (item ∷ []) ++ [])) (not_shown u n)
@@ -171,7 +171,7 @@ module _ (edges : List Edge) (latest : List ℕ) (shown : List Shown) (flying : 
   apart_from_it u n e = n (ap (part links) e)
 
   elsewhere : (u : Name) → (AreJoined links u (name source) → ⊥)
-      → (final (relaying edges) from given u ≡ latest_of latest u) × (told (relaying edges) from given u ≡ items_at shown u)
+      → (final (relaying edges) from given u ≡ latest_of latest u) × (final_shown (relaying edges) from given u ≡ items_at shown u)
   elsewhere u n = (
     (stays u (no_depth_apart u n)).0 ∙ latest_other latest source item u (apart_from_it u n),
     (stays u (no_depth_apart u n)).1 ∙ not_shown u (apart_from_it u n),
@@ -205,9 +205,9 @@ announced old mid new source item e f g h there forest rest same_last settled =
         ap (λ es. final (relaying es) (streams_from (links_of es) (from_one (links_of es) (name source))) (net_of mid) u) e
         ∙ ap (λ net. final (relaying old.edges.items) (streams_from (links_of old.edges.items) (from_one (links_of old.edges.items) (name source))) net u) same_net
 
-    told_same : (u : Name) → told (relaying mid.edges.items) (streams_of mid source) (net_of mid) u
-        ≡ told (relaying old.edges.items) (streams_from (links_of old.edges.items) (from_one (links_of old.edges.items) (name source)))
+    told_same : (u : Name) → final_shown (relaying mid.edges.items) (streams_of mid source) (net_of mid) u
+        ≡ final_shown (relaying old.edges.items) (streams_from (links_of old.edges.items) (from_one (links_of old.edges.items) (name source)))
         (given_net old.edges.items old.latest old.shown.items old.flying.items source item) u
     told_same u =
-        ap (λ es. told (relaying es) (streams_from (links_of es) (from_one (links_of es) (name source))) (net_of mid) u) e
-        ∙ ap (λ net. told (relaying old.edges.items) (streams_from (links_of old.edges.items) (from_one (links_of old.edges.items) (name source))) net u) same_net
+        ap (λ es. final_shown (relaying es) (streams_from (links_of es) (from_one (links_of es) (name source))) (net_of mid) u) e
+        ∙ ap (λ net. final_shown (relaying old.edges.items) (streams_from (links_of old.edges.items) (from_one (links_of old.edges.items) (name source))) net u) same_net

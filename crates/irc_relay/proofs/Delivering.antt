@@ -2,7 +2,7 @@
 use Rattle.std.proofs.Common.{◌≡◌, ◌≢◌, ℕ, zero, suc, List, [], ◌∷◌, ◌++◌, ◌⊎◌, inl, inr, refl, sym, ap, subst, ◌∙◌, arith, append_assoc}
 use Rattle.std.proofs.lemmas.List.{append-nil}
 use Rattle.irc_relay.specs.Links.{Name, Link}
-use Rattle.irc_relay.specs.Relay.{Machine, Net, Streams, after, passed_on, shown_upon, under_way, coming_within, coming, ComesInTurn, at_source, from_source, from_parent, final, told, IsAtRest, TakesFrom, AreHarmless, Delivers}
+use Rattle.irc_relay.specs.Relay.{Machine, Net, Streams, after, passed_on, shown_upon, under_way, coming_within, coming, ComesInTurn, at_source, from_source, from_parent, final, final_shown, IsAtRest, TakesFrom, AreHarmless, Delivers}
 use Rattle.irc_relay.specs.Lemmas.TellingNames.{alike, unlike, tell}
 use Rattle.irc_relay.proofs.Flowing.{IsFlow}
 
@@ -198,10 +198,10 @@ module _ (State Line Shown : Type 0) (m : Machine State Line Shown) (links : Lis
           ap (λ s. after m u (streams.parent u) s (coming m streams new u)) (takes.delivers.other_states u o)
           ∙ ap (λ lines. after m u (streams.parent u) (old.state u) lines) (coming_steady u o)
 
-  pub told_kept : (u : Name) → told m streams new u ≡ told m streams old u
-  told_kept u = elim (tell u t) [ alike _ e ↦ subst (λ v. told m streams new v ≡ told m streams old v) (sym e) at_taker | unlike _ o ↦ elsewhere o ]
+  pub told_kept : (u : Name) → final_shown m streams new u ≡ final_shown m streams old u
+  told_kept u = elim (tell u t) [ alike _ e ↦ subst (λ v. final_shown m streams new v ≡ final_shown m streams old v) (sym e) at_taker | unlike _ o ↦ elsewhere o ]
     where
-      at_taker : told m streams new t ≡ told m streams old t
+      at_taker : final_shown m streams new t ≡ final_shown m streams old t
       at_taker =
           ap (λ v. v ++ shown_upon m t (streams.parent t) (new.state t) (coming m streams new t)) takes.delivers.showed
           ∙ append_assoc (old.shown t) (m.shows t p (old.state t) line) (shown_upon m t (streams.parent t) (new.state t) (coming m streams new t))
@@ -209,7 +209,7 @@ module _ (State Line Shown : Type 0) (m : Machine State Line Shown) (links : Lis
           ∙ ap (λ q. old.shown t ++ (m.shows t q (old.state t) line ++ shown_upon m t (streams.parent t) (m.step t q (old.state t) line) (coming m streams new t))) (sym takes.takes_from.parent)
           ∙ ap (λ lines. old.shown t ++ shown_upon m t (streams.parent t) (old.state t) lines) (sym coming_taken)
 
-      elsewhere : u ≢ t → told m streams new u ≡ told m streams old u
+      elsewhere : u ≢ t → final_shown m streams new u ≡ final_shown m streams old u
       elsewhere o =
           ap (λ v. v ++ shown_upon m u (streams.parent u) (new.state u) (coming m streams new u)) (takes.delivers.other_shown u o)
           ∙ ap (λ s. old.shown u ++ shown_upon m u (streams.parent u) s (coming m streams new u)) (takes.delivers.other_states u o)

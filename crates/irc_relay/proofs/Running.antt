@@ -2,7 +2,7 @@
 use Rattle.std.proofs.Common.{◌≡◌, ◌≢◌, ℕ, zero, suc, List, [], ◌∷◌, ◌++◌, inl, inr, refl, sym, ap, subst, ◌∙◌, arith}
 use Rattle.std.proofs.lemmas.List.{append-nil}
 use Rattle.irc_relay.specs.Links.{Name, Link, AreLinked}
-use Rattle.irc_relay.specs.Relay.{Machine, Net, Streams, after, shown_upon, under_way, coming, final, told, IsAtRest, TakesFrom, GoesAway, Delivers, Relays, SameOutcome, Reaches, stays, goes_on, IsFront, IsOnTheWay}
+use Rattle.irc_relay.specs.Relay.{Machine, Net, Streams, after, shown_upon, under_way, coming, final, final_shown, IsAtRest, TakesFrom, GoesAway, Delivers, Relays, SameOutcome, Reaches, stays, goes_on, IsFront, IsOnTheWay}
 use Rattle.irc_relay.specs.Lemmas.TellingNames.{Telling, alike, unlike, tell}
 use Rattle.irc_relay.proofs.Flowing.{IsFlow}
 use Rattle.irc_relay.proofs.Delivering.{coming_at_rest}
@@ -74,10 +74,10 @@ run_outcome m links streams start n end flow away (goes_on {n = k} {mid = mid} {
 pub rest_final : {State Line Shown : Type 0} (m : Machine State Line Shown) (streams : Streams) (net : Net State Line Shown) (u : Name) → IsAtRest net → final m streams net u ≡ net.state u
 rest_final m streams net u rest = ap (λ lines. after m u (streams.parent u) (net.state u) lines) (coming_at_rest m streams net rest (streams.depth u) u)
 
-pub rest_told : {State Line Shown : Type 0} (m : Machine State Line Shown) (streams : Streams) (net : Net State Line Shown) (u : Name) → IsAtRest net → told m streams net u ≡ net.shown u
+pub rest_told : {State Line Shown : Type 0} (m : Machine State Line Shown) (streams : Streams) (net : Net State Line Shown) (u : Name) → IsAtRest net → final_shown m streams net u ≡ net.shown u
 rest_told m streams net u rest = ap (λ lines. net.shown u ++ shown_upon m u (streams.parent u) (net.state u) lines) (coming_at_rest m streams net rest (streams.depth u) u) ∙ append-nil (net.shown u)
 
-pub front_of_told : {State Line Shown : Type 0} (m : Machine State Line Shown) (streams : Streams) (net : Net State Line Shown) (u : Name) → IsFront (net.shown u) (told m streams net u)
+pub front_of_told : {State Line Shown : Type 0} (m : Machine State Line Shown) (streams : Streams) (net : Net State Line Shown) (u : Name) → IsFront (net.shown u) (final_shown m streams net u)
 front_of_told m streams net u = (shown_upon m u (streams.parent u) (net.state u) (coming m streams net u), refl)
 
 pub run_on_the_way : {State Line Shown : Type 0} (m : Machine State Line Shown) (links : List Link) (streams : Streams) (start : Net State Line Shown) (n : ℕ) (now : Net State Line Shown) → IsFlow links streams → GoesAway streams start → Reaches m links streams start n now → IsOnTheWay m streams start now

@@ -2,7 +2,7 @@
 -- state fits the world after them, and it has shown what they show.
 use Rattle.std.proofs.Common.{◌≡◌, ◌≢◌, ℕ, zero, suc, ◌<◌, List, ◌∷◌, ◌++◌, refl, sym, ap, subst, ◌∙◌, arith}
 use Rattle.irc_relay.specs.Links.{Name, Link, IsForest, AreLinked, IsNextHop, toward, distance}
-use Rattle.irc_relay.specs.Relay.{Machine, Net, Streams, streams_from, SourcesMeet, one, each_other, own, Covers, TakesFrom, ComesInTurn, at_source, from_source, from_parent, after, passed_on, shown_upon, under_way, coming, told}
+use Rattle.irc_relay.specs.Relay.{Machine, Net, Streams, streams_from, SourcesMeet, one, each_other, own, Covers, TakesFrom, ComesInTurn, at_source, from_source, from_parent, after, passed_on, shown_upon, under_way, coming, final_shown}
 use Rattle.irc_relay.specs.Following.{AllAlong, GoesWell, Play, all_done, all_seen, Terms, SaysOn, sends, keeps, Follows, Tells, nothing, by_line, aside_line, passing_by, Starts, IsFollowing}
 use Rattle.irc_relay.proofs.Flowing.{IsFlow, covers_flows}
 use Rattle.irc_relay.proofs.Delivering.{comes_in_turn}
@@ -137,7 +137,7 @@ module _ (State Line Shown World Act : Type 0) (m : Machine State Line Shown) (p
       → coming m from net t ≡ under_way net (from.parent t) t
       ++ passed_on m (from.parent t) (from.parent (from.parent t)) (net.state (from.parent t)) (coming m from net (from.parent t)) t
       → IsTold (from.parent t) → IsTold t
-  one_deeper t k deep below comes told =
+  one_deeper t k deep below comes final_shown =
       subst (λ lines. Tells m play x (from.parent t) t (world t) (net.state t) (acts t) lines) (sym comes)
       (subst (λ lines. Tells m play x (from.parent t) t (world t) (net.state t) (acts t) (lines ++ sent_on)) (sym (starts.still t taking next))
       (subst (λ w. Tells m play x (from.parent t) t w (net.state t) (acts t) sent_on) (sym (starts.one_world t taking next))
@@ -148,7 +148,7 @@ module _ (State Line Shown World Act : Type 0) (m : Machine State Line Shown) (p
       (world (from.parent t)) (net.state (from.parent t)) (net.state t) (acts (from.parent t)) (coming m from net (from.parent t))
       (starts.fits (from.parent t) taking)
       (subst (λ w. x.fits t w (net.state t)) (starts.one_world t taking next) (starts.fits t (omega arith)))
-      (starts.meets t taking next) told).tells)))
+      (starts.meets t taking next) final_shown).tells)))
     where
       taking : 0 < from.depth (from.parent t)
       taking = omega arith

@@ -2,7 +2,7 @@
 -- any machine; what follows of whole streams is in proofs/GoingWell, for each delivery, and in proofs/TellingOn, at every depth.
 use Rattle.std.specs.Prelude.{◌≡◌, ◌≢◌, ◌<◌, suc, List, [], ◌∷◌, ◌++◌}
 use Rattle.irc_relay.specs.Links.{Name, Link, AreLinked}
-use Rattle.irc_relay.specs.Relay.{Machine, Net, Streams, TakesFrom, under_way, coming, final, told}
+use Rattle.irc_relay.specs.Relay.{Machine, Net, Streams, TakesFrom, under_way, coming, final, final_shown}
 
 -- ---- facts of each line at its turn
 
@@ -109,5 +109,5 @@ pub record IsFollowing {State Line Shown World Act : Type 0} (m : Machine State 
     (streams : Streams) (net : Net State Line Shown) (w : World) (acts : List Act) (t : Name) : Type 0 where
   pub tells : Tells m play x (streams.parent t) t w (net.state t) acts (coming m streams net t)
   pub fits : x.fits t (all_done play w acts) (final m streams net t)
-  pub shown : told m streams net t ≡ net.shown t ++ all_seen play t w acts
+  pub shown : final_shown m streams net t ≡ net.shown t ++ all_seen play t w acts
   pub well : AllAlong m x.good (streams.parent t) t (net.state t) (coming m streams net t)

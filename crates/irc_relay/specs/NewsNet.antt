@@ -2,7 +2,7 @@
 -- other neighbours, unless it is the one that it showed last.
 use Rattle.std.specs.Prelude.{◌≡◌, ◌≢◌, ℕ, false, ◌++◌, ◌&&◌, not, ◌==◌, if◌then◌else◌, List, [], ◌∷◌, map, filter, flat_map, slice_index}
 use Rattle.irc_relay.specs.Links.{Name, same, Link, AreJoined, IsForest}
-use Rattle.irc_relay.specs.Relay.{Machine, Net, Streams, streams_from, from_one, IsAtRest, GoesAway, SameOutcome, Delivers, final, told}
+use Rattle.irc_relay.specs.Relay.{Machine, Net, Streams, streams_from, from_one, IsAtRest, GoesAway, SameOutcome, Delivers, final, final_shown}
 use Rattle.irc_relay.specs.Following.{Play, Terms}
 use Rattle.irc_relay.specs.Queue.{Reading, queue_of}
 use Rattle.irc_relay.specs.declared.news.Edge.{Edge}
@@ -109,7 +109,7 @@ streams_of news source = streams_from (links_of news.edges.items) (from_one (lin
 pub record HasSettled (source : ℕ) (old new : News) : Type 0 where
   pub rest : IsAtRest (net_of new)
   pub state : (u : Name) → (net_of new).state u ≡ final (relaying old.edges.items) (streams_of old source) (net_of old) u
-  pub shown : (u : Name) → (net_of new).shown u ≡ told (relaying old.edges.items) (streams_of old source) (net_of old) u
+  pub shown : (u : Name) → (net_of new).shown u ≡ final_shown (relaying old.edges.items) (streams_of old source) (net_of old) u
 
 -- ---- what they follow: the item that all servers of a part showed last
 

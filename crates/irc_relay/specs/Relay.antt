@@ -110,8 +110,8 @@ abbrev pub final : {State Line Shown : Type 0} → Machine State Line Shown → 
 final m streams net t = after m t (streams.parent t) (net.state t) (coming m streams net t)
 
 -- all that t has shown by then
-abbrev pub told : {State Line Shown : Type 0} → Machine State Line Shown → Streams → Net State Line Shown → Name → List Shown
-told m streams net t = net.shown t ++ shown_upon m t (streams.parent t) (net.state t) (coming m streams net t)
+abbrev pub final_shown : {State Line Shown : Type 0} → Machine State Line Shown → Streams → Net State Line Shown → Name → List Shown
+final_shown m streams net t = net.shown t ++ shown_upon m t (streams.parent t) (net.state t) (coming m streams net t)
 
 -- nothing is under way
 abbrev pub IsAtRest : {State Line Shown : Type 0} → Net State Line Shown → Type 0
@@ -176,7 +176,7 @@ pub record Pays {State Line Shown : Type 0} (m : Machine State Line Shown) (p t 
 -- each server's state and what it will have shown come out the same
 pub record SameOutcome {State Line Shown : Type 0} (m : Machine State Line Shown) (streams : Streams) (old new : Net State Line Shown) : Type 0 where
   pub same_final : (u : Name) → final m streams new u ≡ final m streams old u
-  pub same_told : (u : Name) → told m streams new u ≡ told m streams old u
+  pub same_told : (u : Name) → final_shown m streams new u ≡ final_shown m streams old u
 
 -- what is coming changes by this alone: t, which took the line from p, has it no longer to come, and what it returned comes to p last
 pub record ComesOn {State Line Shown : Type 0} (m : Machine State Line Shown) (streams : Streams) (p t : Name) (line : Line) (back : List Line)
@@ -221,6 +221,6 @@ IsFront {A} xs ys = (rest : List A) × (xs ++ rest ≡ ys)
 pub record IsOnTheWay {State Line Shown : Type 0} (m : Machine State Line Shown) (streams : Streams) (start now : Net State Line Shown) : Type 0 where
   pub outcome : SameOutcome m streams start now
   pub goes_away : GoesAway streams now
-  pub front : (u : Name) → IsFront (now.shown u) (told m streams start u)
+  pub front : (u : Name) → IsFront (now.shown u) (final_shown m streams start u)
   pub state_at_rest : (u : Name) → IsAtRest now → now.state u ≡ final m streams start u
-  pub shown_at_rest : (u : Name) → IsAtRest now → now.shown u ≡ told m streams start u
+  pub shown_at_rest : (u : Name) → IsAtRest now → now.shown u ≡ final_shown m streams start u

@@ -13,7 +13,7 @@ use Rattle.irc_stage.specs.Matched.{StaysMatched}
 use Rattle.irc_stage.specs.Lemmas.Alone.{place_is_kept, told_back}
 use Rattle.irc_stage.specs.Lemmas.Twins.{matched_there, told_twins}
 use Rattle.irc_deeds.specs.Lemmas.Matched.{line_served_matched, link_lost_matched, link_opened_matched}
-use Rattle.irc_server.specs.Owed.{lines_to, owed, owed_by_machine, LoneServerOwesTheSame}
+use Rattle.irc_server.specs.Owed.{lines_to, lines_owed, owed_by_machine, LoneServerOwesTheSame}
 use Rattle.irc_server.specs.Served.{of_client, link_up, link_says, link_down, served, LoneServerIsOneRoom, ServedStaysMatched}
 
 -- ---- without links
@@ -39,7 +39,7 @@ owes_the_same is_one view [] alone conn = refl
 owes_the_same is_one view (happening ∷ happenings) alone conn =
     let same = is_one view happening alone in
     let after = (served view (of_client happening)).view in
-    ap (λ (out : List Sent). lines_to conn out ++ owed conn after happenings) same.out
+    ap (λ (out : List Sent). lines_to conn out ++ lines_owed conn after happenings) same.out
     ∙ ap (λ lines. lines_to conn (handled (machine_of view) happening).out ++ lines)
     (owes_the_same is_one after happenings same.alone conn ∙ ap (λ (m : RoomMachine). owed_by_machine conn m happenings) same.machine)
 

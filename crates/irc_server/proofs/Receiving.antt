@@ -9,7 +9,7 @@ use Rattle.irc_stage.specs.View.{View, machine_of}
 use Rattle.irc_stage.specs.Handle.{Happening, handled}
 use Rattle.irc_server.specs.Served.{Occurrence, of_client, served}
 use Rattle.irc_server.specs.Happening.{occurrence_of, Does, IsHandled, takes_it, AreHandled}
-use Rattle.irc_server.specs.Owed.{line_for, lines_to, after_all, owed, AllReceive, AreOfClients, Receives}
+use Rattle.irc_server.specs.Owed.{line_to_conn, lines_to, after_all, lines_owed, AllReceive, AreOfClients, Receives}
 
 receives_more : (view after : View) (event : Event) (happening : Happening) (left : List Happening) (out out_between : List Sent) (new : Option View)
     (out_after : List Sent) → occurrence_of event ≡ of_client happening → Does view event out after out_between → Receives after left out_between new out_after
@@ -22,10 +22,10 @@ receives_more view after event happening left out out_between new out_after even
       view_is = later.view_is ∙ ap (λ (v : View). Some (after_all v left)) view_is;
       received = λ conn.
           later.received conn
-          ∙ ap (λ l. lines_to conn l ++ owed conn after left) out_is
-          ∙ ap (λ l. l ++ owed conn after left) (filter_map-append (line_for conn) out put)
-          ∙ append_assoc (lines_to conn out) (lines_to conn put) (owed conn after left)
-          ∙ ap (λ (v : View). lines_to conn out ++ (lines_to conn put ++ owed conn v left)) view_is;
+          ∙ ap (λ l. lines_to conn l ++ lines_owed conn after left) out_is
+          ∙ ap (λ l. l ++ lines_owed conn after left) (filter_map-append (line_to_conn conn) out put)
+          ∙ append_assoc (lines_to conn out) (lines_to conn put) (lines_owed conn after left)
+          ∙ ap (λ (v : View). lines_to conn out ++ (lines_to conn put ++ lines_owed conn v left)) view_is;
     }
 
 -- the first event is handled, and those behind it

@@ -23,7 +23,7 @@ use Rattle.irc_stage.specs.View.{View}
 use Rattle.irc_stage.specs.ClientTold.{closed_told, decision_told, step_told, steps_told}
 use Rattle.irc_stage.specs.EffectTold.{Served, in_silence}
 use Rattle.irc_stage.specs.Loops.Asking.{nick_under, user_under}
-use Rattle.irc_stage.specs.Loops.Stage.{behind, AreInTurn}
+use Rattle.irc_stage.specs.Loops.Stage.{behind_sent, AreInTurn}
 use Rattle.irc_stage.specs.Lemmas.Steps.{carried_behind}
 
 -- What is decided is told in part: the first steps, which only say something to the client, are put out, and the others are left to do.
@@ -69,7 +69,7 @@ so_left IsSo machine (Do effect ∷ told) rest none are = cc none
 pub carried_in_part : (after : Served) (conn : ℕ) (name known : Option (List ℕ)) (acts : List Act) (view : View) (want left : Decided) (out between : List Sent)
     → acts ≡ left.steps → known ≡ name → IsToldInPart (place_of view.routes) known conn want out between left
     → after ≡ closed_told left.close conn (steps_told conn name acts (record { view = view; out = between }))
-    → after ≡ behind out (decision_told conn name want (in_silence view))
+    → after ≡ behind_sent out (decision_told conn name want (in_silence view))
 carried_in_part after conn name known acts view want left out between acts_are known_is part is =
     is
     ∙ ap (λ a. closed_told left.close conn (steps_told conn name a (record { view = view; out = between }))) acts_are

@@ -36,10 +36,10 @@ use Rattle.irc_deeds.specs.DeedTold.{link_lost}
 use Rattle.irc_deeds.specs.LinkServed.{line_served, link_opened}
 use Rattle.irc_deeds.specs.Lemmas.Fronts.{lost_link_behind}
 use Rattle.irc_server.specs.Happening.{occurrence_of, Does, IsHandled, takes_it, refuses_it, wants_memory, has_failed}
-use Rattle.irc_server.specs.Loops.Acting.{nick_of, is_want_of_memory, Both, Comes, IsActed, IsSame, Stands}
+use Rattle.irc_server.specs.Loops.Acting.{nick_of, is_want_of_memory, Both, IsDoneOrRefused, IsActed, IsSame, Stands}
 use Rattle.irc_server.specs.Served.{Occurrence, of_client, link_up, link_says, link_down, served, there, fault_of, AreMatched, IsDueAt, ServedStaysMatched}
 use Rattle.irc_batch.specs.Growing.{Grew}
-use Rattle.irc_stage.specs.Loops.Stage.{behind, numbered, view_of, machine_at, IsNoUser, Keeps}
+use Rattle.irc_stage.specs.Loops.Stage.{behind_sent, numbered, view_of, machine_at, IsNoUser, Keeps}
 use Rattle.irc_stage.specs.Matched.{IsMatched}
 use Rattle.irc_stage.specs.Lemmas.Matching.{spelled_row}
 use Rattle.irc_stage.specs.Lemmas.Steps.{carried_behind, nothing_behind}
@@ -52,7 +52,7 @@ copied_now (Some bytes) = refl
 pub carried : (after : Served) (conn : ℕ) (name name' : Option (List ℕ)) (acts acts' : List Act) (close close' : Bool) (view view' : View) (out : List Sent)
     → name ≡ name' → acts ≡ acts' → close ≡ close' → view ≡ view'
     → after ≡ closed_told close conn (steps_told conn name acts (record { view = view; out = out }))
-    → after ≡ behind out (closed_told close' conn (steps_told conn name' acts' (in_silence view')))
+    → after ≡ behind_sent out (closed_told close' conn (steps_told conn name' acts' (in_silence view')))
 carried after conn name name' acts acts' close close' view view' out name_is acts_are close_is view_is is =
     is
     ∙ ap (λ n. closed_told close conn (steps_told conn n acts (record { view = view; out = out }))) name_is
@@ -102,13 +102,13 @@ pub heard_is : (view : View) (link : ℕ) (read : Result Parsed LineFault) → l
 unfolding served
 heard_is view link read = refl
 
-pub lost_is : (view : View) (link : ℕ) (out : List Sent) → link_lost link (record { view = view; out = out }) ≡ behind out (served view (link_down link))
+pub lost_is : (view : View) (link : ℕ) (out : List Sent) → link_lost link (record { view = view; out = out }) ≡ behind_sent out (served view (link_down link))
 unfolding served
 lost_is view link out = ap (link_lost link) (nothing_behind view out) ∙ lost_link_behind link out (in_silence view)
 
 -- and so by the event
 pub does : (old new : View) (event : Event) (occurrence : Occurrence) (out out_after : List Sent) → occurrence_of event ≡ occurrence
-    → record { view = new; out = out_after } ≡ behind out (served old occurrence) → Does old event out new out_after
+    → record { view = new; out = out_after } ≡ behind_sent out (served old occurrence) → Does old event out new out_after
 does old new event occurrence out out_after event_is is = record {
   view_is = ap (λ (s : Served). s.view) is ∙ ap (λ (o : Occurrence). (served old o).view) (sym event_is);
   out_is = ap (λ (s : Served). s.out) is ∙ ap (λ (o : Occurrence). out ++ (served old o).out) (sym event_is);
@@ -136,7 +136,7 @@ user_is machine matched conn (Registered nick) is = spelled_row machine matched 
 
 -- the same of another cause that is the same, where what is done and what stays are enough for it
 pub comes_as : (fault fault' : Option ServerFault) (done done' same same' : Type 0) (result : Result (Unit {0}) ServerFault) → fault ≡ fault'
-    → (done → done') → (same → same') → Comes fault done same result → Comes fault' done' same' result
+    → (done → done') → (same → same') → IsDoneOrRefused fault done same result → IsDoneOrRefused fault' done' same' result
 comes_as fault fault' done done' same same' (Ok _) is then_done then_same comes = record { first = sym is ∙ comes.first; second = then_done comes.second }
 comes_as fault fault' done done' same same' (Err Memory) is then_done then_same comes = sym is ∙ comes
 comes_as fault fault' done done' same same' (Err Failed) is then_done then_same comes = record { first = sym is ∙ comes.first; second = then_same comes.second }

@@ -10,13 +10,13 @@ use Rattle.irc_server.specs.Served.{of_client, served}
 use Rattle.irc_server.specs.Happening.{occurrence_of}
 
 -- a line, where it is one to this connection
-abbrev pub line_for : ℕ → Sent → Option (List ℕ)
-line_for conn (line_to to line) = if nat_eq to conn then Some line else None
-line_for conn other = None
+abbrev pub line_to_conn : ℕ → Sent → Option (List ℕ)
+line_to_conn conn (line_to to line) = if nat_eq to conn then Some line else None
+line_to_conn conn other = None
 
 -- what a connection receives of what is put out
 abbrev pub lines_to : ℕ → List Sent → List (List ℕ)
-lines_to conn out = filter_map (line_for conn) out
+lines_to conn out = filter_map (line_to_conn conn) out
 
 -- the server after these happenings
 abbrev pub after_all : View → List Happening → View
@@ -24,9 +24,9 @@ after_all view [] = view
 after_all view (happening ∷ happenings) = after_all (served view (of_client happening)).view happenings
 
 -- what a connection is owed by them
-abbrev pub owed : ℕ → View → List Happening → List (List ℕ)
-owed conn view [] = []
-owed conn view (happening ∷ happenings) = lines_to conn (served view (of_client happening)).out ++ owed conn (served view (of_client happening)).view happenings
+abbrev pub lines_owed : ℕ → View → List Happening → List (List ℕ)
+lines_owed conn view [] = []
+lines_owed conn view (happening ∷ happenings) = lines_to conn (served view (of_client happening)).out ++ lines_owed conn (served view (of_client happening)).view happenings
 
 -- what a connection is owed by them where the server is a room machine alone
 abbrev pub owed_by_machine : ℕ → RoomMachine → List Happening → List (List ℕ)
@@ -37,7 +37,7 @@ owed_by_machine conn machine (happening ∷ happenings) =
 -- So it is of a server without links.
 abbrev pub LoneServerOwesTheSame : Type 0
 LoneServerOwesTheSame =
-    (view : View) (happenings : List Happening) → IsAlone view → (conn : ℕ) → owed conn view happenings ≡ owed_by_machine conn (machine_of view) happenings
+    (view : View) (happenings : List Happening) → IsAlone view → (conn : ℕ) → lines_owed conn view happenings ≡ owed_by_machine conn (machine_of view) happenings
 
 -- These events are of clients alone, and this is what happens by them.
 abbrev pub AreOfClients : List Event → List Happening → Type 0
@@ -46,7 +46,7 @@ AreOfClients events happenings = map occurrence_of events ≡ map of_client happ
 -- From one view of a server to another by what clients do, each connection has received what the server owes it.
 pub record Receives (old : View) (happenings : List Happening) (out : List Sent) (new : Option View) (out_after : List Sent) : Type 0 where
   pub view_is : new ≡ Some (after_all old happenings)
-  pub received : (conn : ℕ) → lines_to conn out_after ≡ lines_to conn out ++ owed conn old happenings
+  pub received : (conn : ℕ) → lines_to conn out_after ≡ lines_to conn out ++ lines_owed conn old happenings
 
 -- so it is wherever these events are of clients alone
 abbrev pub AllReceive : Option View → List Event → List Sent → Option View → List Sent → Type 0

@@ -10,7 +10,7 @@ ghost use Rattle.irc_stage.specs.Loops.Speaking.{AreSpokenAt};
 ghost use Rattle.irc_stage.specs.Loops.Stage.{machine_at, view_of, AreFitAt, IsFreeOf, IsNoUser, IsReady, IsServing, Keeps};
 ghost use Rattle.irc_stage.specs.declared.clients.Client.TheVariants.{Registered};
 ghost use Rattle.irc_server.specs.Served.{not_there};
-ghost use Rattle.irc_server.specs.Loops.Acting.{given_client, given_view, nick_of, user_on, Comes, Decides, IsActed, IsConnected, IsGone, IsHeard, IsLinked, IsSaid, IsUnlinked, Leaves, Registers, Stands};
+ghost use Rattle.irc_server.specs.Loops.Acting.{given_client, given_view, nick_of, user_on, IsDoneOrRefused, Decides, IsActed, IsConnected, IsGone, IsHeard, IsLinked, IsSaid, IsUnlinked, Leaves, Registers, Stands};
 
 use crate::event::{Event, ServerFault};
 use irc_batch::Batch;
@@ -156,7 +156,7 @@ fn on_message(
 
 /// A line that says nothing: an empty one, or a prefix alone.
 fn on_no_message(stage: &Stage, conn: u64) -> Result<(), ServerFault>
-    ensures { Comes (not_there (client_of (machine_at stage.now) conn)) ⊤ ⊤ result }
+    ensures { IsDoneOrRefused (not_there (client_of (machine_at stage.now) conn)) ⊤ ⊤ result }
 {
     match stage.client_of(conn) {
         None => Err(ServerFault::NoSuchConnection),

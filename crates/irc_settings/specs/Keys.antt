@@ -56,12 +56,12 @@ abbrev pub is_kept : Members → Key → Bool
 is_kept table key = option_map_or (is_of key.kind) (get_member key.name table) (not key.is_needed)
 
 -- whether a name is one of these keys
-abbrev pub is_known : List Key → List ℕ → Bool
-is_known keys name = list_any (λ key. bytes_eq name key.name) keys
+abbrev pub is_key : List Key → List ℕ → Bool
+is_key keys name = list_any (λ key. bytes_eq name key.name) keys
 
 -- whether a table has these keys, each with what may stand there, and no others
 abbrev pub is_in_form : List Key → Members → Bool
-is_in_form keys table = list_all (is_known keys) (keys_in table) && list_all (is_kept table) keys
+is_in_form keys table = list_all (is_key keys) (keys_in table) && list_all (is_kept table) keys
 
 -- the keys of a table `peer`: a server that may be linked to
 abbrev pub peer_keys : List Key

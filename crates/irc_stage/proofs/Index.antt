@@ -10,7 +10,7 @@ use Rattle.irc_stage.specs.declared.clients.Client.{Client}
 use Rattle.irc_stage.specs.declared.clients.Client.TheVariants.{Registering, Registered}
 use Rattle.irc_stage.specs.RoomMachine.{Clients, each_client}
 use Rattle.irc_stage.specs.Handle.{renamed_in}
-use Rattle.irc_stage.specs.Loops.Stage.{entered, departed, IsIndex, IsNamed, IsNoUser, IsFreeFor, IsFreeOf}
+use Rattle.irc_stage.specs.Loops.Stage.{entered, departed, IsIndex, IsRegisteredAs, IsNoUser, IsFreeFor, IsFreeOf}
 use Rattle.irc_stage.specs.Lemmas.Numbers.{same_number, one_number, same_number-refl, same_clients, get-with, get-without, get-each}
 use Rattle.irc_stage.specs.Lemmas.Matching.{named_is, nick_in, never_registered, same_by_key, key_by_same, left_client, new_client}
 
@@ -24,13 +24,13 @@ at_other clients conn q client two = get-with clients conn client q ∙ ap (λ b
 pub past_it : (clients : Clients) (conn q : ℕ) → same_number q conn ≡ false → get (remove clients conn) q ≡ get clients q
 past_it clients conn q two = get-without clients conn q ∙ ap (λ b. cond b None (get clients q)) two
 
-never_named : {A : Type 0} (fold : List ℕ) (client : Option Client) → IsNamed fold client → IsNoUser client → A
+never_named : {A : Type 0} (fold : List ℕ) (client : Option Client) → IsRegisteredAs fold client → IsNoUser client → A
 never_named fold None named none = absurd named
 never_named fold (Some (Registering pending)) named none = absurd named
 never_named fold (Some (Registered nick)) named none = absurd none
 
 -- another number than that of one who is no user
-apart_from : {A : Type 0} (clients : Clients) (conn q : ℕ) (fold : List ℕ) → IsNamed fold (get clients q) → IsNoUser (get clients conn)
+apart_from : {A : Type 0} (clients : Clients) (conn q : ℕ) (fold : List ℕ) → IsRegisteredAs fold (get clients q) → IsNoUser (get clients conn)
     → (same_number q conn ≡ false → A) → A
 apart_from {A} clients conn q fold named none so = by (same_number q conn) refl
   where
@@ -51,7 +51,7 @@ module _ (clients : Clients) (by_nick : Table ℕ) (index : IsIndex clients by_n
         (λ at now. never_registered (Some client) name pending (ap Some now))
         (λ two was. index.found q name was);
     there = λ fold q is. apart_from clients conn q fold (index.there fold q is) none
-        (λ two. subst (IsNamed fold) (sym (at_other clients conn q client two)) (index.there fold q is));
+        (λ two. subst (IsRegisteredAs fold) (sym (at_other clients conn q client two)) (index.there fold q is));
   }
 
   pub user_indexed : (nick : List ℕ) → IsFreeOf (Registered nick) clients → IsIndex (insert clients conn (Registered nick)) (alter (key nick) (λ _. Some conn) by_nick)
@@ -70,17 +70,17 @@ module _ (clients : Clients) (by_nick : Table ℕ) (index : IsIndex clients by_n
       kept q name was false two = index.found q name was
 
       by : (fold : List ℕ) (q : ℕ) (b : Bool) → same_fold fold (key nick) ≡ b → cond b (Some conn) (row by_nick fold) ≡ Some q
-          → IsNamed fold (get (insert clients conn (Registered nick)) q)
+          → IsRegisteredAs fold (get (insert clients conn (Registered nick)) q)
       by fold q true one is =
-          subst (IsNamed fold) (sym (at_it clients conn q (Registered nick) (sym (same_some conn q is)))) (sym (one_fold fold (key nick) one))
+          subst (IsRegisteredAs fold) (sym (at_it clients conn q (Registered nick) (sym (same_some conn q is)))) (sym (one_fold fold (key nick) one))
       by fold q false two is = apart_from clients conn q fold (index.there fold q is) none
-          (λ apart. subst (IsNamed fold) (sym (at_other clients conn q (Registered nick) apart)) (index.there fold q is))
+          (λ apart. subst (IsRegisteredAs fold) (sym (at_other clients conn q (Registered nick) apart)) (index.there fold q is))
 
   pub nobody_left : IsIndex (remove clients conn) by_nick
   nobody_left = record {
     found = λ q name is. index.found q name (left_client clients conn q (Registered name) is).1;
     there = λ fold q is. apart_from clients conn q fold (index.there fold q is) none
-        (λ two. subst (IsNamed fold) (sym (past_it clients conn q two)) (index.there fold q is));
+        (λ two. subst (IsRegisteredAs fold) (sym (past_it clients conn q two)) (index.there fold q is));
   }
 
 -- the number of one name
@@ -108,16 +108,16 @@ user_left clients by_nick index conn nick mine = record {
     kept q name two was true one = apart_names clients by_nick index conn q nick name mine was two (one_fold (key name) (key nick) one)
     kept q name two was false other = index.found q name was
 
-    moved_on : (fold : List ℕ) (q : ℕ) → same_fold fold (key nick) ≡ false → IsNamed fold (get clients q) → (b : Bool) → same_number q conn ≡ b
-        → IsNamed fold (get (remove clients conn) q)
+    moved_on : (fold : List ℕ) (q : ℕ) → same_fold fold (key nick) ≡ false → IsRegisteredAs fold (get clients q) → (b : Bool) → same_number q conn ≡ b
+        → IsRegisteredAs fold (get (remove clients conn) q)
     moved_on fold q other named true one =
         let mine_too : get clients q ≡ Some (Registered nick) = ap (get clients) (one_number q conn one) ∙ mine in
-        let named_so : key nick ≡ fold = subst (IsNamed fold) mine_too named in
+        let named_so : key nick ≡ fold = subst (IsRegisteredAs fold) mine_too named in
         let folds = ap (λ f. same_fold f (key nick)) (sym named_so) ∙ same_fold-refl (key nick) in cc
-    moved_on fold q other named false two = subst (IsNamed fold) (sym (past_it clients conn q two)) named
+    moved_on fold q other named false two = subst (IsRegisteredAs fold) (sym (past_it clients conn q two)) named
 
     by : (fold : List ℕ) (q : ℕ) (b : Bool) → same_fold fold (key nick) ≡ b → cond b None (row by_nick fold) ≡ Some q
-        → IsNamed fold (get (remove clients conn) q)
+        → IsRegisteredAs fold (get (remove clients conn) q)
     by fold q true one is = cc is
     by fold q false other is = moved_on fold q other (index.there fold q is) (same_number q conn) refl
 
@@ -148,13 +148,13 @@ module _ (clients : Clients) (by_nick : Table ℕ) (index : IsIndex clients by_n
   pub one_renamed : insert clients conn (Registered new) ≡ each_client (renamed_in old new) clients
   one_renamed = same_clients _ _ (λ q. get-with clients conn (Registered new) q ∙ by q (same_number q conn) refl ∙ sym (get-each (renamed_in old new) clients q))
     where
-      it : (q : ℕ) (o : Option Client) → IsNamed (key old) o → Some (Registered new) ≡ option_map (renamed_in old new) o
+      it : (q : ℕ) (o : Option Client) → IsRegisteredAs (key old) o → Some (Registered new) ≡ option_map (renamed_in old new) o
       it q None named = absurd named
       it q (Some (Registering pending)) named = absurd named
       it q (Some (Registered name)) named = ap (λ b. Some (if b then Registered new else Registered name)) (sym (same_by_key name old named))
 
       by : (q : ℕ) (b : Bool) → same_number q conn ≡ b → cond b (Some (Registered new)) (get clients q) ≡ option_map (renamed_in old new) (get clients q)
-      by q true one = it q (get clients q) (subst (λ n. IsNamed (key old) (get clients n)) (sym (one_number q conn one)) (index.there (key old) conn is_conn))
+      by q true one = it q (get clients q) (subst (λ n. IsRegisteredAs (key old) (get clients n)) (sym (one_number q conn one)) (index.there (key old) conn is_conn))
       by q false two = sym (not_renamed old new (get clients q) (λ name is. differs name old (λ one.
           let number : q ≡ conn = same_some q conn (sym (index.found q name is) ∙ ap (row by_nick) one ∙ is_conn) in
           let same_too = ap (same_number q) (sym number) ∙ same_number-refl q in cc)))
@@ -185,19 +185,19 @@ module _ (clients : Clients) (by_nick : Table ℕ) (index : IsIndex clients by_n
       kept q name two was false true is_new is_old = elsewhere q name was two (one_fold (key name) (key old) is_old)
       kept q name two was false false is_new is_old = index.found q name was
 
-      stays : (fold : List ℕ) (q : ℕ) → same_fold fold (key old) ≡ false → IsNamed fold (get clients q) → (b : Bool) → same_number q conn ≡ b
-          → IsNamed fold (get (insert clients conn (Registered new)) q)
+      stays : (fold : List ℕ) (q : ℕ) → same_fold fold (key old) ≡ false → IsRegisteredAs fold (get clients q) → (b : Bool) → same_number q conn ≡ b
+          → IsRegisteredAs fold (get (insert clients conn (Registered new)) q)
       stays fold q other named true one =
           named_is fold (get clients q) named (λ name is named_so.
           named_is (key old) (get clients conn) (index.there (key old) conn is_conn) (λ mine mine_is mine_named.
           let one_name : name ≡ mine = nick_in name mine (sym is ∙ ap (get clients) (one_number q conn one) ∙ mine_is) in
           let folds = ap (λ f. same_fold f (key old)) (sym named_so ∙ ap key one_name ∙ mine_named) ∙ same_fold-refl (key old) in cc))
-      stays fold q other named false two = subst (IsNamed fold) (sym (at_other clients conn q (Registered new) two)) named
+      stays fold q other named false two = subst (IsRegisteredAs fold) (sym (at_other clients conn q (Registered new) two)) named
 
       by : (fold : List ℕ) (q : ℕ) (b c : Bool) → same_fold fold (key new) ≡ b → same_fold fold (key old) ≡ c
-          → cond b (Some conn) (cond c None (row by_nick fold)) ≡ Some q → IsNamed fold (get (insert clients conn (Registered new)) q)
+          → cond b (Some conn) (cond c None (row by_nick fold)) ≡ Some q → IsRegisteredAs fold (get (insert clients conn (Registered new)) q)
       by fold q true c is_new is_old is =
-          subst (IsNamed fold) (sym (at_it clients conn q (Registered new) (sym (same_some conn q is)))) (sym (one_fold fold (key new) is_new))
+          subst (IsRegisteredAs fold) (sym (at_it clients conn q (Registered new) (sym (same_some conn q is)))) (sym (one_fold fold (key new) is_new))
       by fold q false true is_new is_old is = cc is
       by fold q false false is_new is_old is = stays fold q is_old (index.there fold q is) (same_number q conn) refl
 

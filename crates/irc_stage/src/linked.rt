@@ -9,7 +9,7 @@ ghost use Rattle.irc_stage.specs.Linked.{unlinked, with_far, with_password, with
 ghost use Rattle.irc_stage.specs.Matched.{is_user_here};
 ghost use Rattle.irc_stage.specs.View.{with_end};
 ghost use Rattle.irc_stage.specs.Loops.Linking.{takes_newcomer, IsKnownIf, IsMetAt, IsToldToAll};
-ghost use Rattle.irc_stage.specs.Loops.Stage.{machine_at, numbered, view_of, ChangesIf, Comes, EndsClient, IsReady, IsServing, Keeps, Quits, TakesOut};
+ghost use Rattle.irc_stage.specs.Loops.Stage.{machine_at, numbered, view_of, ChangesIf, ComesByLink, EndsClient, IsReady, IsServing, Keeps, Quits, TakesOut};
 
 use crate::clients::number_of;
 use crate::origin::Origin;
@@ -169,7 +169,7 @@ impl Stage {
     /// Where memory runs out.
     pub fn come(&mut self, link: u64, effect: &Effect, out: &mut Batch) -> Result<(), AllocError>
         requires serving { IsServing self.old }
-        ensures ok { OnOk result (Comes (Some link) effect.now self.old out.old self.new out.new) }
+        ensures ok { OnOk result (ComesByLink (Some link) effect.now self.old out.old self.new out.new) }
         ensures serving { OnOk result (IsServing self.new) }
         ensures keeps { Keeps self.old self.new }
         ensures grew { Grew out.old.outs out.new.outs }

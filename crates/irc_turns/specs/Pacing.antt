@@ -51,9 +51,9 @@ abbrev pub quickened : Paced → Paced
 quickened pace = record pace { lines = min (pace.lines * 2) 32; turns = 0 }
 
 -- one more turn of as many
-abbrev pub counted : Paced → Paced
-counted pace = record pace { turns = pace.turns + 1 }
+abbrev pub turn_counted : Paced → Paced
+turn_counted pace = record pace { turns = pace.turns + 1 }
 
 abbrev pub behind_turn : Paced → ℕ → ℕ → Paced
 behind_turn pace answered shown =
-    if is_much_answered answered then slowed pace else (if is_quickened pace shown then quickened pace else counted pace)
+    if is_much_answered answered then slowed pace else (if is_quickened pace shown then quickened pace else turn_counted pace)

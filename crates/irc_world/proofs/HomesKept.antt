@@ -11,7 +11,7 @@ use Rattle.irc_relay.specs.Lemmas.TellingNames.{Telling, alike, unlike, tell}
 use Rattle.irc_merge.specs.Laws.{MergeHasNothingNew, SplitHasNothingNew}
 use Rattle.irc_routes.specs.Place.{alone}
 use Rattle.irc_stage.specs.Handle.{Happening, connects, says, goes, handled}
-use Rattle.irc_world.specs.World.{Setting, Hall, World, new_world, is_server, home_of, place_in, machine_at, with_hall}
+use Rattle.irc_world.specs.World.{Setting, Hall, World, new_world, is_server, home_of, joined_place, machine_at, with_hall}
 use Rattle.irc_world.specs.Stepping.{Item, connect, line, gone, link, cut, step, still as unmoved, by_machine, by_client, merged, link_made, remaining, parted as cut_apart, split_text, servers_on_side}
 use Rattle.irc_world.specs.Owed.{after_items}
 use Rattle.irc_world.specs.Sound.{IsSound, AreTaken}
@@ -22,19 +22,19 @@ use Rattle.irc_world.proofs.Halls.{hall_with}
 use Rattle.irc_world.proofs.StaysSound.{new_world_is_sound, server_known}
 
 pub named : (settings all : List Setting) (links : List Link) (server : Name)
-    → (option_map_or (place_in all links) (find (λ (s : Setting). same s.name server) settings) (alone server [] [])).name ≡ server
+    → (option_map_or (joined_place all links) (find (λ (s : Setting). same s.name server) settings) (alone server [] [])).name ≡ server
 named [] all links server = refl
 named (s ∷ settings) all links server = by (tell s.name server) (named settings all links server)
   where
     by : Telling s.name server
-        → (option_map_or (place_in all links) (find (λ (t : Setting). same t.name server) settings) (alone server [] [])).name ≡ server
-        → (option_map_or (place_in all links) (cond (same s.name server) (Some s) (find (λ (t : Setting). same t.name server) settings))
+        → (option_map_or (joined_place all links) (find (λ (t : Setting). same t.name server) settings) (alone server [] [])).name ≡ server
+        → (option_map_or (joined_place all links) (cond (same s.name server) (Some s) (find (λ (t : Setting). same t.name server) settings))
         (alone server [] [])).name ≡ server
     by (alike is one) behind =
-        ap (λ b. (option_map_or (place_in all links) (cond b (Some s) (find (λ (t : Setting). same t.name server) settings)) (alone server [] [])).name) is
+        ap (λ b. (option_map_or (joined_place all links) (cond b (Some s) (find (λ (t : Setting). same t.name server) settings)) (alone server [] [])).name) is
         ∙ one
     by (unlike is _) behind =
-        ap (λ b. (option_map_or (place_in all links) (cond b (Some s) (find (λ (t : Setting). same t.name server) settings)) (alone server [] [])).name) is
+        ap (λ b. (option_map_or (joined_place all links) (cond b (Some s) (find (λ (t : Setting). same t.name server) settings)) (alone server [] [])).name) is
         ∙ behind
 
 module _ (brings : ClientsBringOwnUsers) (merge_new : MergeHasNothingNew) (split_new : SplitHasNothingNew) (settings : List Setting) where

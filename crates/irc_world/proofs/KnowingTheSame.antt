@@ -10,7 +10,7 @@ use Rattle.irc_relay.specs.Links.{Name, same, Link, part, joined, distance, link
 use Rattle.irc_relay.specs.Laws.{JoinedOverLink}
 use Rattle.irc_relay.specs.Lemmas.TellingNames.{Telling, alike, unlike, tell, same_unless}
 use Rattle.irc_routes.specs.Place.{alone}
-use Rattle.irc_world.specs.World.{Setting, setting_of, known_from, has_end, place_in, place_at}
+use Rattle.irc_world.specs.World.{Setting, setting_of, known_from, has_end, joined_place, place_at}
 use Rattle.irc_world.proofs.SameWorlds.{known_at}
 use Rattle.irc_world.proofs.StaysSound.{one_part}
 
@@ -42,7 +42,7 @@ module _ (settings : List Setting) (one other : List Link) where
           ap (λ there. known_at settings server there (distance one own server)) is
           ∙ sym (ap (λ there. known_at settings server there (distance other own server)) (sym (so.part_same server) ∙ is))
 
-  place_so : (own : Setting) → KnowsTheSame one other own.name → place_in settings one own ≡ place_in settings other own
+  place_so : (own : Setting) → KnowsTheSame one other own.name → joined_place settings one own ≡ joined_place settings other own
   place_so own so = λ i. record {
     name = own.name;
     info = own.info;
@@ -55,7 +55,7 @@ module _ (settings : List Setting) (one other : List Link) where
   place_known server so = by (setting_of settings server) refl
     where
       by : (o : Option Setting) → setting_of settings server ≡ o
-          → option_map_or (place_in settings one) o (alone server [] []) ≡ option_map_or (place_in settings other) o (alone server [] [])
+          → option_map_or (joined_place settings one) o (alone server [] []) ≡ option_map_or (joined_place settings other) o (alone server [] [])
       by None is = refl
       by (Some own) is = place_so own (subst (KnowsTheSame one other) (sym (found_named settings server own is)) so)
 

@@ -19,7 +19,7 @@ use Rattle.irc_stage.specs.declared.clients.Client.{Client}
 use Rattle.irc_stage.specs.declared.clients.Client.TheVariants.{Registering, Registered}
 use Rattle.irc_stage.specs.Handle.{Happening, connects, says, goes, handled}
 use Rattle.irc_server.specs.Owed.{lines_to}
-use Rattle.irc_world.specs.World.{Setting, World, setting_of, servers_where, home_in, home_of, known_from, has_end, place_in, place_at, machine_at}
+use Rattle.irc_world.specs.World.{Setting, World, setting_of, servers_where, home_in, home_of, known_from, has_end, joined_place, place_at, machine_at}
 use Rattle.irc_world.specs.Stepping.{Item, connect, line, gone, link, cut, Stepped, step, still, by_machine, by_client, merged, meeting_lines, link_made, split_text, remaining, leaving_lines, parted}
 use Rattle.irc_world.specs.Refused.{refused, open_client, are_peers, needs_servers, no_such_client, link_refused, not_linked, disagree}
 use Rattle.irc_world.specs.Laws.{StepStaysSound}
@@ -58,7 +58,7 @@ module _ (settings : List Setting) (one other : List Link) (are : AreTheSameLink
           ap (λ there. known_at settings server there (distance one own server)) is
           ∙ sym (ap (λ there. known_at settings server there (distance other own server)) (sym (are.joined_same own server) ∙ is))
 
-  place_in_same : AreTurned one other → (own : Setting) → place_in settings one own ≡ place_in settings other own
+  place_in_same : AreTurned one other → (own : Setting) → joined_place settings one own ≡ joined_place settings other own
   place_in_same turned own = λ i. record {
     name = own.name;
     info = own.info;

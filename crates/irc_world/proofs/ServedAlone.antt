@@ -24,8 +24,8 @@ use Rattle.irc_stage.specs.Handle.{Happening, connects, says, goes, handled}
 use Rattle.irc_stage.specs.Lemmas.Alone.{knows_no_other}
 use Rattle.irc_server.specs.Served.{Served, of_client, served, LoneServerIsOneRoom, SaysTheSame}
 use Rattle.irc_server.specs.Owed.{lines_to}
-use Rattle.irc_server.specs.Owed.{owed as owed_by_server}
-use Rattle.irc_world.specs.World.{Setting, Hall, World, new_world, setting_of, is_server, home_of, known_from, place_in, place_at, machine_at}
+use Rattle.irc_server.specs.Owed.{lines_owed as owed_by_server}
+use Rattle.irc_world.specs.World.{Setting, Hall, World, new_world, setting_of, is_server, home_of, known_from, joined_place, place_at, machine_at}
 use Rattle.irc_world.specs.Stepping.{Item, connect, line, gone, link, cut, Stepped, step, still as unmoved, by_machine, by_client}
 use Rattle.irc_world.specs.Refused.{refused, open_client, no_such_client, no_such_server, not_linked}
 use Rattle.irc_world.specs.Owed.{owed_by_network, owed_from}
@@ -76,7 +76,7 @@ servers_alone setting =
 
 place_alone : (setting : Setting) → place_at (setting ∷ []) [] setting.name ≡ alone setting.name setting.info setting.created
 place_alone setting =
-    ap (λ o. option_map_or (place_in (setting ∷ []) []) o (alone setting.name [] [])) (found setting)
+    ap (λ o. option_map_or (joined_place (setting ∷ []) []) o (alone setting.name [] [])) (found setting)
     ∙ ap (λ ss. record { name = setting.name; info = setting.info; created = setting.created; links = 0; servers = ss }) (servers_alone setting)
 
 -- the ends of a link would be two servers

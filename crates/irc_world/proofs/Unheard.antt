@@ -22,7 +22,7 @@ use Rattle.irc_stage.specs.declared.clients.Client.{Client}
 use Rattle.irc_stage.specs.declared.clients.Client.TheVariants.{Registering, Registered}
 use Rattle.irc_stage.specs.RoomMachine.{Clients, RoomMachine, client_of, with_client, without_client}
 use Rattle.irc_stage.specs.Handle.{Happening, connects, says, goes, Handled, handled, is_client, to_viewer, renamed_in, clients_after, with_effect, stepped, all_stepped, unchanged, closing, client_after, user_decided, said_by, user_of, quits, lost_text}
-use Rattle.irc_server.specs.Owed.{line_for, lines_to}
+use Rattle.irc_server.specs.Owed.{line_to_conn, lines_to}
 use Rattle.irc_stage.specs.Lemmas.Numbers.{same_number, one_number, same_number-is, get-with, get-without, get-each}
 
 -- another number than one that is there
@@ -40,7 +40,7 @@ module _ (who : ℕ) where
     nothing : lines_to who now.out ≡ []
 
   nothing_more : (one other : List Sent) → lines_to who one ≡ [] → lines_to who other ≡ [] → lines_to who (one ++ other) ≡ []
-  nothing_more one other none also = filter_map-append (line_for who) one other ∙ (λ i. none i ++ also i)
+  nothing_more one other none also = filter_map-append (line_to_conn who) one other ∙ (λ i. none i ++ also i)
 
   not_first : (n : ℕ) (client : Client) (es : List (ℕ × Client)) → find nat_cmp who ((n, client) ∷ es) ≡ None
       → (nat_eq n who ≡ false) × (find nat_cmp who es ≡ None)

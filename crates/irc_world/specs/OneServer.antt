@@ -15,7 +15,7 @@ use Rattle.irc_stage.specs.View.{View, known_peer, machine_of}
 use Rattle.irc_stage.specs.Handle.{Happening, connects, says, goes}
 use Rattle.irc_server.specs.Served.{of_client, served, fault_of}
 use Rattle.irc_server.specs.Owed.{lines_to}
-use Rattle.irc_server.specs.Owed.{owed as owed_by_server}
+use Rattle.irc_server.specs.Owed.{lines_owed as owed_by_server}
 use Rattle.irc_world.specs.World.{Setting, World, new_world}
 use Rattle.irc_world.specs.Stepping.{Item, connect, line, gone, link, cut, step}
 use Rattle.irc_world.specs.Refused.{refused, no_such_client}

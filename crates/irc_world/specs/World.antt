@@ -67,8 +67,8 @@ abbrev pub has_end : Name → Link → Bool
 has_end server link = same link.near server || same link.far server
 
 -- itself, how many links it has, and the servers of its part in order of name, itself too
-abbrev pub place_in : List Setting → List Link → Setting → Place
-place_in settings links own = record {
+abbrev pub joined_place : List Setting → List Link → Setting → Place
+joined_place settings links own = record {
   name = own.name;
   info = own.info;
   created = own.created;
@@ -77,7 +77,7 @@ place_in settings links own = record {
 }
 
 abbrev pub place_at : List Setting → List Link → Name → Place
-place_at settings links server = option_map_or (place_in settings links) (setting_of settings server) (alone server [] [])
+place_at settings links server = option_map_or (joined_place settings links) (setting_of settings server) (alone server [] [])
 
 -- the room machine of a part, as one of its servers' clients meet it
 abbrev pub machine_at : List Setting → World → Name → RoomMachine

@@ -17,7 +17,7 @@ use Rattle.irc_stage.specs.EffectTold.{Served, all_changed, changed, changed_if,
 use Rattle.irc_stage.specs.Linked.{is_taken, told_on_all, unlinked, with_row}
 use Rattle.irc_stage.specs.View.{View}
 use Rattle.irc_stage.specs.Lemmas.Steps.{LeavesInFront, changed_behind, nothing_behind, sent_behind, told_behind}
-use Rattle.irc_stage.specs.Loops.Stage.{behind}
+use Rattle.irc_stage.specs.Loops.Stage.{behind_sent}
 use Rattle.irc_deeds.specs.DeedTold.{all_told, arrival_of, deed_told, deeds_told, forgotten, gain_told, link_lost, lost_behind, told_by}
 
 -- ---- effects
@@ -25,14 +25,14 @@ use Rattle.irc_deeds.specs.DeedTold.{all_told, arrival_of, deed_told, deeds_told
 pub came_behind : (arrival : Option ℕ) (effect : Effect) → LeavesInFront (effect_came arrival effect)
 came_behind arrival effect out s = by (counts s.view effect)
   where
-    by : (b : Bool) → (if b then effect_told arrival effect (behind out s) else behind out s) ≡ behind out (if b then effect_told arrival effect s else s)
+    by : (b : Bool) → (if b then effect_told arrival effect (behind_sent out s) else behind_sent out s) ≡ behind_sent out (if b then effect_told arrival effect s else s)
     by true = told_behind arrival effect out s
     by false = refl
 
 pub changed_if_behind : (effect : Effect) → LeavesInFront (changed_if effect)
 changed_if_behind effect out s = by (counts s.view effect)
   where
-    by : (b : Bool) → (if b then changed effect (behind out s) else behind out s) ≡ behind out (if b then changed effect s else s)
+    by : (b : Bool) → (if b then changed effect (behind_sent out s) else behind_sent out s) ≡ behind_sent out (if b then changed effect s else s)
     by true = changed_behind effect out s
     by false = refl
 
@@ -46,7 +46,7 @@ all_changed_behind (effect ∷ effects) out s =
 pub quit_behind : (nick text : List ℕ) → LeavesInFront (quit_by nick text)
 quit_behind nick text out s = by (has_user s.view.room nick)
   where
-    by : (b : Bool) → (if b then changed (Quit nick text) (behind out s) else behind out s) ≡ behind out (if b then changed (Quit nick text) s else s)
+    by : (b : Bool) → (if b then changed (Quit nick text) (behind_sent out s) else behind_sent out s) ≡ behind_sent out (if b then changed (Quit nick text) s else s)
     by true = changed_behind (Quit nick text) out s
     by false = refl
 
@@ -103,8 +103,8 @@ told_by_behind link (a_server uplink name distance token info) out s = by (is_ta
     more : Served → Served
     more s = record s { view = with_row link uplink name distance token info s.view }
 
-    by : (b : Bool) → (if b then gain_told link uplink name info (more (behind out s)) else behind out s)
-        ≡ behind out (if b then gain_told link uplink name info (more s) else s)
+    by : (b : Bool) → (if b then gain_told link uplink name info (more (behind_sent out s)) else behind_sent out s)
+        ≡ behind_sent out (if b then gain_told link uplink name info (more s) else s)
     by true = gain_behind link uplink name info out (more s)
     by false = refl
 
@@ -114,7 +114,7 @@ all_told_behind link (told ∷ later) out s = ap (all_told link later) (told_by_
 
 -- what lines tell goes behind what was put out before
 pub told_in_front : (link : ℕ) (told : List Told) (view : View) (out : List Sent)
-    → all_told link told (record { view = view; out = out }) ≡ behind out (all_told link told (in_silence view))
+    → all_told link told (record { view = view; out = out }) ≡ behind_sent out (all_told link told (in_silence view))
 told_in_front link told view out = ap (all_told link told) (nothing_behind view out) ∙ all_told_behind link told out (in_silence view)
 
 -- ---- a link is lost

@@ -5,12 +5,12 @@ use Rattle.std.specs.Option.{option_and_then}
 use Rattle.irc_batch.specs.Batches.{Batch, line_on}
 use Rattle.irc_line.specs.declared.reading.LineFault.{LineFault}
 use Rattle.irc_line.specs.Messages.{Parsed, Written}
-use Rattle.irc_routes.specs.Known.{behind as names_behind}
+use Rattle.irc_routes.specs.Known.{names_behind}
 use Rattle.irc_stage.specs.declared.stage.Stage.{Stage}
 use Rattle.irc_stage.specs.EffectTold.{Served}
 use Rattle.irc_stage.specs.View.{End, View}
 use Rattle.irc_stage.specs.Loops.Linking.{IsMetAt}
-use Rattle.irc_stage.specs.Loops.Stage.{behind, served_at, view_of}
+use Rattle.irc_stage.specs.Loops.Stage.{behind_sent, served_at, view_of}
 use Rattle.irc_deeds.specs.DeedTold.{deeds_told, link_lost, losses, lost_behind}
 use Rattle.irc_deeds.specs.Heard.{Heard, meets, tells}
 use Rattle.irc_deeds.specs.LinkServed.{after_heard, line_served, link_opened, met_by, on_link, opening_parts}
@@ -36,7 +36,7 @@ greeting_of view end name = if is_none end.starts then opening_parts view name e
 
 -- what it does goes behind what was put out before
 abbrev pub Serves : Served → Batch → Stage → Batch → Type 0
-Serves served out new out_after = served_at new out_after.outs ≡ behind out.outs served
+Serves served out new out_after = served_at new out_after.outs ≡ behind_sent out.outs served
 
 -- a link is opened
 abbrev pub Opens : ℕ → Option (List ℕ) → Stage → Batch → Stage → Batch → Type 0

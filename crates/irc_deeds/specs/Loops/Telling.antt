@@ -58,16 +58,16 @@ abbrev pub DoesDeed : Option ℕ → Deed → Stage → Batch → Stage → Batc
 DoesDeed arrival deed old out new out_after = served_at new out_after.outs ≡ deed_told arrival deed (served_at old out.outs)
 
 -- what a line tells is done, alone or one after another
-abbrev pub Tells : ℕ → Told → Stage → Batch → Stage → Batch → Type 0
-Tells link told old out new out_after = served_at new out_after.outs ≡ told_by link told (served_at old out.outs)
+abbrev pub DoesTold : ℕ → Told → Stage → Batch → Stage → Batch → Type 0
+DoesTold link told old out new out_after = served_at new out_after.outs ≡ told_by link told (served_at old out.outs)
 
-abbrev pub TellsAll : ℕ → List Told → Stage → Batch → Stage → Batch → Type 0
-TellsAll link told old out new out_after = served_at new out_after.outs ≡ all_told link told (served_at old out.outs)
+abbrev pub DoesAllTold : ℕ → List Told → Stage → Batch → Stage → Batch → Type 0
+DoesAllTold link told old out new out_after = served_at new out_after.outs ≡ all_told link told (served_at old out.outs)
 
 abbrev pub Kills : ℕ → List ℕ → List ℕ → Stage → Batch → Stage → Batch → Type 0
-Kills link server nick old out new out_after = Tells link (a_deed (kills server nick)) old out new out_after
+Kills link server nick old out new out_after = DoesTold link (a_deed (kills server nick)) old out new out_after
 
 -- a server more is told of
 abbrev pub Gains : Newcomer → Stage → Batch → Stage → Batch → Type 0
 Gains newcomer old out new out_after =
-    Tells newcomer.link (a_server newcomer.uplink.now newcomer.name.now newcomer.distance newcomer.token newcomer.info.now) old out new out_after
+    DoesTold newcomer.link (a_server newcomer.uplink.now newcomer.name.now newcomer.distance newcomer.token newcomer.info.now) old out new out_after

@@ -42,10 +42,10 @@ pub record Both (this that : Type 0) : Type 0 where
   pub second : that
 
 -- Of what is refused for this cause, if for one: it is done, memory runs out, or it is refused and all is as it was.
-abbrev pub Comes : Option ServerFault → Type 0 → Type 0 → Result (Unit {0}) ServerFault → Type 0
-Comes fault done same (Ok _) = Both (fault ≡ None) done
-Comes fault done same (Err Memory) = fault ≡ None
-Comes fault done same (Err other) = Both (fault ≡ Some other) same
+abbrev pub IsDoneOrRefused : Option ServerFault → Type 0 → Type 0 → Result (Unit {0}) ServerFault → Type 0
+IsDoneOrRefused fault done same (Ok _) = Both (fault ≡ None) done
+IsDoneOrRefused fault done same (Err Memory) = fault ≡ None
+IsDoneOrRefused fault done same (Err other) = Both (fault ≡ Some other) same
 
 abbrev pub is_want_of_memory : Result (Unit {0}) ServerFault → Bool
 is_want_of_memory (Err Memory) = true
@@ -93,7 +93,7 @@ Leaves conn old out new out_after = Serves (gone_told (view_of old) conn) out ne
 -- What comes of each event: it is done, or it is refused and nothing has changed. A client connects, says something, is gone.
 abbrev pub IsConnected : ℕ → List ℕ → Stage → Result (Unit {0}) ServerFault → Stage → Type 0
 IsConnected conn host old result new =
-    Comes (there (client_of (machine_at old) conn)) (view_of new ≡ seated conn (fresh host) (view_of old)) (new ≡ old) result
+    IsDoneOrRefused (there (client_of (machine_at old) conn)) (view_of new ≡ seated conn (fresh host) (view_of old)) (new ≡ old) result
 
 -- nothing has changed, nor been put out
 abbrev pub AsBefore : Stage → Batch → Stage → Batch → Type 0
@@ -101,25 +101,25 @@ AsBefore old out new out_after = served_at new out_after.outs ≡ served_at old 
 
 abbrev pub IsSaid : ℕ → Parsed → Stage → Batch → Result (Unit {0}) ServerFault → Stage → Batch → Type 0
 IsSaid conn message old out result new out_after =
-    Comes (not_there (client_of (machine_at old) conn)) (Says conn message old out new out_after) (AsBefore old out new out_after) result
+    IsDoneOrRefused (not_there (client_of (machine_at old) conn)) (Says conn message old out new out_after) (AsBefore old out new out_after) result
 
 abbrev pub IsGone : ℕ → Stage → Batch → Result (Unit {0}) ServerFault → Stage → Batch → Type 0
 IsGone conn old out result new out_after =
-    Comes (not_there (client_of (machine_at old) conn)) (Leaves conn old out new out_after) (AsBefore old out new out_after) result
+    IsDoneOrRefused (not_there (client_of (machine_at old) conn)) (Leaves conn old out new out_after) (AsBefore old out new out_after) result
 
 -- A link is opened, a line comes by it, it is lost.
 abbrev pub IsLinked : ℕ → Option (List ℕ) → Stage → Batch → Result (Unit {0}) ServerFault → Stage → Batch → Type 0
 IsLinked link starts old out result new out_after =
-    Comes (link_there (get (view_of old).ends link)) (Opens link starts old out new out_after) (AsBefore old out new out_after) result
+    IsDoneOrRefused (link_there (get (view_of old).ends link)) (Opens link starts old out new out_after) (AsBefore old out new out_after) result
 
 abbrev pub IsHeard : ℕ → Result Parsed LineFault → Stage → Batch → Result (Unit {0}) ServerFault → Stage → Batch → Type 0
 IsHeard link read old out result new out_after =
-    Comes (no_link (get (view_of old).ends link)) (Hears link read old out new out_after) (AsBefore old out new out_after) result
+    IsDoneOrRefused (no_link (get (view_of old).ends link)) (Hears link read old out new out_after) (AsBefore old out new out_after) result
 
 abbrev pub IsUnlinked : ℕ → Stage → Batch → Result (Unit {0}) ServerFault → Stage → Batch → Type 0
 IsUnlinked link old out result new out_after =
-    Comes (no_link (get (view_of old).ends link)) (Loses link old out new out_after) (AsBefore old out new out_after) result
+    IsDoneOrRefused (no_link (get (view_of old).ends link)) (Loses link old out new out_after) (AsBefore old out new out_after) result
 
 -- any event
 abbrev pub IsActed : View → Event → List Sent → Result (Unit {0}) ServerFault → View → List Sent → Type 0
-IsActed old event out result new out_after = Comes (fault_of old event) (Does old event out new out_after) (IsSame old out new out_after) result
+IsActed old event out result new out_after = IsDoneOrRefused (fault_of old event) (Does old event out new out_after) (IsSame old out new out_after) result

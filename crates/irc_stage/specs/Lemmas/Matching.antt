@@ -25,7 +25,7 @@ use Rattle.irc_stage.specs.declared.clients.Client.TheVariants.{Registering, Reg
 use Rattle.irc_stage.specs.RoomMachine.{Clients, RoomMachine, client_of, with_client, without_client}
 use Rattle.irc_stage.specs.Handle.{Handled, renamed_in, machine_after, clients_after, stepped, all_stepped}
 use Rattle.irc_stage.specs.Matched.{has_client, is_user_here, is_user_of, IsMatched}
-use Rattle.irc_stage.specs.Loops.Stage.{IsFit, AreFit, AreInTurn, LeavesApart, IsFreeFor, IsFreeOf, IsNamed, IsNoUser}
+use Rattle.irc_stage.specs.Loops.Stage.{IsFit, AreFit, AreInTurn, LeavesApart, IsFreeFor, IsFreeOf, IsRegisteredAs, IsNoUser}
 use Rattle.irc_stage.specs.Lemmas.Numbers.{here, later, same_number, one_number, same_number-refl, same_number-is, get-with, get-without, get-each}
 
 -- a nickname in a client
@@ -38,7 +38,7 @@ never_registered (Some (Registering pending)) name none is = cc is
 never_registered (Some (Registered nick)) name none is = absurd none
 
 -- who is named is registered
-pub named_is : {A : Type 0} (fold : List ℕ) (client : Option Client) → IsNamed fold client
+pub named_is : {A : Type 0} (fold : List ℕ) (client : Option Client) → IsRegisteredAs fold client
     → ((nick : List ℕ) → client ≡ Some (Registered nick) → key nick ≡ fold → A) → A
 named_is fold None named so = absurd named
 named_is fold (Some (Registering pending)) named so = absurd named

@@ -28,7 +28,7 @@ use Rattle.irc_stage.specs.declared.clients.Client.TheVariants.{Registered}
 use Rattle.irc_stage.specs.RoomMachine.{RoomMachine, client_of}
 use Rattle.irc_stage.specs.Handle.{machine_after, renamed_in}
 use Rattle.irc_stage.specs.Matched.{IsMatched}
-use Rattle.irc_stage.specs.Loops.Stage.{AreFit, IsNamed}
+use Rattle.irc_stage.specs.Loops.Stage.{AreFit, IsRegisteredAs}
 use Rattle.irc_stage.specs.Loops.Speaking.{AreSpoken, IsSaidByClient}
 use Rattle.irc_stage.specs.Lemmas.Numbers.{get-each}
 use Rattle.irc_stage.specs.Lemmas.Matching.{named_is, same_by_key, still_so}
@@ -40,7 +40,7 @@ first_true false b both = cc both
 module _ (conn : ℕ) (me : User) where
   -- while there is a user of the nickname, the client is registered under it
   abbrev pub Follows : RoomMachine → Type 0
-  Follows machine = has_user machine.room me.nick ≡ true → IsNamed (key me.nick) (client_of machine conn)
+  Follows machine = has_user machine.room me.nick ≡ true → IsRegisteredAs (key me.nick) (client_of machine conn)
 
   its_own : (nick : List ℕ) → nick ≡ me.nick → same_fold (key me.nick) (key nick) ≡ true
   its_own nick is = ap (λ n. same_fold (key me.nick) (key n)) is ∙ same_fold-refl (key me.nick)
@@ -50,10 +50,10 @@ module _ (conn : ℕ) (me : User) where
   unfolding after
   follows_renamed machine nick new follows there is = by_row (row machine.room.users (key nick)) refl there
     where
-      named_now : key me.nick ≡ key new → IsNamed (key me.nick) (client_of (machine_after machine (Rename nick new)) conn)
+      named_now : key me.nick ≡ key new → IsRegisteredAs (key me.nick) (client_of (machine_after machine (Rename nick new)) conn)
       named_now one =
           named_is (key me.nick) (client_of machine conn) (follows (ap (has_user machine.room) (sym is) ∙ there)) (λ name client named.
-          subst (IsNamed (key me.nick))
+          subst (IsRegisteredAs (key me.nick))
           (sym (get-each (renamed_in nick new) machine.clients conn
           ∙ ap (option_map (renamed_in nick new)) client
           ∙ ap (λ b. Some (if b then Registered new else Registered name)) (same_by_key name nick (named ∙ ap key (sym is)))))
@@ -61,7 +61,7 @@ module _ (conn : ℕ) (me : User) where
 
       by_fold : (user : User) (b : Bool) → same_fold (key me.nick) (key new) ≡ b
           → is_some (cond b (Some (with_nick new user)) (cond (same_fold (key me.nick) (key nick)) None (row machine.room.users (key me.nick)))) ≡ true
-          → IsNamed (key me.nick) (client_of (machine_after machine (Rename nick new)) conn)
+          → IsRegisteredAs (key me.nick) (client_of (machine_after machine (Rename nick new)) conn)
       by_fold user true one some = named_now (one_fold (key me.nick) (key new) one)
       by_fold user false two some =
           not_true (sym (ap (λ b. is_some (cond b None (row machine.room.users (key me.nick)))) (its_own nick is)) ∙ some)
@@ -116,7 +116,7 @@ module _ (conn : ℕ) (me : User) where
   said_by_it machine (SetTopic by channel text) follows possible is = tt
   said_by_it machine (Say by notice to text) follows possible is =
       let by_is : by ≡ me.nick = same_some by me.nick is in
-      subst (λ n. IsNamed (key n) (client_of machine conn)) (sym by_is)
+      subst (λ n. IsRegisteredAs (key n) (client_of machine conn)) (sym by_is)
       (follows (ap (has_user machine.room) (sym by_is) ∙ first_true (has_user machine.room by) (list_all (has_user machine.room) (target_users to)) possible.users_there))
   said_by_it machine (Invite by nick channel) follows possible is = tt
   said_by_it machine (UserMode nick invisible) follows possible is = tt
@@ -143,7 +143,7 @@ decided_spoken itself machine matched conn nick mine message acts are fit = by_r
         let nobody = ap (λ o. option_map_or (is_home machine.place.name) o false) there in absurd cc
     by_row (Some me) there =
         spoken_in_turn conn me machine acts
-        (λ still. subst (IsNamed (key me.nick)) (sym mine) (ap key (sym (matched.spelled conn nick me mine there))))
+        (λ still. subst (IsRegisteredAs (key me.nick)) (sym mine) (ap key (sym (matched.spelled conn nick me mine there))))
         fit
         (subst (λ (l : List Act). AllByRecursion (IsDoneBy me) (effects_among l)) (sym are) (itself machine.room machine.place nick message me there))
 

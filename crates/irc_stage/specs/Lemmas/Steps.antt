@@ -9,11 +9,11 @@ use Rattle.irc_link_writer.specs.Written.{wire}
 use Rattle.irc_stage.specs.View.{View}
 use Rattle.irc_stage.specs.EffectTold.{Served, changed, effect_told, in_silence, on_links, shown_at, view_after, ways_at, with_sent}
 use Rattle.irc_stage.specs.ClientTold.{closed_told, step_told, steps_told, unseated}
-use Rattle.irc_stage.specs.Loops.Stage.{behind}
+use Rattle.irc_stage.specs.Loops.Stage.{behind_sent}
 
 -- what a server does, whatever it put out before
 abbrev pub LeavesInFront : (Served → Served) → Type 0
-LeavesInFront serve = (out : List Sent) (s : Served) → serve (behind out s) ≡ behind out (serve s)
+LeavesInFront serve = (out : List Sent) (s : Served) → serve (behind_sent out s) ≡ behind_sent out (serve s)
 
 pub sent_behind : (sent : List Sent) → LeavesInFront (with_sent sent)
 sent_behind sent out s = ap (λ o. record { view = s.view; out = o }) (append_assoc out s.out sent)
@@ -39,11 +39,11 @@ close_behind : (close : Bool) (conn : ℕ) → LeavesInFront (closed_told close 
 close_behind true conn out s = sent_behind (end_of conn ∷ []) out (record s { view = unseated conn s.view })
 close_behind false conn out s = refl
 
-pub nothing_behind : (view : View) (out : List Sent) → record { view = view; out = out } ≡ behind out (in_silence view)
+pub nothing_behind : (view : View) (out : List Sent) → record { view = view; out = out } ≡ behind_sent out (in_silence view)
 nothing_behind view out = ap (λ o. record { view = view; out = o }) (sym (append-nil out))
 
 pub carried_behind : (out : List Sent) (conn : ℕ) (name : Option (List ℕ)) (acts : List Act) (close : Bool) (view : View)
-    → closed_told close conn (steps_told conn name acts (record { view = view; out = out })) ≡ behind out (closed_told close conn (steps_told conn name acts (in_silence view)))
+    → closed_told close conn (steps_told conn name acts (record { view = view; out = out })) ≡ behind_sent out (closed_told close conn (steps_told conn name acts (in_silence view)))
 carried_behind out conn name acts close view =
     ap (λ s. closed_told close conn (steps_told conn name acts s)) (nothing_behind view out)
     ∙ ap (closed_told close conn) (steps_behind conn name acts out (in_silence view))

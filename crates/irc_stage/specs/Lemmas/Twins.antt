@@ -31,7 +31,7 @@ use Rattle.irc_stage.specs.View.{View, machine_of}
 use Rattle.irc_stage.specs.EffectTold.{Served, in_silence, is_elsewhere, room_after, view_after}
 use Rattle.irc_stage.specs.ClientTold.{client_told, closed_told, gone_told, message_told, quit_told, step_told, steps_told, unseated, user_told}
 use Rattle.irc_stage.specs.Loops.Speaking.{AreSpoken, AreSpokenAt, IsSaidByClient}
-use Rattle.irc_stage.specs.Loops.Stage.{AreFit, AreFitAt, AreInTurn, AreInTurnAt, IsFit, IsNamed, LeavesApart}
+use Rattle.irc_stage.specs.Loops.Stage.{AreFit, AreFitAt, AreInTurn, AreInTurnAt, IsFit, IsRegisteredAs, LeavesApart}
 
 pub record AreTwins (one other : RoomMachine) : Type 0 where
   pub place : one.place ≡ other.place
@@ -119,7 +119,7 @@ module _ (stay : AlikeStayAlike) where
   }
 
   said_there : (conn : ℕ) (one other : RoomMachine) (effect : Effect) → AreTwins one other → IsSaidByClient conn one effect → IsSaidByClient conn other effect
-  said_there conn one other (Say by notice to words) twins said = subst (λ (cs : Clients). IsNamed (key by) (get cs conn)) twins.clients said
+  said_there conn one other (Say by notice to words) twins said = subst (λ (cs : Clients). IsRegisteredAs (key by) (get cs conn)) twins.clients said
   said_there conn one other (AddUser user) twins said = tt
   said_there conn one other (Rename nick new) twins said = tt
   said_there conn one other (Quit nick text) twins said = tt

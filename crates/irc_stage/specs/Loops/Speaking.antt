@@ -8,7 +8,7 @@ use Rattle.irc_stage.specs.declared.origin.Origin.{Origin}
 use Rattle.irc_stage.specs.declared.origin.Origin.TheVariants.{Client, Link}
 use Rattle.irc_stage.specs.RoomMachine.{RoomMachine, client_of}
 use Rattle.irc_stage.specs.View.{View}
-use Rattle.irc_stage.specs.Loops.Stage.{AreInTurn, AreInTurnAt, IsNamed}
+use Rattle.irc_stage.specs.Loops.Stage.{AreInTurn, AreInTurnAt, IsRegisteredAs}
 
 -- the connection of who acts, where it is a client
 abbrev pub conn_of : Origin → Option ℕ
@@ -22,12 +22,12 @@ arrival_of (Link link) = Some link
 
 -- what is said, if this says something, the user of this connection says
 abbrev pub IsSaidByClient : ℕ → RoomMachine → Effect → Type 0
-IsSaidByClient conn machine (Say by notice to words) = IsNamed (key by) (client_of machine conn)
+IsSaidByClient conn machine (Say by notice to words) = IsRegisteredAs (key by) (client_of machine conn)
 IsSaidByClient conn machine effect = ⊤
 
 -- no client says it
 abbrev pub IsSaidElsewhere : RoomMachine → Effect → Type 0
-IsSaidElsewhere machine (Say by notice to words) = (conn : ℕ) → IsNamed (key by) (client_of machine conn) → ⊥
+IsSaidElsewhere machine (Say by notice to words) = (conn : ℕ) → IsRegisteredAs (key by) (client_of machine conn) → ⊥
 IsSaidElsewhere machine effect = ⊤
 
 -- who speaks by an effect is who acts

@@ -59,14 +59,14 @@ abbrev pub all_renamed : List ℕ → List ℕ → Clients → Clients
 all_renamed old new clients = each_client (renamed_in old new) clients
 
 -- whether a client is registered by a nickname with this fold
-abbrev pub IsNamed : List ℕ → Option Client → Type 0
-IsNamed fold (Some (Registered nick)) = key nick ≡ fold
-IsNamed fold other = ⊥
+abbrev pub IsRegisteredAs : List ℕ → Option Client → Type 0
+IsRegisteredAs fold (Some (Registered nick)) = key nick ≡ fold
+IsRegisteredAs fold other = ⊥
 
 -- the index by nickname has each registered client, and nobody else
 pub record IsIndex (clients : Clients) (by_nick : Table ℕ) : Type 0 where
   pub found : (conn : ℕ) (nick : List ℕ) → get clients conn ≡ Some (Registered nick) → row by_nick (key nick) ≡ Some conn
-  pub there : (fold : List ℕ) (conn : ℕ) → row by_nick fold ≡ Some conn → IsNamed fold (get clients conn)
+  pub there : (fold : List ℕ) (conn : ℕ) → row by_nick fold ≡ Some conn → IsRegisteredAs fold (get clients conn)
 
 abbrev pub IsIndexed : ClientTable → Type 0
 IsIndexed table = IsIndex (clients_of table) table.by_nick
@@ -123,8 +123,8 @@ abbrev pub Applies : Option ℕ → Effect → Stage → Batch → Stage → Bat
 Applies arrival effect old out new out_after = served_at new out_after.outs ≡ effect_told arrival effect (served_at old out.outs)
 
 -- An effect comes by a link, to be told on or not.
-abbrev pub Comes : Option ℕ → Effect → Stage → Batch → Stage → Batch → Type 0
-Comes arrival effect old out new out_after = served_at new out_after.outs ≡ effect_came arrival effect (served_at old out.outs)
+abbrev pub ComesByLink : Option ℕ → Effect → Stage → Batch → Stage → Batch → Type 0
+ComesByLink arrival effect old out new out_after = served_at new out_after.outs ≡ effect_came arrival effect (served_at old out.outs)
 
 abbrev pub ChangesIf : Effect → Stage → Batch → Stage → Batch → Type 0
 ChangesIf effect old out new out_after = served_at new out_after.outs ≡ changed_if effect (served_at old out.outs)
@@ -153,8 +153,8 @@ CarriesOut speaker acts close old out new out_after =
     served_at new out_after.outs ≡ closed_told close speaker.conn (steps_told speaker.conn (optional_now speaker.nick) acts (served_at old out.outs))
 
 -- what was put out before stands in front
-abbrev pub behind : List Sent → Served → Served
-behind out s = record { view = s.view; out = out ++ s.out }
+abbrev pub behind_sent : List Sent → Served → Served
+behind_sent out s = record { view = s.view; out = out ++ s.out }
 
 -- a room that serves
 pub record IsSound (kept : Kept) : Type 0 where

@@ -5,7 +5,7 @@ use Rattle.irc_stage.specs.EffectTold.{effect_told, in_silence}
 use Rattle.irc_stage.specs.Handle.{lost_text}
 use Rattle.irc_stage.specs.RoomMachine.{without_client}
 use Rattle.irc_stage.specs.View.{View}
-use Rattle.irc_stage.specs.Loops.Stage.{behind, machine_at, view_of, IsFit}
+use Rattle.irc_stage.specs.Loops.Stage.{behind_sent, machine_at, view_of, IsFit}
 use Rattle.irc_stage.specs.Lemmas.Steps.{nothing_behind, told_behind}
 use Rattle.irc_stage.specs.Lemmas.MatchedEvents.{gone_fit}
 use Rattle.irc_stage.specs.Lemmas.Outcomes.{on_ok}
@@ -20,7 +20,7 @@ returns-in_default-clause-ok c =
     ap (λ (v : View). record { view = v; out = out })
     (view_kept old c.take_out.new.self (without_client (machine_at old) c.args.conn) c.take_out.ensures.keeps c.take_out.ensures.out)
     ∙ nothing_behind left out
-    ∙ ap (λ u. behind out (quit_told u (in_silence left))) (sym c.in_default.is ∙ c.requires.user)
+    ∙ ap (λ u. behind_sent out (quit_told u (in_silence left))) (sym c.in_default.is ∙ c.requires.user)
 
 pub apply-requires-clause-fit : goal.apply-requires-clause-fit
 apply-requires-clause-fit c =
@@ -40,5 +40,5 @@ returns-clause-ok c =
     ∙ ap (λ text. effect_told None (Quit c.in-Some.nick text) (record { view = left; out = out })) (c.cut-text.ensures ∙ lost_is_whole)
     ∙ ap (effect_told None (Quit c.in-Some.nick lost_text)) (nothing_behind left out)
     ∙ told_behind None (Quit c.in-Some.nick lost_text) out (in_silence left)
-    ∙ ap (λ u. behind out (quit_told u (in_silence left))) (sym c.in-Some.is ∙ c.requires.user))
+    ∙ ap (λ u. behind_sent out (quit_told u (in_silence left))) (sym c.in-Some.is ∙ c.requires.user))
     c.apply.ensures.ok

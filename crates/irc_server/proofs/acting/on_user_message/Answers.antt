@@ -6,7 +6,7 @@ use Rattle.irc_names.specs.Tables.{row}
 use Rattle.irc_acts.specs.declared.act.Act.{Act}
 use Rattle.irc_commands.specs.Decide.{decide}
 use Rattle.irc_commands.specs.Decisions.{Decided}
-use Rattle.irc_stage.specs.Loops.Stage.{behind, machine_at, view_of, IsFit}
+use Rattle.irc_stage.specs.Loops.Stage.{behind_sent, machine_at, view_of, IsFit}
 use Rattle.irc_stage.specs.Loops.Speaking.{IsSaidByClient}
 use Rattle.irc_stage.specs.Lemmas.MatchedEvents.{decided_fit}
 use Rattle.irc_stage.specs.Lemmas.Matching.{spelled_row}
@@ -49,5 +49,5 @@ returns-clause-ok c =
     on_ok c.carry_out.result _ _
     (λ is. carried_in_part _ c.args.conn (Some c.args.nick.now) _ _ view want (decided_of c.in_ok-decision.decision) c.args.out.now.outs _ c.deref.ensures.value
     known (answered_first _ machine.room _ _ c.args.nick.now c.args.conn message _ c.in_ok-decision.decision _ _ c.room.ensures c.routes.ensures (ap words_now c.as_slice.ensures.value) c.in_ok-decision.ensures c.in_ok-answer.ensures.ok) is
-    ∙ ap (behind c.args.out.now.outs) (decided_by_name view c.args.conn (row view.room.users (key c.args.nick.now)) c.args.nick.now message known))
+    ∙ ap (behind_sent c.args.out.now.outs) (decided_by_name view c.args.conn (row view.room.users (key c.args.nick.now)) c.args.nick.now message known))
     c.carry_out.ensures.ok
