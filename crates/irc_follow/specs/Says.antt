@@ -19,7 +19,7 @@ use Rattle.irc_room.specs.InTurn.{EachInTurn}
 use Rattle.irc_room.specs.Limits.{IsCarriedText, KeepsLimits}
 use Rattle.irc_room.specs.Readers.{home_under}
 use Rattle.irc_room.specs.Sendable.{IsSendable, IsSentChange, IsStoredNick}
-use Rattle.irc_commands.specs.Doers.{doer_of}
+use Rattle.irc_room.specs.Effects.{doer_of}
 use Rattle.irc_merge.specs.Bursts.{members_a_line}
 use Rattle.irc_merge.specs.CanBeDone.{DoesSomething}
 use Rattle.irc_merge.specs.Deeds.{Deed, does, gains, loses, kills, brings, sets, tops, effects_of}

@@ -6,7 +6,7 @@ use Rattle.std.proofs.lemmas.List.Sums.{sum_by-cons}
 use Rattle.std.proofs.lemmas.Option.{slice_get-map, slice_get_past}
 use Rattle.std.specs.List.{cons_option, filter_map, list_any, position_or_len, slice_get}
 use Rattle.std.specs.Option.{option_and_then, option_map, option_map_or}
-use Rattle.irc_forest.specs.Forests.{index_in as place_found}
+use Rattle.irc_forest.specs.Forests.{place_in as place_found}
 use Rattle.irc_relay.specs.Distances.{IsAmong}
 use Rattle.irc_relay.specs.Links.{Name, same}
 use Rattle.irc_relay.specs.Lemmas.TellingNames.{Telling, alike, unlike, tell, same_unless, same_when}
