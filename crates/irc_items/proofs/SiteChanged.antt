@@ -2,7 +2,7 @@
 use Rattle.std.proofs.Common.{◌≡◌, ◌≢◌, ◌≤◌, ℕ, count_by, zero, suc, Bool, true, false, Option, Some, List, [], ◌∷◌, length, map, refl, sym, ◌∙◌, ap, subst, unwrap_or}
 use Rattle.std.specs.List.{filter_map, cons_option, list_any, slice_get, slice_set}
 use Rattle.std.specs.Option.{option_and_then}
-use Rattle.irc_forest.specs.Forests.{index_in as place_among}
+use Rattle.irc_forest.specs.Forests.{place_in as place_among}
 use Rattle.irc_relay.specs.Distances.{IsAmong}
 use Rattle.irc_relay.specs.Lemmas.TellingNames.{Telling, alike, unlike, tell}
 use Rattle.irc_relay.specs.Links.{Name, same}
