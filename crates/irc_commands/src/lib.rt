@@ -21,7 +21,7 @@ pub use irc_membership::MAX_JOINED;
 pub use pending::{Pending, Registration};
 pub use registering::register;
 pub use say::Verb;
-pub use table::Command;
+pub use table::{Command, CommandRow};
 
 /// The most targets of one PRIVMSG or NOTICE that are served (our own choice).
 pub const MAX_TARGETS: usize = 4;

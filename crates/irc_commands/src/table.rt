@@ -71,10 +71,10 @@ pub enum Command {
 }
 
 /// A row of the command table: a command by its name, and how many parameters it wants at least.
-type Row = (&'static [u8], Command, usize);
+pub type CommandRow = (&'static [u8], Command, usize);
 
 /// Each command (RFC 2812 section 3, and 4.9 of ISON). Its number is 0 also where a line that lacks a parameter is answered otherwise.
-const ROWS: [Row; 21] = [
+const ROWS: [CommandRow; 21] = [
     (b"PASS", Command::Pass, 0),
     (b"NICK", Command::Nick, 0),
     (b"USER", Command::User, 0),
@@ -103,21 +103,21 @@ impl Command {
     pub fn read(word: &[u8]) -> Option<Self>
         ensures { result ≡ command_of word.now }
     {
-        let (_, command, _) = find(word)?;
+        let (_, command, _) = Self::find(word)?;
         Some(command)
     }
-}
 
-/// The row of the command that a word is, in any case of letters; none where it is not in the table.
-fn find(word: &[u8]) -> Option<Row>
-    ensures { option_map row_view result ≡ row_named word.now }
-{
-    for (name, command, least) in ROWS {
-        if is_word(word, name) {
-            return Some((name, command, least));
+    /// The row of the command that a word is, in any case of letters; none where it is not in the table.
+    pub fn find(word: &[u8]) -> Option<CommandRow>
+        ensures { option_map row_view result ≡ row_named word.now }
+    {
+        for (name, command, least) in ROWS {
+            if is_word(word, name) {
+                return Some((name, command, least));
+            }
         }
+        None
     }
-    None
 }
 
 /// Whether two words are one but for the case of letters.
@@ -134,7 +134,7 @@ pub(crate) fn decide_for(
 ) -> Result<Decision, AllocError>
     ensures { IfOk result (IsRowFor context.now (parsed message.now)) }
 {
-    let Some((name, command, least)) = find(message.command) else {
+    let Some((name, command, least)) = Command::find(message.command) else {
         return unknown(context.alloc, message.command);
     };
     let params = message.params.as_slice();

@@ -1,6 +1,6 @@
 use Rattle.irc_commands.specs.Table.{row_named}
 use Rattle.irc_commands.proofs.NamedCommands.{row_passed}
-use Rattle.irc_commands.proofs.table.find.Goals as goal
+use Rattle.irc_commands.proofs.table.Command.find.Goals as goal
 
 pub loop-name-preserved : goal.loop-name-preserved
 loop-name-preserved c =

@@ -1,7 +1,7 @@
 use Rattle.std.proofs.Common.{◌≡◌, drop, map}
 use Rattle.irc_commands.specs.CodeViews.{row_view}
 use Rattle.irc_commands.specs.Table.{found, row_named}
-use Rattle.irc_commands.proofs.table.find.Given as goal
+use Rattle.irc_commands.proofs.table.Command.find.Given as goal
 
 -- the row is that of those that are left
 abbrev pub invariant-loop-name : goal.invariant-loop-name
