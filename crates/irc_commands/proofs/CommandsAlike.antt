@@ -28,17 +28,19 @@ use Rattle.irc_membership.specs.Laws.PartDoes.{part_looks_at_no_invitation}
 use Rattle.irc_moderation.specs.Laws.InvitationsLaw.{mode_looks_at_no_invitations}
 use Rattle.irc_commands.specs.declared.say.Verb.{Verb}
 use Rattle.irc_commands.specs.declared.say.Verb.TheVariants as verb
-use Rattle.irc_commands.specs.declared.table.Command.{Command}
-use Rattle.irc_commands.specs.declared.table.Command.TheVariants as command
+use Rattle.irc_registering.specs.declared.command_names.Command.{Command}
+use Rattle.irc_registering.specs.declared.command_names.Command.TheVariants as command
 use Rattle.irc_commands.specs.Limits.{max_targets}
 use Rattle.irc_commands.specs.Decisions.{nothing, does}
-use Rattle.irc_commands.specs.Decide.{is_from, decide_for, decide}
+use Rattle.irc_commands.specs.Decide.{decide_for, decide}
 use Rattle.irc_commands.specs.Nick.{nick_taken, nick_steps}
 use Rattle.irc_commands.specs.OwnInvitations.{DecidedByOwnInvitations}
 use Rattle.irc_commands.specs.Say.{to_channel, to_user, to_one, too_many, unless_notice, say_steps}
-use Rattle.irc_commands.specs.Table.{CommandRow, decided_by, row_named, row_of, too_few}
+use Rattle.irc_commands.specs.Table.{decided_by, row_of, too_few}
 use Rattle.irc_commands.specs.Topic.{topic_set, topic_known, topic_of, topic_steps}
 use Rattle.irc_commands.proofs.QueriesAlike.{names_alike, list_alike, lusers_alike, ison_alike, whois_alike, who_alike}
+use Rattle.irc_registering.specs.CommandNames.{CommandRow, row_named}
+use Rattle.irc_registering.specs.OwnLines.{is_from}
 
 -- PRIVMSG and NOTICE
 

@@ -1,6 +1,4 @@
-pub mod NamedCommands
 pub mod FirstParameter
-pub mod RegisterRows
 pub mod SayTargets
 pub mod SayWalk
 pub mod OwnCommands

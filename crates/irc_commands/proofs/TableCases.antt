@@ -14,12 +14,12 @@ use Rattle.irc_room.specs.InTurn.{EachInTurn}
 use Rattle.irc_routes.specs.Place.{Place}
 use Rattle.irc_acts.specs.declared.act.Act.{Act}
 use Rattle.irc_acts.specs.declared.act.Act.TheVariants.{Answer, Raw, Do}
-use Rattle.irc_commands.specs.declared.table.Command.{Command}
-use Rattle.irc_commands.specs.declared.table.Command.TheVariants as command
-use Rattle.irc_commands.specs.Table.{CommandRow, command_of, decided_by, row_named, row_of, too_few}
+use Rattle.irc_registering.specs.declared.command_names.Command.{Command}
+use Rattle.irc_registering.specs.declared.command_names.Command.TheVariants as command
+use Rattle.irc_commands.specs.Table.{decided_by, row_of, too_few}
 use Rattle.irc_acts.specs.Acts.{client_words, effects_among}
-use Rattle.irc_commands.specs.Decisions.{Decided, nothing, does, Registered}
-use Rattle.irc_commands.specs.Decide.{is_from, decide_for, decide}
+use Rattle.irc_commands.specs.Decisions.{Decided, nothing, does}
+use Rattle.irc_commands.specs.Decide.{decide_for, decide}
 use Rattle.irc_acts.specs.Moves.{own_channels}
 use Rattle.irc_acts.specs.Own.{IsOwn, AreOwn}
 use Rattle.irc_acts.specs.Sendable.{CarriesSendable}
@@ -47,7 +47,7 @@ use Rattle.irc_queries.specs.Who.{who_steps}
 use Rattle.irc_queries.specs.Laws.WhoLaw.{who_only_answers}
 use Rattle.irc_commands.specs.Nick.{is_anothers, nick_taken, nick_steps}
 use Rattle.irc_membership.specs.Part.{part_steps}
-use Rattle.irc_commands.specs.Ping.{ping_steps}
+use Rattle.irc_registering.specs.Ping.{ping_steps}
 use Rattle.irc_commands.specs.Say.{say_steps}
 use Rattle.irc_commands.specs.Topic.{topic_steps}
 use Rattle.irc_acts.specs.ByTest.{by_test}
@@ -57,8 +57,10 @@ use Rattle.irc_commands.proofs.CarriedCommands.{CarryGiven, say_carries, join_gi
 use Rattle.irc_names.specs.UserTexts.{clean_user, cut_real}
 use Rattle.irc_numerics.specs.declared.replies.Reply.{Reply}
 use Rattle.irc_room.specs.Effects.{has_user}
-use Rattle.irc_commands.specs.declared.pending.Pending.{Pending}
-use Rattle.irc_commands.specs.Register.{replies, user_of, welcomed, completed, complete, nick_chosen, nick_row, user_row, pending_row_of, register}
+use Rattle.irc_registering.specs.declared.pending.Pending.{Pending}
+use Rattle.irc_registering.specs.Register.{replies, user_of, welcomed, completed, complete, nick_chosen, nick_row, user_row, pending_row_of, register, Registered}
+use Rattle.irc_registering.specs.CommandNames.{CommandRow, row_named, command_of}
+use Rattle.irc_registering.specs.OwnLines.{is_from}
 
 -- so it is in each case
 pub record IsSoDecided (room : Room) (who : List ℕ) (message : Parsed) (Q : Decided → Type 0) : Type 0 where

@@ -1,7 +1,5 @@
 -- What the code's decisions are, without where their steps lie in memory.
 use Rattle.std.specs.Prelude.{◌≡◌, ℕ, Option, Some, None, Result, List, [], ◌++◌, IfOk}
-use Rattle.std.specs.Borrow.{Bor}
-use Rattle.std.specs.Global.{Vec}
 use Rattle.irc_names.specs.Fold.{key}
 use Rattle.irc_names.specs.Tables.{row}
 use Rattle.irc_line.specs.Messages.{Parsed}
@@ -14,22 +12,14 @@ use Rattle.irc_acts.specs.declared.context.Context.{Context}
 use Rattle.irc_queries.specs.declared.query.Query.{Query}
 use Rattle.irc_queries.specs.Query.{query_steps}
 use Rattle.irc_commands.specs.declared.decision.Decision.{Decision}
-use Rattle.irc_commands.specs.declared.pending.Registration.{Registration}
 use Rattle.irc_commands.specs.declared.say.Verb.{Verb}
 use Rattle.irc_commands.specs.Decide.{decide}
-use Rattle.irc_commands.specs.Decisions.{Decided, Registered, does}
+use Rattle.irc_commands.specs.Decisions.{Decided, does}
 use Rattle.irc_commands.specs.Nick.{nick_steps}
 use Rattle.irc_commands.specs.Say.{say_steps, say_to}
-use Rattle.irc_commands.specs.declared.table.Command.{Command}
-use Rattle.irc_commands.specs.Table.{CommandRow, row_for, row_of}
+use Rattle.irc_registering.specs.declared.command_names.Command.{Command}
+use Rattle.irc_commands.specs.Table.{row_for, row_of}
 use Rattle.irc_commands.specs.Topic.{topic_steps}
-
-abbrev pub registered_of : Registration → Registered
-registered_of r = record { pending = r.pending; steps = r.steps.items; registered = r.registered; close = r.close }
-
--- These are the steps.
-abbrev pub AreDecided : List Act → Vec Act → Type 0
-AreDecided want steps = steps.items ≡ want
 
 -- the rows of the command table, as the code's context has them
 abbrev pub nick_here : Context → List (List ℕ) → List Act
@@ -70,10 +60,6 @@ IsAsking query d =
 -- A command of the context's user, with these parameters, is decided so.
 abbrev pub IsDecidedIn : Context → List (List ℕ) → Decided → Decision → Type 0
 IsDecidedIn context params want = IsDecidedAs context.room.now.room (place_of context.routes.now) (Some context.me.now) params want
-
--- a row of the code's table
-abbrev pub row_view : Bor (List ℕ) × Command × ℕ → CommandRow
-row_view row = record { name = row.0.now; command = row.1; least = row.2 }
 
 -- what a command does with these parameters, which are as many as its row wants
 abbrev pub IsRowOf : Context → Command → List (List ℕ) → Decision → Type 0

@@ -1,6 +1,6 @@
 -- What a line of a registered user does: the row of the command table that it fits.
-use Rattle.std.specs.Prelude.{ℕ, Bool, true, false, Option, Some, None, List, if◌then◌else◌}
-use Rattle.irc_names.specs.Fold.{key, same}
+use Rattle.std.specs.Prelude.{ℕ, Option, Some, None, List, if◌then◌else◌}
+use Rattle.irc_names.specs.Fold.{key}
 use Rattle.irc_names.specs.Tables.{row}
 use Rattle.irc_line.specs.Messages.{Parsed}
 use Rattle.irc_users.specs.declared.user.User.{User}
@@ -8,12 +8,7 @@ use Rattle.irc_room.specs.Room.{Room}
 use Rattle.irc_routes.specs.Place.{Place}
 use Rattle.irc_commands.specs.Decisions.{Decided, nothing}
 use Rattle.irc_commands.specs.Table.{row_for}
-
--- A prefix must be the client's own nickname (our own choice: a line with another is ignored).
-abbrev pub is_from : Option (List ℕ) → Option (List ℕ) → Bool
-is_from None name = true
-is_from (Some prefix) None = false
-is_from (Some prefix) (Some name) = same prefix name
+use Rattle.irc_registering.specs.OwnLines.{is_from}
 
 -- who is a user of the room
 abbrev pub decide_for : Room → Place → Parsed → Option User → Decided

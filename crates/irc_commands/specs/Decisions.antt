@@ -1,18 +1,10 @@
 -- What a line does: its steps, and whether its client stays.
 use Rattle.std.specs.Prelude.{Bool, false, List, []}
 use Rattle.irc_acts.specs.declared.act.Act.{Act}
-use Rattle.irc_commands.specs.declared.pending.Pending.{Pending}
 
 -- the steps, and whether the client is closed after them
 pub record Decided : Type 0 where
   pub steps : List Act
-  pub close : Bool
-
--- the same of a connection that is not registered, what it has given now, and whether it is registered
-pub record Registered : Type 0 where
-  pub pending : Pending
-  pub steps : List Act
-  pub registered : Bool
   pub close : Bool
 
 -- nothing is done

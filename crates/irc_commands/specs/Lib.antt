@@ -1,13 +1,11 @@
 pub mod Limits
 pub mod Decisions
-pub mod Ping
 pub mod Quit
 pub mod Say
 pub mod Nick
 pub mod Topic
 pub mod Table
 pub mod Decide
-pub mod Register
 pub mod CodeViews
 pub mod Possible
 pub mod Doing

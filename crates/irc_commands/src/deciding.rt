@@ -1,15 +1,15 @@
 //! What a line of a registered user does.
-ghost use Rattle.std.specs.Prelude.{◌≡◌, IfOk};
-ghost use Rattle.irc_line.specs.MessageViews.{optional_now, parsed};
+ghost use Rattle.std.specs.Prelude.{IfOk};
+ghost use Rattle.irc_line.specs.MessageViews.{parsed};
 ghost use Rattle.irc_routes.specs.Known.{place_of};
 ghost use Rattle.irc_commands.specs.CodeViews.{IsDecision};
-ghost use Rattle.irc_commands.specs.Decide.{is_from};
 
 use crate::decision::Decision;
 use crate::table::{decide_for, nothing};
 use irc_acts::Context;
 use irc_line::Message;
-use irc_names::{Nick, same};
+use irc_names::Nick;
+use irc_registering::is_own;
 use irc_room::Room;
 use irc_routes::Routes;
 use std::alloc::{AllocError, Global};
@@ -41,16 +41,5 @@ pub fn decide(
             decide_for(&context, message)
         }
         _ => Ok(nothing(alloc)),
-    }
-}
-
-/// Whether a line is the client's own: it has no prefix, or its own nickname as one.
-pub(crate) fn is_own(prefix: Option<&[u8]>, nick: Option<&Nick>) -> bool
-    ensures { result ≡ is_from (optional_now prefix.entry) (optional_now nick.entry) }
-{
-    match (prefix, nick) {
-        (None, _) => true,
-        (Some(_), None) => false,
-        (Some(prefix), Some(nick)) => same(prefix, nick.as_bytes()),
     }
 }

@@ -5,7 +5,7 @@ ghost use Rattle.irc_line.specs.PartViews.{words_now};
 ghost use Rattle.irc_numerics.specs.declared.replies.Reply.TheVariants.{NoSuchNick};
 ghost use Rattle.irc_acts.specs.Acts.{client_words};
 ghost use Rattle.irc_acts.specs.declared.act.Act.TheVariants.{Answer};
-ghost use Rattle.irc_commands.specs.CodeViews.{AreDecided, said_here, say_here};
+ghost use Rattle.irc_commands.specs.CodeViews.{said_here, say_here};
 ghost use Rattle.irc_commands.specs.Say.{
   is_notice,
   is_raised,
@@ -17,6 +17,7 @@ ghost use Rattle.irc_commands.specs.Say.{
   to_user,
   unless_notice,
 };
+ghost use Rattle.irc_registering.specs.RegisteringViews.{AreDecided};
 
 use crate::MAX_TARGETS;
 use irc_acts::comma_lists::next_entry;

@@ -5,7 +5,6 @@ use Rattle.std.specs.List.{cons_option, flat_map, list_any}
 use Rattle.std.specs.FinMap.{entries}
 use Rattle.irc_line.specs.Messages.{Written}
 use Rattle.irc_batch.specs.Batches.{Sent, end_of, line_to}
-use Rattle.irc_commands.specs.Quit.{error_line}
 use Rattle.irc_room.specs.declared.effect.Effect.{Effect}
 use Rattle.irc_room.specs.declared.effect.Effect.TheVariants.{Quit}
 use Rattle.irc_room.specs.Effects.{has_user}
@@ -22,6 +21,7 @@ use Rattle.irc_stage.specs.EffectTold.{Served, all_changed, changed, changed_if,
 use Rattle.irc_stage.specs.Linked.{told_on_all}
 use Rattle.irc_deeds.specs.DeedTold.{deed_told, forgotten}
 use Rattle.irc_deeds.specs.Laws.{NeverBack, NeverBackOfAll, PutsOutElsewhere, goes_on}
+use Rattle.irc_registering.specs.Closing.{error_line}
 
 -- ---- lists of what is put out
 

@@ -16,12 +16,12 @@ use Rattle.irc_room.specs.declared.effect.Target.TheVariants as target
 use Rattle.irc_numerics.specs.declared.replies.Reply.TheVariants.{NicknameInUse, CannotSendToChan, TooManyTargets}
 use Rattle.irc_acts.specs.declared.act.Act.{Act}
 use Rattle.irc_acts.specs.declared.act.Act.TheVariants.{Answer}
-use Rattle.irc_commands.specs.declared.pending.Pending.{Pending}
+use Rattle.irc_registering.specs.declared.pending.Pending.{Pending}
 use Rattle.irc_acts.specs.Acts.{client_words}
-use Rattle.irc_commands.specs.Decisions.{Decided, Registered, does}
+use Rattle.irc_commands.specs.Decisions.{Decided, does}
 use Rattle.irc_commands.specs.Decide.{decide, decide_for}
 use Rattle.irc_commands.specs.Table.{row_of}
-use Rattle.irc_commands.specs.Register.{register, replies, complete, welcomed, user_of}
+use Rattle.irc_registering.specs.Register.{register, replies, complete, welcomed, user_of, Registered}
 use Rattle.irc_acts.specs.CommaLists.{entries}
 use Rattle.irc_acts.specs.Standing.{is_banned}
 use Rattle.irc_commands.specs.declared.say.Verb.TheVariants as verb

@@ -14,11 +14,11 @@ use Rattle.irc_room.specs.Room.{Room}
 use Rattle.irc_routes.specs.Place.{Place, alone}
 use Rattle.irc_acts.specs.declared.act.Act.{Act}
 use Rattle.irc_acts.specs.declared.act.Act.TheVariants.{Answer, Raw, Do}
-use Rattle.irc_commands.specs.declared.pending.Pending.{Pending}
+use Rattle.irc_registering.specs.declared.pending.Pending.{Pending}
 use Rattle.irc_acts.specs.Acts.{kept, client_words}
 use Rattle.irc_commands.specs.Decisions.{nothing, does}
 use Rattle.irc_commands.specs.Decide.{decide}
-use Rattle.irc_commands.specs.Register.{register, replies}
+use Rattle.irc_registering.specs.Register.{register, replies}
 
 -- al on a.net, alone
 abbrev pub al : User

@@ -13,7 +13,6 @@ use Rattle.irc_room.specs.InTurn.{EachInTurn}
 use Rattle.irc_room.specs.Seen.{Showing}
 use Rattle.irc_room.specs.Viewers.{shows_to}
 use Rattle.irc_room.proofs.AlikeLaw.{alike_have_alike, alike_stay_alike, alike_take_alike}
-use Rattle.irc_commands.specs.Quit.{error_line}
 use Rattle.irc_merge.specs.CanBeDone.{DoesSomething}
 use Rattle.irc_merge.specs.Deeds.{Deed, does, gains, loses, kills, brings, sets, tops, effects_of, shown_by}
 use Rattle.irc_merge.specs.Quits.{collision_text, quits_of, users_at}
@@ -49,6 +48,7 @@ use Rattle.irc_follow.proofs.LostUsers.{lost_are_of, lost_counted}
 use Rattle.irc_follow.proofs.SaidDeed.{deed_served, not_it, there}
 use Rattle.irc_follow.proofs.SaidEffect.{own_name}
 use Rattle.irc_follow.proofs.SaidShows.{all_lines, append_nil, but_links, client_along, client_is, lines_behind, rooms, said_effect_shows, shown_so, well_here}
+use Rattle.irc_registering.specs.Closing.{error_line}
 
 module _ (who : ℕ) where
   none_of_link : (link : ℕ) (lines : List Written) → lines_to who (on_link link lines) ≡ []

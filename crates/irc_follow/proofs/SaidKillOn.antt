@@ -15,7 +15,6 @@ use Rattle.irc_room.specs.Room.{Room}
 use Rattle.irc_room.specs.Seen.{Showing, seen}
 use Rattle.irc_room.specs.Sendable.{IsStoredNick}
 use Rattle.irc_room.specs.Lemmas.Rows.{same_some}
-use Rattle.irc_commands.specs.Quit.{error_line}
 use Rattle.irc_merge.specs.Deeds.{kills}
 use Rattle.irc_merge.specs.Quits.{collision_text}
 use Rattle.irc_relay.specs.Links.{Name, toward, AreLinked}
@@ -44,6 +43,7 @@ use Rattle.irc_follow.proofs.Neighbours as beside
 use Rattle.irc_follow.proofs.SaidDeed.{deed_served, there}
 use Rattle.irc_follow.proofs.SaidEffect.{rooms_alike}
 use Rattle.irc_follow.proofs.ServerLines.{all_so}
+use Rattle.irc_registering.specs.Closing.{error_line}
 
 -- ends of clients go on no link
 none_of_ends : (k : ℕ) (nick : List ℕ) (es : List (ℕ × Client))

@@ -13,7 +13,6 @@ use Rattle.irc_room.specs.Limits.{IsWithinLimits}
 use Rattle.irc_room.specs.Readers.{home_under}
 use Rattle.irc_room.specs.Room.{Room, IsWellFormed}
 use Rattle.irc_room.specs.After.{after}
-use Rattle.irc_commands.specs.Quit.{error_line}
 use Rattle.irc_merge.specs.Deeds.{Deed, does, gains, loses, kills, after_deed, shown_by}
 use Rattle.irc_merge.specs.Quits.{collision_text}
 use Rattle.irc_relay.specs.Links.{Name, same, AreLinked}
@@ -28,6 +27,7 @@ use Rattle.irc_world.specs.ClientsUsers.{HaveOneHome, registered_as}
 use Rattle.irc_world.specs.Homes.{HomesPass}
 use Rattle.irc_world.specs.World.{Setting, Hall, home_in, is_server, setting_of}
 use Rattle.irc_follow.specs.Tree.{Tree, gained, lost, index_in, AreServers, IsSoundTree}
+use Rattle.irc_registering.specs.Closing.{error_line}
 
 -- What stays meanwhile: the servers as they are configured, and their names; the home of each client that ever connected; and where each server's lines come from.
 pub record Fixed : Type 0 where

@@ -12,7 +12,6 @@ use Rattle.irc_room.specs.Effects.{has_user}
 use Rattle.irc_room.specs.Seen.{Showing}
 use Rattle.irc_burst.specs.DeedsMeant.{a_deed}
 use Rattle.irc_burst_lines.specs.DeedLines.{kill_parts}
-use Rattle.irc_commands.specs.Quit.{error_line}
 use Rattle.irc_links.specs.Ends.{is_met}
 use Rattle.irc_links.specs.Ways.{but, met_links}
 use Rattle.irc_merge.specs.Deeds.{kills}
@@ -42,6 +41,7 @@ use Rattle.irc_items.proofs.GoodDeeds.{none_shown}
 use Rattle.irc_items.proofs.GoodEffects.{on_arrival, teller_is_met}
 use Rattle.irc_items.proofs.MetEnds.{met_known, met_linked, owes_none, AreLinkedAlike}
 use Rattle.irc_items.proofs.PutOut.{but_itself, closed_behind, is_on, none_closed_by_effect, none_closed_on_links, none_closed_to_viewer}
+use Rattle.irc_registering.specs.Closing.{error_line}
 
 -- ---- the end of a client is no line, and the end of no link
 

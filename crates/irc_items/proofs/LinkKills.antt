@@ -9,7 +9,6 @@ use Rattle.std.specs.List.{flat_map, AllByRecursion}
 use Rattle.std.specs.Option.{option_and_then, option_map_or}
 use Rattle.irc_channels.specs.declared.channel.Channel.{Channel}
 use Rattle.irc_channels.specs.declared.flags.Flags.{Flags}
-use Rattle.irc_commands.specs.Quit.{error_line}
 use Rattle.irc_merge.specs.BurstRead.{introduced, new_members, brought, all_far, read_deed, read_all}
 use Rattle.irc_merge.specs.Bursts.{in_lines, members_a_line, bans_a_line, stored_members, burst, channel_deeds, settings_line}
 use Rattle.irc_merge.specs.Deeds.{Deed, does, gains, loses, kills, brings, sets, tops, effects_of, after_deed, after_deeds, shown_by, shown_by_all}
@@ -48,6 +47,7 @@ use Rattle.irc_follow.proofs.PartEffects.{same_folds}
 use Rattle.irc_items.proofs.BurstStated.{both_all}
 use Rattle.irc_items.proofs.LinkGains.{clients_left, clients_spared, hall_left, in_hall, read_deed_done}
 use Rattle.irc_items.proofs.LinkSides.{IsReadDeed}
+use Rattle.irc_registering.specs.Closing.{error_line}
 
 -- ---- one client
 

@@ -26,10 +26,10 @@ use Rattle.irc_acts.specs.Acts.{effects_among}
 use Rattle.irc_acts.specs.Possible.{ArePossible}
 use Rattle.irc_commands.specs.Comings.{adds_or_ends, is_effect, RegisteredIsAdded, UnregisteredChangesNothing, WhoIsClosedQuits, WhoStaysIsUser}
 use Rattle.irc_commands.specs.Decide.{decide}
-use Rattle.irc_commands.specs.declared.pending.Pending.{Pending}
+use Rattle.irc_registering.specs.declared.pending.Pending.{Pending}
 use Rattle.irc_commands.specs.Decisions.{Decided}
 use Rattle.irc_commands.specs.Possible.{DecidedIsPossible, RegisteringIsPossible}
-use Rattle.irc_commands.specs.Register.{register}
+use Rattle.irc_registering.specs.Register.{register}
 use Rattle.irc_relay.specs.Links.{Name}
 use Rattle.irc_stage.specs.declared.clients.Client.{Client}
 use Rattle.irc_stage.specs.declared.clients.Client.TheVariants.{Registering, Registered}

@@ -9,8 +9,8 @@ use Rattle.irc_modes.specs.Bans.{before, rises}
 use Rattle.irc_modes.specs.Modes.{ban_changed, bans_by_word, mask_in, with_ban, without_ban}
 use Rattle.irc_modes.specs.Loops.ManyChanges.{bans_by_mask}
 use Rattle.irc_modes.specs.Lemmas.BanPlaces.{placed, places, is_placed, set_there, rises-filter, found_any, taken_out}
-use Rattle.irc_moderation.specs.Loops.KeptChanges.{ban_changed_to}
-use Rattle.irc_moderation.specs.Laws.BansFound.{find_any, find_passes, any_alike}
+use Rattle.irc_judging.specs.Loops.KeptChanges.{ban_changed_to}
+use Rattle.irc_judging.specs.Laws.BansFound.{find_any, find_passes, any_alike}
 
 never : {A : Type 0} → true ≡ false → A
 never e = cc

@@ -1,4 +1,3 @@
-pub mod LimitWords
 pub mod BansBehind
 pub mod ChangesFollowed
 pub mod LettersServed

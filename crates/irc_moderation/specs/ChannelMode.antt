@@ -16,9 +16,9 @@ use Rattle.irc_acts.specs.declared.act.Act.{Act}
 use Rattle.irc_acts.specs.declared.act.Act.TheVariants.{Answer, Do}
 use Rattle.irc_acts.specs.Acts.{client_words}
 use Rattle.irc_acts.specs.Standing.{is_operator}
-use Rattle.irc_moderation.specs.declared.verdict.Verdict.{Verdict}
-use Rattle.irc_moderation.specs.declared.verdict.Verdict.TheVariants.{Says, Keeps, Nothing}
-use Rattle.irc_moderation.specs.Judging.{judge}
+use Rattle.irc_judging.specs.declared.verdict.Verdict.{Verdict}
+use Rattle.irc_judging.specs.declared.verdict.Verdict.TheVariants.{Says, Keeps, Nothing}
+use Rattle.irc_judging.specs.Judging.{judge}
 use Rattle.irc_moderation.specs.ModesShown.{modes_shown, bans_shown}
 
 -- what comes of some letters: what is answered, and the changes that are made, in order

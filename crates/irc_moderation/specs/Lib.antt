@@ -1,6 +1,5 @@
 pub mod UserMode
 pub mod ModesShown
-pub mod Judging
 pub mod ChannelMode
 pub mod Mode
 pub mod Laws

@@ -1,5 +1,3 @@
 -- What the code's own loops are at: no rule stands here.
-pub mod KeptChanges
 pub mod Denied
-pub mod Judged
 pub mod Served

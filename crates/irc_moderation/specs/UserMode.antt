@@ -9,15 +9,11 @@ use Rattle.irc_numerics.specs.declared.replies.Reply.TheVariants.{UserModeIs, UM
 use Rattle.irc_room.specs.declared.effect.Effect.TheVariants.{UserMode}
 use Rattle.irc_acts.specs.declared.act.Act.{Act}
 use Rattle.irc_acts.specs.declared.act.Act.TheVariants.{Answer, Do}
+use Rattle.irc_judging.specs.Judging.{differs}
 
 -- i
 abbrev pub invisible_byte : ℕ
 invisible_byte = 0x69
-
--- whether two settings differ
-abbrev pub differs : Bool → Bool → Bool
-differs true other = not other
-differs _ other = other
 
 -- a byte that is neither a sign nor a mode
 abbrev pub is_unknown_flag : ℕ → Bool

@@ -2,9 +2,6 @@
 #![tactic(auto)]
 
 mod channel_mode;
-mod judging;
-mod kept_changes;
 pub mod mode;
 mod modes_shown;
 mod user_mode;
-mod verdict;

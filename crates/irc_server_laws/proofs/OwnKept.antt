@@ -7,7 +7,6 @@ use Rattle.std.specs.List.{flat_map, list_all}
 use Rattle.std.specs.Ordering.{nat_cmp}
 use Rattle.irc_batch.specs.Batches.{Sent, end_of, is_number, line_on, line_to}
 use Rattle.irc_line.specs.Messages.{Written, text}
-use Rattle.irc_commands.specs.Quit.{error_line}
 use Rattle.irc_room.specs.declared.effect.Effect.{Effect}
 use Rattle.irc_room.specs.declared.effect.Effect.TheVariants.{AddUser, Rename, Quit, Join, Part, Kick, ChangeModes, SetTopic, Say, Invite, UserMode}
 use Rattle.irc_room.specs.Effects.{has_user}
@@ -32,6 +31,7 @@ use Rattle.irc_deeds.specs.DeedTold.{deed_told, deeds_told, forgotten}
 use Rattle.irc_server_laws.specs.Own.{is_its_own}
 use Rattle.irc_server_laws.proofs.AllOf.{all-append, all-filter, all-flat, all-gained, all-map, all-picked, all_entries, all_found, all_keys}
 use Rattle.irc_server_laws.proofs.MetEnds.{left_met, there}
+use Rattle.irc_registering.specs.Closing.{error_line}
 
 -- a server after something, of what it was at the start
 pub record IsOwn (start : View) (s : Served) : Type 0 where

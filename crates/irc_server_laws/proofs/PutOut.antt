@@ -17,8 +17,7 @@ use Rattle.irc_routes.specs.Known.{place_of}
 use Rattle.irc_acts.specs.declared.act.Act.{Act}
 use Rattle.irc_acts.specs.declared.act.Act.TheVariants.{Answer, Raw, Do}
 use Rattle.irc_commands.specs.Decide.{decide}
-use Rattle.irc_commands.specs.Quit.{error_line}
-use Rattle.irc_commands.specs.Register.{register}
+use Rattle.irc_registering.specs.Register.{register}
 use Rattle.irc_merge.specs.Deeds.{Deed, does, gains, loses, kills, brings, sets, tops, effects_of}
 use Rattle.irc_merge.specs.Quits.{collision_text}
 use Rattle.irc_burst.specs.DeedsMeant.{Told, a_deed, a_server}
@@ -36,6 +35,7 @@ use Rattle.irc_stage.specs.ClientTold.{client_told, closed_told, message_told, q
 use Rattle.irc_deeds.specs.DeedTold.{all_told, arrival_of, deed_told, deeds_told, forgotten, gain_told, link_lost, lost_behind, told_by}
 use Rattle.irc_deeds.specs.LinkServed.{on_link}
 use Rattle.irc_server_laws.proofs.AllOf.{all-append, all-each, all-flat, all-one, all-picked, all_entries}
+use Rattle.irc_registering.specs.Closing.{error_line}
 
 -- ---- all that has been put out
 

@@ -8,7 +8,6 @@ use Rattle.std.specs.Option.{option_copied}
 use Rattle.irc_users.specs.declared.user.User.{User}
 use Rattle.irc_names.specs.Fold.{key}
 use Rattle.irc_names.specs.Tables.{Table, row}
-use Rattle.irc_commands.specs.Quit.{error_line}
 use Rattle.irc_batch.specs.Batches.{Batch, Sent, batch_of, end_of, line_to}
 use Rattle.irc_links.specs.Ends.{End}
 use Rattle.irc_stage.specs.declared.peer.Peer.{Peer}
@@ -19,6 +18,7 @@ use Rattle.irc_stage.specs.RoomMachine.{Clients, RoomMachine, without_client}
 use Rattle.irc_stage.specs.View.{known_peer}
 use Rattle.irc_stage.specs.Loops.Stage.{machine_at, numbered, served_at, view_of, IsIndex, IsIndexed, Keeps}
 use Rattle.irc_stage.proofs.Showings.{all_kept, indexed, no_ends, not_indexed, one_end, one_left}
+use Rattle.irc_registering.specs.Closing.{error_line}
 
 module _ (s : Served) (by_nick : Table ℕ) (index : IsIndex s.view.clients by_nick) (nick text : List ℕ) where
   abbrev lines_of : List Sent

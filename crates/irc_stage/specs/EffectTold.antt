@@ -22,7 +22,6 @@ use Rattle.irc_room.specs.Readers.{home_under}
 use Rattle.irc_room.specs.Applying.{does}
 use Rattle.irc_room.specs.Seen.{seen}
 use Rattle.irc_routes.specs.Known.{next_hop}
-use Rattle.irc_commands.specs.Quit.{error_line}
 use Rattle.irc_link_writer.specs.Written.{wire}
 use Rattle.irc_stage.specs.declared.clients.Client.{Client}
 use Rattle.irc_stage.specs.RoomMachine.{Clients}
@@ -30,6 +29,7 @@ use Rattle.irc_stage.specs.View.{View, machine_of}
 use Rattle.irc_stage.specs.Handle.{Handled, clients_after, is_client, to_viewer}
 use Rattle.irc_stage.specs.Matched.{is_user_here}
 use Rattle.irc_links.specs.Ways.{ways}
+use Rattle.irc_registering.specs.Closing.{error_line}
 
 -- a server, and what it has put out, in order
 pub record Served : Type 0 where

@@ -24,7 +24,7 @@ pub struct Waiting {
 
 /// In a clause it is what the connection has given.
 impl Model for Waiting {
-    ghost use Rattle.irc_commands.specs.declared.pending.Pending.{Pending};
+    ghost use Rattle.irc_registering.specs.declared.pending.Pending.{Pending};
 
     ghost Value = { Pending };
 

@@ -16,7 +16,7 @@ use crate::origin::Origin;
 use crate::stage::{Stage, send_on_all};
 use irc_batch::Batch;
 use irc_channels::Words;
-use irc_commands::closing;
+use irc_registering::closing;
 use irc_handshake::Password;
 use irc_line::Text;
 use irc_links::LinkEnd;

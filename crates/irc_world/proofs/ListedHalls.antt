@@ -23,7 +23,6 @@ use Rattle.irc_room.specs.Lemmas.Listed.{map_itself, table_of, row_listed, entri
 use Rattle.irc_room.specs.Lemmas.ListedRooms.{ListedChannel, ListedRoom, channel_of, room_of, lists_member, member_listed, list_after, after_listed, all_listed}
 use Rattle.irc_room.specs.Lemmas.ListedSeen.{user_listed, channel_listed}
 use Rattle.irc_relay.specs.Links.{Name, Link}
-use Rattle.irc_commands.specs.Quit.{error_line}
 use Rattle.irc_merge.specs.Agreeing.{are_alike, agree}
 use Rattle.irc_merge.specs.Merge.{room_without}
 use Rattle.irc_merge.specs.Quits.{quits_of, collision_text}
@@ -35,6 +34,7 @@ use Rattle.irc_stage.specs.declared.clients.Client.TheVariants.{Registering, Reg
 use Rattle.irc_stage.specs.RoomMachine.{Clients}
 use Rattle.irc_world.specs.World.{Setting, Hall, servers_where}
 use Rattle.irc_world.specs.Stepping.{clashes_in, meeting_lines, split_text, servers_on_side, leaving_lines}
+use Rattle.irc_registering.specs.Closing.{error_line}
 
 abbrev pub hall_of : Clients → ListedRoom → Hall
 hall_of clients room = record { clients = clients; room = room_of room }

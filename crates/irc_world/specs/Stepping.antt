@@ -6,7 +6,6 @@ use Rattle.irc_names.specs.Fold.{key}
 use Rattle.irc_names.specs.Tables.{row}
 use Rattle.irc_line.specs.Reading.{read_of}
 use Rattle.irc_room.specs.Room.{Room}
-use Rattle.irc_commands.specs.Quit.{error_line}
 use Rattle.irc_merge.specs.Quits.{collision_text}
 use Rattle.irc_merge.specs.ShownAlong.{shown_along}
 use Rattle.irc_merge.specs.Merge.{merge}
@@ -19,6 +18,7 @@ use Rattle.irc_stage.specs.RoomMachine.{Clients}
 use Rattle.irc_stage.specs.Handle.{Happening, connects, says, goes, handled}
 use Rattle.irc_server.specs.Owed.{lines_to}
 use Rattle.irc_world.specs.World.{Setting, Hall, World, servers_where, home_of, machine_at, with_hall}
+use Rattle.irc_registering.specs.Closing.{error_line}
 
 -- What is given to the network: somebody connects to a server, a client says a line or is gone, two servers are linked, the first of them
 -- connecting, or the link between two is lost.

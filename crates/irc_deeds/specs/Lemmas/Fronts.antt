@@ -3,7 +3,6 @@ use Rattle.std.proofs.Common.{◌≡◌, ℕ, Bool, true, false, Option, Some, L
 use Rattle.std.specs.FinMap.{get, retain_keys}
 use Rattle.irc_line.specs.Messages.{Written}
 use Rattle.irc_batch.specs.Batches.{Sent}
-use Rattle.irc_commands.specs.Quit.{error_line}
 use Rattle.irc_room.specs.Effects.{has_user}
 use Rattle.irc_room.specs.declared.effect.Effect.{Effect}
 use Rattle.irc_room.specs.declared.effect.Effect.TheVariants.{Quit}
@@ -19,6 +18,7 @@ use Rattle.irc_stage.specs.View.{View}
 use Rattle.irc_stage.specs.Lemmas.Steps.{LeavesInFront, changed_behind, nothing_behind, sent_behind, told_behind}
 use Rattle.irc_stage.specs.Loops.Stage.{behind_sent}
 use Rattle.irc_deeds.specs.DeedTold.{all_told, arrival_of, deed_told, deeds_told, forgotten, gain_told, link_lost, lost_behind, told_by}
+use Rattle.irc_registering.specs.Closing.{error_line}
 
 -- ---- effects
 

@@ -15,7 +15,7 @@ use Rattle.irc_room.specs.Room.{Room}
 use Rattle.irc_acts.specs.declared.act.Act.TheVariants.{Answer}
 use Rattle.irc_acts.specs.OtherInvitations.{uninviting, AreAlike}
 use Rattle.irc_acts.specs.Standing.{is_operator}
-use Rattle.irc_moderation.specs.Judging.{judge}
+use Rattle.irc_judging.specs.Judging.{judge}
 use Rattle.irc_moderation.specs.UserMode.{user_mode}
 use Rattle.irc_moderation.specs.ChannelMode.{Outcome, outcome_of, told, one_served, served, denied, in_one, asked_of, channel_mode}
 use Rattle.irc_acts.specs.Words.{names_channel}

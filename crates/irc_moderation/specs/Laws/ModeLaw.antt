@@ -21,11 +21,11 @@ use Rattle.irc_acts.specs.AheadLaws.{among-append, none-both, none-flat}
 use Rattle.irc_acts.specs.ByTest.{by_test}
 use Rattle.irc_acts.specs.Own as own
 use Rattle.irc_acts.specs.Own.{IsOwn, AreOwn}
-use Rattle.irc_moderation.specs.declared.verdict.Verdict.{Verdict}
-use Rattle.irc_moderation.specs.declared.verdict.Verdict.TheVariants.{Says, Keeps, Nothing}
-use Rattle.irc_moderation.specs.Judging.{judge}
+use Rattle.irc_judging.specs.declared.verdict.Verdict.{Verdict}
+use Rattle.irc_judging.specs.declared.verdict.Verdict.TheVariants.{Says, Keeps, Nothing}
+use Rattle.irc_judging.specs.Judging.{judge, differs}
 use Rattle.irc_moderation.specs.ModesShown.{ban_shown}
-use Rattle.irc_moderation.specs.UserMode.{differs, is_unknown_flag, invisible_after, unknown_told, made_invisible, own_mode, user_mode}
+use Rattle.irc_moderation.specs.UserMode.{is_unknown_flag, invisible_after, unknown_told, made_invisible, own_mode, user_mode}
 use Rattle.irc_acts.specs.Standing.{is_operator}
 use Rattle.irc_acts.specs.Words.{names_channel}
 use Rattle.irc_moderation.specs.ChannelMode.{outcome_of, told, one_served, served, denied, changing, in_one, asked_of, channel_mode}

@@ -26,14 +26,14 @@ use Rattle.irc_room.specs.Lemmas.ModesWithin.{changes_within}
 use Rattle.irc_acts.specs.CarriedWords.{key_carried, digits_carried}
 use Rattle.irc_acts.specs.Sendable.{AreSendable, AreSentWhole, CarriesSendable, CarrySendable}
 use Rattle.irc_acts.specs.SendableLaws.{nick_stored, own_are_sendable}
-use Rattle.irc_moderation.specs.declared.verdict.Verdict.{Verdict}
-use Rattle.irc_moderation.specs.declared.verdict.Verdict.TheVariants.{Says, Keeps, Nothing}
-use Rattle.irc_moderation.specs.Judging.{without_zeros, judge}
+use Rattle.irc_judging.specs.declared.verdict.Verdict.{Verdict}
+use Rattle.irc_judging.specs.declared.verdict.Verdict.TheVariants.{Says, Keeps, Nothing}
+use Rattle.irc_judging.specs.Judging.{without_zeros, judge}
 use Rattle.irc_moderation.specs.ChannelMode.{outcome_of, served}
 use Rattle.irc_moderation.specs.Mode.{mode_steps}
-use Rattle.irc_moderation.specs.Laws.BansFound.{stored_is_mask}
-use Rattle.irc_moderation.specs.Laws.JudgedWalk.{IsAskedFor, IsSo, judged_for}
-use Rattle.irc_moderation.specs.Laws.LimitsWritten.{limit_still}
+use Rattle.irc_judging.specs.Laws.BansFound.{stored_is_mask}
+use Rattle.irc_judging.specs.Laws.JudgedWalk.{IsAskedFor, IsSo, judged_for}
+use Rattle.irc_judging.specs.Laws.LimitsWritten.{limit_still}
 use Rattle.irc_moderation.specs.Laws.ModeLaw.{changed_by, mode_is_own, mode_so}
 use Rattle.irc_moderation.specs.Laws.WordsCarried.{IsCarriedAsked, read_carried}
 

@@ -8,9 +8,9 @@ use Rattle.irc_modes.specs.ModeViews.{all_asked, asked}
 use Rattle.irc_room.specs.Applying.{Kept}
 use Rattle.irc_acts.specs.declared.act.Act.{Act}
 use Rattle.irc_acts.specs.Steps.{AddsTo}
-use Rattle.irc_moderation.specs.declared.kept_changes.KeptChanges.{KeptChanges}
+use Rattle.irc_judging.specs.declared.kept_changes.KeptChanges.{KeptChanges}
 use Rattle.irc_moderation.specs.ChannelMode.{Outcome, one_served, served}
-use Rattle.irc_moderation.specs.Loops.Judged.{channel_behind}
+use Rattle.irc_judging.specs.Loops.Judged.{channel_behind}
 
 -- what comes of all letters
 abbrev pub outcome_of_each : Kept → Channel → List ModeItem → Outcome

@@ -8,8 +8,7 @@ use Rattle.irc_line.specs.Messages.{Parsed}
 use Rattle.irc_room.specs.Room.{Room}
 use Rattle.irc_room.specs.Applying.{Kept}
 use Rattle.irc_batch.specs.Batches.{Batch, Sent}
-use Rattle.irc_commands.specs.declared.pending.Registration.{Registration}
-use Rattle.irc_commands.specs.CodeViews.{registered_of}
+use Rattle.irc_registering.specs.declared.pending.Registration.{Registration}
 use Rattle.irc_server.specs.declared.event.Event.{Event}
 use Rattle.irc_server.specs.declared.event.ServerFault.{ServerFault}
 use Rattle.irc_server.specs.declared.event.ServerFault.TheVariants.{Memory}
@@ -24,6 +23,7 @@ use Rattle.irc_stage.specs.Loops.Stage.{machine_at, served_at, view_of}
 use Rattle.irc_deeds.specs.Loops.Serving.{Hears, Loses, Opens, Serves}
 use Rattle.irc_server.specs.Served.{fault_of, link_there, no_link, not_there, there}
 use Rattle.irc_server.specs.Happening.{Does}
+use Rattle.irc_registering.specs.RegisteringViews.{registered_of}
 
 -- the room, as its code keeps it, and of a server
 abbrev pub room_kept : Kept → Room

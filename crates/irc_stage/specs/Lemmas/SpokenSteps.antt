@@ -18,12 +18,11 @@ use Rattle.irc_room.specs.Lemmas.Rows.{is_some_map, not_true, same_some}
 use Rattle.irc_acts.specs.declared.act.Act.{Act}
 use Rattle.irc_acts.specs.declared.act.Act.TheVariants.{Answer, Raw, Do}
 use Rattle.irc_acts.specs.Acts.{effects_among}
-use Rattle.irc_commands.specs.declared.pending.Pending.{Pending}
+use Rattle.irc_registering.specs.declared.pending.Pending.{Pending}
 use Rattle.irc_commands.specs.Comings.{RegisteredIsAdded, UnregisteredChangesNothing}
 use Rattle.irc_commands.specs.Decide.{decide}
-use Rattle.irc_commands.specs.Decisions.{Registered as Given}
 use Rattle.irc_commands.specs.Doers.{DecidedByItself, IsDoneBy}
-use Rattle.irc_commands.specs.Register.{register}
+use Rattle.irc_registering.specs.Register.{register, Registered as Given}
 use Rattle.irc_stage.specs.declared.clients.Client.TheVariants.{Registered}
 use Rattle.irc_stage.specs.RoomMachine.{RoomMachine, client_of}
 use Rattle.irc_stage.specs.Handle.{machine_after, renamed_in}

@@ -2,7 +2,7 @@ use Rattle.std.proofs.Common.{ap, ◌∙◌}
 use Rattle.irc_line.specs.MessageViews.{parsed}
 use Rattle.irc_room.specs.Room.{Room}
 use Rattle.irc_routes.specs.Known.{Known, place_of}
-use Rattle.irc_commands.specs.Register.{register}
+use Rattle.irc_registering.specs.Register.{register}
 use Rattle.irc_stage.specs.Loops.Stage.{machine_at, view_of}
 use Rattle.irc_stage.specs.Lemmas.MatchedEvents.{registering_fit, registering_free}
 use Rattle.irc_stage.specs.Lemmas.SpokenSteps.{registering_spoken}

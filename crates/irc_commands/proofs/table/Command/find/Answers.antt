@@ -1,7 +1,0 @@
-use Rattle.irc_commands.specs.Table.{row_named}
-use Rattle.irc_commands.proofs.NamedCommands.{row_passed}
-use Rattle.irc_commands.proofs.table.Command.find.Goals as goal
-
-pub loop-name-preserved : goal.loop-name-preserved
-loop-name-preserved c =
-    row_passed c.args.word.now _ c.loop-name.name-index _ c.is_word.result (row_named c.args.word.now) c.loop-name-test.true c.is_word.ensures c.if-is_word.false c.loop-name.invariant

@@ -1,0 +1,10 @@
+//! What comes of one change of a channel's modes that an operator asks for, in the channel as the changes so far have left it.
+#![tactic(auto)]
+
+mod judging;
+mod kept_changes;
+mod verdict;
+
+pub use judging::judge;
+pub use kept_changes::{KeptChanges, know_bans_rise};
+pub use verdict::Verdict;

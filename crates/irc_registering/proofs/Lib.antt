@@ -1,0 +1,2 @@
+pub mod NamedCommands
+pub mod RegisterRows
