@@ -1,57 +1,26 @@
-//! The room after an effect.
-ghost use Rattle.std.specs.Prelude.{◌≡◌, Some, None, Ok, [], true, OnOk, OnErr};
+//! The tables of a room after an effect.
+ghost use Rattle.std.specs.Prelude.{◌≡◌, Some, None, OnOk, OnErr};
 ghost use Rattle.irc_names.specs.Fold.{key};
 ghost use Rattle.irc_names.specs.Tables.{row, alter, moved};
 ghost use Rattle.irc_users.specs.UserTable.{rename_fault, with_nick};
 ghost use Rattle.irc_room.specs.After.{after};
-ghost use Rattle.irc_room.specs.Applying.{pairs_of};
-ghost use Rattle.irc_room.specs.Effects.{is_idle, IsPossible};
+ghost use Rattle.irc_room.specs.Effects.{IsPossible};
 ghost use Rattle.irc_room.specs.Loops.Tables.{room_of};
-ghost use Rattle.irc_room.specs.Loops.Telling.{shown_at};
 ghost use Rattle.irc_room.specs.Room.{IsWellFormed};
 
 use crate::effect::Effect;
-use crate::idle::is_idle;
 use crate::indexed_channels::IndexedChannels;
-use crate::showing::show;
-use crate::shown_line::ShownLine;
 use crate::tables::Tables;
 use irc_names::Nick;
 use irc_users::{User, Users, UsersFault};
 use std::alloc::{AllocError, Global};
-
-/// Puts out what an effect shows to the users of the server of this name, and makes its change of users and channels; one that does
-/// nothing takes no memory.
-///
-/// # Errors
-/// Where memory runs out; the room has not changed then.
-pub(crate) fn perform(
-    alloc: Global,
-    own: &[u8],
-    tables: &mut Tables,
-    effect: &Effect,
-    shown: &mut ShownLine,
-) -> Result<(), AllocError>
-    requires possible { IsPossible tables.old effect.now }
-    requires none { shown.old.viewers.items ≡ [] }
-    ensures changed { OnOk result (tables.new ≡ after tables.old effect.now) }
-    ensures shown { OnOk result (pairs_of shown.new ≡ shown_at own.now tables.old effect.now) }
-    ensures refused { OnErr result (tables.new ≡ tables.old) }
-    ensures idle { is_idle tables.old effect.now ≡ true → result ≡ Ok tt }
-{
-    if is_idle(tables, effect) {
-        return Ok(());
-    }
-    show(alloc, own, tables, effect, shown)?;
-    tables.change(effect)
-}
 
 impl Tables {
     /// Makes an effect's change of users and channels.
     ///
     /// # Errors
     /// Where memory runs out; nothing has changed then.
-    fn change(&mut self, effect: &Effect) -> Result<(), AllocError>
+    pub fn change(&mut self, effect: &Effect) -> Result<(), AllocError>
         requires { IsPossible self.old effect.now }
         ensures changed { OnOk result (self.new ≡ after self.old effect.now) }
         ensures refused { OnErr result (self.new ≡ self.old) }

@@ -17,6 +17,7 @@ mod lines;
 mod mode_letters;
 mod name_index;
 mod own_channels;
+mod performing;
 mod refusing;
 mod room;
 mod showing;

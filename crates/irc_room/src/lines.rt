@@ -3,25 +3,12 @@ ghost use Rattle.std.specs.Prelude.{◌≡◌, None, Some, [], ◌∷◌, codes}
 ghost use Rattle.irc_line.specs.Messages.{text};
 ghost use Rattle.irc_line.specs.MessageViews.{optional_now};
 ghost use Rattle.irc_line.specs.PartViews.{sender, words_now};
-ghost use Rattle.irc_room.specs.Seen.{full_sender};
 ghost use Rattle.irc_room.specs.Loops.LineViews.{invisible_word, mode_params, mode_parts, say_command, Writes};
 
 use crate::mode_letters::push_changes;
 use crate::tables::Tables;
 use irc_line::{Parts, Prefix, Text, push_cut, push_prefix, write_message};
 use irc_modes::ModeChange;
-use irc_users::User;
-
-/// The prefix of a line that a user causes: `nick!user@host` (RFC 2812 section 2.3.1).
-pub(crate) fn full_prefix(user: &User) -> Prefix<'_>
-    ensures { sender result ≡ full_sender user.now }
-{
-    Prefix::Full {
-        nick: user.nick.as_bytes(),
-        user: user.user.as_bytes(),
-        host: user.host.as_bytes(),
-    }
-}
 
 /// Writes the line with these tables, if there is somebody who sends it. Here and below: tells whether it did.
 fn write_line(

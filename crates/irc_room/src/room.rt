@@ -19,7 +19,6 @@ ghost use Rattle.irc_room.specs.Room.{IsWellFormed};
 ghost use Rattle.irc_room.specs.Seen.{changes_text, stored_channel, stored_nick, target_name};
 
 use crate::audience::{audience, member_nicks};
-use crate::changing::perform;
 use crate::effect::{Effect, Target};
 use crate::effect_lines::effect_line;
 use crate::fault::RoomFault;
@@ -27,6 +26,7 @@ use crate::home_count::{homed, staying, with_newcomer};
 use crate::idle::is_idle;
 use crate::indexed_channels::IndexedChannels;
 use crate::mode_letters::push_changes;
+use crate::performing::perform;
 use crate::refusing::{missing, refusal};
 use crate::shown_line::ShownLine;
 use crate::tables::Tables;

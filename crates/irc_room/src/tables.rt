@@ -10,15 +10,14 @@ ghost use Rattle.irc_channels.specs.Channels.{has_member};
 ghost use Rattle.irc_room.specs.Effects.{has_channel, is_member};
 ghost use Rattle.irc_room.specs.Laws.{no_room};
 ghost use Rattle.irc_room.specs.Room.{IsWellFormed};
-ghost use Rattle.irc_room.specs.Seen.{from_by, from_nick, stored_channel, stored_nick, target_name};
+ghost use Rattle.irc_room.specs.Seen.{from_by, from_nick, full_sender, stored_channel, stored_nick, target_name};
 
 use crate::effect::{By, Target};
 use crate::indexed_channels::IndexedChannels;
-use crate::lines::full_prefix;
 use irc_channels::Channel;
 use irc_line::Prefix;
 use irc_names::{ChannelName, Nick};
-use irc_users::Users;
+use irc_users::{User, Users};
 use std::alloc::Global;
 use std::marker::Model;
 
@@ -146,4 +145,15 @@ pub(crate) fn has_member(channel: &Channel, nick: &Nick) -> bool
     ensures { result ≡ has_member (key nick.now) channel.now }
 {
     channel.members.get(nick.as_bytes()).is_some()
+}
+
+/// The prefix of a line that a user causes: `nick!user@host` (RFC 2812 section 2.3.1).
+fn full_prefix(user: &User) -> Prefix<'_>
+    ensures { sender result ≡ full_sender user.now }
+{
+    Prefix::Full {
+        nick: user.nick.as_bytes(),
+        user: user.user.as_bytes(),
+        host: user.host.as_bytes(),
+    }
 }

@@ -3,7 +3,7 @@ use Rattle.irc_room.specs.Room.{Room}
 use Rattle.irc_room.proofs.IdleLaw.{idle_changes_nothing}
 use Rattle.irc_room.specs.Lemmas.Rows.{not_true}
 use Rattle.irc_room.proofs.ToldLaw.{idle_tells_nothing}
-use Rattle.irc_room.proofs.changing.perform.Goals as goal
+use Rattle.irc_room.proofs.performing.perform.Goals as goal
 
 pub returns-then-is_idle-clause-changed : goal.returns-then-is_idle-clause-changed
 returns-then-is_idle-clause-changed c =
