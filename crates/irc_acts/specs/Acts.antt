@@ -7,12 +7,12 @@ use Rattle.irc_acts.specs.declared.act.Act.{Act}
 use Rattle.irc_acts.specs.declared.act.Act.TheVariants.{Do}
 
 -- bytes as the code keeps them
-abbrev pub kept : List ℕ → ArrayVec ℕ
-kept bytes = record { items = bytes }
+abbrev pub bytes_kept : List ℕ → ArrayVec ℕ
+bytes_kept bytes = record { items = bytes }
 
 -- a client's own words, as much of them as a line holds
 abbrev pub client_words : List ℕ → ArrayVec ℕ
-client_words words = kept (cut words)
+client_words words = bytes_kept (cut words)
 
 -- the effects among some steps
 abbrev pub effects_among : List Act → List Effect

@@ -181,11 +181,11 @@ left_keeps_name nick before after = by_member (has_member nick before)
     by_member false is = let same : before ≡ after = cc is in ap (λ (c : Channel). c.name) same
 
 -- the row of a name is that of a channel with this name
-abbrev IsNamed : List ℕ → Room → Type 0
-IsNamed name room = (channel : Channel) → row room.channels (key name) ≡ Some channel → key channel.name ≡ key name
+abbrev RowIsNamed : List ℕ → Room → Type 0
+RowIsNamed name room = (channel : Channel) → row room.channels (key name) ≡ Some channel → key channel.name ≡ key name
 
-leave_keeps_name : (name : List ℕ) (room : Room) (who channel : List ℕ) → IsNamed name room
-    → IsNamed name (alter_channel channel (option_and_then (left (key who))) room)
+leave_keeps_name : (name : List ℕ) (room : Room) (who channel : List ℕ) → RowIsNamed name room
+    → RowIsNamed name (alter_channel channel (option_and_then (left (key who))) room)
 leave_keeps_name name room who channel named now is =
     by_name (same channel name) (row room.channels (key name)) refl
     (sym (row_changed room channel name (option_and_then (left (key who)))) ∙ is)
@@ -196,13 +196,13 @@ leave_keeps_name name room who channel named now is =
     by_name true (Some before) at left_is = ap key (sym (left_keeps_name (key who) before now left_is)) ∙ named before at
     by_name false found at same = named now (at ∙ same)
 
-pub leaves_keep_names : (name : List ℕ) (room : Room) (acts : List Act) → IsWellFormed room → AreLeaves room acts → IsNamed name (ahead room acts)
+pub leaves_keep_names : (name : List ℕ) (room : Room) (acts : List Act) → IsWellFormed room → AreLeaves room acts → RowIsNamed name (ahead room acts)
 unfolding after
 leaves_keep_names name room acts well leaves =
-    each-keeps IsLeave (IsNamed name) (λ now effect is named. by_effect now effect is named) room (effects_among acts) leaves
+    each-keeps IsLeave (RowIsNamed name) (λ now effect is named. by_effect now effect is named) room (effects_among acts) leaves
     (λ channel is. (well.channels_sound (key name) channel is).named)
   where
-    by_effect : (now : Room) (effect : Effect) → IsLeave now effect → IsNamed name now → IsNamed name (after now effect)
+    by_effect : (now : Room) (effect : Effect) → IsLeave now effect → RowIsNamed name now → RowIsNamed name (after now effect)
     by_effect now (Part who channel text) is named = leave_keeps_name name now who channel named
     by_effect now (Kick by channel who text) is named = leave_keeps_name name now who channel named
     by_effect now (AddUser user) is named = absurd is

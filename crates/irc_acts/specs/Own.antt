@@ -15,7 +15,7 @@ use Rattle.irc_room.specs.declared.effect.Effect.TheVariants.{Join, Part, Kick, 
 use Rattle.irc_room.specs.Room.{Room}
 use Rattle.irc_room.specs.InTurn.{EachInTurn}
 use Rattle.irc_acts.specs.declared.act.Act.{Act}
-use Rattle.irc_acts.specs.Acts.{kept, effects_among}
+use Rattle.irc_acts.specs.Acts.{bytes_kept, effects_among}
 
 -- a channel's name: of one that was found under some spelling, or by the rule for names where none was
 pub data IsChannelName (room : Room) : List ℕ → Type 0 where
@@ -26,9 +26,9 @@ pub data IsChannelName (room : Room) : List ℕ → Type 0 where
 -- need not be there. Who joins is no member yet, and who leaves or is kicked is one.
 pub data IsOwn (me : User) (room : Room) : Effect → Type 0 where
   to_user : (name : List ℕ) (other : User) (notice : Bool) (words : List ℕ) → row room.users (key name) ≡ Some other
-      → IsOwn me room (Say me.nick notice (target.User other.nick) (kept words))
+      → IsOwn me room (Say me.nick notice (target.User other.nick) (bytes_kept words))
   to_channel : (name : List ℕ) (channel : Channel) (notice : Bool) (words : List ℕ) → row room.channels (key name) ≡ Some channel
-      → IsOwn me room (Say me.nick notice (target.Channel channel.name) (kept words))
+      → IsOwn me room (Say me.nick notice (target.Channel channel.name) (bytes_kept words))
   makes : (name : List ℕ) → is_channel name ≡ true → row room.channels (key name) ≡ None → IsOwn me room (Join me.nick name true)
   enters : (name : List ℕ) (channel : Channel) → row room.channels (key name) ≡ Some channel → has_member (key me.nick) channel ≡ false
       → IsOwn me room (Join me.nick channel.name false)

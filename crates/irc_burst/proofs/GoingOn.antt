@@ -24,8 +24,8 @@ use Rattle.irc_merge.specs.Bursts.{members_a_line}
 use Rattle.irc_merge.specs.BurstRead.{brought, new_members}
 use Rattle.irc_merge.specs.Deeds.{Deed, sets, tops}
 use Rattle.irc_burst_lines.specs.DeedLines.{deed_parts, member_text, members_text, more_text}
-use Rattle.irc_burst.specs.DeedsMeant.{Told, a_deed, deeds_meant, first_reason, effects_told, collided, reason_of, members_of, member_of, has_mark, without_mark, is_comma, as_stored, at_mark, plus_mark}
-use Rattle.irc_burst.specs.GoingOn.{line_of, IsWrittenAs, ModesGoOn, TopicsGoOn, MembersGoOn}
+use Rattle.irc_burst.specs.DeedsMeant.{Told, a_deed, deeds_meant, first_reason, effects_told, collided, wire_reason, members_of, member_of, has_mark, without_mark, is_comma, as_stored, at_mark, plus_mark}
+use Rattle.irc_burst.specs.GoingOn.{line_from, IsWrittenAs, ModesGoOn, TopicsGoOn, MembersGoOn}
 
 -- ---- words of a MODE
 
@@ -47,7 +47,7 @@ module _ (own : List ℕ) (room : Room) (server : List ℕ) where
   -- what is told of some effects by a server, or else by anybody
   abbrev told_by : Bool → Result (List Effect) WireFault → Result (List Told) CloseReason
   told_by is_one (Ok effects) = Ok (map a_deed (flat_map (collided own room (if is_one then Some server else None)) effects))
-  told_by is_one (Err given) = Err (reason_of given)
+  told_by is_one (Err given) = Err (wire_reason given)
 
   told_so : (result : Result (List Effect) WireFault) → effects_told own room (Some server) result ≡ told_by (is_server server) result
   told_so (Ok effects) = refl
@@ -96,7 +96,7 @@ module _ (room : Room) (known : Known) (link : ℕ) (server : List ℕ) (rule : 
 pub topics_go_on : TopicsGoOn
 unfolding deeds_meant
 topics_go_on room known link server channel topic rule told writer others is =
-    let line = line_of (codes "TOPIC") server (channel ∷ topic ∷ []) in
+    let line = line_from (codes "TOPIC") server (channel ∷ topic ∷ []) in
     goes_on line writer others (tops server channel topic) told refl
     (of_it room known link server rule (are_words topic) (is_channel channel) channel (λ doer. SetTopic doer channel topic) told is).1
 
@@ -111,8 +111,8 @@ modes_go_on room known link server channel words rule target told writer others 
     (sym (ap (λ b. effects_told known.name room (Some server)
     (first_fault (if b then of_either reader server (are_changes words) names channel doing else user_mode_line reader server channel words))) target)
     ∙ is) in
-    goes_on (line_of (codes "MODE") server (channel ∷ words)) writer others (sets server channel changes) told
-    (ap (λ ps. line_of (codes "MODE") server (channel ∷ ps)) (append-nil (changes_written changes) ∙ rewritten words read.0))
+    goes_on (line_from (codes "MODE") server (channel ∷ words)) writer others (sets server channel changes) told
+    (ap (λ ps. line_from (codes "MODE") server (channel ∷ ps)) (append-nil (changes_written changes) ∙ rewritten words read.0))
     read.1
 
 -- ---- members
@@ -172,7 +172,7 @@ members_taken true true true deeds told is = cc is
 pub members_go_on : MembersGoOn
 unfolding deeds_meant
 members_go_on room known link server channel text all told writer others is =
-    let line = line_of (codes "NJOIN") server (channel ∷ text ∷ []) in
+    let line = line_from (codes "NJOIN") server (channel ∷ text ∷ []) in
     let reader = reader_of room known link in
     let members = map (as_stored room) (new_members (is_behind_link known link) room channel (members_of text)) in
     subst (AllByRecursion (IsWrittenAs line writer others))
@@ -182,6 +182,6 @@ members_go_on room known link server channel text all told writer others is =
     (by members (ap members_text all ∙ text_again text))
   where
     by : (members : List (List ℕ × Flags)) → members_text members ≡ text
-        → AllByRecursion (IsWrittenAs (line_of (codes "NJOIN") server (channel ∷ text ∷ [])) writer others) (map a_deed (brought server channel members))
+        → AllByRecursion (IsWrittenAs (line_from (codes "NJOIN") server (channel ∷ text ∷ [])) writer others) (map a_deed (brought server channel members))
     by [] again = tt
-    by (member ∷ members) again = (ap (λ t. line_of (codes "NJOIN") server (channel ∷ t ∷ [])) again, tt)
+    by (member ∷ members) again = (ap (λ t. line_from (codes "NJOIN") server (channel ∷ t ∷ [])) again, tt)

@@ -27,9 +27,9 @@ use Rattle.irc_room.specs.Room.{Room, IsWellFormed}
 use Rattle.irc_room.specs.Seen.{stored_nick}
 use Rattle.irc_burst.specs.declared.acts.NewMember.{NewMember}
 use Rattle.irc_burst.specs.DeedsMeant.{as_stored}
-use Rattle.irc_burst.specs.Loops.Acts.{is_among, members_told, taken_as_stored}
+use Rattle.irc_burst.specs.Loops.Acts.{is_member_among, members_told, taken_as_stored}
 
-pub among-told : (nick : List ℕ) (members : List NewMember) → is_among (members_told members) nick ≡ list_any (λ (member : NewMember). same member.nick nick) members
+pub among-told : (nick : List ℕ) (members : List NewMember) → is_member_among (members_told members) nick ≡ list_any (λ (member : NewMember). same member.nick nick) members
 among-told nick [] = refl
 among-told nick (member ∷ members) = ap (λ b. same member.nick nick || b) (among-told nick members)
 
@@ -44,10 +44,10 @@ key_stored room well nick = by_row (row room.users (key nick)) refl
     by_row (Some user) is = well.users_named (key nick) user is
 
 pub among_stored : (room : Room) → IsWellFormed room → (members : List (List ℕ × Flags)) (nick : List ℕ)
-    → is_among (map (as_stored room) members) nick ≡ is_among members nick
+    → is_member_among (map (as_stored room) members) nick ≡ is_member_among members nick
 among_stored room well [] nick = refl
 among_stored room well (member ∷ members) nick =
-    ap (λ fold. pointwise nat_eq fold (key nick) || is_among (map (as_stored room) members) nick) (key_stored room well member.0)
+    ap (λ fold. pointwise nat_eq fold (key nick) || is_member_among (map (as_stored room) members) nick) (key_stored room well member.0)
     ∙ ap (λ b. same member.0 nick || b) (among_stored room well members nick)
 
 -- ---- one after another
@@ -97,21 +97,21 @@ module _ (far : List ℕ → Bool) (channel : List ℕ) where
   same_is one other false is = two_folds one other is
 
   abbrev taken : Room → List (List ℕ × Flags) → List ℕ × Flags → List (List ℕ × Flags)
-  taken room members member = if is_new_member far room channel member && not (is_among members member.0) then members ++ member ∷ [] else members
+  taken room members member = if is_new_member far room channel member && not (is_member_among members member.0) then members ++ member ∷ [] else members
 
   -- a room in which some have come by now
   abbrev InStep : Room → Room → List (List ℕ × Flags) → Type 0
-  InStep first room members = (x : List ℕ × Flags) → is_new_member far room channel x ≡ (is_new_member far first channel x && not (is_among members x.0))
+  InStep first room members = (x : List ℕ × Flags) → is_new_member far room channel x ≡ (is_new_member far first channel x && not (is_member_among members x.0))
 
   among_more : (members : List (List ℕ × Flags)) (member : List ℕ × Flags) (nick : List ℕ)
-      → is_among (members ++ member ∷ []) nick ≡ (is_among members nick || same member.0 nick)
+      → is_member_among (members ++ member ∷ []) nick ≡ (is_member_among members nick || same member.0 nick)
   among_more [] member nick = or_false (same member.0 nick)
     where
       or_false : (b : Bool) → (b || false) ≡ b
       or_false true = refl
       or_false false = refl
   among_more (one ∷ members) member nick =
-      ap (λ b. same one.0 nick || b) (among_more members member nick) ∙ regroup (same one.0 nick) (is_among members nick) (same member.0 nick)
+      ap (λ b. same one.0 nick || b) (among_more members member nick) ∙ regroup (same one.0 nick) (is_member_among members nick) (same member.0 nick)
     where
       regroup : (a b c : Bool) → (a || (b || c)) ≡ ((a || b) || c)
       regroup true b c = refl
@@ -122,7 +122,7 @@ module _ (far : List ℕ → Bool) (channel : List ℕ) where
   step_on first room members member step x =
       new_after room member x (same member.0 x.0) (same_is member.0 x.0 (same member.0 x.0) refl)
       ∙ ap (λ b. b && not (same member.0 x.0)) (step x)
-      ∙ logic (is_new_member far first channel x) (is_among members x.0) (same member.0 x.0)
+      ∙ logic (is_new_member far first channel x) (is_member_among members x.0) (same member.0 x.0)
       ∙ ap (λ b. is_new_member far first channel x && not b) (sym (among_more members member x.0))
     where
       logic : (n a s : Bool) → ((n && not a) && not s) ≡ (n && not (a || s))
@@ -158,7 +158,7 @@ module _ (far : List ℕ → Bool) (channel : List ℕ) where
   one_stored room well members member =
       ap (λ b. if is_new_member far room channel member && not b then map (as_stored room) members ++ as_stored room member ∷ [] else map (as_stored room) members)
       (among_stored room well members member.0)
-      ∙ by (is_new_member far room channel member && not (is_among members member.0))
+      ∙ by (is_new_member far room channel member && not (is_member_among members member.0))
     where
       by : (b : Bool) → (if b then map (as_stored room) members ++ as_stored room member ∷ [] else map (as_stored room) members)
           ≡ map (as_stored room) (if b then members ++ member ∷ [] else members)

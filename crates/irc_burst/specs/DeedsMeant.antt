@@ -75,8 +75,8 @@ first_reason judged =
     else unless_late judged.late judged.told)))
 
 -- a line with too few or too many parameters, or not from a name where it has to be
-abbrev pub malformed : Judged
-malformed = record { parameters = false; token = true; direction = true; names = true; late = None; told = [] }
+abbrev pub malformed_burst : Judged
+malformed_burst = record { parameters = false; token = true; direction = true; names = true; late = None; told = [] }
 
 -- a line of a server, without a number in it
 abbrev pub of_server : Reader → List ℕ → Bool → Bool → Bool → List Deed → Judged
@@ -112,18 +112,18 @@ only_first parameters = record { parameters = parameters; token = true; directio
 
 abbrev pub server_line : Reader → Known → Option (List ℕ) → List (List ℕ) → Judged
 server_line reader known (Some uplink) (name ∷ distance ∷ token ∷ info ∷ []) = later_server reader known uplink name distance token info
-server_line reader known (Some uplink) other = malformed
+server_line reader known (Some uplink) other = malformed_burst
 server_line reader known None params = only_first (is_some (greeting_of params))
 
 abbrev pub pass_line : Option (List ℕ) → List (List ℕ) → Judged
 pass_line None params = only_first (is_some (password_of params))
-pass_line (Some name) params = malformed
+pass_line (Some name) params = malformed_burst
 
 -- A server that is lost has to be behind the link; of one that is unknown the line has a bad name.
 abbrev pub squit_line : Reader → Known → Option (List ℕ) → List (List ℕ) → Judged
 squit_line reader known (Some server) (name ∷ text ∷ []) =
     of_server reader server (are_words text) (not (is_known known name) || reader.is_far name) (is_server name && is_known known name) (loses server name text ∷ [])
-squit_line reader known _ _ = malformed
+squit_line reader known _ _ = malformed_burst
 
 -- ---- a nickname that two users have (RFC 2812 section 3.7.1)
 
@@ -134,20 +134,20 @@ killed server room nick = option_map_or (λ (holder : User). kills server holder
 abbrev pub kill_line : Reader → Room → Option (List ℕ) → List (List ℕ) → Judged
 kill_line reader room (Some server) (nick ∷ text ∷ []) =
     of_server reader server (bytes_eq text (codes "Nick collision")) true (is_nick nick) (killed server room nick)
-kill_line reader room _ _ = malformed
+kill_line reader room _ _ = malformed_burst
 
 -- two nicknames in folded order
-abbrev pub in_order : List ℕ → List ℕ → List (List ℕ)
-in_order one other = if is_lt (name_cmp other one) then other ∷ one ∷ [] else one ∷ other ∷ []
+abbrev pub nicks_in_order : List ℕ → List ℕ → List (List ℕ)
+nicks_in_order one other = if is_lt (name_cmp other one) then other ∷ one ∷ [] else one ∷ other ∷ []
 
 -- whether a user takes the nickname of another
 abbrev pub takes_anothers : Room → List ℕ → List ℕ → Bool
 takes_anothers room nick new = is_some (row room.users (key new)) && not (same nick new)
 
 -- a user takes another nickname: where somebody else has it, both are killed
-abbrev pub renamed : List ℕ → Room → List ℕ → List ℕ → List Deed
-renamed own room nick new =
-    if takes_anothers room nick new then map (kills own) (in_order (stored_nick room nick) (stored_nick room new)) else does (Rename nick new) ∷ []
+abbrev pub renamed_or_killed : List ℕ → Room → List ℕ → List ℕ → List Deed
+renamed_or_killed own room nick new =
+    if takes_anothers room nick new then map (kills own) (nicks_in_order (stored_nick room nick) (stored_nick room new)) else does (Rename nick new) ∷ []
 
 -- ---- members of a channel (RFC 2813 section 4.2.2)
 
@@ -186,7 +186,7 @@ njoin_line reader room (Some server) (channel ∷ text ∷ []) =
     of_server reader server (nat_le (length (members_of text)) members_a_line) true
     (is_channel channel && list_all (λ (member : List ℕ × Flags). is_nick member.0) (members_of text))
     (brought server channel (map (as_stored room) (new_members reader.is_far room channel (members_of text))))
-njoin_line reader room _ _ = malformed
+njoin_line reader room _ _ = malformed_burst
 
 -- ---- lines that tell of effects
 
@@ -204,47 +204,47 @@ kept_prefix server effect = does effect
 -- what an effect comes to: where it gives a nickname that is held, its holder is killed, and who was to have it is killed or not taken
 abbrev pub collided : List ℕ → Room → Option (List ℕ) → Effect → List Deed
 collided own room server (AddUser user) = introduced own room user
-collided own room server (Rename nick new) = renamed own room nick new
+collided own room server (Rename nick new) = renamed_or_killed own room nick new
 collided own room server other = kept_prefix server other ∷ []
 
 -- why a line is refused that tells of an effect; none is for want of memory
-abbrev pub reason_of : WireFault → CloseReason
-reason_of fault.UnknownCommand = reason.UnknownCommand
-reason_of fault.Parameters = reason.Parameters
-reason_of fault.BadToken = reason.BadToken
-reason_of fault.WrongDirection = reason.WrongDirection
-reason_of fault.BadName = reason.BadName
-reason_of fault.Memory = reason.Parameters
+abbrev pub wire_reason : WireFault → CloseReason
+wire_reason fault.UnknownCommand = reason.UnknownCommand
+wire_reason fault.Parameters = reason.Parameters
+wire_reason fault.BadToken = reason.BadToken
+wire_reason fault.WrongDirection = reason.WrongDirection
+wire_reason fault.BadName = reason.BadName
+wire_reason fault.Memory = reason.Parameters
 
 abbrev pub effects_told : List ℕ → Room → Option (List ℕ) → Result (List Effect) WireFault → Result (List Told) CloseReason
 effects_told own room prefix (Ok effects) = Ok (map a_deed (flat_map (collided own room (server_of prefix)) effects))
-effects_told own room prefix (Err fault) = Err (reason_of fault)
+effects_told own room prefix (Err fault) = Err (wire_reason fault)
 
 -- ---- the table
 
 -- a command of the lines of servers, and what is looked at in a line of it
-pub record Row : Type 0 where
+pub record BurstRow : Type 0 where
   pub command : List ℕ
   pub judge : Reader → Known → Room → Option (List ℕ) → List (List ℕ) → Judged
 
-abbrev pub line : List ℕ → (Reader → Known → Room → Option (List ℕ) → List (List ℕ) → Judged) → Row
-line command judge = record { command = command; judge = judge }
+abbrev pub burst_line : List ℕ → (Reader → Known → Room → Option (List ℕ) → List (List ℕ) → Judged) → BurstRow
+burst_line command judge = record { command = command; judge = judge }
 
-abbrev pub table : List Row
-table =
-    line (codes "SERVER") (λ reader known room. server_line reader known)
-    ∷ line (codes "SQUIT") (λ reader known room. squit_line reader known)
-    ∷ line (codes "KILL") (λ reader known room. kill_line reader room)
-    ∷ line (codes "NJOIN") (λ reader known room. njoin_line reader room)
-    ∷ line (codes "PASS") (λ reader known room. pass_line) ∷ []
+abbrev pub burst_table : List BurstRow
+burst_table =
+    burst_line (codes "SERVER") (λ reader known room. server_line reader known)
+    ∷ burst_line (codes "SQUIT") (λ reader known room. squit_line reader known)
+    ∷ burst_line (codes "KILL") (λ reader known room. kill_line reader room)
+    ∷ burst_line (codes "NJOIN") (λ reader known room. njoin_line reader room)
+    ∷ burst_line (codes "PASS") (λ reader known room. pass_line) ∷ []
 
-abbrev pub row_of : List ℕ → Option Row
-row_of word = find (λ (r : Row). is_command r.command word) table
+abbrev pub burst_row_of : List ℕ → Option BurstRow
+burst_row_of word = find (λ (r : BurstRow). is_command r.command word) burst_table
 
-abbrev pub read_row : Room → Known → ℕ → Parsed → Option Row → Result (List Told) CloseReason
-read_row room known link message (Some r) = first_reason (r.judge (reader_of room known link) known room message.prefix message.params)
-read_row room known link message None = effects_told known.name room message.prefix (means room known link message)
+abbrev pub read_burst_row : Room → Known → ℕ → Parsed → Option BurstRow → Result (List Told) CloseReason
+read_burst_row room known link message (Some r) = first_reason (r.judge (reader_of room known link) known room message.prefix message.params)
+read_burst_row room known link message None = effects_told known.name room message.prefix (means room known link message)
 
 -- what a line means that came by a link after its handshake
 unfoldable pub deeds_meant : Room → Known → ℕ → Parsed → Result (List Told) CloseReason
-deeds_meant room known link message = read_row room known link message (row_of message.command)
+deeds_meant room known link message = read_burst_row room known link message (burst_row_of message.command)

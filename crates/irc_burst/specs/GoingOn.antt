@@ -15,8 +15,8 @@ use Rattle.irc_burst_lines.specs.DeedLines.{deed_parts}
 use Rattle.irc_burst.specs.DeedsMeant.{Told, a_deed, a_server, deeds_meant, members_of, as_stored}
 
 -- a line of a server
-abbrev pub line_of : List ℕ → List ℕ → List (List ℕ) → Parsed
-line_of command server params = record { prefix = Some server; command = command; params = params }
+abbrev pub line_from : List ℕ → List ℕ → List (List ℕ) → Parsed
+line_from command server params = record { prefix = Some server; command = command; params = params }
 
 -- what is told is written as this line
 abbrev pub IsWrittenAs : Parsed → Room → Known → Told → Type 0
@@ -30,13 +30,13 @@ GoesOn room known link message = (told : List Told) (writer : Room) (others : Kn
 abbrev pub ModesGoOn : Type 0
 ModesGoOn = (room : Room) (known : Known) (link : ℕ) (server channel : List ℕ) (words : List (List ℕ)) → is_server server ≡ true
     → is_for_channel channel ≡ true
-    → GoesOn room known link (line_of (codes "MODE") server (channel ∷ words))
+    → GoesOn room known link (line_from (codes "MODE") server (channel ∷ words))
 
 abbrev pub TopicsGoOn : Type 0
 TopicsGoOn = (room : Room) (known : Known) (link : ℕ) (server channel topic : List ℕ) → is_server server ≡ true
-    → GoesOn room known link (line_of (codes "TOPIC") server (channel ∷ topic ∷ []))
+    → GoesOn room known link (line_from (codes "TOPIC") server (channel ∷ topic ∷ []))
 
 abbrev pub MembersGoOn : Type 0
 MembersGoOn = (room : Room) (known : Known) (link : ℕ) (server channel text : List ℕ)
     → map (as_stored room) (new_members (is_behind_link known link) room channel (members_of text)) ≡ members_of text
-    → GoesOn room known link (line_of (codes "NJOIN") server (channel ∷ text ∷ []))
+    → GoesOn room known link (line_from (codes "NJOIN") server (channel ∷ text ∷ []))

@@ -1,8 +1,8 @@
 //! The commands of the lines of servers.
 ghost use Rattle.std.specs.Prelude.{◌≡◌};
 ghost use Rattle.std.specs.Option.{option_map};
-ghost use Rattle.irc_burst.specs.DeedsMeant.{row_of};
-ghost use Rattle.irc_burst.specs.Loops.Commands.{row};
+ghost use Rattle.irc_burst.specs.DeedsMeant.{burst_row_of};
+ghost use Rattle.irc_burst.specs.Loops.Commands.{burst_row};
 
 use irc_link_words::is_command;
 
@@ -23,7 +23,7 @@ pub(crate) enum Command {
 
 /// The command that a word is, in any case of letters, if it is one of these.
 pub(crate) fn command_of(word: &[u8]) -> Option<Command>
-    ensures { option_map row result ≡ row_of word.now }
+    ensures { option_map burst_row result ≡ burst_row_of word.now }
 {
     if is_command(b"SERVER", word) {
         Some(Command::Server)

@@ -1,6 +1,6 @@
 //! Why a line of a server is not read.
 ghost use Rattle.std.specs.Prelude.{◌≡◌};
-ghost use Rattle.irc_burst.specs.Loops.Acts.{fault_of};
+ghost use Rattle.irc_burst.specs.Loops.Acts.{burst_fault};
 
 use irc_batch::CloseReason;
 use irc_link_words::WireFault;
@@ -18,7 +18,7 @@ pub enum BurstFault {
 }
 
 impl From<WireFault> for BurstFault {
-    ghost from_gives = { λ wire fault. fault ≡ fault_of wire };
+    ghost from_gives = { λ wire fault. fault ≡ burst_fault wire };
 
     fn from(wire: WireFault) -> Self {
         match wire {

@@ -2,7 +2,7 @@
 ghost use Rattle.std.specs.Prelude.{◌≡◌, Ok, Err, codes, if◌then◌else◌};
 ghost use Rattle.std.specs.Str.{bytes_eq};
 ghost use Rattle.irc_link_words.specs.declared.fault.WireFault.TheVariants.{Parameters};
-ghost use Rattle.irc_burst.specs.Loops.Acts.{Comes, kill_line_at, killed_at, told_if};
+ghost use Rattle.irc_burst.specs.Loops.Acts.{GivesTold, kill_line_at, killed_at, told_if};
 
 use crate::acts::BurstAct;
 use crate::fault::BurstFault;
@@ -16,7 +16,7 @@ pub(crate) fn kill_line(
     server: &[u8],
     mut params: Params<'_>,
 ) -> Result<Option<BurstAct>, BurstFault>
-    ensures { Comes (kill_line_at at.entry server.now params.entry) result }
+    ensures { GivesTold (kill_line_at at.entry server.now params.entry) result }
 {
     let nick = params.next()?;
     let text = params.next()?;

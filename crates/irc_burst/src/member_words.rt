@@ -4,7 +4,7 @@ ghost use Rattle.std.specs.List.{after_first, before_first, list_all, position_o
 ghost use Rattle.irc_channels.specs.declared.flags.Flags.{Flags};
 ghost use Rattle.irc_link_words.specs.declared.fault.WireFault.TheVariants.{BadName, Parameters};
 ghost use Rattle.irc_burst.specs.DeedsMeant.{has_mark, is_comma, member_of, without_mark};
-ghost use Rattle.irc_burst.specs.Loops.Acts.{are_few, are_named, has_nick};
+ghost use Rattle.irc_burst.specs.Loops.Acts.{are_few, are_named, has_member_nick};
 
 use irc_burst_lines::MEMBERS_A_LINE;
 use irc_channels::Flags;
@@ -44,7 +44,7 @@ pub(crate) fn expect_nicks(text: &[u8]) -> Result<(), WireFault>
 
 /// Whether each word between commas is a nickname behind its marks.
 fn are_nicks(text: &[u8]) -> bool
-    ensures { result ≡ list_all has_nick (slice_split is_comma text.now) }
+    ensures { result ≡ list_all has_member_nick (slice_split is_comma text.now) }
 {
     let mut rest = text;
     while first_comma(rest) < rest.len() {
@@ -81,7 +81,7 @@ fn first_comma(text: &[u8]) -> usize
 
 /// Whether a word is a nickname behind its marks.
 fn has_nick(word: &[u8]) -> bool
-    ensures { result ≡ has_nick word.now }
+    ensures { result ≡ has_member_nick word.now }
 {
     is_nick(nick_of(word))
 }

@@ -7,7 +7,7 @@ ghost use Rattle.irc_room.specs.Room.{IsWellFormed};
 ghost use Rattle.irc_merge.specs.BurstRead.{brought, new_members};
 ghost use Rattle.irc_link_reader.specs.Loops.Readings.{reader};
 ghost use Rattle.irc_burst.specs.DeedsMeant.{a_deed, as_stored, first_reason, is_comma, member_of, members_of, njoin_line};
-ghost use Rattle.irc_burst.specs.Loops.Acts.{IsRead, act_told, closes, is_among, members_brought, members_found, members_told, new_nick, njoin_line_at, taken_as_stored, told_if};
+ghost use Rattle.irc_burst.specs.Loops.Acts.{IsActRead, act_told, closes, is_member_among, members_brought, members_found, members_told, new_nick, njoin_line_at, taken_as_stored, told_if};
 
 use crate::acts::{BurstAct, NewMember};
 use crate::fault::BurstFault;
@@ -25,7 +25,7 @@ pub(crate) fn njoin_line(
     server: &[u8],
     params: Params<'_>,
 ) -> Result<Option<BurstAct>, BurstFault>
-    ensures { IsRead (first_reason (njoin_line_at at.entry server.now params.entry)) result }
+    ensures { IsActRead (first_reason (njoin_line_at at.entry server.now params.entry)) result }
 {
     let words = member_words(at, server, params)?;
     match new_members(alloc, at, words.channel.as_bytes(), words.text) {
@@ -149,7 +149,7 @@ fn push_new(
 /// Whether a nickname is one of those of some members.
 #[tactic(auto, using(crate::proofs::MembersInTurn::among_told))]
 fn is_among(members: &[NewMember], nick: &[u8]) -> bool
-    ensures { result ≡ is_among (members_told members.now) nick.now }
+    ensures { result ≡ is_member_among (members_told members.now) nick.now }
 {
     is_named(members, nick)
 }

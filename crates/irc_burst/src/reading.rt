@@ -2,7 +2,7 @@
 ghost use Rattle.std.specs.Prelude.{◌≡◌, Some};
 ghost use Rattle.irc_line.specs.MessageViews.{optional_now, parsed};
 ghost use Rattle.irc_burst.specs.DeedsMeant.{server_of};
-ghost use Rattle.irc_burst.specs.Loops.Acts.{IsBurstMeant, IsListed, IsRead, IsReadIn, effects_at};
+ghost use Rattle.irc_burst.specs.Loops.Acts.{IsBurstMeant, AreActsListed, IsActRead, IsReadIn, effects_at};
 ghost use Rattle.irc_burst.specs.Loops.Commands.{comes_to};
 
 use crate::acts::BurstAct;
@@ -49,7 +49,7 @@ fn listed(
     alloc: Global,
     read: Result<Option<BurstAct>, BurstFault>,
 ) -> Result<Vec<BurstAct, Global>, BurstFault>
-    ensures { IsListed read result }
+    ensures { AreActsListed read result }
 {
     let mut acts = Vec::new(alloc);
     if let Some(act) = read? {
@@ -97,7 +97,7 @@ fn read_command(
     command: Command,
     message: &Message<'_>,
 ) -> Result<Option<BurstAct>, BurstFault>
-    ensures { IsRead (comes_to command at.entry
+    ensures { IsActRead (comes_to command at.entry
         (parsed message.now).prefix (parsed message.now).params) result }
 {
     let params = Params::new(message.params.as_slice());
@@ -120,7 +120,7 @@ fn line_of_server(
     server: &[u8],
     params: Params<'_>,
 ) -> Result<Option<BurstAct>, BurstFault>
-    ensures { IsRead (comes_to command at.entry (Some server.now) params.entry) result }
+    ensures { IsActRead (comes_to command at.entry (Some server.now) params.entry) result }
 {
     match command {
         Command::Server => server_line(at, Some(server), params),

@@ -6,7 +6,7 @@ ghost use Rattle.irc_link_reader.specs.Loops.Readings.{reader};
 ghost use Rattle.irc_routes.specs.Info.{is_info};
 ghost use Rattle.irc_routes.specs.Known.{is_known};
 ghost use Rattle.irc_burst.specs.DeedsMeant.{first_reason, only_first, pass_line};
-ghost use Rattle.irc_burst.specs.Loops.Acts.{closes, found, is_next_at, is_one_further, may_be_lost, server_judged_at, server_line_at, squit_line_at, Comes};
+ghost use Rattle.irc_burst.specs.Loops.Acts.{closes, is_next_at, is_one_further, may_be_lost, server_judged_at, server_line_at, squit_line_at, told_found, GivesTold};
 
 use crate::acts::BurstAct;
 use crate::fault::BurstFault;
@@ -22,7 +22,7 @@ pub(crate) fn server_line(
     prefix: Option<&[u8]>,
     params: Params<'_>,
 ) -> Result<Option<BurstAct>, BurstFault>
-    ensures { Comes (server_line_at at.entry (optional_now prefix.entry) params.entry) result }
+    ensures { GivesTold (server_line_at at.entry (optional_now prefix.entry) params.entry) result }
 {
     match prefix {
         Some(uplink) => later_server(at, uplink, params),
@@ -45,7 +45,7 @@ fn later_server(
     uplink: &[u8],
     mut params: Params<'_>,
 ) -> Result<Option<BurstAct>, BurstFault>
-    ensures { Comes (server_line_at at.entry (Some uplink.now) params.entry) result }
+    ensures { GivesTold (server_line_at at.entry (Some uplink.now) params.entry) result }
 {
     let name = params.next()?;
     let distance = params.next()?;
@@ -67,7 +67,7 @@ fn server_told(
     uplink: &[u8],
     words: ServerWords<'_>,
 ) -> Result<Option<BurstAct>, BurstFault>
-    ensures { Comes (server_judged_at at.entry uplink.now words.entry) result }
+    ensures { GivesTold (server_judged_at at.entry uplink.now words.entry) result }
 {
     let distance = read_number(words.distance)?;
     let token = read_number(words.token)?;
@@ -135,7 +135,7 @@ pub(crate) fn pass_line(
     prefix: Option<&[u8]>,
     params: Params<'_>,
 ) -> Result<Option<BurstAct>, BurstFault>
-    ensures { Comes (pass_line (optional_now prefix.entry) params.entry) result }
+    ensures { GivesTold (pass_line (optional_now prefix.entry) params.entry) result }
 {
     match prefix {
         Some(_) => Err(BurstFault::Closes(CloseReason::Parameters)),
@@ -145,7 +145,7 @@ pub(crate) fn pass_line(
 
 /// A line that stands at the beginning of a link alone, with these parameters or with others.
 fn only_first(are_parameters: bool) -> Result<Option<BurstAct>, BurstFault>
-    ensures { found result ≡ closes (first_reason (only_first are_parameters)) }
+    ensures { told_found result ≡ closes (first_reason (only_first are_parameters)) }
 {
     if are_parameters {
         Err(BurstFault::Closes(CloseReason::Order))
@@ -160,7 +160,7 @@ pub(crate) fn squit_line(
     server: &[u8],
     mut params: Params<'_>,
 ) -> Result<Option<BurstAct>, BurstFault>
-    ensures { Comes (squit_line_at at.entry server.now params.entry) result }
+    ensures { GivesTold (squit_line_at at.entry server.now params.entry) result }
 {
     let name = params.next()?;
     let text = params.next()?;

@@ -6,8 +6,8 @@ use Rattle.irc_batch.specs.Batches.{Sent, end_of, end_of_link, line_on, line_to}
 use Rattle.irc_relay.specs.Links.{Name}
 use Rattle.irc_server.specs.Served.{Occurrence}
 use Rattle.irc_stage.specs.View.{View}
-use Rattle.irc_network.specs.Network.{Course, Network, Reply, Site, all_sent_out, asked, asked_at, changed_at, has_received, has_received_at, place_of, queued, reply, sent_out, site_at, view_of, with_reply, with_site}
-use Rattle.irc_byte_network.specs.Behind.{Ahead, behind, course_behind, site_behind, sites_behind}
+use Rattle.irc_network.specs.Network.{Course, Network, Reply, Site, all_sent_out, site_asked, asked_at, site_changed_at, has_received, has_received_at, server_place, line_queued, reply, sent_out, site_at, site_view, with_reply, with_site}
+use Rattle.irc_byte_network.specs.Behind.{Ahead, net_behind, course_behind, site_behind, sites_behind}
 use Rattle.irc_byte_network.proofs.Ways.{queued_behind}
 
 -- ---- sites by place
@@ -26,36 +26,36 @@ set-behind ahead (first ∷ sites) (suc place) site =
     ap (λ more. site_behind (ahead 0) first ∷ more) (set-behind (λ n. ahead (suc n)) sites place site)
 
 module _ (ahead : Ahead) where
-  pub at-behind : (net : Network) (place : ℕ) → site_at (behind ahead net) place ≡ option_map (site_behind (ahead place)) (site_at net place)
+  pub at-behind : (net : Network) (place : ℕ) → site_at (net_behind ahead net) place ≡ option_map (site_behind (ahead place)) (site_at net place)
   at-behind net place = get-behind ahead net.sites place
 
   pub put-behind : (place : ℕ) (site : Site) (net : Network)
-      → with_site place (site_behind (ahead place) site) (behind ahead net) ≡ behind ahead (with_site place site net)
+      → with_site place (site_behind (ahead place) site) (net_behind ahead net) ≡ net_behind ahead (with_site place site net)
   put-behind place site net = ap (λ sites. record net { sites = sites }) (set-behind ahead net.sites place site)
 
   -- a change of a site that looks at no line
   pub changed-behind : (place : ℕ) (change : Site → Site) (net : Network)
       → ((site : Site) → change (site_behind (ahead place) site) ≡ site_behind (ahead place) (change site))
-      → changed_at place change (behind ahead net) ≡ behind ahead (changed_at place change net)
+      → site_changed_at place change (net_behind ahead net) ≡ net_behind ahead (site_changed_at place change net)
   changed-behind place change net alike =
-      ap (λ o. option_map_or (λ site. with_site place (change site) (behind ahead net)) o (behind ahead net)) (at-behind net place)
+      ap (λ o. option_map_or (λ site. with_site place (change site) (net_behind ahead net)) o (net_behind ahead net)) (at-behind net place)
       ∙ by (site_at net place)
     where
-      by : (o : Option Site) → option_map_or (λ site. with_site place (change site) (behind ahead net)) (option_map (site_behind (ahead place)) o)
-          (behind ahead net)
-          ≡ behind ahead (option_map_or (λ site. with_site place (change site) net) o net)
+      by : (o : Option Site) → option_map_or (λ site. with_site place (change site) (net_behind ahead net)) (option_map (site_behind (ahead place)) o)
+          (net_behind ahead net)
+          ≡ net_behind ahead (option_map_or (λ site. with_site place (change site) net) o net)
       by None = refl
-      by (Some site) = ap (λ s. with_site place s (behind ahead net)) (alike site) ∙ put-behind place (change site) net
+      by (Some site) = ap (λ s. with_site place s (net_behind ahead net)) (alike site) ∙ put-behind place (change site) net
 
-  pub viewed-behind : (net : Network) (name : Name) → view_of (behind ahead net) name ≡ view_of net name
-  viewed-behind net name = by_place (place_of net name)
+  pub viewed-behind : (net : Network) (name : Name) → site_view (net_behind ahead net) name ≡ site_view net name
+  viewed-behind net name = by_place (server_place net name)
     where
       by_site : (o : Option Site) (place : ℕ) → option_and_then (λ (site : Site). site.server) (option_map (site_behind (ahead place)) o)
           ≡ option_and_then (λ (site : Site). site.server) o
       by_site None place = refl
       by_site (Some site) place = refl
 
-      by_place : (o : Option ℕ) → option_and_then (λ (site : Site). site.server) (option_and_then (site_at (behind ahead net)) o)
+      by_place : (o : Option ℕ) → option_and_then (λ (site : Site). site.server) (option_and_then (site_at (net_behind ahead net)) o)
           ≡ option_and_then (λ (site : Site). site.server) (option_and_then (site_at net) o)
       by_place None = refl
       by_place (Some place) = ap (option_and_then (λ (site : Site). site.server)) (at-behind net place) ∙ by_site (site_at net place) place
@@ -77,7 +77,7 @@ module _ (ahead : Ahead) where
   sent-behind place (line_to client text) course = received-behind client text course
   sent-behind place (end_of client) course = refl
   sent-behind place (line_on to text) course =
-      ap (λ net. record course { net = net }) (changed-behind place (queued to text) course.net (queued_behind (ahead place) to text))
+      ap (λ net. record course { net = net }) (changed-behind place (line_queued to text) course.net (queued_behind (ahead place) to text))
   sent-behind place (end_of_link to reason) course = refl
 
   all-sent-behind : (place : ℕ) (out : List Sent) (course : Course)
@@ -95,8 +95,8 @@ module _ (ahead : Ahead) where
       ∙ all-sent-behind place r.out (record course { net = with_site place (record site { server = Some r.view }) course.net })
 
   pub asked-behind : (place : ℕ) (occurrence : Occurrence) (course : Course)
-      → asked place occurrence (course_behind ahead course) ≡ course_behind ahead (asked place occurrence course)
-  unfolding asked
+      → site_asked place occurrence (course_behind ahead course) ≡ course_behind ahead (site_asked place occurrence course)
+  unfolding site_asked
   asked-behind place occurrence course =
       ap (λ o. option_map_or (asked_at place occurrence (course_behind ahead course)) o (course_behind ahead course)) (at-behind course.net place)
       ∙ by_site (site_at course.net place)

@@ -4,10 +4,10 @@ use Rattle.std.specs.List.{slice_get, slice_set}
 use Rattle.std.specs.Option.{option_map_or}
 use Rattle.std.specs.FinMap.{FinMap, remove}
 use Rattle.std.specs.Ordering.{nat_cmp}
-use Rattle.irc_network.specs.Network.{Course, Ends, Network, Receipt, given}
+use Rattle.irc_network.specs.Network.{Course, LinkPlaces, Network, Receipt, given}
 use Rattle.irc_world.specs.Stepping.{Item}
 use Rattle.irc_wires.specs.Wires.{Direction, Wire, Wires, advanced, first_direction, wire_at, with_wire, without_wire}
-use Rattle.irc_byte_network.specs.ByteNetwork.{ByteCourse, ByteNetwork, HasRows, all_heard, bytes_come, completed_in, course_without_wires, course_written, item_given, lost_along, wires_after, wires_come, written_out}
+use Rattle.irc_byte_network.specs.ByteNetwork.{ByteCourse, ByteNetwork, HasRows, all_heard, bytes_come, completed_in, course_without_wires, course_written, item_given, lost_along, wires_after, wires_come, queues_written}
 use Rattle.irc_byte_network.specs.Turns.{TurnsBy, bytes_in_turn, lines_in, turn_in}
 use Rattle.irc_byte_network.proofs.SitesStay.{all_heard_stay, given_stays}
 use Rattle.irc_byte_network.proofs.WritingOut.{length_set, rows_stay}
@@ -21,7 +21,7 @@ one_closed from to wires = by (slice_get wires from)
     by None = refl
     by (Some row) = length_set wires from (remove row to)
 
-closed_rows : (lost : Option Ends) (wires : Wires) → length (lost_along lost wires) ≡ length wires
+closed_rows : (lost : Option LinkPlaces) (wires : Wires) → length (lost_along lost wires) ≡ length wires
 closed_rows None wires = refl
 closed_rows (Some ends) wires = one_closed ends.far ends.near (without_wire ends.near ends.far wires) ∙ one_closed ends.near ends.far wires
 
@@ -48,21 +48,21 @@ abbrev kept_on : ByteNetwork → List Receipt → ByteCourse
 kept_on net receipts = record { net = net; receipts = receipts }
 
 pub was_given : (old new : ByteNetwork) (item : Item) (after : List Receipt) (last : Course) (wires : Wires) → last ≡ given item old.network
-    → wires ≡ wires_after old.network item old.wires → new ≡ written_out last.net wires → after ≡ last.receipts
+    → wires ≡ wires_after old.network item old.wires → new ≡ queues_written last.net wires → after ≡ last.receipts
     → kept_on new after ≡ item_given item old
 unfolding item_given
 was_given old new item after last wires last_is wires_are written received =
-    ap (λ net. kept_on net after) written ∙ ap (kept_on (written_out last.net wires)) received
+    ap (λ net. kept_on net after) written ∙ ap (kept_on (queues_written last.net wires)) received
     ∙ ap (course_written last) wires_are ∙ ap (λ course. course_written course (wires_after old.network item old.wires)) last_is
 
 -- ---- bytes have come
 
 pub have_come : (from to count : ℕ) (old : ByteCourse) (new : ByteNetwork) (after : List Receipt) (last : Course) (wires : Wires)
     → last ≡ all_heard from to (course_without_wires old) (completed_in old.net from to count) → wires ≡ wires_come old.net from to count
-    → new ≡ written_out last.net wires → after ≡ last.receipts → kept_on new after ≡ bytes_come from to count old
+    → new ≡ queues_written last.net wires → after ≡ last.receipts → kept_on new after ≡ bytes_come from to count old
 unfolding bytes_come
 have_come from to count old new after last wires last_is wires_are written received =
-    ap (λ net. kept_on net after) written ∙ ap (kept_on (written_out last.net wires)) received
+    ap (λ net. kept_on net after) written ∙ ap (kept_on (queues_written last.net wires)) received
     ∙ ap (course_written last) wires_are ∙ ap (λ course. course_written course (wires_come old.net from to count)) last_is
 
 -- ---- a turn

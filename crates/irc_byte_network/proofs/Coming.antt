@@ -8,10 +8,10 @@ use Rattle.irc_line.specs.Lines.{IsLine}
 use Rattle.irc_network.specs.Network.{Course, Network, Receipt, Site, site_at, waiting, heard}
 use Rattle.irc_wires.specs.Wires.{Wire, Wires, advanced, lines_to_come, wire_at, with_wire}
 use Rattle.irc_wires.specs.Lemmas.PutWires.{IsSetAt, it, nowhere, other_from, other_to, wire_set}
-use Rattle.irc_byte_network.specs.Behind.{Ahead, behind, course_behind, emptied, site_behind}
-use Rattle.irc_byte_network.specs.ByteNetwork.{ByteNetwork, all_heard, all_written, bytes_come, completed_in, in_lines, lines_ahead, waiting_at, written_out}
+use Rattle.irc_byte_network.specs.Behind.{Ahead, net_behind, course_behind, emptied, site_behind}
+use Rattle.irc_byte_network.specs.ByteNetwork.{ByteNetwork, all_heard, all_written, bytes_come, completed_in, net_in_lines, lines_ahead, waiting_at, queues_written}
 use Rattle.irc_byte_network.specs.Loops.Writing.{IsWritten}
-use Rattle.irc_byte_network.specs.Whole.{AreLines, BytesComeAsLines, ComeAsLines, Delivers, IsWhole, IsWholeNet, has_way, no_more, one_first}
+use Rattle.irc_byte_network.specs.Whole.{AreLinesWaiting, BytesComeAsLines, ComeAsLines, Delivers, IsWhole, IsWholeNet, has_way, no_more, one_first}
 use Rattle.irc_byte_network.proofs.Behind.{at-behind}
 use Rattle.irc_byte_network.proofs.Calls.{rows_after_lines}
 use Rattle.irc_byte_network.proofs.Delivered.{IsLeftOn, one_delivered, same_sites}
@@ -185,7 +185,7 @@ module _ (known : IsKnownOfStreams) (old : ByteNetwork) (from to count : ℕ) (b
   all_behind [] ys all = all
   all_behind (x ∷ xs) ys all = all_behind xs ys all.1
 
-  put_out_are : AreLines (behind now last.net) → (x y : ℕ) → AllByRecursion IsLine (waiting_at last.net x y)
+  put_out_are : AreLinesWaiting (net_behind now last.net) → (x y : ℕ) → AllByRecursion IsLine (waiting_at last.net x y)
   put_out_are are x y = by_site (site_at last.net x) refl
     where
       by_way : (site : Site) → site_at last.net x ≡ Some site → (o : Option (List (List ℕ))) → get site.queues y ≡ o → AllByRecursion IsLine (unwrap_or o [])
@@ -199,7 +199,7 @@ module _ (known : IsKnownOfStreams) (old : ByteNetwork) (from to count : ℕ) (b
       by_site None at = tt
       by_site (Some site) at = by_way site at (get site.queues y) refl
 
-  module _ (new : ByteNetwork) (written : IsWritten last.net between new) (are : AreLines (behind now last.net)) where
+  module _ (new : ByteNetwork) (written : IsWritten last.net between new) (are : AreLinesWaiting (net_behind now last.net)) where
     wire_is : (x y : ℕ) → wire_at new.wires x y ≡ all_written (waiting_at last.net x y) (wire_at between x y)
     wire_is x y = written.wires_are x y
 
@@ -212,8 +212,8 @@ module _ (known : IsKnownOfStreams) (old : ByteNetwork) (from to count : ℕ) (b
     network_is : new.network ≡ emptied last.net
     network_is = written.network_is
 
-    after_is : in_lines new ≡ behind now last.net
-    after_is = ap (behind (lines_ahead new.wires)) network_is ∙ refilled now (lines_ahead new.wires) last.net lines_are
+    after_is : net_in_lines new ≡ net_behind now last.net
+    after_is = ap (net_behind (lines_ahead new.wires)) network_is ∙ refilled now (lines_ahead new.wires) last.net lines_are
 
     all_ways : (ls : List (List ℕ)) (course : Course) (x y : ℕ) → has_way (all_heard from to course ls).net x y ≡ has_way course.net x y
     all_ways [] course x y = refl
@@ -247,7 +247,7 @@ module _ (known : IsKnownOfStreams) (old : ByteNetwork) (from to count : ℕ) (b
           ∙ none_there last.net x y (all_ways lines start x y ∙ before);
     }
 
-  all_is_written : IsWritten last.net between (written_out last.net between)
+  all_is_written : IsWritten last.net between (queues_written last.net between)
   all_is_written =
       is_written last.net between (lean_with from to (advanced count wire) old.wires whole.tidy.lean)
       (rows_after_lines old from to count lines before last between whole.tidy.rows refl refl)
@@ -257,8 +257,8 @@ module _ (known : IsKnownOfStreams) (old : ByteNetwork) (from to count : ℕ) (b
   as_lines = record {
     last = course_behind now last;
     delivers = delivers;
-    as_lines = λ are. ap (with_net last) (after_is (written_out last.net between) all_is_written are);
-    whole = whole_now (written_out last.net between) all_is_written;
+    as_lines = λ are. ap (with_net last) (after_is (queues_written last.net between) all_is_written are);
+    whole = whole_now (queues_written last.net between) all_is_written;
   }
 
 pub bytes_come_as_lines : IsKnownOfStreams → BytesComeAsLines

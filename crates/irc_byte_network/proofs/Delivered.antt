@@ -6,8 +6,8 @@ use Rattle.std.specs.Option.{option_and_then}
 use Rattle.irc_line.specs.Reading.{read_of}
 use Rattle.irc_server.specs.Served.{link_says}
 use Rattle.irc_stage.specs.Lemmas.Numbers.{get-with, one_number, same_number, same_number-refl}
-use Rattle.irc_network.specs.Network.{Course, Site, asked, counted, delivered, left, site_at, taken_of, waiting, with_site, heard}
-use Rattle.irc_byte_network.specs.Behind.{Ahead, behind, course_behind, each_way, site_behind, sites_behind}
+use Rattle.irc_network.specs.Network.{Course, Site, site_asked, line_counted, delivered, left, site_at, taken_of, waiting, with_site, heard}
+use Rattle.irc_byte_network.specs.Behind.{Ahead, net_behind, course_behind, each_way, site_behind, sites_behind}
 use Rattle.irc_byte_network.proofs.Behind.{asked-behind, at-behind}
 use Rattle.irc_byte_network.proofs.Ways.{get-each_way, same_ways, waiting_behind}
 
@@ -80,7 +80,7 @@ module _ (from to : ℕ) (line : List ℕ) (rest : List (List ℕ)) (ahead now :
           ∙ ap (λ n. option_map (λ more. now from n ++ more) (get site.queues n)) (sym (one_number q to one))
       by q false two = others q (get site.queues q) (is_left.same_from q (apart q two))
 
-  net_left : with_site from (left to (rest ++ lines) (site_behind (ahead from) site)) (behind ahead course.net) ≡ behind now course.net
+  net_left : with_site from (left to (rest ++ lines) (site_behind (ahead from) site)) (net_behind ahead course.net) ≡ net_behind now course.net
   net_left = ap (λ sites. record course.net { sites = sites })
       (ap (slice_set (sites_behind ahead course.net.sites) from) site_left ∙ set_other from ahead now course.net.sites site at is_left.others)
 
@@ -91,5 +91,5 @@ module _ (from to : ℕ) (line : List ℕ) (rest : List (List ℕ)) (ahead now :
       (at-behind ahead course.net from ∙ ap (option_map (site_behind (ahead from))) at)
       ∙ ap (taken_of from to (course_behind ahead course) (site_behind (ahead from) site))
       (waiting_behind (ahead from) site to lines way ∙ ap (λ front. front ++ lines) first)
-      ∙ ap (λ net. Some (asked to (link_says from (read_of line)) (record course { net = counted net }))) net_left
-      ∙ ap Some (asked-behind now to (link_says from (read_of line)) (record course { net = counted course.net }))
+      ∙ ap (λ net. Some (site_asked to (link_says from (read_of line)) (record course { net = line_counted net }))) net_left
+      ∙ ap Some (asked-behind now to (link_says from (read_of line)) (record course { net = line_counted course.net }))

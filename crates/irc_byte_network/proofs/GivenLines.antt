@@ -7,10 +7,10 @@ use Rattle.irc_line.specs.Lines.{HasTaken, IsLine, nothing_begun, stream_for}
 use Rattle.irc_network.specs.Network.{Course, Network, Site, given, site_at, waiting}
 use Rattle.irc_world.specs.Stepping.{Item}
 use Rattle.irc_wires.specs.Wires.{Wires, lines_to_come, new_wire, wire_at}
-use Rattle.irc_byte_network.specs.Behind.{behind}
-use Rattle.irc_byte_network.specs.ByteNetwork.{ByteNetwork, all_written, cut_ends, in_lines, is_byte_rest, item_given, lines_ahead, waiting_at, wires_after, written_out}
+use Rattle.irc_byte_network.specs.Behind.{net_behind}
+use Rattle.irc_byte_network.specs.ByteNetwork.{ByteNetwork, all_written, cut_ends, net_in_lines, is_byte_rest, item_given, lines_ahead, waiting_at, wires_after, queues_written}
 use Rattle.irc_byte_network.specs.Loops.Writing.{IsWritten}
-use Rattle.irc_byte_network.specs.Whole.{AreLines, GivenAsLines, IsGivenAsLines, IsTidy, IsWhole, IsWholeNet, has_way}
+use Rattle.irc_byte_network.specs.Whole.{AreLinesWaiting, GivenAsLines, IsGivenAsLines, IsTidy, IsWhole, IsWholeNet, has_way}
 use Rattle.irc_byte_network.proofs.Calls.{rows_after_item}
 use Rattle.irc_byte_network.proofs.Refilled.{alone, emptied_waits, emptied_ways, refilled}
 use Rattle.irc_byte_network.proofs.RowsWritten.{is_written, lean_along}
@@ -21,7 +21,7 @@ abbrev pub with_net : Course → Network → Course
 with_net course net = record course { net = net }
 
 -- what waits at a place are lines
-pub lines_there : (net : Network) → AreLines net → (from to : ℕ) → AllByRecursion IsLine (waiting_at net from to)
+pub lines_there : (net : Network) → AreLinesWaiting net → (from to : ℕ) → AllByRecursion IsLine (waiting_at net from to)
 lines_there net are from to = by (site_at net from) refl
   where
     by : (o : Option Site) → site_at net from ≡ o → AllByRecursion IsLine (option_map_or (λ site. waiting site to) o [])
@@ -45,7 +45,7 @@ module _ (known : IsKnownOfStreams) (real_new : HasTaken nothing_begun (stream_f
   still : (from to : ℕ) → wire_at old.wires from to ≡ new_wire
   still = all_new old.wires rest
 
-  before : in_lines old ≡ old.network
+  before : net_in_lines old ≡ old.network
   before = alone (lines_ahead old.wires) old.network (λ from to. ap lines_to_come (still from to) ∙ new_has_none known real_new)
 
   abbrev net : Network
@@ -57,7 +57,7 @@ module _ (known : IsKnownOfStreams) (real_new : HasTaken nothing_begun (stream_f
   as_new : (from to : ℕ) → wire_at wires from to ≡ new_wire
   as_new = nothing_lost (cut_ends old.network item) old.wires still
 
-  module _ (new : ByteNetwork) (written : IsWritten net wires new) (are : AreLines net) where
+  module _ (new : ByteNetwork) (written : IsWritten net wires new) (are : AreLinesWaiting net) where
     wire_is : (from to : ℕ) → wire_at new.wires from to ≡ all_written (waiting_at net from to) new_wire
     wire_is from to = written.wires_are from to ∙ ap (all_written (waiting_at net from to)) (as_new from to)
 
@@ -67,9 +67,9 @@ module _ (known : IsKnownOfStreams) (real_new : HasTaken nothing_begun (stream_f
         ∙ (all_are_written known new_wire (waiting_at net from to) (new_is_whole known real_new) (lines_there net are from to)).lines_are
         ∙ ap (λ front. front ++ waiting_at net from to) (new_has_none known real_new)
 
-    after : in_lines new ≡ net
+    after : net_in_lines new ≡ net
     after =
-        ap (behind (lines_ahead new.wires)) written.network_is
+        ap (net_behind (lines_ahead new.wires)) written.network_is
         ∙ refilled (λ from to. []) (lines_ahead new.wires) net lines_are
         ∙ alone (λ from to. []) net (λ from to. refl)
 
@@ -86,18 +86,18 @@ module _ (known : IsKnownOfStreams) (real_new : HasTaken nothing_begun (stream_f
           ∙ none_there net from to (sym (emptied_ways net from to) ∙ subst (λ n. has_way n from to ≡ false) written.network_is none);
     }
 
-  all_is_written : IsTidy old → IsWritten net wires (written_out net wires)
+  all_is_written : IsTidy old → IsWritten net wires (queues_written net wires)
   all_is_written tidy =
       is_written net wires (lean_along (cut_ends old.network item) old.wires tidy.lean)
       (rows_after_item old item net wires tidy.rows refl refl)
 
-  as_lines : IsTidy old → AreLines (given item (in_lines old)).net → IsGivenAsLines old item
+  as_lines : IsTidy old → AreLinesWaiting (given item (net_in_lines old)).net → IsGivenAsLines old item
   unfolding item_given
   as_lines tidy are =
-      let are_now = subst (λ n. AreLines (given item n).net) before are in
+      let are_now = subst (λ n. AreLinesWaiting (given item n).net) before are in
       record {
-        as_lines = ap (with_net (given item old.network)) (after (written_out net wires) (all_is_written tidy) are_now) ∙ ap (given item) (sym before);
-        whole = whole_now (written_out net wires) (all_is_written tidy) are_now;
+        as_lines = ap (with_net (given item old.network)) (after (queues_written net wires) (all_is_written tidy) are_now) ∙ ap (given item) (sym before);
+        whole = whole_now (queues_written net wires) (all_is_written tidy) are_now;
       }
 
 pub given_as_lines : IsKnownOfStreams → HasTaken nothing_begun (stream_for nothing_begun) → GivenAsLines

@@ -12,7 +12,7 @@ use Rattle.irc_tables.specs.Lemmas.OrderedEntries.{above-is, find-above}
 use Rattle.irc_network.specs.Network.{Network, Site, waiting}
 use Rattle.irc_wires.specs.Wires.{AreLean, Direction, IsLean, Wire, Wires, advanced, first_direction, is_still, new_wire, put_in, wire_at, wire_in}
 use Rattle.irc_wires.specs.Lemmas.PutWires.{get-put}
-use Rattle.irc_byte_network.specs.ByteNetwork.{ByteCourse, ByteNetwork, all_heard, all_written, bytes_come, completed_in, course_without_wires, course_written, row_written, rows_written, waiting_at, wires_come, written_out}
+use Rattle.irc_byte_network.specs.ByteNetwork.{ByteCourse, ByteNetwork, all_heard, all_written, bytes_come, completed_in, course_without_wires, course_written, row_written, rows_written, waiting_at, wires_come, queues_written}
 use Rattle.irc_byte_network.specs.Turns.{bytes_in_turn, lines_in, lines_in_turn, turn_in, turn_taken}
 use Rattle.irc_byte_network.specs.Whole.{IsTidy}
 use Rattle.irc_byte_network.proofs.RowsWritten.{lean_with}
@@ -80,7 +80,7 @@ rows_alone (site ∷ sites) (row ∷ wires) none lean =
     λ i. row_alone (entries site.queues) row lean.0 (ways_none site (none 0)) i ∷ rows_alone sites wires (λ place. none (suc place)) lean.1 i
 
 pub nothing_written : (net : Network) (wires : Wires) → ((from to : ℕ) → waiting_at net from to ≡ []) → AreLean wires
-    → written_out net wires ≡ record { network = net; wires = wires }
+    → queues_written net wires ≡ record { network = net; wires = wires }
 nothing_written net wires none lean =
     ap (λ (n : Network). record { network = n; wires = rows_written net.sites wires }) (sym (rest_is_emptied net none))
     ∙ ap (λ (ws : Wires). record { network = net; wires = ws }) (rows_alone net.sites wires none lean)

@@ -4,7 +4,7 @@ use Rattle.std.specs.FinMap.{get}
 use Rattle.std.specs.List.{slice_get}
 use Rattle.std.specs.Option.{option_and_then, option_map_or}
 use Rattle.irc_network.specs.Network.{Network, Site, waiting}
-use Rattle.irc_byte_network.specs.Behind.{Ahead, behind, each_way, emptied, emptied_site, site_behind, sites_behind}
+use Rattle.irc_byte_network.specs.Behind.{Ahead, net_behind, each_way, emptied, emptied_site, site_behind, sites_behind}
 use Rattle.irc_byte_network.specs.ByteNetwork.{waiting_at}
 use Rattle.irc_byte_network.specs.Whole.{has_way}
 use Rattle.irc_byte_network.proofs.Ways.{each_alike, each_twice, get-each_way, same_ways}
@@ -25,7 +25,7 @@ sites_refilled ahead now (site ∷ sites) are = λ i.
     ∷ sites_refilled (λ place. ahead (suc place)) (λ place. now (suc place)) sites (λ place. are (suc place)) i
 
 pub refilled : (ahead now : Ahead) (net : Network) → ((from to : ℕ) → now from to ≡ ahead from to ++ waiting_at net from to)
-    → behind now (emptied net) ≡ behind ahead net
+    → net_behind now (emptied net) ≡ net_behind ahead net
 refilled ahead now net are = ap (λ sites. record net { sites = sites }) (sites_refilled ahead now net.sites are)
 
 -- ---- nothing is ahead
@@ -44,7 +44,7 @@ sites_alone ahead [] none = refl
 sites_alone ahead (site ∷ sites) none = λ i.
     site_alone (ahead 0) site (none 0) i ∷ sites_alone (λ place. ahead (suc place)) sites (λ place. none (suc place)) i
 
-pub alone : (ahead : Ahead) (net : Network) → ((from to : ℕ) → ahead from to ≡ []) → behind ahead net ≡ net
+pub alone : (ahead : Ahead) (net : Network) → ((from to : ℕ) → ahead from to ≡ []) → net_behind ahead net ≡ net
 alone ahead net none = ap (λ sites. record net { sites = sites }) (sites_alone ahead net.sites none)
 
 -- ---- what was emptied has its ways, and no line waits on them

@@ -7,12 +7,12 @@ use Rattle.std.specs.FinMap.Entries.{below_all, is_sorted}
 use Rattle.std.specs.List.{slice_get, slice_set}
 use Rattle.std.specs.Option.{option_map_or}
 use Rattle.std.specs.Ordering.{nat_cmp}
-use Rattle.irc_network.specs.Network.{Ends, Network, Site, waiting}
+use Rattle.irc_network.specs.Network.{LinkPlaces, Network, Site, waiting}
 use Rattle.irc_tables.specs.Lemmas.OrderedEntries.{above-is, find-above}
 use Rattle.irc_wires.specs.Wires.{AreLean, IsLean, SameWires, Wire, Wires, is_still, put_in, wire_at, wire_in, with_wire, without_wire}
 use Rattle.irc_wires.specs.Lemmas.PutWires.{get-put, get-without, wire_put}
 use Rattle.irc_byte_network.specs.Behind.{emptied_site}
-use Rattle.irc_byte_network.specs.ByteNetwork.{ByteNetwork, all_written, lost_along, row_written, rows_written, written_out}
+use Rattle.irc_byte_network.specs.ByteNetwork.{ByteNetwork, all_written, lost_along, row_written, rows_written, queues_written}
 use Rattle.irc_byte_network.specs.Loops.Writing.{IsWritten}
 
 abbrev Row : Type 0
@@ -101,7 +101,7 @@ one_closed from to wires lean = by (slice_get wires from) refl
     by None is = lean
     by (Some row) is = lean_set wires from (remove row to) (lean_without row to (lean_at wires from row is lean)) lean
 
-pub lean_along : (lost : Option Ends) (wires : Wires) → AreLean wires → AreLean (lost_along lost wires)
+pub lean_along : (lost : Option LinkPlaces) (wires : Wires) → AreLean wires → AreLean (lost_along lost wires)
 lean_along None wires lean = lean
 lean_along (Some ends) wires lean = one_closed ends.far ends.near (without_wire ends.near ends.far wires) (one_closed ends.near ends.far wires lean)
 
@@ -125,7 +125,7 @@ as_many [] wires long = long
 as_many (site ∷ sites) [] long = cc long
 as_many (site ∷ sites) (row ∷ wires) long = ap suc (as_many sites wires (less (length wires) (length sites) long))
 
-pub is_written : (net : Network) (wires : Wires) → AreLean wires → length wires ≡ length net.sites → IsWritten net wires (written_out net wires)
+pub is_written : (net : Network) (wires : Wires) → AreLean wires → length wires ≡ length net.sites → IsWritten net wires (queues_written net wires)
 is_written net wires lean long = record {
   network_is = refl;
   wires_are = λ from to. rows_at net.sites wires from to long;

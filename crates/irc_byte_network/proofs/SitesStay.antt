@@ -8,7 +8,7 @@ use Rattle.irc_server.specs.Served.{Occurrence, link_says, of_client}
 use Rattle.irc_stage.specs.Handle.{connects, goes, says}
 use Rattle.irc_stage.specs.View.{View}
 use Rattle.irc_world.specs.Stepping.{Item, connect, line, gone, link, cut}
-use Rattle.irc_network.specs.Network.{Course, Ends, Network, Site, all_sent_out, asked, asked_at, asked_of, begun, changed_at, counted, done_by, ends_of, given, has_received, has_received_at, heard, home_place, lost, made, next_client, place_of, queued, reply, sent_out, site_at, with_client, with_reply, with_site, with_way, without_way}
+use Rattle.irc_network.specs.Network.{Course, LinkPlaces, Network, Site, all_sent_out, site_asked, asked_at, site_asked_if, begun, site_changed_at, line_counted, done_by, link_places, given, has_received, has_received_at, heard, home_place, servers_parted, servers_linked, next_client, server_place, line_queued, reply, sent_out, site_at, with_client, with_reply, with_site, with_way, without_way}
 use Rattle.irc_byte_network.specs.ByteNetwork.{all_heard}
 
 abbrev pub servers : Network → ℕ
@@ -22,7 +22,7 @@ length_set (first ∷ sites) (suc place) site = ap suc (length_set sites place s
 put_stays : (place : ℕ) (site : Site) (net : Network) → servers (with_site place site net) ≡ servers net
 put_stays place site net = length_set net.sites place site
 
-changed_stays : (place : ℕ) (change : Site → Site) (net : Network) → servers (changed_at place change net) ≡ servers net
+changed_stays : (place : ℕ) (change : Site → Site) (net : Network) → servers (site_changed_at place change net) ≡ servers net
 changed_stays place change net = by (site_at net place)
   where
     by : (o : Option Site) → servers (option_map_or (λ site. with_site place (change site) net) o net) ≡ servers net
@@ -40,15 +40,15 @@ received_stays (suc earlier) text course = by (slice_get course.net.received ear
 sent_stays : (place : ℕ) (sent : Sent) (course : Course) → servers (sent_out place sent course).net ≡ servers course.net
 sent_stays place (line_to client text) course = received_stays client text course
 sent_stays place (end_of client) course = refl
-sent_stays place (line_on to text) course = changed_stays place (queued to text) course.net
+sent_stays place (line_on to text) course = changed_stays place (line_queued to text) course.net
 sent_stays place (end_of_link to reason) course = refl
 
 all_stay : (place : ℕ) (out : List Sent) (course : Course) → servers (all_sent_out place out course).net ≡ servers course.net
 all_stay place [] course = refl
 all_stay place (sent ∷ out) course = all_stay place out (sent_out place sent course) ∙ sent_stays place sent course
 
-asked_stays : (place : ℕ) (occurrence : Occurrence) (course : Course) → servers (asked place occurrence course).net ≡ servers course.net
-unfolding asked
+asked_stays : (place : ℕ) (occurrence : Occurrence) (course : Course) → servers (site_asked place occurrence course).net ≡ servers course.net
+unfolding site_asked
 asked_stays place occurrence course = by_site (site_at course.net place)
   where
     by_view : (site : Site) (o : Option View)
@@ -64,34 +64,34 @@ asked_stays place occurrence course = by_site (site_at course.net place)
     by_site (Some site) = by_view site site.server
 
 pub heard_stays : (from to : ℕ) (course : Course) (bytes : List ℕ) → servers (heard from to course bytes).net ≡ servers course.net
-heard_stays from to course bytes = asked_stays to (link_says from (read_of bytes)) (record course { net = counted course.net })
+heard_stays from to course bytes = asked_stays to (link_says from (read_of bytes)) (record course { net = line_counted course.net })
 
 pub all_heard_stay : (from to : ℕ) (course : Course) (lines : List (List ℕ)) → servers (all_heard from to course lines).net ≡ servers course.net
 all_heard_stay from to course [] = refl
 all_heard_stay from to course (bytes ∷ lines) = all_heard_stay from to (heard from to course bytes) lines ∙ heard_stays from to course bytes
 
-asked_of_stays : (place : Option ℕ) (occurrence : Occurrence) (course : Course) → servers (asked_of place occurrence course).net ≡ servers course.net
+asked_of_stays : (place : Option ℕ) (occurrence : Occurrence) (course : Course) → servers (site_asked_if place occurrence course).net ≡ servers course.net
 asked_of_stays None occurrence course = refl
 asked_of_stays (Some place) occurrence course = asked_stays place occurrence course
 
-twice_asked : (far near : ℕ) (one other : Occurrence) (course : Course) → servers (asked far one (asked near other course)).net ≡ servers course.net
-twice_asked far near one other course = asked_stays far one (asked near other course) ∙ asked_stays near other course
+twice_asked : (far near : ℕ) (one other : Occurrence) (course : Course) → servers (site_asked far one (site_asked near other course)).net ≡ servers course.net
+twice_asked far near one other course = asked_stays far one (site_asked near other course) ∙ asked_stays near other course
 
-twice_changed : (far near : ℕ) (one other : Site → Site) (net : Network) → servers (changed_at far one (changed_at near other net)) ≡ servers net
-twice_changed far near one other net = changed_stays far one (changed_at near other net) ∙ changed_stays near other net
+twice_changed : (far near : ℕ) (one other : Site → Site) (net : Network) → servers (site_changed_at far one (site_changed_at near other net)) ≡ servers net
+twice_changed far near one other net = changed_stays far one (site_changed_at near other net) ∙ changed_stays near other net
 
 done_stays : (item : Item) (net : Network) → servers (done_by item net).net ≡ servers net
-done_stays (connect server host) net = asked_of_stays (place_of net server) (of_client (connects (next_client net) host)) (begun (with_client server net))
+done_stays (connect server host) net = asked_of_stays (server_place net server) (of_client (connects (next_client net) host)) (begun (with_client server net))
 done_stays (line client bytes) net = asked_of_stays (home_place net client) (of_client (says client (read_of bytes))) (begun net)
 done_stays (gone client) net = asked_of_stays (home_place net client) (of_client (goes client)) (begun net)
-done_stays (link near far) net = by (ends_of net near far)
+done_stays (link near far) net = by (link_places net near far)
   where
-    by : (o : Option Ends) → servers (option_map_or (made near far net) o (begun net)).net ≡ servers net
+    by : (o : Option LinkPlaces) → servers (option_map_or (servers_linked near far net) o (begun net)).net ≡ servers net
     by None = refl
     by (Some ends) = twice_asked ends.far ends.near _ _ _ ∙ twice_changed ends.far ends.near (with_way ends.near) (with_way ends.far) _
-done_stays (cut near far) net = by (ends_of net near far)
+done_stays (cut near far) net = by (link_places net near far)
   where
-    by : (o : Option Ends) → servers (option_map_or (lost near far net) o (begun net)).net ≡ servers net
+    by : (o : Option LinkPlaces) → servers (option_map_or (servers_parted near far net) o (begun net)).net ≡ servers net
     by None = refl
     by (Some ends) = twice_asked ends.far ends.near _ _ _ ∙ twice_changed ends.far ends.near (without_way ends.near) (without_way ends.far) _
 

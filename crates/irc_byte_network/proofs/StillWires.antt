@@ -5,7 +5,7 @@ use Rattle.std.specs.FinMap.{FinMap, contains_key-keys, get, keys, remove}
 use Rattle.std.specs.List.{slice_get, slice_set}
 use Rattle.std.specs.Option.{option_map_or}
 use Rattle.std.specs.Ordering.{nat_cmp}
-use Rattle.irc_network.specs.Network.{Ends}
+use Rattle.irc_network.specs.Network.{LinkPlaces}
 use Rattle.irc_stage.specs.Lemmas.Numbers.{get-without, same_number}
 use Rattle.irc_wires.specs.Wires.{Wire, Wires, are_still, are_still_in, is_still, new_wire, wire_at, wire_in, without_wire}
 use Rattle.irc_wires.specs.Lemmas.StillWires.{one_of, still_is_new}
@@ -54,7 +54,7 @@ one_lost wires from lost all x to = by (slice_get wires from) refl
     by (Some row) is =
         set_new wires from (remove row lost) (new_without row lost (λ y. ap (λ o. option_map_or (wire_in y) o new_wire) (sym is) ∙ all from y)) all x to
 
-pub nothing_lost : (lost : Option Ends) (wires : Wires) → ((from to : ℕ) → wire_at wires from to ≡ new_wire)
+pub nothing_lost : (lost : Option LinkPlaces) (wires : Wires) → ((from to : ℕ) → wire_at wires from to ≡ new_wire)
     → (from to : ℕ) → wire_at (lost_along lost wires) from to ≡ new_wire
 nothing_lost None wires all from to = all from to
 nothing_lost (Some ends) wires all from to = one_lost (without_wire ends.near ends.far wires) ends.far ends.near (one_lost wires ends.near ends.far all) from to

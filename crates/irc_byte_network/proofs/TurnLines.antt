@@ -5,9 +5,9 @@ use Rattle.irc_line.specs.Lines.{completed}
 use Rattle.irc_network.specs.Network.{Course, Direction as LineDirection, delivered, direction, first_among, is_nothing, next_in_turn, site_at}
 use Rattle.irc_wires.specs.Wires.{Direction, Wire, first_direction, has_byte, is_none, lines_to_come, wire_at}
 use Rattle.irc_byte_network.specs.Behind.{Ahead, sites_behind}
-use Rattle.irc_byte_network.specs.ByteNetwork.{ByteCourse, completed_in, course_in_lines, in_lines, lines_ahead}
+use Rattle.irc_byte_network.specs.ByteNetwork.{ByteCourse, completed_in, course_in_lines, net_in_lines, lines_ahead}
 use Rattle.irc_byte_network.specs.Turns.{bytes_in_turn, lines_in, lines_in_turn, turn_in}
-use Rattle.irc_byte_network.specs.Whole.{AreLines, BytesComeAsLines, ComeAsLines, Delivers, IsWhole, IsWholeNet, TurnAsLines, TurnsAsLines, has_way, no_line, no_more, one_first, one_line}
+use Rattle.irc_byte_network.specs.Whole.{AreLinesWaiting, BytesComeAsLines, ComeAsLines, Delivers, IsWhole, IsWholeNet, TurnAsLines, TurnsAsLines, has_way, no_line, no_more, one_first, one_line}
 use Rattle.irc_byte_network.proofs.FirstWays.{HasAhead, first_is}
 use Rattle.irc_byte_network.proofs.WireLines.{IsKnownOfStreams, lines_parted}
 
@@ -34,7 +34,7 @@ some_to_come : (all lines rest : List (List ℕ)) → all ≡ lines ++ rest → 
 some_to_come all [] rest is one = absurd (omega (arith, one))
 some_to_come all (first ∷ lines) rest is one = ap is_nothing is
 
-module _ (known : IsKnownOfStreams) (come : BytesComeAsLines) (old : ByteCourse) (whole : IsWholeNet old.net) (are : AreLines (in_lines old.net))
+module _ (known : IsKnownOfStreams) (come : BytesComeAsLines) (old : ByteCourse) (whole : IsWholeNet old.net) (are : AreLinesWaiting (net_in_lines old.net))
     (d : Direction) (first : first_direction old.net.wires ≡ Some d) where
   abbrev wire : Wire
   wire = wire_at old.net.wires d.from d.to
@@ -94,7 +94,7 @@ module _ (known : IsKnownOfStreams) (come : BytesComeAsLines) (old : ByteCourse)
       by : (n : ℕ) → length lines ≡ n → TurnsAsLines old (turn_in old d)
       by zero none =
           let same : comes.last ≡ course_in_lines old = none_is comes.delivers none in
-          let are_last : AreLines comes.last.net = subst (λ (c : Course). AreLines c.net) (sym same) are in
+          let are_last : AreLinesWaiting comes.last.net = subst (λ (c : Course). AreLinesWaiting c.net) (sym same) are in
           no_line (lines_are 0 none) (comes.as_lines are_last ∙ same) (comes.whole are_last)
       by (suc zero) one = one_line comes.last (lines_are 1 one) (next_is one) comes.as_lines comes.whole
       by (suc (suc n)) more = absurd (omega (arith, one_at_most, more))

@@ -5,7 +5,7 @@ use Rattle.std.specs.FinMap.{entries, find, get, get-entries, get-from_entries, 
 use Rattle.std.specs.Option.{option_map_or}
 use Rattle.std.specs.Ordering.{nat_cmp}
 use Rattle.irc_stage.specs.Lemmas.Numbers.{get-with, get-without, one_number, same_number}
-use Rattle.irc_network.specs.Network.{Site, body, left, queued, waiting, with_way, without_way}
+use Rattle.irc_network.specs.Network.{Site, line_body, left, line_queued, waiting, with_way, without_way}
 use Rattle.irc_byte_network.specs.Behind.{Ways, each_way, site_behind}
 
 abbrev Change : Type 0
@@ -85,20 +85,20 @@ module _ (ahead : ℕ → List (List ℕ)) where
   pub none_waiting : (site : Site) (to : ℕ) → get site.queues to ≡ None → waiting (site_behind ahead site) to ≡ []
   none_waiting site to is = ap (λ o. unwrap_or o []) (get-each_way front site.queues to ∙ ap (option_map (front to)) is)
 
-  pub queued_behind : (to : ℕ) (text : List ℕ) (site : Site) → queued to text (site_behind ahead site) ≡ site_behind ahead (queued to text site)
+  pub queued_behind : (to : ℕ) (text : List ℕ) (site : Site) → line_queued to text (site_behind ahead site) ≡ site_behind ahead (line_queued to text site)
   queued_behind to text site =
       ap (λ o. option_map_or (put (site_behind ahead site)) o (site_behind ahead site)) (get-each_way front site.queues to)
       ∙ by (get site.queues to)
     where
       put : Site → List (List ℕ) → Site
-      put site lines = record site { queues = insert site.queues to (lines ++ body text ∷ []) }
+      put site lines = record site { queues = insert site.queues to (lines ++ line_body text ∷ []) }
 
       by : (o : Option (List (List ℕ))) → option_map_or (put (site_behind ahead site)) (option_map (front to) o) (site_behind ahead site)
           ≡ site_behind ahead (option_map_or (put site) o site)
       by None = refl
       by (Some lines) =
-          ap (λ more. record site { queues = insert (each_way front site.queues) to more }) (append_assoc (ahead to) lines (body text ∷ []))
-          ∙ ap (λ ways. record site { queues = ways }) (each-insert front site.queues to (lines ++ body text ∷ []))
+          ap (λ more. record site { queues = insert (each_way front site.queues) to more }) (append_assoc (ahead to) lines (line_body text ∷ []))
+          ∙ ap (λ ways. record site { queues = ways }) (each-insert front site.queues to (lines ++ line_body text ∷ []))
 
   pub left_behind : (to : ℕ) (lines : List (List ℕ)) (site : Site) → left to (ahead to ++ lines) (site_behind ahead site) ≡ site_behind ahead
       (left to lines site)

@@ -8,7 +8,7 @@ use Rattle.irc_line.specs.Reading.{read_of}
 use Rattle.irc_server.specs.Served.{Occurrence, link_says}
 use Rattle.irc_stage.specs.View.{View}
 use Rattle.irc_stage.specs.Lemmas.Numbers.{get-with, one_number, same_number}
-use Rattle.irc_network.specs.Network.{Course, Network, Site, all_sent_out, asked, asked_at, body, changed_at, counted, has_received, has_received_at, queued, reply, sent_out, site_at, with_reply, with_site, heard}
+use Rattle.irc_network.specs.Network.{Course, Network, Site, all_sent_out, site_asked, asked_at, line_body, site_changed_at, line_counted, has_received, has_received_at, line_queued, reply, sent_out, site_at, with_reply, with_site, heard}
 use Rattle.irc_byte_network.specs.Whole.{has_way}
 
 abbrev KeepsWays : Network → Network → Type 0
@@ -31,26 +31,26 @@ put_keeps net place site new at alike from to = by net.sites place from at
     by (first ∷ sites) (suc place) zero is = refl
     by (first ∷ sites) (suc place) (suc from) is = by sites place from is
 
-queued_keeps : (to : ℕ) (text : List ℕ) (site : Site) (q : ℕ) → is_some (get (queued to text site).queues q) ≡ is_some (get site.queues q)
+queued_keeps : (to : ℕ) (text : List ℕ) (site : Site) (q : ℕ) → is_some (get (line_queued to text site).queues q) ≡ is_some (get site.queues q)
 queued_keeps to text site q = by (get site.queues to) refl
   where
     by : (o : Option (List (List ℕ))) → get site.queues to ≡ o
-        → is_some (get (option_map_or (λ lines. record site { queues = insert site.queues to (lines ++ body text ∷ []) }) o site).queues q) ≡ is_some
+        → is_some (get (option_map_or (λ lines. record site { queues = insert site.queues to (lines ++ line_body text ∷ []) }) o site).queues q) ≡ is_some
         (get site.queues q)
     by None is = refl
-    by (Some lines) is = ap is_some (get-with site.queues to (lines ++ body text ∷ []) q) ∙ one (same_number q to) refl
+    by (Some lines) is = ap is_some (get-with site.queues to (lines ++ line_body text ∷ []) q) ∙ one (same_number q to) refl
       where
-        one : (b : Bool) → same_number q to ≡ b → is_some (cond b (Some (lines ++ body text ∷ [])) (get site.queues q)) ≡ is_some (get site.queues q)
+        one : (b : Bool) → same_number q to ≡ b → is_some (cond b (Some (lines ++ line_body text ∷ [])) (get site.queues q)) ≡ is_some (get site.queues q)
         one true same = ap is_some (sym is) ∙ ap (λ n. is_some (get site.queues n)) (sym (one_number q to same))
         one false two = refl
 
-changed_keeps : (place to : ℕ) (text : List ℕ) (net : Network) → KeepsWays net (changed_at place (queued to text) net)
+changed_keeps : (place to : ℕ) (text : List ℕ) (net : Network) → KeepsWays net (site_changed_at place (line_queued to text) net)
 changed_keeps place to text net from q = by (site_at net place) refl
   where
     by : (o : Option Site) → site_at net place ≡ o
-        → has_way (option_map_or (λ site. with_site place (queued to text site) net) o net) from q ≡ has_way net from q
+        → has_way (option_map_or (λ site. with_site place (line_queued to text site) net) o net) from q ≡ has_way net from q
     by None is = refl
-    by (Some site) is = put_keeps net place site (queued to text site) is (queued_keeps to text site) from q
+    by (Some site) is = put_keeps net place site (line_queued to text site) is (queued_keeps to text site) from q
 
 received_keeps : (client : ℕ) (text : List ℕ) (course : Course) → KeepsWays course.net (has_received client text course).net
 received_keeps zero text course from to = refl
@@ -70,8 +70,8 @@ all_keep : (place : ℕ) (out : List Sent) (course : Course) → KeepsWays cours
 all_keep place [] course from to = refl
 all_keep place (sent ∷ out) course from to = all_keep place out (sent_out place sent course) from to ∙ sent_keeps place sent course from to
 
-asked_keeps : (place : ℕ) (occurrence : Occurrence) (course : Course) → KeepsWays course.net (asked place occurrence course).net
-unfolding asked
+asked_keeps : (place : ℕ) (occurrence : Occurrence) (course : Course) → KeepsWays course.net (site_asked place occurrence course).net
+unfolding site_asked
 asked_keeps place occurrence course from to = by_site (site_at course.net place) refl
   where
     by_view : (site : Site) → site_at course.net place ≡ Some site → (o : Option View)
@@ -88,4 +88,4 @@ asked_keeps place occurrence course from to = by_site (site_at course.net place)
     by_site (Some site) at = by_view site at site.server
 
 pub heard_ways : (x y : ℕ) (course : Course) (line : List ℕ) (from to : ℕ) → has_way (heard x y course line).net from to ≡ has_way course.net from to
-heard_ways x y course line from to = asked_keeps y (link_says x (read_of line)) (record course { net = counted course.net }) from to
+heard_ways x y course line from to = asked_keeps y (link_says x (read_of line)) (record course { net = line_counted course.net }) from to

@@ -24,11 +24,11 @@ abbrev pub sites_behind : Ahead → List Site → List Site
 sites_behind ahead [] = []
 sites_behind ahead (site ∷ sites) = site_behind (ahead 0) site ∷ sites_behind (λ place. ahead (suc place)) sites
 
-abbrev pub behind : Ahead → Network → Network
-behind ahead net = record net { sites = sites_behind ahead net.sites }
+abbrev pub net_behind : Ahead → Network → Network
+net_behind ahead net = record net { sites = sites_behind ahead net.sites }
 
 abbrev pub course_behind : Ahead → Course → Course
-course_behind ahead course = record course { net = behind ahead course.net }
+course_behind ahead course = record course { net = net_behind ahead course.net }
 
 -- no line waits on any way
 abbrev pub emptied_site : Site → Site

@@ -11,9 +11,9 @@ use Rattle.std.specs.FinMap.{FinMap, empty, entries}
 use Rattle.std.specs.Option.{option_map_or}
 use Rattle.std.specs.Ordering.{nat_cmp}
 use Rattle.irc_world.specs.Stepping.{Item, cut}
-use Rattle.irc_network.specs.Network.{Course, Ends, Network, Receipt, Site, ends_of, given, heard, site_at, waiting}
+use Rattle.irc_network.specs.Network.{Course, LinkPlaces, Network, Receipt, Site, link_places, given, heard, site_at, waiting}
 use Rattle.irc_wires.specs.Wires.{Wire, Wires, advanced, are_still, lines_by, lines_to_come, put_in, wire_at, wire_in, with_wire, without_wire, written}
-use Rattle.irc_byte_network.specs.Behind.{Ahead, behind, emptied}
+use Rattle.irc_byte_network.specs.Behind.{Ahead, net_behind, emptied}
 
 -- The servers, links and clients, and what is on its way along the links. No line waits in the network: it is written.
 pub record ByteNetwork : Type 0 where
@@ -42,11 +42,11 @@ HasRows net = length net.wires ≡ length net.network.sites
 abbrev pub lines_ahead : Wires → Ahead
 lines_ahead wires from to = lines_to_come (wire_at wires from to)
 
-abbrev pub in_lines : ByteNetwork → Network
-in_lines net = behind (lines_ahead net.wires) net.network
+abbrev pub net_in_lines : ByteNetwork → Network
+net_in_lines net = net_behind (lines_ahead net.wires) net.network
 
 abbrev pub course_in_lines : ByteCourse → Course
-course_in_lines course = record { net = in_lines course.net; receipts = course.receipts }
+course_in_lines course = record { net = net_in_lines course.net; receipts = course.receipts }
 
 -- ---- at rest
 
@@ -76,21 +76,21 @@ rows_written (site ∷ sites) [] = []
 rows_written (site ∷ sites) (row ∷ wires) = row_written (entries site.queues) row ∷ rows_written sites wires
 
 -- What waits is written along these wires, and waits no more.
-abbrev pub written_out : Network → Wires → ByteNetwork
-written_out net wires = record { network = emptied net; wires = rows_written net.sites wires }
+abbrev pub queues_written : Network → Wires → ByteNetwork
+queues_written net wires = record { network = emptied net; wires = rows_written net.sites wires }
 
 abbrev pub course_written : Course → Wires → ByteCourse
-course_written course wires = record { net = written_out course.net wires; receipts = course.receipts }
+course_written course wires = record { net = queues_written course.net wires; receipts = course.receipts }
 
 -- ---- what is given
 
 -- the ends of the link that an item cuts, if it cuts one
-abbrev pub cut_ends : Network → Item → Option Ends
-cut_ends net (cut near far) = ends_of net near far
+abbrev pub cut_ends : Network → Item → Option LinkPlaces
+cut_ends net (cut near far) = link_places net near far
 cut_ends net other = None
 
 -- what is on its way along the link is lost, and the framers at its ends begin anew
-abbrev pub lost_along : Option Ends → Wires → Wires
+abbrev pub lost_along : Option LinkPlaces → Wires → Wires
 lost_along None wires = wires
 lost_along (Some ends) wires = without_wire ends.far ends.near (without_wire ends.near ends.far wires)
 

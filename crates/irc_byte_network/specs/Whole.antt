@@ -8,7 +8,7 @@ use Rattle.irc_line.specs.Lines.{HasTaken, IsLine, begun_behind, nothing_begun, 
 use Rattle.irc_network.specs.Network.{Course, Network, Site, delivered, given, is_at_rest, next_in_turn, site_at, waiting}
 use Rattle.irc_world.specs.Stepping.{Item}
 use Rattle.irc_wires.specs.Wires.{AreLean, Wire, advanced, first_direction, lines_by, lines_to_come, through_line_feed, wire_at}
-use Rattle.irc_byte_network.specs.ByteNetwork.{ByteCourse, ByteNetwork, HasRows, bytes_come, completed_in, course_in_lines, in_lines, is_byte_rest, item_given, waiting_at}
+use Rattle.irc_byte_network.specs.ByteNetwork.{ByteCourse, ByteNetwork, HasRows, bytes_come, completed_in, course_in_lines, net_in_lines, is_byte_rest, item_given, waiting_at}
 use Rattle.irc_byte_network.specs.Turns.{ComesToLine, lines_in_turn, turn_taken}
 
 -- ---- one direction of a link
@@ -44,15 +44,15 @@ pub record IsWholeNet (net : ByteNetwork) : Type 0 where
   pub ways : (from to : ℕ) → has_way net.network from to ≡ false → lines_to_come (wire_at net.wires from to) ≡ []
 
 -- each line that waits on a way is one
-abbrev pub AreLines : Network → Type 0
-AreLines net = (place to : ℕ) (site : Site) → site_at net place ≡ Some site → AllByRecursion IsLine (waiting site to)
+abbrev pub AreLinesWaiting : Network → Type 0
+AreLinesWaiting net = (place to : ℕ) (site : Site) → site_at net place ≡ Some site → AllByRecursion IsLine (waiting site to)
 
 -- ---- a new one
 
 -- It is one whose links carry lines, and at rest.
 pub record IsAsNew (net : ByteNetwork) : Type 0 where
   pub whole : IsWholeNet net
-  pub as_lines : in_lines net ≡ net.network
+  pub as_lines : net_in_lines net ≡ net.network
   pub at_rest : is_byte_rest net ≡ true
 
 abbrev pub no_wires : Network → ByteNetwork
@@ -65,11 +65,11 @@ NewIsWhole = (net : Network) → AllByRecursion (λ (site : Site). site.queues �
 
 -- It does what it does where links carry lines.
 pub record IsGivenAsLines (old : ByteNetwork) (item : Item) : Type 0 where
-  pub as_lines : course_in_lines (item_given item old) ≡ given item (in_lines old)
+  pub as_lines : course_in_lines (item_given item old) ≡ given item (net_in_lines old)
   pub whole : IsWholeNet (item_given item old).net
 
 abbrev pub GivenAsLines : Type 0
-GivenAsLines = (old : ByteNetwork) (item : Item) → IsWholeNet old → is_byte_rest old ≡ true → AreLines (given item (in_lines old)).net
+GivenAsLines = (old : ByteNetwork) (item : Item) → IsWholeNet old → is_byte_rest old ≡ true → AreLinesWaiting (given item (net_in_lines old)).net
     → IsGivenAsLines old item
 
 -- ---- bytes that come
@@ -84,8 +84,8 @@ pub data Delivers (from to : ℕ) : ℕ → Course → Course → Type 0 where
 pub record ComeAsLines (from to count : ℕ) (old : ByteCourse) : Type 0 where
   pub last : Course
   pub delivers : Delivers from to (length (completed_in old.net from to count)) (course_in_lines old) last
-  pub as_lines : AreLines last.net → course_in_lines (bytes_come from to count old) ≡ last
-  pub whole : AreLines last.net → IsWholeNet (bytes_come from to count old).net
+  pub as_lines : AreLinesWaiting last.net → course_in_lines (bytes_come from to count old) ≡ last
+  pub whole : AreLinesWaiting last.net → IsWholeNet (bytes_come from to count old).net
 
 abbrev pub BytesComeAsLines : Type 0
 BytesComeAsLines = (from to count : ℕ) (old : ByteCourse) → IsWholeNet old.net → ComeAsLines from to count old
@@ -96,10 +96,10 @@ BytesComeAsLines = (from to count : ℕ) (old : ByteCourse) → IsWholeNet old.n
 pub data TurnsAsLines (old new : ByteCourse) : Type 0 where
   no_line : lines_in_turn old.net ≡ 0 → course_in_lines new ≡ course_in_lines old → IsWholeNet new.net → TurnsAsLines old new
   one_line : (last : Course) → lines_in_turn old.net ≡ 1 → next_in_turn (course_in_lines old) ≡ Some last
-      → (AreLines last.net → course_in_lines new ≡ last) → (AreLines last.net → IsWholeNet new.net) → TurnsAsLines old new
+      → (AreLinesWaiting last.net → course_in_lines new ≡ last) → (AreLinesWaiting last.net → IsWholeNet new.net) → TurnsAsLines old new
 
 abbrev pub TurnAsLines : Type 0
-TurnAsLines = (old new : ByteCourse) → IsWholeNet old.net → AreLines (in_lines old.net) → turn_taken old ≡ Some new → TurnsAsLines old new
+TurnAsLines = (old new : ByteCourse) → IsWholeNet old.net → AreLinesWaiting (net_in_lines old.net) → turn_taken old ≡ Some new → TurnsAsLines old new
 
 -- a line comes in the end, or there is none
 pub record ComesToSome (old : ByteCourse) : Type 0 where
@@ -114,8 +114,8 @@ EachComesToLine = (old : ByteCourse) → IsTidy old.net → ComesToSome old
 
 -- Where nothing is on its way, no line is where links carry lines, and no turn is taken.
 pub record IsRestAsLines (net : ByteNetwork) : Type 0 where
-  pub as_lines : in_lines net ≡ net.network
-  pub at_rest : is_at_rest (in_lines net) ≡ true
+  pub as_lines : net_in_lines net ≡ net.network
+  pub at_rest : is_at_rest (net_in_lines net) ≡ true
   pub no_byte : first_direction net.wires ≡ None
 
 abbrev pub RestAsLines : Type 0

@@ -36,7 +36,7 @@ use Rattle.irc_commands.specs.Decide.{decide_for, decide}
 use Rattle.irc_commands.specs.Nick.{nick_taken, nick_steps}
 use Rattle.irc_commands.specs.OwnInvitations.{DecidedByOwnInvitations}
 use Rattle.irc_commands.specs.Say.{to_channel, to_user, to_one, too_many, unless_notice, say_steps}
-use Rattle.irc_commands.specs.Table.{decided_by, row_of, too_few}
+use Rattle.irc_commands.specs.Table.{decided_by, command_row, too_few}
 use Rattle.irc_commands.specs.Topic.{topic_set, topic_known, topic_of, topic_steps}
 use Rattle.irc_commands.proofs.QueriesAlike.{names_alike, list_alike, lusers_alike, ison_alike, whois_alike, who_alike}
 use Rattle.irc_registering.specs.CommandNames.{CommandRow, row_named}
@@ -104,8 +104,8 @@ topic_alike room other alike me name more =
 -- ---- the whole table
 
 by_command : (room other : Room) (place : Place) (me : User) (params : List (List ℕ)) → AreAlikeFor me.nick room other → (which : Command)
-    → row_of room place me params which ≡ row_of other place me params which
-unfolding row_of
+    → command_row room place me params which ≡ command_row other place me params which
+unfolding command_row
 by_command room other place me params so command.Pass = refl
 by_command room other place me params so command.User = refl
 by_command room other place me params so command.Pong = refl

@@ -19,7 +19,7 @@ use Rattle.irc_room.specs.Room.{Room}
 use Rattle.irc_routes.specs.Place.{Place}
 use Rattle.irc_acts.specs.declared.act.Act.{Act}
 use Rattle.irc_acts.specs.declared.act.Act.TheVariants.{Answer}
-use Rattle.irc_acts.specs.Acts.{kept, client_words}
+use Rattle.irc_acts.specs.Acts.{bytes_kept, client_words}
 use Rattle.irc_acts.specs.AlikeChannels.{row_alike, channels_alike, listing_alike, own_alike}
 use Rattle.irc_acts.specs.AlikeRows.{filter_changed, map_changed, flat_changed, any_changed, filter_map_changed, same_of_both}
 use Rattle.irc_acts.specs.CommaLists as commas
@@ -32,7 +32,7 @@ use Rattle.irc_queries.specs.Ison.{users_on, ison_steps}
 use Rattle.irc_queries.specs.Lusers.{channels_formed, lusers_steps}
 use Rattle.irc_queries.specs.List.{channel_entry, listed_entries, known_entry, asked_entry, list_steps}
 use Rattle.irc_queries.specs.Whois.{info_of, place_in, places, channels_line, told_if_there, told_of_one, told_of_list, whois_steps}
-use Rattle.irc_queries.specs.Who.{member_if_seen, members_told, users_told, told_of_seen, told, asks_for_operators, end_of_who, who_steps}
+use Rattle.irc_queries.specs.Who.{member_if_seen, replies_of_members, replies_of_users, replies_of_seen, who_replies, asks_for_operators, end_of_who, who_steps}
 
 module _ (room other : Room) (alike : AreAlike room other) where
   -- NAMES
@@ -113,7 +113,7 @@ module _ (room other : Room) (alike : AreAlike room other) where
   there_alike place me name None = refl
   there_alike place me name (Some user) =
       ap (λ (channels : List OnChannel). Answer (WhoisUser user.nick user.user user.host user.real)
-      ∷ Answer (WhoisServer user.nick user.home (kept (info_of place user.home)))
+      ∷ Answer (WhoisServer user.nick user.home (bytes_kept (info_of place user.home)))
       ∷ map (channels_line user) (in_lines max_whois_channels channels)) (places_alike me user)
 
   one_told_alike : (place : Place) (me : User) (name : List ℕ) → told_of_one room place me name ≡ told_of_one other place me name
@@ -138,32 +138,32 @@ module _ (room other : Room) (alike : AreAlike room other) where
       (λ own. ap (λ b. same me.nick user.nick || (not user.invisible || b)) (any_changed uninviting (has_member (key user.nick)) (λ channel. refl) own))
       room other alike me
 
-  members_by_users : (place : Place) (seen : User → Bool) (me : User) (found : Option Channel) → members_told room place seen me found ≡ members_told other place seen me found
+  members_by_users : (place : Place) (seen : User → Bool) (me : User) (found : Option Channel) → replies_of_members room place seen me found ≡ replies_of_members other place seen me found
   members_by_users place seen me None = refl
   members_by_users place seen me (Some channel) =
       ap (λ (users : Table User). cond (is_known me channel)
       (filter_map (λ member. option_and_then (member_if_seen place seen channel member.1) (row users member.0)) (entries channel.members)) []) alike.users
 
   members_aside : (place : Place) (seen : User → Bool) (me : User) (found : Option Channel)
-      → members_told other place seen me found ≡ members_told other place seen me (option_map uninviting found)
+      → replies_of_members other place seen me found ≡ replies_of_members other place seen me (option_map uninviting found)
   members_aside place seen me None = refl
   members_aside place seen me (Some channel) = refl
 
   members_alike : (place : Place) (seen : User → Bool) (me : User) (fold : List ℕ)
-      → members_told room place seen me (row room.channels fold) ≡ members_told other place seen me (row other.channels fold)
+      → replies_of_members room place seen me (row room.channels fold) ≡ replies_of_members other place seen me (row other.channels fold)
   members_alike place seen me fold =
       members_by_users place seen me (row room.channels fold)
       ∙ members_aside place seen me (row room.channels fold)
-      ∙ ap (members_told other place seen me) (alike.channels fold)
+      ∙ ap (replies_of_members other place seen me) (alike.channels fold)
       ∙ sym (members_aside place seen me (row other.channels fold))
 
-  who_told_alike : (place : Place) (me : User) (asked : List ℕ) → told room place me asked ≡ told other place me asked
+  who_told_alike : (place : Place) (me : User) (asked : List ℕ) → who_replies room place me asked ≡ who_replies other place me asked
   who_told_alike place me asked =
-      ap (λ (seen : User → Bool). told_of_seen room place seen me asked) (fun_ext (seen_alike me))
-      ∙ ap (λ acts. cond (names_channel asked) acts (users_told place (λ user. is_seen other me user) asked (values room.users)))
+      ap (λ (seen : User → Bool). replies_of_seen room place seen me asked) (fun_ext (seen_alike me))
+      ∙ ap (λ acts. cond (names_channel asked) acts (replies_of_users place (λ user. is_seen other me user) asked (values room.users)))
       (members_alike place (λ user. is_seen other me user) me (key asked))
-      ∙ ap (λ users. cond (names_channel asked) (members_told other place (λ user. is_seen other me user) me (row other.channels (key asked)))
-      (users_told place (λ user. is_seen other me user) asked (values users))) alike.users
+      ∙ ap (λ users. cond (names_channel asked) (replies_of_members other place (λ user. is_seen other me user) me (row other.channels (key asked)))
+      (replies_of_users place (λ user. is_seen other me user) asked (values users))) alike.users
 
   pub who_alike : (place : Place) (me : User) (params : List (List ℕ)) → who_steps room place me params ≡ who_steps other place me params
   unfolding who_steps

@@ -13,21 +13,21 @@ use Rattle.irc_room.specs.Room.{Room}
 use Rattle.irc_commands.specs.declared.TheConstants.{MAX_TARGETS}
 use Rattle.irc_acts.specs.declared.act.Act.{Act}
 use Rattle.irc_acts.specs.declared.act.Act.TheVariants.{Answer, Do}
-use Rattle.irc_acts.specs.Acts.{kept}
+use Rattle.irc_acts.specs.Acts.{bytes_kept}
 use Rattle.irc_acts.specs.ByTest.{by_test}
 use Rattle.irc_acts.specs.CommaLists.{entries}
 use Rattle.irc_acts.specs.Words.{names_channel}
 use Rattle.irc_commands.specs.declared.say.Verb.{Verb}
 use Rattle.irc_commands.specs.declared.say.Verb.TheVariants as verb
-use Rattle.irc_commands.specs.Say.{is_notice, said_text, may_speak, says, to_channel, to_user, to_one, too_many, unless_notice, say_to, say_steps}
+use Rattle.irc_commands.specs.Say.{is_notice, said_text, may_speak, say_text, to_channel, to_user, to_one, too_many, unless_notice, say_to, say_steps}
 
 -- so it is of an answer, and of a text to a user or a channel that is there, as much of the words as its line has room for
 pub record IsSoWhereSaid (room : Room) (me : User) (which : Verb) (words : List ℕ) (P : Act → Type 0) : Type 0 where
   pub answers : (reply : Reply) → P (Answer reply)
   pub to_users : (name : List ℕ) (other : User) → row room.users (key name) ≡ Some other
-      → P (Do (Say me.nick (is_notice which) (target.User other.nick) (kept (said_text me which other.nick words))))
+      → P (Do (Say me.nick (is_notice which) (target.User other.nick) (bytes_kept (said_text me which other.nick words))))
   pub to_channels : (name : List ℕ) (channel : Channel) → row room.channels (key name) ≡ Some channel
-      → P (Do (Say me.nick (is_notice which) (target.Channel channel.name) (kept (said_text me which channel.name words))))
+      → P (Do (Say me.nick (is_notice which) (target.Channel channel.name) (bytes_kept (said_text me which channel.name words))))
 
 pub all_appended : (P : Act → Type 0) (a b : List Act) → AllByRecursion P a → AllByRecursion P b → AllByRecursion P (a ++ b)
 all_appended P [] b all more = more
@@ -52,7 +52,7 @@ channel_all : (room : Room) (me : User) (P : Act → Type 0) (which : Verb) (wor
     → row room.channels (key name) ≡ found → AllByRecursion P (to_channel me which name words found)
 channel_all room me P which words so name None is = (so.answers _, tt)
 channel_all room me P which words so name (Some channel) is =
-    by_test (AllByRecursion P) (may_speak me channel) (says me which (target.Channel channel.name) channel.name words) (Answer (CannotSendToChan channel.name) ∷ [])
+    by_test (AllByRecursion P) (may_speak me channel) (say_text me which (target.Channel channel.name) channel.name words) (Answer (CannotSendToChan channel.name) ∷ [])
     (λ may. (so.to_channels name channel is, tt)) (λ may_not. (so.answers _, tt))
 
 user_all : (room : Room) (me : User) (P : Act → Type 0) (which : Verb) (words : List ℕ) → IsSoWhereSaid room me which words P → (name : List ℕ) (found : Option User)

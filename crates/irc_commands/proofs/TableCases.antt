@@ -16,7 +16,7 @@ use Rattle.irc_acts.specs.declared.act.Act.{Act}
 use Rattle.irc_acts.specs.declared.act.Act.TheVariants.{Answer, Raw, Do}
 use Rattle.irc_registering.specs.declared.command_names.Command.{Command}
 use Rattle.irc_registering.specs.declared.command_names.Command.TheVariants as command
-use Rattle.irc_commands.specs.Table.{decided_by, row_of, too_few}
+use Rattle.irc_commands.specs.Table.{decided_by, command_row, too_few}
 use Rattle.irc_acts.specs.Acts.{client_words, effects_among}
 use Rattle.irc_commands.specs.Decisions.{Decided, nothing, does}
 use Rattle.irc_commands.specs.Decide.{decide_for, decide}
@@ -119,8 +119,8 @@ by_join room who message me Q so is steps carries (inl own) = so.own me steps is
 by_join room who message me Q so is steps carries (inr all) = subst (λ (acts : List Act). Q (does acts)) (sym all) (so.leaves_all me is)
 
 by_command : (room : Room) (place : Place) (who : List ℕ) (me : User) (message : Parsed) (Q : Decided → Type 0) → IsSoDecided room who message Q
-    → row room.users (key who) ≡ Some me → (which : Command) → Q (row_of room place me message.params which)
-unfolding row_of
+    → row room.users (key who) ≡ Some me → (which : Command) → Q (command_row room place me message.params which)
+unfolding command_row
 by_command room place who me message Q so is command.Pass = by_answers room who message me Q so is _ refl
 by_command room place who me message Q so is command.User = by_answers room who message me Q so is _ refl
 by_command room place who me message Q so is command.Pong = so.silent
@@ -173,7 +173,7 @@ by_row : (room : Room) (place : Place) (who : List ℕ) (me : User) (message : P
     → row room.users (key who) ≡ Some me → (which : Option CommandRow) → Q (decided_by room place me message which)
 by_row room place who me message Q so is None = by_answers room who message me Q so is _ refl
 by_row room place who me message Q so is (Some found) =
-    by_test Q (nat_lt (length message.params) found.least) (too_few found.name) (row_of room place me message.params found.command)
+    by_test Q (nat_lt (length message.params) found.least) (too_few found.name) (command_row room place me message.params found.command)
     (λ fewer. by_answers room who message me Q so is _ refl) (λ enough. by_command room place who me message Q so is found.command)
 
 by_user : (room : Room) (place : Place) (who : List ℕ) (message : Parsed) (Q : Decided → Type 0) → IsSoDecided room who message Q

@@ -18,7 +18,7 @@ use Rattle.irc_commands.specs.Decisions.{Decided, does}
 use Rattle.irc_commands.specs.Nick.{nick_steps}
 use Rattle.irc_commands.specs.Say.{say_steps, say_to}
 use Rattle.irc_registering.specs.declared.command_names.Command.{Command}
-use Rattle.irc_commands.specs.Table.{row_for, row_of}
+use Rattle.irc_commands.specs.Table.{row_for, command_row}
 use Rattle.irc_commands.specs.Topic.{topic_steps}
 
 -- the rows of the command table, as the code's context has them
@@ -64,7 +64,7 @@ IsDecidedIn context params want = IsDecidedAs context.room.now.room (place_of co
 -- what a command does with these parameters, which are as many as its row wants
 abbrev pub IsRowOf : Context → Command → List (List ℕ) → Decision → Type 0
 IsRowOf context command params =
-    IsDecidedIn context params (row_of context.room.now.room (place_of context.routes.now) context.me.now params command)
+    IsDecidedIn context params (command_row context.room.now.room (place_of context.routes.now) context.me.now params command)
 
 -- The row of the command table that a user's line fits, and what a line of who has this nickname does.
 abbrev pub IsRowFor : Context → Parsed → Decision → Type 0

@@ -4,7 +4,7 @@ use Rattle.irc_users.specs.declared.user.User.{User}
 use Rattle.irc_room.specs.declared.effect.Effect.TheVariants.{Quit}
 use Rattle.irc_acts.specs.declared.act.Act.TheVariants.{Raw, Do}
 use Rattle.irc_acts.specs.Words.{reason_given}
-use Rattle.irc_acts.specs.Acts.{kept}
+use Rattle.irc_acts.specs.Acts.{bytes_kept}
 use Rattle.irc_commands.specs.Decisions.{Decided}
 use Rattle.irc_registering.specs.Closing.{error_line}
 
@@ -12,4 +12,4 @@ use Rattle.irc_registering.specs.Closing.{error_line}
 abbrev pub quit_decided : User → List (List ℕ) → Decided
 quit_decided me params =
     let reason = reason_given params me.nick in
-    record { steps = Do (Quit me.nick reason) ∷ Raw (kept (error_line reason)) ∷ []; close = true }
+    record { steps = Do (Quit me.nick reason) ∷ Raw (bytes_kept (error_line reason)) ∷ []; close = true }

@@ -18,7 +18,7 @@ use Rattle.irc_commands.specs.declared.say.Verb.{Verb}
 use Rattle.irc_commands.specs.declared.say.Verb.TheVariants as verb
 use Rattle.irc_acts.specs.declared.act.Act.{Act}
 use Rattle.irc_acts.specs.declared.act.Act.TheVariants.{Answer, Do}
-use Rattle.irc_acts.specs.Acts.{kept, client_words}
+use Rattle.irc_acts.specs.Acts.{bytes_kept, client_words}
 use Rattle.irc_acts.specs.CommaLists.{entries}
 use Rattle.irc_acts.specs.Standing.{is_banned}
 use Rattle.irc_acts.specs.Words.{names_channel}
@@ -51,19 +51,19 @@ said_text me which to words =
     let empty = joined_text (record { sender = full me.nick me.user me.host; command = say_command which; middle = to ∷ []; last = Some [] }) in
     take (max_line - length empty) words
 
-abbrev pub says : User → Verb → Target → List ℕ → List ℕ → List Act
-says me which to name words = Do (Say me.nick (is_notice which) to (kept (said_text me which name words))) ∷ []
+abbrev pub say_text : User → Verb → Target → List ℕ → List ℕ → List Act
+say_text me which to name words = Do (Say me.nick (is_notice which) to (bytes_kept (said_text me which name words))) ∷ []
 
 -- a target that was found is written as stored, one that was not as given
 abbrev pub to_channel : User → Verb → List ℕ → List ℕ → Option Channel → List Act
 to_channel me which word words None = Answer (NoSuchNick (client_words word)) ∷ []
 to_channel me which word words (Some channel) =
-    if may_speak me channel then says me which (target.Channel channel.name) channel.name words
+    if may_speak me channel then say_text me which (target.Channel channel.name) channel.name words
     else Answer (CannotSendToChan channel.name) ∷ []
 
 abbrev pub to_user : User → Verb → List ℕ → List ℕ → Option User → List Act
 to_user me which word words None = Answer (NoSuchNick (client_words word)) ∷ []
-to_user me which word words (Some user) = says me which (target.User user.nick) user.nick words
+to_user me which word words (Some user) = say_text me which (target.User user.nick) user.nick words
 
 abbrev pub to_one : Room → User → Verb → List ℕ → List ℕ → List Act
 to_one room me which words name =

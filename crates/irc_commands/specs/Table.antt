@@ -39,34 +39,34 @@ abbrev pub too_few : List ℕ → Decided
 too_few name = does (Answer (NeedMoreParams (client_words name)) ∷ [])
 
 -- what a command does with parameters that are as many as its row wants
-unfoldable pub row_of : Room → Place → User → List (List ℕ) → Command → Decided
-row_of room place me params command.Pass = does (Answer AlreadyRegistered ∷ [])
-row_of room place me params command.User = does (Answer AlreadyRegistered ∷ [])
-row_of room place me params command.Pong = nothing
-row_of room place me params command.Motd = does (Answer NoMotd ∷ [])
-row_of room place me params command.Ping = does (ping_steps place params)
-row_of room place me params command.Quit = quit_decided me params
-row_of room place me params command.Privmsg = does (say_steps room me verb.Privmsg params)
-row_of room place me params command.Notice = does (say_steps room me verb.Notice params)
-row_of room place me params command.Nick = does (nick_steps room me params)
-row_of room place me params command.Join = does (join_steps room me (word_at params 0) (word_at params 1))
-row_of room place me params command.Part = does (part_steps room me (word_at params 0) (drop 1 params))
-row_of room place me params command.Topic = does (topic_steps room me (word_at params 0) (drop 1 params))
-row_of room place me params command.Names = does (names_steps room me params)
-row_of room place me params command.Kick = does (kick_steps room me (word_at params 0) (word_at params 1) (drop 2 params))
-row_of room place me params command.Invite = does (invite_steps room me (word_at params 0) (word_at params 1))
-row_of room place me params command.Mode = does (mode_steps room me (word_at params 0) (drop 1 params))
-row_of room place me params command.Ison = does (ison_steps room params)
-row_of room place me params command.Lusers = does (lusers_steps room place)
-row_of room place me params command.List = does (list_steps room me params)
-row_of room place me params command.Whois = does (whois_steps room place me params)
-row_of room place me params command.Who = does (who_steps room place me params)
+unfoldable pub command_row : Room → Place → User → List (List ℕ) → Command → Decided
+command_row room place me params command.Pass = does (Answer AlreadyRegistered ∷ [])
+command_row room place me params command.User = does (Answer AlreadyRegistered ∷ [])
+command_row room place me params command.Pong = nothing
+command_row room place me params command.Motd = does (Answer NoMotd ∷ [])
+command_row room place me params command.Ping = does (ping_steps place params)
+command_row room place me params command.Quit = quit_decided me params
+command_row room place me params command.Privmsg = does (say_steps room me verb.Privmsg params)
+command_row room place me params command.Notice = does (say_steps room me verb.Notice params)
+command_row room place me params command.Nick = does (nick_steps room me params)
+command_row room place me params command.Join = does (join_steps room me (word_at params 0) (word_at params 1))
+command_row room place me params command.Part = does (part_steps room me (word_at params 0) (drop 1 params))
+command_row room place me params command.Topic = does (topic_steps room me (word_at params 0) (drop 1 params))
+command_row room place me params command.Names = does (names_steps room me params)
+command_row room place me params command.Kick = does (kick_steps room me (word_at params 0) (word_at params 1) (drop 2 params))
+command_row room place me params command.Invite = does (invite_steps room me (word_at params 0) (word_at params 1))
+command_row room place me params command.Mode = does (mode_steps room me (word_at params 0) (drop 1 params))
+command_row room place me params command.Ison = does (ison_steps room params)
+command_row room place me params command.Lusers = does (lusers_steps room place)
+command_row room place me params command.List = does (list_steps room me params)
+command_row room place me params command.Whois = does (whois_steps room place me params)
+command_row room place me params command.Who = does (who_steps room place me params)
 
 -- Too few parameters are answered here, whatever the command (RFC 2812 section 5.2, reply 461).
 abbrev pub decided_by : Room → Place → User → Parsed → Option CommandRow → Decided
 decided_by room place me message None = unknown message.command
 decided_by room place me message (Some row) =
-    if nat_lt (length message.params) row.least then too_few row.name else row_of room place me message.params row.command
+    if nat_lt (length message.params) row.least then too_few row.name else command_row room place me message.params row.command
 
 -- what a line does, by the row that its command has
 abbrev pub row_for : Room → Place → User → Parsed → Decided

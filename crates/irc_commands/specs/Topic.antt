@@ -12,13 +12,13 @@ use Rattle.irc_room.specs.declared.effect.Effect.TheVariants.{SetTopic}
 use Rattle.irc_room.specs.Room.{Room}
 use Rattle.irc_acts.specs.declared.act.Act.{Act}
 use Rattle.irc_acts.specs.declared.act.Act.TheVariants.{Answer, Do}
-use Rattle.irc_acts.specs.Acts.{kept, client_words}
+use Rattle.irc_acts.specs.Acts.{bytes_kept, client_words}
 use Rattle.irc_acts.specs.Standing.{is_known}
 
 -- what a client is told of a topic; an empty one is none
 abbrev pub topic_told : List ℕ → List ℕ → Act
 topic_told name [] = Answer (NoTopic name)
-topic_told name (b ∷ bytes) = Answer (Topic name (kept (b ∷ bytes)))
+topic_told name (b ∷ bytes) = Answer (Topic name (bytes_kept (b ∷ bytes)))
 
 -- a member sets the topic, and where mode t is set only an operator does (RFC 2811 section 4.2.8); an empty text clears it
 abbrev pub topic_set : User → Channel → List ℕ → Option Flags → Act

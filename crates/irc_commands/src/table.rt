@@ -42,7 +42,7 @@ pub(crate) fn decide_for(
 }
 
 /// What a command does with parameters that are as many as its row wants.
-#[tactic(auto, unfolding(crate::specs::Table::row_of))]
+#[tactic(auto, unfolding(crate::specs::Table::command_row))]
 fn obey(context: &Context<'_>, command: Command, params: &[&[u8]]) -> Result<Decision, AllocError>
     ensures { IfOk result (IsRowOf context.now command (words_now params.now)) }
 {

@@ -43,20 +43,20 @@ status_of stop.BadConfiguration = 3
 status_of stop.Failed = 4
 
 -- the line that is written
-abbrev pub told : Stop → List ℕ
-told stop.Usage = codes "ircd: usage: ircd sim | ircd serve FILE [TURNS]\n"
-told (stop.BadScript line) = codes "ircd: line " ++ decimal line ++ codes ": bad script\n"
-told stop.BadConfiguration = codes "ircd: bad configuration\n"
-told stop.Failed = codes "ircd: failed\n"
+abbrev pub stop_line : Stop → List ℕ
+stop_line stop.Usage = codes "ircd: usage: ircd sim | ircd serve FILE [TURNS]\n"
+stop_line (stop.BadScript line) = codes "ircd: line " ++ decimal line ++ codes ": bad script\n"
+stop_line stop.BadConfiguration = codes "ircd: bad configuration\n"
+stop_line stop.Failed = codes "ircd: failed\n"
 
 abbrev pub exit_status : Result (Unit {0}) Stop → ℕ
 exit_status (Ok _) = 0
 exit_status (Err stop) = status_of stop
 
 -- what is said of an ending: nothing where the work is done
-abbrev pub told_of : Result (Unit {0}) Stop → List ℕ
-told_of (Ok _) = []
-told_of (Err stop) = told stop
+abbrev pub ending_text : Result (Unit {0}) Stop → List ℕ
+ending_text (Ok _) = []
+ending_text (Err stop) = stop_line stop
 
 -- how a script's run ends the program
 abbrev pub ending_of : Result (Unit {0}) SimFault → Result (Unit {0}) Stop

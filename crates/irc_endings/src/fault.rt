@@ -1,9 +1,9 @@
 //! Why the program ends before its work is done, what it says then, and its exit status.
 ghost use Rattle.std.specs.Prelude.{◌≡◌, OnOk};
 ghost use Rattle.irc_endings.specs.declared.fault.Stop.TheVariants.{BadScript};
-ghost use Rattle.irc_script.specs.Sinks.{Tells};
+ghost use Rattle.irc_script.specs.Sinks.{Wrote};
 ghost use Rattle.irc_endings.specs.Saying.{Utters};
-ghost use Rattle.irc_endings.specs.Statuses.{status_of, told, stop_of, stopped, stop_of_settings, stop_of_config};
+ghost use Rattle.irc_endings.specs.Statuses.{status_of, stop_line, stop_of, stopped, stop_of_settings, stop_of_config};
 
 use arrayvec::ArrayVec;
 use irc_script::{SimFault, Unwritten, write_whole};
@@ -101,8 +101,8 @@ impl Stop {
     /// # Errors
     /// Where the write fails. What was written then is a front of the line.
     pub fn tell<E: Write>(self, errors: &mut E) -> Result<(), Unwritten>
-        ensures whole { OnOk result (Utters E.contents (told self) errors.old errors.new) }
-        ensures front { Tells (E.contents errors.old) (E.contents errors.new) (told self) }
+        ensures whole { OnOk result (Utters E.contents (stop_line self) errors.old errors.new) }
+        ensures front { Wrote (E.contents errors.old) (E.contents errors.new) (stop_line self) }
     {
         match self {
             Stop::Usage => write_whole(
@@ -117,8 +117,8 @@ impl Stop {
 }
 
 fn tell_bad_script<E: Write>(line: u64, errors: &mut E) -> Result<(), Unwritten>
-    ensures whole { OnOk result (Utters E.contents (told (BadScript line)) errors.old errors.new) }
-    ensures front { Tells (E.contents errors.old) (E.contents errors.new) (told (BadScript line)) }
+    ensures whole { OnOk result (Utters E.contents (stop_line (BadScript line)) errors.old errors.new) }
+    ensures front { Wrote (E.contents errors.old) (E.contents errors.new) (stop_line (BadScript line)) }
 {
     let text = bad_script(line);
     write_whole(text.as_slice(), errors)
@@ -129,7 +129,7 @@ pub const MAX_BAD_SCRIPT: usize = 44;
 
 /// What is said of a script whose line with this number is bad.
 fn bad_script(line: u64) -> ArrayVec<u8, MAX_BAD_SCRIPT>
-    ensures { result.items ≡ told (BadScript line) }
+    ensures { result.items ≡ stop_line (BadScript line) }
 {
     let mut text = ArrayVec::new();
     let _ = text.try_extend_from_slice(b"ircd: line ");

@@ -20,12 +20,12 @@ use Rattle.irc_registering.specs.declared.pending.Pending.{Pending}
 use Rattle.irc_acts.specs.Acts.{client_words}
 use Rattle.irc_commands.specs.Decisions.{Decided, does}
 use Rattle.irc_commands.specs.Decide.{decide, decide_for}
-use Rattle.irc_commands.specs.Table.{row_of}
+use Rattle.irc_commands.specs.Table.{command_row}
 use Rattle.irc_registering.specs.Register.{register, replies, complete, welcomed, user_of, Registered}
 use Rattle.irc_acts.specs.CommaLists.{entries}
 use Rattle.irc_acts.specs.Standing.{is_banned}
 use Rattle.irc_commands.specs.declared.say.Verb.TheVariants as verb
-use Rattle.irc_commands.specs.Say.{say_steps, is_raised, says, to_channel, to_user, unless_notice}
+use Rattle.irc_commands.specs.Say.{say_steps, is_raised, say_text, to_channel, to_user, unless_notice}
 use Rattle.irc_examples.specs.Lines.{al, al_alone, a_net, line, newcomer, UnknownTarget, FifthTarget, SilentNotice, QuitWithText, UnknownWord, ForeignPrefix, EarlyJoin, TakenByFold, TakenMeanwhile, bo, als_channel, with_channel, to_channel_line, MemberIsHeard, OutsiderIsKeptOut}
 
 al_there : row al_alone.users (key (codes "al")) ≡ Some al
@@ -39,11 +39,11 @@ unfolding fold fold_table
 bo_missing = row-alter_other (key (codes "al")) (λ _. Some al) empty (key (codes "bo")) refl ∙ nobody (key (codes "bo"))
 
 pub unknown_word : UnknownWord
-unfolding decide row_of
+unfolding decide command_row
 unknown_word = ap (decide_for al_alone a_net (line (codes "FOO") [])) al_there
 
 pub foreign_prefix : ForeignPrefix
-unfolding decide row_of fold fold_table
+unfolding decide command_row fold fold_table
 foreign_prefix = ap (decide_for al_alone a_net (record { prefix = Some (codes "zz"); command = codes "PING"; params = codes "x" ∷ [] })) al_there
 
 pub early_join : EarlyJoin
@@ -51,7 +51,7 @@ unfolding register
 early_join = refl
 
 pub unknown_target : UnknownTarget
-unfolding decide row_of say_steps entries
+unfolding decide command_row say_steps entries
 unknown_target =
     ap (decide_for al_alone a_net (line (codes "PRIVMSG") (codes "bo" ∷ codes "hi" ∷ []))) al_there
     ∙ ap (λ o. does ((to_user al verb.Privmsg (codes "bo") (codes "hi") o ++ []) ++ [])) bo_missing
@@ -60,19 +60,19 @@ abbrev said : Option User → List Act
 said o = to_user al verb.Privmsg (codes "al") (codes "x") o
 
 pub fifth_target : FifthTarget
-unfolding decide row_of say_steps entries
+unfolding decide command_row say_steps entries
 fifth_target =
     ap (decide_for al_alone a_net (line (codes "privmsg") (codes "al,al,al,al,zz" ∷ codes "x" ∷ []))) al_there
     ∙ ap (λ o. does ((said o ++ (said o ++ (said o ++ (said o ++ [])))) ++ Answer (TooManyTargets (client_words (codes "zz"))) ∷ [])) al_there
 
 pub silent_notice : SilentNotice
-unfolding decide row_of say_steps entries
+unfolding decide command_row say_steps entries
 silent_notice =
     ap (decide_for al_alone a_net (line (codes "NOTICE") (codes "bo" ∷ codes "hi" ∷ []))) al_there
     ∙ ap (λ o. does (unless_notice verb.Notice ((to_user al verb.Notice (codes "bo") (codes "hi") o ++ []) ++ []))) bo_missing
 
 pub quit_with_text : QuitWithText
-unfolding decide row_of cut_words line_text cut
+unfolding decide command_row cut_words line_text cut
 quit_with_text = ap (decide_for al_alone a_net (line (codes "QUIT") (codes "bye" ∷ []))) al_there
 
 pub taken_by_fold : TakenByFold
@@ -118,17 +118,17 @@ in_channel me found = does ((to_channel me verb.Privmsg (codes "#RUST") (codes "
 abbrev with_flags : User → Option Flags → Decided
 with_flags me flags =
     does ((cond ((not als_channel.modes.no_outside || is_some flags) && (not als_channel.modes.moderated || is_raised flags) && (is_raised flags || not (is_banned me als_channel)))
-    (says me verb.Privmsg (target.Channel als_channel.name) als_channel.name (codes "hi")) (Answer (CannotSendToChan als_channel.name) ∷ []) ++ []) ++ [])
+    (say_text me verb.Privmsg (target.Channel als_channel.name) als_channel.name (codes "hi")) (Answer (CannotSendToChan als_channel.name) ∷ []) ++ []) ++ [])
 
 pub member_is_heard : MemberIsHeard
-unfolding decide row_of say_steps entries
+unfolding decide command_row say_steps entries
 member_is_heard =
     ap (decide_for with_channel a_net to_channel_line) al_with_channel
     ∙ ap (in_channel al) channel_there
     ∙ ap (with_flags al) al_member
 
 pub outsider_is_kept_out : OutsiderIsKeptOut
-unfolding decide row_of say_steps entries
+unfolding decide command_row say_steps entries
 outsider_is_kept_out =
     ap (decide_for with_channel a_net to_channel_line) bo_with_channel
     ∙ ap (in_channel bo) channel_there

@@ -15,7 +15,7 @@ use Rattle.irc_routes.specs.Place.{Place, alone}
 use Rattle.irc_acts.specs.declared.act.Act.{Act}
 use Rattle.irc_acts.specs.declared.act.Act.TheVariants.{Answer, Raw, Do}
 use Rattle.irc_registering.specs.declared.pending.Pending.{Pending}
-use Rattle.irc_acts.specs.Acts.{kept, client_words}
+use Rattle.irc_acts.specs.Acts.{bytes_kept, client_words}
 use Rattle.irc_commands.specs.Decisions.{nothing, does}
 use Rattle.irc_commands.specs.Decide.{decide}
 use Rattle.irc_registering.specs.Register.{register, replies}
@@ -35,7 +35,7 @@ line command params = record { prefix = None; command = command; params = params
 
 -- al says something to itself
 abbrev pub to_itself : Act
-to_itself = Do (Say (codes "al") false (target.User (codes "al")) (kept (codes "x")))
+to_itself = Do (Say (codes "al") false (target.User (codes "al")) (bytes_kept (codes "x")))
 
 abbrev pub bo : User
 bo = record { nick = codes "bo"; user = codes "u"; host = codes "h"; real = codes "Bo"; home = codes "a.net"; invisible = false }
@@ -63,7 +63,7 @@ to_channel_line = line (codes "PRIVMSG") (codes "#RUST" ∷ codes "hi" ∷ [])
 -- what a member says to its channel is said to the channel as stored
 abbrev pub MemberIsHeard : Type 0
 MemberIsHeard = decide with_channel a_net (codes "al") to_channel_line
-    ≡ does (Do (Say (codes "al") false (target.Channel (codes "#Rust")) (kept (codes "hi"))) ∷ [])
+    ≡ does (Do (Say (codes "al") false (target.Channel (codes "#Rust")) (bytes_kept (codes "hi"))) ∷ [])
 
 -- an outsider is kept out under mode n
 abbrev pub OutsiderIsKeptOut : Type 0
@@ -86,7 +86,7 @@ SilentNotice = decide al_alone a_net (codes "al") (line (codes "NOTICE") (codes 
 -- a QUIT ends with an ERROR line and closes the client
 abbrev pub QuitWithText : Type 0
 QuitWithText = decide al_alone a_net (codes "al") (line (codes "QUIT") (codes "bye" ∷ []))
-    ≡ record { steps = Do (Quit (codes "al") (codes "bye")) ∷ Raw (kept (codes "ERROR :Closing link (bye)\r\n")) ∷ []; close = true }
+    ≡ record { steps = Do (Quit (codes "al") (codes "bye")) ∷ Raw (bytes_kept (codes "ERROR :Closing link (bye)\r\n")) ∷ []; close = true }
 
 -- an unknown command is named as it was given
 abbrev pub UnknownWord : Type 0

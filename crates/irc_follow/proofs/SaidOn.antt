@@ -34,7 +34,7 @@ use Rattle.irc_relay.proofs.GoingToward.{linked_back, linked_other, next_hop, to
 use Rattle.irc_routes.specs.declared.server_row.ServerRow.{ServerRow}
 use Rattle.irc_routes.specs.Known.{Known, row_of}
 use Rattle.irc_routes.specs.Known as of_known
-use Rattle.irc_burst.specs.DeedsMeant.{a_deed, collided, deeds_meant, effects_told, read_row, server_of}
+use Rattle.irc_burst.specs.DeedsMeant.{a_deed, collided, deeds_meant, effects_told, read_burst_row, server_of}
 use Rattle.irc_burst.specs.DeedsMeant as of_deeds
 use Rattle.irc_link_writer.specs.Written.{wire}
 use Rattle.irc_stage.specs.EffectTold.{Served, on_links, shown_at, ways_at}
@@ -81,7 +81,7 @@ told_alike room other (UserMode nick invisible) agree = refl
 
 -- ---- what the line of an effect is read as
 
-pub no_row : (room : Room) (known : Known) (effect : Effect) → of_deeds.row_of (message_of (wire room known effect)).command ≡ None
+pub no_row : (room : Room) (known : Known) (effect : Effect) → of_deeds.burst_row_of (message_of (wire room known effect)).command ≡ None
 no_row room known (AddUser user) = refl
 no_row room known (Rename nick new) = refl
 no_row room known (Quit nick text) = refl
@@ -119,7 +119,7 @@ pub one_deed : (own : List ℕ) (room : Room) (server : Option (List ℕ)) (effe
     → collided own room server effect ≡ does effect ∷ []
 one_deed own room server (AddUser user) sent free = nobody own room user free
 one_deed own room server (Rename nick new) sent free =
-    ap (λ b. if b then map (kills own) (of_deeds.in_order (stored_nick room nick) (stored_nick room new))
+    ap (λ b. if b then map (kills own) (of_deeds.nicks_in_order (stored_nick room nick) (stored_nick room new))
     else does (Rename nick new) ∷ []) (not_anothers (has_user room new) (folded.same nick new) free)
 one_deed own room None (ChangeModes (by.User nick) channel changes) sent free = refl
 one_deed own room (Some server) (ChangeModes (by.User nick) channel changes) sent free = refl
@@ -164,7 +164,7 @@ module _ (room : Room) (known : Known) (view : View) (link : ℕ) (end : End) (e
       → deeds_meant view.room view.routes link (message_of (wire room known effect)) ≡ Ok (a_deed (does effect) ∷ [])
   unfolding deeds_meant
   effect_meant sent free =
-      ap (read_row view.room view.routes link (message_of (wire room known effect))) (no_row room known effect)
+      ap (read_burst_row view.room view.routes link (message_of (wire room known effect))) (no_row room known effect)
       ∙ ap (effects_told view.routes.name view.room (message_of (wire room known effect)).prefix) back.meaning
       ∙ ap (λ deeds. Ok (map a_deed (deeds ++ [])))
       (one_deed view.routes.name view.room (server_of (message_of (wire room known effect)).prefix) effect sent free)

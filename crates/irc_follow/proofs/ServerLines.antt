@@ -40,7 +40,7 @@ use Rattle.irc_merge.specs.Bursts.{home_passes, members_a_line}
 use Rattle.irc_merge.specs.Deeds.{Deed, brings, sets, tops}
 use Rattle.irc_routes.specs.Known.{Known}
 use Rattle.irc_burst.specs.DeedsMeant.{Told, a_deed, as_stored, collided, deeds_meant, effects_told, first_reason, members_of, of_server}
-use Rattle.irc_burst.specs.GoingOn.{line_of}
+use Rattle.irc_burst.specs.GoingOn.{line_from}
 use Rattle.irc_burst.specs.HandshakeMeant.{handshake_meant}
 use Rattle.irc_burst_lines.specs.DeedLines.{members_text, mode_parts, njoin_parts, topic_parts}
 use Rattle.irc_burst_lines.proofs.WholeLines.{members_fit}
@@ -241,7 +241,7 @@ module _ (names : NamesAreLineWords) (room : Room) (routes : Known) (link : ℕ)
   unfolding deeds_meant
   modes_read own channel changes channel_so readable =
       let words = changes_written changes in
-      let reads : List (List ℕ) → Result (List Told) CloseReason = λ ws. deeds_meant room routes link (line_of (codes "MODE") server (channel ∷ ws)) in
+      let reads : List (List ℕ) → Result (List Told) CloseReason = λ ws. deeds_meant room routes link (line_from (codes "MODE") server (channel ∷ ws)) in
       let doing : List ModeChange → By → Effect = λ cs doer. ChangeModes doer channel cs in
       let changing : List ModeChange → Checked =
       λ cs. of_either reader server (are_changes words) (is_channel channel && are_members_named cs) channel (doing cs) in

@@ -13,7 +13,7 @@ use Rattle.irc_stage.specs.View.{View}
 use Rattle.irc_world.specs.World.{home_in}
 use Rattle.irc_follow.specs.Says.{lines_on}
 use Rattle.irc_follow.specs.Tree.{index_in}
-use Rattle.irc_network.specs.Network.{Course, Reply, Site, all_sent_out, asked, asked_at, is_taken, received_by, reply, with_reply, with_site}
+use Rattle.irc_network.specs.Network.{Course, Reply, Site, all_sent_out, site_asked, asked_at, serves_occurrence, received_by, reply, with_reply, with_site}
 use Rattle.irc_items.specs.Relayed.{way_at}
 use Rattle.irc_items.specs.SetUp.{setting_now, settings_of, view_at, HasPassword, IsConfigured, IsSetUp}
 use Rattle.irc_items.proofs.AtRest.{beyond, nothing_received}
@@ -41,9 +41,9 @@ pub record IsAskedAt (t : Name) (answer : Reply) (old new : Course) : Type 0 whe
 
 -- what a server answers keeps what it is configured to be
 pub reply_alike : ServedKeepsItsSetting → (view : View) (occurrence : Occurrence) → IsSetAlike view (reply view occurrence).view
-reply_alike kept view occurrence = by (is_taken view occurrence) refl
+reply_alike kept view occurrence = by (serves_occurrence view occurrence) refl
   where
-    by : (b : Bool) → is_taken view occurrence ≡ b → IsSetAlike view (reply view occurrence).view
+    by : (b : Bool) → serves_occurrence view occurrence ≡ b → IsSetAlike view (reply view occurrence).view
     by true e = subst (λ (r : Reply). IsSetAlike view r.view)
         (sym (ap (λ b. if b then record { view = (served view occurrence).view; out = (served view occurrence).out }
         else record { view = view; out = [] }) e)) (kept view occurrence)
@@ -86,8 +86,8 @@ module _ (kept : ServedKeepsItsSetting) (old : Course) (set_up : IsSetUp old.net
   sent : IsSentOut place answer.out replied mid (all_sent_out place answer.out mid)
   sent = all_sent place answer.out replied mid first_changed.is_after
 
-  asked_is : asked place occurrence old ≡ all_sent_out place answer.out mid
-  unfolding asked
+  asked_is : site_asked place occurrence old ≡ all_sent_out place answer.out mid
+  unfolding site_asked
   asked_is =
       ap (λ o. option_map_or (asked_at place occurrence old) o old) (there old.net set_up t among).is_site
       ∙ ap (λ o. option_map_or (λ (v : View). with_reply place old site (reply v occurrence)) o old) (there old.net set_up t among).is_view
@@ -144,7 +144,7 @@ module _ (kept : ServedKeepsItsSetting) (old : Course) (set_up : IsSetUp old.net
 
 pub asked_there : ServedKeepsItsSetting → (old : Course) → IsSetUp old.net → length old.net.received ≡ length old.net.homes → (t : Name)
     → IsAmong old.net.names t → (occurrence : Occurrence)
-    → IsAskedAt t (reply (view_at old.net t) occurrence) old (asked (index_in old.net.names t) occurrence old)
+    → IsAskedAt t (reply (view_at old.net t) occurrence) old (site_asked (index_in old.net.names t) occurrence old)
 asked_there kept old set_up inboxes t among occurrence =
     subst (IsAskedAt t (reply (view_at old.net t) occurrence) old) (sym (asked_is kept old set_up t among occurrence))
     (asked_so kept old set_up t among occurrence inboxes)

@@ -16,7 +16,7 @@ use Rattle.irc_world.specs.World.{home_in}
 use Rattle.irc_follow.specs.Part.{is_home_of}
 use Rattle.irc_follow.specs.Says.{lines_on}
 use Rattle.irc_follow.specs.Tree.{index_in}
-use Rattle.irc_network.specs.Network.{Course, Network, Reply, asked, asked_of, begun, done_by, given, home_place, is_taken, next_client, place_of, received_by, reply, view_of, with_client}
+use Rattle.irc_network.specs.Network.{Course, Network, Reply, site_asked, site_asked_if, begun, done_by, given, home_place, serves_occurrence, next_client, server_place, received_by, reply, site_view, with_client}
 use Rattle.irc_network.specs.Refusing.{fault_at_rest, has_client, is_there}
 use Rattle.irc_items.specs.OneRoom.{IsOneRoom}
 use Rattle.irc_items.specs.Relayed.{way_at}
@@ -54,7 +54,7 @@ set_up_besides net links homes received items taken set_up =
     record { named = set_up.named; once = set_up.once; few = set_up.few; configured = set_up.configured }
 
 -- what is not refused is served
-pub reply_taken : (view : View) (occurrence : Occurrence) → is_taken view occurrence ≡ true
+pub reply_taken : (view : View) (occurrence : Occurrence) → serves_occurrence view occurrence ≡ true
     → reply view occurrence ≡ record { view = (served view occurrence).view; out = (served view occurrence).out }
 reply_taken view occurrence taken =
     ap (λ b. if b then record { view = (served view occurrence).view; out = (served view occurrence).out } else record { view = view; out = [] }) taken
@@ -65,12 +65,12 @@ homed net homes received = record net { homes = homes; received = received }
 
 module _ (stays : ServedKeepsItsSetting) (net : Network) (homes : List Name) (received : List (List (List ℕ))) (set_up : IsSetUp net)
     (inboxes : length received ≡ length homes) (as_before : (client : ℕ) → received_by (homed net homes received) client ≡ received_by net client)
-    (h : Name) (among : IsAmong net.names h) (happening : Happening) (taken : is_taken (view_at net h) (of_client happening) ≡ true) (item : Item) where
+    (h : Name) (among : IsAmong net.names h) (happening : Happening) (taken : serves_occurrence (view_at net h) (of_client happening) ≡ true) (item : Item) where
   abbrev base : Network
   base = homed net homes received
 
   abbrev course : Course
-  course = asked (index_in net.names h) (of_client happening) (begun base)
+  course = site_asked (index_in net.names h) (of_client happening) (begun base)
 
   answered : IsAskedAt h (reply (view_at net h) (of_client happening)) (begun base) course
   answered = asked_there stays (begun base) (set_up_besides net net.links homes received net.items net.taken set_up) inboxes h among (of_client happening)
@@ -100,13 +100,13 @@ module _ (stays : ServedKeepsItsSetting) (net : Network) (homes : List Name) (re
 
 -- the client's home is asked
 given_where : (item : Item) (net base : Network) (place : Option ℕ) (k : ℕ) (occurrence : Occurrence)
-    → done_by item net ≡ asked_of place occurrence (begun base)
+    → done_by item net ≡ site_asked_if place occurrence (begun base)
     → place ≡ Some k
     → (given item net).net
-    ≡ record (asked k occurrence (begun base)).net { items = (asked k occurrence (begun base)).net.items ++ item ∷ []; taken = 0 }
+    ≡ record (site_asked k occurrence (begun base)).net { items = (site_asked k occurrence (begun base)).net.items ++ item ∷ []; taken = 0 }
 unfolding given
 given_where item net base place k occurrence done is =
-    ap (λ (c : Course). record c.net { items = c.net.items ++ item ∷ []; taken = 0 }) (done ∙ ap (λ o. asked_of o occurrence (begun base)) is)
+    ap (λ (c : Course). record c.net { items = c.net.items ++ item ∷ []; taken = 0 }) (done ∙ ap (λ o. site_asked_if o occurrence (begun base)) is)
 
 -- ---- a line is said, or the client goes
 
@@ -130,7 +130,7 @@ there_for net client = by (is_there net client)
 pub home_there : (net : Network) → IsSetUp net → (client : ℕ) → is_there net client ≡ true → HasHome net client
 home_there net set_up client is = by (home_in net.homes client) refl
   where
-    at : (home : Name) → home_in net.homes client ≡ Some home → option_map_or (has_client client) (view_of net home) false ≡ true
+    at : (home : Name) → home_in net.homes client ≡ Some home → option_map_or (has_client client) (site_view net home) false ≡ true
         → (b : Bool) → list_any (same home) net.names ≡ b → HasHome net client
     at home e seen true among = record {
       home = home;
@@ -144,8 +144,8 @@ home_there net set_up client is = by (home_in net.homes client) refl
 
     by : (o : Option Name) → home_in net.homes client ≡ o → HasHome net client
     by (Some home) e =
-        at home e (sym (ap (λ o. option_map_or (has_client client) (option_and_then (view_of net) o) false) e) ∙ is) (list_any (same home) net.names) refl
-    by None e = let f = sym (ap (λ o. option_map_or (has_client client) (option_and_then (view_of net) o) false) e) ∙ is in absurd (cc f)
+        at home e (sym (ap (λ o. option_map_or (has_client client) (option_and_then (site_view net) o) false) e) ∙ is) (list_any (same home) net.names) refl
+    by None e = let f = sym (ap (λ o. option_map_or (has_client client) (option_and_then (site_view net) o) false) e) ∙ is in absurd (cc f)
 
 -- the client's home has served it
 pub record IsDoneAtHome (net : Network) (client : ℕ) (happening : Happening) (item : Item) : Type 0 where
@@ -155,11 +155,11 @@ pub record IsDoneAtHome (net : Network) (client : ℕ) (happening : Happening) (
 
 home_asked : (net : Network) → IsSetUp net → (client : ℕ) (home : Name) → IsAtHome net client home → home_place net client ≡ Some (index_in net.names home)
 home_asked net set_up client home at_home =
-    ap (option_and_then (place_of net)) at_home.is_home ∙ (there net set_up home at_home.among).place
+    ap (option_and_then (server_place net)) at_home.is_home ∙ (there net set_up home at_home.among).place
 
 done_at_home : ServedKeepsItsSetting → (net : Network) → IsSound net → (client : ℕ) (happening : Happening) (item : Item)
-    → ((view : View) → is_some (get view.clients client) ≡ true → is_taken view (of_client happening) ≡ true)
-    → done_by item net ≡ asked_of (home_place net client) (of_client happening) (begun net) → is_there net client ≡ true
+    → ((view : View) → is_some (get view.clients client) ≡ true → serves_occurrence view (of_client happening) ≡ true)
+    → done_by item net ≡ site_asked_if (home_place net client) (of_client happening) (begun net) → is_there net client ≡ true
     → IsDoneAtHome net client happening item
 done_at_home stays net sound client happening item taken done is =
     let found : HasHome net client = home_there net sound.set_up client is in
@@ -237,12 +237,12 @@ placed_for None e = cc e
 pub connect_is_given : ServedKeepsItsSetting → (net : Network) → IsSound net → IsOneRoom net → (server : Name) (host : List ℕ)
     → fault_at_rest net (connect server host) ≡ None → IsConnected net server host
 connect_is_given stays net sound room server host taken =
-    let among : IsAmong net.names server = sym (placed_if net.names server) ∙ placed_for (place_of net server) taken in
+    let among : IsAmong net.names server = sym (placed_if net.names server) ∙ placed_for (server_place net server) taken in
     record {
       among = among;
       is_new = next_is_new net room server among;
       served = subst (λ new. IsServedFor net (with_client server net) new server (connects (next_client net) host) (connect server host))
-          (sym (given_where (connect server host) net (with_client server net) (place_of net server) (index_in net.names server)
+          (sym (given_where (connect server host) net (with_client server net) (server_place net server) (index_in net.names server)
           (of_client (connects (next_client net) host)) refl (there net sound.set_up server among).place))
           (served_for stays net (net.homes ++ server ∷ []) (net.received ++ [] ∷ []) sound.set_up (long_behind net.received net.homes [] server sound.inboxes)
           (received_as_before net server) server among (connects (next_client net) host)

@@ -7,7 +7,7 @@ use Rattle.irc_relay.specs.Lemmas.TellingNames.{Telling, alike, unlike, tell}
 use Rattle.irc_relay.specs.Links.{Name}
 use Rattle.irc_stage.specs.Lemmas.Numbers.{get-without, one_number, same_number, same_number-refl}
 use Rattle.irc_follow.specs.Tree.{index_in}
-use Rattle.irc_network.specs.Network.{Network, Site, changed_at, with_site, without_way}
+use Rattle.irc_network.specs.Network.{Network, Site, site_changed_at, with_site, without_way}
 use Rattle.irc_items.specs.Relayed.{way_at}
 use Rattle.irc_items.specs.SetUp.{settings_of, view_at, IsSetUp}
 use Rattle.irc_items.proofs.SetUpFacts.{there, IsThere}
@@ -61,5 +61,5 @@ module _ (net : Network) (set_up : IsSetUp net) (t : Name) (among : IsAmong net.
       elsewhere place two false e = ap (λ b. cond b None (get at.site.queues place)) e
 
   -- the network closes it so
-  pub is_closed : changed_at (index_in net.names t) (without_way to) net ≡ new
+  pub is_closed : site_changed_at (index_in net.names t) (without_way to) net ≡ new
   is_closed = ap (λ o. option_map_or (λ site. with_site (index_in net.names t) (without_way to site) net) o net) at.is_site

@@ -25,7 +25,7 @@ use Rattle.irc_relay.proofs.GoingToward.{linked_joined, linked_other, toward_lin
 use Rattle.irc_relay.proofs.TakingOut.{tests_tell}
 use Rattle.irc_routes.specs.Known.{Known, row_of}
 use Rattle.irc_routes.specs.Known as of_known
-use Rattle.irc_burst.specs.DeedsMeant.{a_deed, deeds_meant, effects_told, killed, read_row}
+use Rattle.irc_burst.specs.DeedsMeant.{a_deed, deeds_meant, effects_told, killed, read_burst_row}
 use Rattle.irc_burst_lines.specs.DeedLines.{kill_parts}
 use Rattle.irc_burst_lines.proofs.WholeLines.{kill_fits}
 use Rattle.irc_handshake.specs.GreetingLines.{greeting, pass_parts}
@@ -60,7 +60,7 @@ module _ (room : Room) (known : Known) (view : View) (link : ℕ) (end : End) (u
   collision_meant : deeds_meant view.room view.routes link (message_of (wire room known (AddUser user))) ≡ Ok (a_deed (kills view.routes.name holder.nick) ∷ [])
   unfolding deeds_meant
   collision_meant =
-      ap (read_row view.room view.routes link (message_of (wire room known (AddUser user)))) (no_row room known (AddUser user))
+      ap (read_burst_row view.room view.routes link (message_of (wire room known (AddUser user)))) (no_row room known (AddUser user))
       ∙ ap (effects_told view.routes.name view.room (message_of (wire room known (AddUser user))).prefix) back.meaning
       ∙ ap (λ o. Ok (map a_deed (option_map_or (λ (other : User). kills view.routes.name other.nick ∷ []) o (does (AddUser user) ∷ []) ++ []))) taken
 

@@ -14,7 +14,7 @@ use Rattle.irc_world.specs.World.{home_in}
 use Rattle.irc_follow.specs.Fits.{far_of}
 use Rattle.irc_follow.specs.Says.{lines_on}
 use Rattle.irc_follow.specs.Tree.{index_in}
-use Rattle.irc_network.specs.Network.{Course, Network, Reply, asked, begun, changed_at, ends_of, given, kept, lost, place_of, received_by, reply, without_way}
+use Rattle.irc_network.specs.Network.{Course, Network, Reply, site_asked, begun, site_changed_at, link_places, given, item_kept, servers_parted, server_place, received_by, reply, without_way}
 use Rattle.irc_network.specs.Refusing.{fault_at_rest, is_server}
 use Rattle.irc_items.specs.OneRoom.{IsOneRoom}
 use Rattle.irc_items.specs.Relayed.{way_at}
@@ -144,7 +144,7 @@ module _ (stays : ServedKeepsItsSetting) (net : Network) (sound : IsSound net) (
   near_done = parted_at net near far
 
   abbrev near_parted : Course
-  near_parted = asked p (link_down q) (begun both_ways)
+  near_parted = site_asked p (link_down q) (begun both_ways)
 
   near_asked : IsAskedAt near (reply (view_at both_ways near) (link_down q)) (begun both_ways) near_parted
   near_asked = asked_there stays (begun both_ways) far_shut.set_up sound.inboxes near m.near_among (link_down q)
@@ -160,11 +160,11 @@ module _ (stays : ServedKeepsItsSetting) (net : Network) (sound : IsSound net) (
   far_done = parted_at net far near
 
   abbrev both_parted : Course
-  both_parted = asked q (link_down p) near_parted
+  both_parted = site_asked q (link_down p) near_parted
 
   far_asked : IsAskedAt far (reply (view_at near_parted.net far) (link_down p)) near_parted both_parted
   far_asked =
-      subst (λ place. IsAskedAt far (reply (view_at near_parted.net far) (link_down p)) near_parted (asked place (link_down p) near_parted))
+      subst (λ place. IsAskedAt far (reply (view_at near_parted.net far) (link_down p)) near_parted (site_asked place (link_down p) near_parted))
       (ap (λ names. index_in names far) near_asked.names)
       (asked_there stays near_parted near_asked.set_up (near_asked.inboxes ∙ sound.inboxes ∙ ap length (sym near_asked.homes)) far
       (subst (λ names. IsAmong names far) (sym near_asked.names) m.far_among) (link_down p))
@@ -204,21 +204,21 @@ module _ (stays : ServedKeepsItsSetting) (net : Network) (sound : IsSound net) (
 
   -- ---- the network does so
 
-  both_found : ends_of net near far ≡ Some (record { near = p; far = q })
+  both_found : link_places net near far ≡ Some (record { near = p; far = q })
   both_found =
-      ap (option_and_then (λ one. option_map (λ other. record { near = one; far = other }) (place_of net far))) (there net sound.set_up near m.near_among).place
+      ap (option_and_then (λ one. option_map (λ other. record { near = one; far = other }) (server_place net far))) (there net sound.set_up near m.near_among).place
       ∙ ap (option_map (λ other. record { near = p; far = other })) (there net sound.set_up far m.far_among).place
 
-  is_lost : lost near far net (record { near = p; far = q }) ≡ both_parted
+  is_lost : servers_parted near far net (record { near = p; far = q }) ≡ both_parted
   is_lost =
-      ap (λ shut. asked q (link_down p) (asked p (link_down q) (begun shut)))
-      (ap (changed_at q (without_way p)) (is_closed without_link is_set_up near m.near_among q) ∙ is_closed one_way near_shut.set_up far m.far_among p)
+      ap (λ shut. site_asked q (link_down p) (site_asked p (link_down q) (begun shut)))
+      (ap (site_changed_at q (without_way p)) (is_closed without_link is_set_up near m.near_among q) ∙ is_closed one_way near_shut.set_up far m.far_among p)
 
-  is_given : given (cut near far) net ≡ kept (cut near far) both_parted
+  is_given : given (cut near far) net ≡ item_kept (cut near far) both_parted
   unfolding given
-  is_given = ap (kept (cut near far)) (ap (λ o. option_map_or (lost near far net) o (begun net)) both_found ∙ is_lost)
+  is_given = ap (item_kept (cut near far)) (ap (λ o. option_map_or (servers_parted near far net) o (begun net)) both_found ∙ is_lost)
 
-  cut_so : IsCut net (kept (cut near far) both_parted).net near far
+  cut_so : IsCut net (item_kept (cut near far) both_parted).net near far
   cut_so = record {
     names = far_asked.names ∙ near_asked.names;
     homes = far_asked.homes ∙ near_asked.homes;

@@ -9,7 +9,7 @@ use Rattle.irc_relay.specs.Links.{Name}
 use Rattle.irc_stage.specs.Lemmas.Numbers.{get-with, one_number, same_number, same_number-refl}
 use Rattle.irc_server.specs.Served.{link_says}
 use Rattle.irc_follow.specs.Tree.{index_in}
-use Rattle.irc_network.specs.Network.{Course, Site, asked, counted, delivered, left, site_at, taken_of, waiting, with_site}
+use Rattle.irc_network.specs.Network.{Course, Site, site_asked, line_counted, delivered, left, site_at, taken_of, waiting, with_site}
 use Rattle.irc_items.specs.Relayed.{way_at, way_between}
 use Rattle.irc_items.specs.SetUp.{settings_of, view_at, IsSetUp}
 use Rattle.irc_items.specs.Sound.{IsPlaceOf, IsSound}
@@ -34,7 +34,7 @@ pub record IsDeliveredTo (p t : Name) (line : List ℕ) (old new : Course) : Typ
   pub received : mid.net.received ≡ old.net.received
   pub settings : settings_of mid.net ≡ settings_of old.net
   pub counted_is : mid.net.taken ≡ min (old.net.taken + 1) 18446744073709551615
-  pub asked_is : new ≡ asked (index_in old.net.names t) (link_says (index_in old.net.names p) (read_of line)) mid
+  pub asked_is : new ≡ site_asked (index_in old.net.names t) (link_says (index_in old.net.names p) (read_of line)) mid
 
 pub record IsDelivery (old new : Course) : Type 0 where
   pub giver : Name
@@ -45,9 +45,9 @@ pub record IsDelivery (old new : Course) : Type 0 where
 module _ (old : Course) (set_up : IsSetUp old.net) (p t : Name) (p_among : IsAmong old.net.names p) (t_among : IsAmong old.net.names t)
     (line : List ℕ) (rest : List (List ℕ)) (waited : waiting (there old.net set_up p p_among).site (index_in old.net.names t) ≡ line ∷ rest)
     (new : Course)
-    (new_is : new ≡ asked (index_in old.net.names t) (link_says (index_in old.net.names p) (read_of line))
+    (new_is : new ≡ site_asked (index_in old.net.names t) (link_says (index_in old.net.names p) (read_of line))
     (record old {
-      net = counted (with_site (index_in old.net.names p)
+      net = line_counted (with_site (index_in old.net.names p)
           (left (index_in old.net.names t) rest (there old.net set_up p p_among).site) old.net);
     })) where
   abbrev site : Site
@@ -57,7 +57,7 @@ module _ (old : Course) (set_up : IsSetUp old.net) (p t : Name) (p_among : IsAmo
   after = left (index_in old.net.names t) rest site
 
   abbrev mid : Course
-  mid = record old { net = counted (with_site (index_in old.net.names p) after old.net) }
+  mid = record old { net = line_counted (with_site (index_in old.net.names p) after old.net) }
 
   changed : IsSiteChanged (index_in old.net.names p) after old.net mid.net
   changed = site_set (index_in old.net.names p) site after old.net mid.net (there old.net set_up p p_among).is_site (same_server site after refl) refl
@@ -128,12 +128,12 @@ delivered_between old sound from to new is = by (site_at old.net from) refl
       line = line;
       delivered_to = delivered_so old sound.set_up p.server t.server p.among t.among line rest
           (ap (λ place. waiting (there old.net sound.set_up p.server p.among).site place) t.is ∙ ap (λ (s : Site). waiting s to) (sym one_site) ∙ waited) new
-          (sym (same_some _ new e) ∙ ap (λ (s : Site). asked to (link_says from (read_of line))
-          (record old { net = counted (with_site from (left to rest s) old.net) })) one_site
-          ∙ ap (λ n. asked to (link_says n (read_of line))
-          (record old { net = counted (with_site n (left to rest (there old.net sound.set_up p.server p.among).site) old.net) })) (sym p.is)
-          ∙ ap (λ n. asked n (link_says (index_in old.net.names p.server) (read_of line))
-          (record old { net = counted (with_site (index_in old.net.names p.server) (left n rest (there old.net sound.set_up p.server p.among).site) old.net) }))
+          (sym (same_some _ new e) ∙ ap (λ (s : Site). site_asked to (link_says from (read_of line))
+          (record old { net = line_counted (with_site from (left to rest s) old.net) })) one_site
+          ∙ ap (λ n. site_asked to (link_says n (read_of line))
+          (record old { net = line_counted (with_site n (left to rest (there old.net sound.set_up p.server p.among).site) old.net) })) (sym p.is)
+          ∙ ap (λ n. site_asked n (link_says (index_in old.net.names p.server) (read_of line))
+          (record old { net = line_counted (with_site (index_in old.net.names p.server) (left n rest (there old.net sound.set_up p.server p.among).site) old.net) }))
           (sym t.is));
     }
       where

@@ -37,7 +37,7 @@ use Rattle.irc_follow.specs.Says.{neighbour_served as asked_line, lines_on, mach
 use Rattle.irc_follow.specs.Tree.{index_in}
 use Rattle.irc_follow.proofs.Places.{one_place}
 use Rattle.irc_follow.proofs.SaidShows.{append_nil}
-use Rattle.irc_network.specs.Network.{Course, Network, Reply, asked, delivered, received_by, reply}
+use Rattle.irc_network.specs.Network.{Course, Network, Reply, site_asked, delivered, received_by, reply}
 use Rattle.irc_items.specs.GoodLines.{closings, IsGoodLine, IsGoodReply, IsUnheard}
 use Rattle.irc_items.specs.Laws.{DeliveryStaysSound}
 use Rattle.irc_items.specs.Relayed.{fixed_of, is_met_with, owed_to, relayed, way_at, way_between}
@@ -126,9 +126,9 @@ module _ (laws : AreDeliveryLaws) (old new : Course) (sound : IsSound old.net) (
   answered =
       subst (IsAskedAt t (record { view = after.view; out = after.out }) d.mid) (sym d.asked_is ∙ refl)
       (subst (λ place. IsAskedAt t (record { view = after.view; out = after.out }) d.mid
-      (asked place (link_says (index_in old.net.names p) (read_of line)) d.mid))
+      (site_asked place (link_says (index_in old.net.names p) (read_of line)) d.mid))
       (ap (λ names. index_in names t) d.names)
-      (subst (λ r. IsAskedAt t r d.mid (asked (index_in d.mid.net.names t) (link_says (index_in old.net.names p) (read_of line)) d.mid))
+      (subst (λ r. IsAskedAt t r d.mid (site_asked (index_in d.mid.net.names t) (link_says (index_in old.net.names p) (read_of line)) d.mid))
       (ap (λ v. reply v (link_says (index_in old.net.names p) (read_of line))) (d.views t) ∙ reply_is)
       (asked_there laws.kept d.mid d.set_up
       (ap (λ (boxes : List (List (List ℕ))). length boxes) d.received ∙ sound.inboxes ∙ ap (λ (homes : List Name). length homes) (sym d.homes)) t

@@ -22,7 +22,7 @@ use Rattle.irc_relay.proofs.GoingToward.{linked_back, linked_other, next_hop as 
 use Rattle.irc_relay.proofs.TakingOut.{linked_tells}
 use Rattle.irc_routes.specs.declared.server_row.ServerRow.{ServerRow}
 use Rattle.irc_routes.specs.Known.{next_hop, row_of}
-use Rattle.irc_burst.specs.DeedsMeant.{a_deed, deeds_meant, effects_told, read_row, server_of}
+use Rattle.irc_burst.specs.DeedsMeant.{a_deed, deeds_meant, effects_told, read_burst_row, server_of}
 use Rattle.irc_burst.specs.HandshakeMeant.{handshake_meant}
 use Rattle.irc_link_writer.specs.Written.{wire}
 use Rattle.irc_stage.specs.EffectTold.{on_links, ways_at}
@@ -205,7 +205,7 @@ module _ (s : Fixed) (h : Name) (w : Part) (view : View) (writer : Fits s h w vi
       meant : deeds_meant other.room other.routes (number s h) (message_of (parts effect)) ≡ Ok (a_deed (does effect) ∷ [])
       unfolding deeds_meant
       meant =
-          ap (read_row other.room other.routes (number s h) (message_of (parts effect))) (no_row view.room view.routes effect)
+          ap (read_burst_row other.room other.routes (number s h) (message_of (parts effect))) (no_row view.room view.routes effect)
           ∙ ap (effects_told other.routes.name other.room (message_of (parts effect)).prefix) back.meaning
           ∙ ap (λ deeds. Ok (map a_deed (deeds ++ [])))
           (one_deed other.routes.name other.room (server_of (message_of (parts effect)).prefix) effect (sent_by w.hall.room effect doable.sendable) free_there)

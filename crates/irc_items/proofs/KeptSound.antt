@@ -5,7 +5,7 @@ use Rattle.irc_line.specs.Reading.{read_of}
 use Rattle.irc_stage.specs.View.{View}
 use Rattle.irc_server.specs.Served.{Occurrence, link_says}
 use Rattle.irc_world.specs.World.{new_world}
-use Rattle.irc_network.specs.Network.{Course, Network, Reply, Site, asked, asked_at, counted, delivered, left, max_count, none_yet, reply, site_at, taken_of, then_one, waiting, with_reply, with_site}
+use Rattle.irc_network.specs.Network.{Course, Network, Reply, Site, site_asked, asked_at, line_counted, delivered, left, max_count, none_yet, reply, site_at, taken_of, then_one, waiting, with_reply, with_site}
 use Rattle.irc_items.specs.Kept.{DeliveryKeepsSound, SettlingKeepsSound, TakenAreFew}
 use Rattle.irc_items.specs.Laws.{DeliveryKeepsSettings, DeliveryStaysSound}
 use Rattle.irc_items.specs.SetUp.{settings_of}
@@ -30,8 +30,8 @@ replied_taken place course site answer is = record { items = sent.changed.items;
         (record course { net = with_site place (record site { server = Some answer.view }) course.net })
         (set_there course.net.sites place site (record site { server = Some answer.view }) is)
 
-asked_taken : (place : ℕ) (occurrence : Occurrence) (course : Course) → IsOnlyTaken course.net (asked place occurrence course).net
-unfolding asked
+asked_taken : (place : ℕ) (occurrence : Occurrence) (course : Course) → IsOnlyTaken course.net (site_asked place occurrence course).net
+unfolding site_asked
 asked_taken place occurrence course = by (site_at course.net place) refl
   where
     same : (net : Network) → IsOnlyTaken net net
@@ -65,9 +65,9 @@ delivered_one from to old new is = by (site_at old.net from) refl
     taken site [] e = absurd (cc e)
     taken site (first ∷ rest) e = subst (λ (c : Course). IsOneMore old.net c.net) (same_some _ new e) (record { items = one.items; taken = one.taken })
       where
-        one : IsOnlyTaken (counted (with_site from (left to rest site) old.net))
-            (asked to (link_says from (read_of first)) (record old { net = counted (with_site from (left to rest site) old.net) })).net
-        one = asked_taken to (link_says from (read_of first)) (record old { net = counted (with_site from (left to rest site) old.net) })
+        one : IsOnlyTaken (line_counted (with_site from (left to rest site) old.net))
+            (site_asked to (link_says from (read_of first)) (record old { net = line_counted (with_site from (left to rest site) old.net) })).net
+        one = asked_taken to (link_says from (read_of first)) (record old { net = line_counted (with_site from (left to rest site) old.net) })
 
     by : (o : Option Site) → site_at old.net from ≡ o → IsOneMore old.net new.net
     by None e = absurd (let no = sym (ap (option_and_then (λ (site : Site). taken_of from to old site (waiting site to))) e) ∙ is in cc no)

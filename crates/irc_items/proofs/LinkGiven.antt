@@ -27,7 +27,7 @@ use Rattle.irc_follow.specs.Fits.{far_of}
 use Rattle.irc_follow.specs.Says.{body, lines_on}
 use Rattle.irc_follow.specs.Tree.{index_in}
 use Rattle.irc_follow.proofs.LinesOn.{bare}
-use Rattle.irc_network.specs.Network.{Course, Network, Reply, asked, begun, changed_at, ends_of, given, kept, made, place_of, received_by, reply, view_of, with_way}
+use Rattle.irc_network.specs.Network.{Course, Network, Reply, site_asked, begun, site_changed_at, link_places, given, item_kept, servers_linked, server_place, received_by, reply, site_view, with_way}
 use Rattle.irc_network.specs.Refusing.{are_peers, fault_at_rest, link_fault, meeting_fault}
 use Rattle.irc_items.specs.GoodLines.{closings}
 use Rattle.irc_items.specs.Laws.{NewLinkIsOpen}
@@ -150,7 +150,7 @@ meeting net set_up near far taken = by (list_any (same near) net.names) refl (li
     by true near_among false none =
         let f = sym (λ i. link_fault net near far (viewed net set_up near near_among i) (viewed_nowhere net far none i)) ∙ taken in absurd (cc f)
     by false none c other =
-        let f = sym (ap (λ o. link_fault net near far o (view_of net far)) (viewed_nowhere net near none)) ∙ taken in absurd (cc f)
+        let f = sym (ap (λ o. link_fault net near far o (site_view net far)) (viewed_nowhere net near none)) ∙ taken in absurd (cc f)
 
 -- ---- what is put out
 
@@ -293,7 +293,7 @@ module _ (stays : ServedKeepsItsSetting) (net : Network) (sound : IsSound net) (
   parts = opening_parts (view_at net near) far
 
   abbrev has_called : Course
-  has_called = asked p (link_up q (Some far)) (begun both_ways)
+  has_called = site_asked p (link_up q (Some far)) (begun both_ways)
 
   near_asked : IsAskedAt near (reply (view_at both_ways near) (link_up q (Some far))) (begun both_ways) has_called
   near_asked = asked_there stays (begun both_ways) far_opened.set_up sound.inboxes near m.near_among (link_up q (Some far))
@@ -306,11 +306,11 @@ module _ (stays : ServedKeepsItsSetting) (net : Network) (sound : IsSound net) (
   -- ---- the far end waits
 
   abbrev has_waited : Course
-  has_waited = asked q (link_up p None) has_called
+  has_waited = site_asked q (link_up p None) has_called
 
   far_asked : IsAskedAt far (reply (view_at has_called.net far) (link_up p None)) has_called has_waited
   far_asked =
-      subst (λ place. IsAskedAt far (reply (view_at has_called.net far) (link_up p None)) has_called (asked place (link_up p None) has_called))
+      subst (λ place. IsAskedAt far (reply (view_at has_called.net far) (link_up p None)) has_called (site_asked place (link_up p None) has_called))
       (ap (λ names. index_in names far) near_asked.names)
       (asked_there stays has_called near_asked.set_up (near_asked.inboxes ∙ sound.inboxes ∙ ap length (sym near_asked.homes)) far
       (subst (λ names. IsAmong names far) (sym near_asked.names) m.far_among) (link_up p None))
@@ -385,21 +385,21 @@ module _ (stays : ServedKeepsItsSetting) (net : Network) (sound : IsSound net) (
 
   -- ---- the network does so
 
-  both_found : ends_of net near far ≡ Some (record { near = p; far = q })
+  both_found : link_places net near far ≡ Some (record { near = p; far = q })
   both_found =
-      ap (option_and_then (λ one. option_map (λ other. record { near = one; far = other }) (place_of net far))) (there net sound.set_up near m.near_among).place
+      ap (option_and_then (λ one. option_map (λ other. record { near = one; far = other }) (server_place net far))) (there net sound.set_up near m.near_among).place
       ∙ ap (option_map (λ other. record { near = p; far = other })) (there net sound.set_up far m.far_among).place
 
-  is_made : made near far net (record { near = p; far = q }) ≡ has_waited
+  is_made : servers_linked near far net (record { near = p; far = q }) ≡ has_waited
   is_made =
-      ap (λ opened. asked q (link_up p None) (asked p (link_up q (Some far)) (begun opened)))
-      (ap (changed_at q (with_way p)) (is_opened with_link is_set_up near m.near_among q) ∙ is_opened one_way near_opened.set_up far m.far_among p)
+      ap (λ opened. site_asked q (link_up p None) (site_asked p (link_up q (Some far)) (begun opened)))
+      (ap (site_changed_at q (with_way p)) (is_opened with_link is_set_up near m.near_among q) ∙ is_opened one_way near_opened.set_up far m.far_among p)
 
-  is_given : given (link near far) net ≡ kept (link near far) has_waited
+  is_given : given (link near far) net ≡ item_kept (link near far) has_waited
   unfolding given
-  is_given = ap (kept (link near far)) (ap (λ o. option_map_or (made near far net) o (begun net)) both_found ∙ is_made)
+  is_given = ap (item_kept (link near far)) (ap (λ o. option_map_or (servers_linked near far net) o (begun net)) both_found ∙ is_made)
 
-  linked_so : IsLinked net (kept (link near far) has_waited).net near far
+  linked_so : IsLinked net (item_kept (link near far) has_waited).net near far
   linked_so = record {
     names = same_names;
     homes = far_asked.homes ∙ near_asked.homes;

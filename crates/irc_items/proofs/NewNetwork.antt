@@ -29,7 +29,7 @@ use Rattle.irc_follow.specs.Fits.{Fits, far_of}
 use Rattle.irc_follow.specs.Part.{Fixed, info_in, is_home_of, number}
 use Rattle.irc_follow.specs.Says.{machine}
 use Rattle.irc_follow.specs.Tree.{index_in, shape, shape_in}
-use Rattle.irc_network.specs.Network.{Network, Site, place_of, site_at}
+use Rattle.irc_network.specs.Network.{Network, Site, server_place, site_at}
 use Rattle.irc_items.specs.Laws.{NewNetworkIsSound}
 use Rattle.irc_items.specs.GoodLines.{no_answers, IsGoodLine}
 use Rattle.irc_items.specs.Relayed.{fixed_of, owed_at, owed_to, relayed, way_at}
@@ -61,9 +61,9 @@ none_queued (site ∷ sites) (suc place) to all = none_queued sites place to all
 
 module _ (world_holds : TakenMakeWorld) (side : PartAtRestIsSound) (net : Network) (new : IsNew net) where
   no_ways : (x : Name) (to : ℕ) → way_at net x to ≡ None
-  no_ways x to = by (place_of net x) refl
+  no_ways x to = by (server_place net x) refl
     where
-      by : (o : Option ℕ) → place_of net x ≡ o → way_at net x to ≡ None
+      by : (o : Option ℕ) → server_place net x ≡ o → way_at net x to ≡ None
       by None is = ap (λ o. option_and_then (λ (site : Site). get site.queues to) (option_and_then (site_at net) o)) is
       by (Some place) is = ap (λ o. option_and_then (λ (site : Site). get site.queues to) (option_and_then (site_at net) o)) is
           ∙ none_queued net.sites place to new.queues

@@ -21,7 +21,7 @@ use Rattle.irc_follow.specs.AtRest.{part_of}
 use Rattle.irc_follow.specs.Fits.{Fits, IsNumberOf, far_of}
 use Rattle.irc_follow.specs.Part.{Fixed, number}
 use Rattle.irc_follow.specs.Says.{neighbour_served, lines_on, machine}
-use Rattle.irc_network.specs.Network.{Network, Site, begun, delivered, is_at_rest, place_of, site_at, taken_of, waiting}
+use Rattle.irc_network.specs.Network.{Network, Site, begun, delivered, is_at_rest, server_place, site_at, taken_of, waiting}
 use Rattle.irc_network.specs.Laws.{RestStays}
 use Rattle.irc_items.specs.GoodLines.{Answering, IsGoodLine}
 use Rattle.irc_items.specs.Relayed.{fixed_of, is_met_with, owed_at, owed_to, relayed, way_at, way_between}
@@ -109,13 +109,13 @@ none_left rest net quiet from to site is = by (waiting site to) refl
     by (first ∷ more) e = cc (sym (ap (taken_of from to (begun net) site) e) ∙ none)
 
 pub quiet_ways : RestStays → (net : Network) → is_at_rest net ≡ true → (x : Name) (place : ℕ) → unwrap_or (way_at net x place) [] ≡ []
-quiet_ways rest net quiet x place = by (place_of net x) refl
+quiet_ways rest net quiet x place = by (server_place net x) refl
   where
     at : (from : ℕ) (o : Option Site) → site_at net from ≡ o → unwrap_or (option_and_then (λ (site : Site). get site.queues place) o) [] ≡ []
     at from None is = refl
     at from (Some site) is = none_left rest net quiet from place site is
 
-    by : (o : Option ℕ) → place_of net x ≡ o → unwrap_or (way_at net x place) [] ≡ []
+    by : (o : Option ℕ) → server_place net x ≡ o → unwrap_or (way_at net x place) [] ≡ []
     by None is = ap (λ o. unwrap_or (option_and_then (λ (site : Site). get site.queues place) (option_and_then (site_at net) o)) []) is
     by (Some from) is =
         ap (λ o. unwrap_or (option_and_then (λ (site : Site). get site.queues place) (option_and_then (site_at net) o)) []) is ∙ at from (site_at net from) refl

@@ -8,7 +8,7 @@ use Rattle.irc_batch.specs.Batches.{Sent, line_to, end_of, line_on, end_of_link}
 use Rattle.irc_stage.specs.Lemmas.Numbers.{get-with, one_number, same_number, same_number-is}
 use Rattle.irc_server.specs.Owed.{line_to_conn as line_to_for, lines_to}
 use Rattle.irc_follow.specs.Says.{line_on_link, lines_on}
-use Rattle.irc_network.specs.Network.{Course, Site, all_sent_out, body, has_received, has_received_at, queued, sent_out, site_at, with_site}
+use Rattle.irc_network.specs.Network.{Course, Site, all_sent_out, line_body, has_received, has_received_at, line_queued, sent_out, site_at, with_site}
 use Rattle.irc_items.proofs.SiteChanged.{IsSiteChanged, changed_twice, not_changed, only_received, same_server, set_length, set_other, set_there, site_set}
 
 pub record IsSentOut (place : ℕ) (out : List Sent) (site : Site) (old new : Course) : Type 0 where
@@ -97,45 +97,45 @@ it_is received earlier text lines is other = by (nat_eq (suc earlier) (suc other
         ∙ nothing_behind [] refl (slice_get received other)
 
 abbrev on_way : ℕ → List ℕ → ℕ → List (List ℕ)
-on_way to text other = if_there (nat_eq to other) (body text)
+on_way to text other = if_there (nat_eq to other) (line_body text)
 
 no_way : (to : ℕ) (text : List ℕ) (site : Site) → get site.queues to ≡ None → (other : ℕ)
     → get site.queues other ≡ option_map (λ lines. lines ++ on_way to text other) (get site.queues other)
 no_way to text site none other = by (nat_eq to other) refl
   where
-    by : (b : Bool) → nat_eq to other ≡ b → get site.queues other ≡ option_map (λ lines. lines ++ if_there b (body text)) (get site.queues other)
-    by true one = none_either (body text ∷ []) (get site.queues other) (ap (get site.queues) (sym (eqb-true to other one)) ∙ none)
+    by : (b : Bool) → nat_eq to other ≡ b → get site.queues other ≡ option_map (λ lines. lines ++ if_there b (line_body text)) (get site.queues other)
+    by true one = none_either (line_body text ∷ []) (get site.queues other) (ap (get site.queues) (sym (eqb-true to other one)) ∙ none)
     by false two = nothing_behind [] refl (get site.queues other)
 
 a_way : (to : ℕ) (text : List ℕ) (site : Site) (lines : List (List ℕ)) → get site.queues to ≡ Some lines → (other : ℕ)
-    → get (insert site.queues to (lines ++ body text ∷ [])) other ≡ option_map (λ before. before ++ on_way to text other) (get site.queues other)
-a_way to text site lines is other = get-with site.queues to (lines ++ body text ∷ []) other ∙ by (nat_eq to other) refl (same_number other to) refl
+    → get (insert site.queues to (lines ++ line_body text ∷ [])) other ≡ option_map (λ before. before ++ on_way to text other) (get site.queues other)
+a_way to text site lines is other = get-with site.queues to (lines ++ line_body text ∷ []) other ∙ by (nat_eq to other) refl (same_number other to) refl
   where
     by : (b : Bool) → nat_eq to other ≡ b → (c : Bool) → same_number other to ≡ c
-        → cond c (Some (lines ++ body text ∷ [])) (get site.queues other)
-        ≡ option_map (λ before. before ++ if_there b (body text)) (get site.queues other)
-    by true one true also = sym (ap (option_map (λ before. before ++ body text ∷ [])) (ap (get site.queues) (sym (eqb-true to other one)) ∙ is))
+        → cond c (Some (lines ++ line_body text ∷ [])) (get site.queues other)
+        ≡ option_map (λ before. before ++ if_there b (line_body text)) (get site.queues other)
+    by true one true also = sym (ap (option_map (λ before. before ++ line_body text ∷ [])) (ap (get site.queues) (sym (eqb-true to other one)) ∙ is))
     by true one false not_one = absurd (unlike (sym (same_number-is other to (sym (eqb-true to other one))) ∙ not_one))
     by false two true one = absurd (unlike (sym (eq-eqb to other (sym (one_number other to one))) ∙ two))
     by false two false also = nothing_behind [] refl (get site.queues other)
 
 ways_queued : (to : ℕ) (text : List ℕ) (site : Site) (other : ℕ)
-    → get (queued to text site).queues other ≡ option_map (λ lines. lines ++ on_way to text other) (get site.queues other)
+    → get (line_queued to text site).queues other ≡ option_map (λ lines. lines ++ on_way to text other) (get site.queues other)
 ways_queued to text site other = by (get site.queues to) refl
   where
     put : List (List ℕ) → Site
-    put lines = record site { queues = insert site.queues to (lines ++ body text ∷ []) }
+    put lines = record site { queues = insert site.queues to (lines ++ line_body text ∷ []) }
 
     by : (o : Option (List (List ℕ))) → get site.queues to ≡ o
-        → get (queued to text site).queues other ≡ option_map (λ lines. lines ++ on_way to text other) (get site.queues other)
+        → get (line_queued to text site).queues other ≡ option_map (λ lines. lines ++ on_way to text other) (get site.queues other)
     by None none = ap (λ (s : Site). get s.queues other) (ap (λ o. option_map_or put o site) none) ∙ no_way to text site none other
     by (Some lines) is = ap (λ (s : Site). get s.queues other) (ap (λ o. option_map_or put o site) is) ∙ a_way to text site lines is other
 
-server_queued : (to : ℕ) (text : List ℕ) (site : Site) → (queued to text site).server ≡ site.server
+server_queued : (to : ℕ) (text : List ℕ) (site : Site) → (line_queued to text site).server ≡ site.server
 server_queued to text site = by (get site.queues to)
   where
     put : List (List ℕ) → Site
-    put lines = record site { queues = insert site.queues to (lines ++ body text ∷ []) }
+    put lines = record site { queues = insert site.queues to (lines ++ line_body text ∷ []) }
 
     by : (o : Option (List (List ℕ))) → (option_map_or put o site).server ≡ site.server
     by None = refl
@@ -178,11 +178,11 @@ module _ (place : ℕ) (site : Site) (course : Course) (is : site_at course.net 
   received_line (suc earlier) text = one_received earlier text (slice_get course.net.received earlier) refl
 
   queued_line : (to : ℕ) (text : List ℕ)
-      → IsSentOut place (line_on to text ∷ []) site course (record course { net = with_site place (queued to text site) course.net })
+      → IsSentOut place (line_on to text ∷ []) site course (record course { net = with_site place (line_queued to text site) course.net })
   queued_line to text = record {
-    after = queued to text site;
-    changed = site_set place site (queued to text site) course.net (with_site place (queued to text site) course.net) is
-        (same_server site (queued to text site) (server_queued to text site)) refl;
+    after = line_queued to text site;
+    changed = site_set place site (line_queued to text site) course.net (with_site place (line_queued to text site) course.net) is
+        (same_server site (line_queued to text site) (server_queued to text site)) refl;
     server = server_queued to text site;
     taken = refl;
     ways = ways_queued to text site;
@@ -195,7 +195,7 @@ module _ (place : ℕ) (site : Site) (course : Course) (is : site_at course.net 
   one_sent (end_of client) = nothing_sent place (end_of client ∷ []) site course is (λ to. refl) (λ earlier. refl)
   one_sent (line_on to text) =
       subst (λ net. IsSentOut place (line_on to text ∷ []) site course (record course { net = net }))
-      (sym (ap (λ o. option_map_or (λ (s : Site). with_site place (queued to text s) course.net) o course.net) is))
+      (sym (ap (λ o. option_map_or (λ (s : Site). with_site place (line_queued to text s) course.net) o course.net) is))
       (queued_line to text)
   one_sent (end_of_link to reason) = nothing_sent place (end_of_link to reason ∷ []) site course is (λ link. refl) (λ earlier. refl)
 

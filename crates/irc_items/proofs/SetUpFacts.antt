@@ -18,7 +18,7 @@ use Rattle.irc_world.specs.WithinLimits.{AreNamed}
 use Rattle.irc_world.specs.World.{Setting, is_server, setting_of}
 use Rattle.irc_follow.specs.Part.{IsFixed}
 use Rattle.irc_follow.specs.Tree.{index_in}
-use Rattle.irc_network.specs.Network.{Network, Site, place_of, site_at, site_of, view_of}
+use Rattle.irc_network.specs.Network.{Network, Site, server_place, site_at, site_of, site_view}
 use Rattle.irc_items.specs.Relayed.{fixed_of}
 use Rattle.irc_items.specs.SetUp.{named_at, no_view, setting_at, setting_now, settings_of, view_at, IsSetUp}
 use Rattle.irc_items.specs.Sound.{IsPlaceOf}
@@ -131,7 +131,7 @@ seen_there net server among site at view is =
 -- the server of a name, at its place
 pub record IsThere (net : Network) (server : Name) : Type 0 where
   pub site : Site
-  pub place : place_of net server ≡ Some (index_in net.names server)
+  pub place : server_place net server ≡ Some (index_in net.names server)
   pub within : index_in net.names server < length net.names
   pub is_site : site_at net (index_in net.names server) ≡ Some site
   pub is_view : site.server ≡ Some (view_at net server)
@@ -166,7 +166,7 @@ there net set_up server among = by_site (site_at net (index_in net.names server)
     by_site None at = not_named (sym (ap (option_map named_at) at) ∙ given)
 
 -- what is found under its name
-pub viewed : (net : Network) → IsSetUp net → (server : Name) → IsAmong net.names server → view_of net server ≡ Some (view_at net server)
+pub viewed : (net : Network) → IsSetUp net → (server : Name) → IsAmong net.names server → site_view net server ≡ Some (view_at net server)
 viewed net set_up server among =
     let here = there net set_up server among in
     ap (λ o. option_and_then (λ (s : Site). s.server) (option_and_then (site_at net) o)) here.place
@@ -230,7 +230,7 @@ only_place (first ∷ names) a (suc place) once is = by (tell first a) (only_pla
         place_is first a names false f
         ∙ ap suc (rest (as_many (count_by (same a) (first ∷ names)) (count_by (same a) names) (step false (same_unless a first (λ e. two (sym e)))) once) is)
 
-pub viewed_nowhere : (net : Network) (server : Name) → list_any (same server) net.names ≡ false → view_of net server ≡ None
+pub viewed_nowhere : (net : Network) (server : Name) → list_any (same server) net.names ≡ false → site_view net server ≡ None
 viewed_nowhere net server not_among = ap (option_and_then (λ (site : Site). site.server)) (nowhere net server not_among)
 
 -- each site is at the place of a server

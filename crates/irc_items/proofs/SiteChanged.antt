@@ -10,7 +10,7 @@ use Rattle.irc_routes.specs.Limits.{max_servers}
 use Rattle.irc_stage.specs.View.{View}
 use Rattle.irc_follow.specs.Tree.{index_in}
 use Rattle.irc_follow.proofs.Places.{one_place}
-use Rattle.irc_network.specs.Network.{Network, Site, place_of, site_at, site_of}
+use Rattle.irc_network.specs.Network.{Network, Site, server_place, site_at, site_of}
 use Rattle.irc_items.specs.SetUp.{named_at, no_view, setting_at, settings_of, view_at, IsConfigured, IsSetUp}
 use Rattle.irc_items.proofs.SetUpFacts.{nowhere, there}
 
@@ -125,7 +125,7 @@ site_set place site after old new is agrees new_is =
 
 -- ---- what is where
 
-place_after : (old new : Network) (name : Name) → new.names ≡ old.names → place_of new name ≡ place_of old name
+place_after : (old new : Network) (name : Name) → new.names ≡ old.names → server_place new name ≡ server_place old name
 place_after old new name names = ap (λ (all : List Name). place_among all name) names
 
 pub site_there : (net : Network) (set_up : IsSetUp net) (server : Name) (among : IsAmong net.names server)

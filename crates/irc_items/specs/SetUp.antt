@@ -14,7 +14,7 @@ use Rattle.irc_routes.specs.Known.{Known, alone_known}
 use Rattle.irc_routes.specs.Limits.{max_servers}
 use Rattle.irc_stage.specs.View.{KnownPeer, View, new_view}
 use Rattle.irc_world.specs.World.{Setting}
-use Rattle.irc_network.specs.Network.{Network, Site, view_of}
+use Rattle.irc_network.specs.Network.{Network, Site, site_view}
 
 -- ---- a server as it is there
 
@@ -23,7 +23,7 @@ abbrev pub no_view : View
 no_view = new_view (alone_known [] [] []) []
 
 abbrev pub view_at : Network → Name → View
-view_at net server = unwrap_or (view_of net server) no_view
+view_at net server = unwrap_or (site_view net server) no_view
 
 -- what each server knows of the others
 abbrev pub routes_in : Network → Name → Known

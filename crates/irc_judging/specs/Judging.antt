@@ -18,7 +18,7 @@ use Rattle.irc_names.specs.Digits.{number_of}
 use Rattle.irc_modes.specs.Modes.{is_limit, mask_in}
 use Rattle.irc_modes.specs.Limits.{max_bans}
 use Rattle.irc_numerics.specs.declared.replies.Reply.TheVariants.{NoSuchNick, UserNotInChannel, KeySet, BanListFull}
-use Rattle.irc_acts.specs.Acts.{kept, client_words}
+use Rattle.irc_acts.specs.Acts.{bytes_kept, client_words}
 use Rattle.irc_judging.specs.declared.verdict.Verdict.{Verdict}
 use Rattle.irc_judging.specs.declared.verdict.Verdict.TheVariants.{Says, Keeps, Nothing}
 
@@ -27,15 +27,15 @@ abbrev pub differs : Bool → Bool → Bool
 differs true other = not other
 differs _ other = other
 
-abbrev pub made : Bool → ModeLetter → Option (List ℕ) → ModeChange
-made plus which word = record { plus = plus; letter = which; word = word }
+abbrev pub change_made : Bool → ModeLetter → Option (List ℕ) → ModeChange
+change_made plus which word = record { plus = plus; letter = which; word = word }
 
 abbrev pub kept_if : Bool → ModeChange → Verdict
 kept_if test change = if test then Keeps change else Nothing
 
 -- a mode that is set or not
 abbrev pub turned : Bool → ModeLetter → Bool → Verdict
-turned plus which before = kept_if (differs plus before) (made plus which None)
+turned plus which before = kept_if (differs plus before) (change_made plus which None)
 
 -- p is set where nothing is, and cleared where it is set (our own choice)
 abbrev pub turns_private : Bool → Privacy → Bool
@@ -53,9 +53,9 @@ turns_secret plus before = plus
 abbrev pub key_judged : List ℕ → Bool → Option (List ℕ) → Option (List ℕ) → Verdict
 key_judged name true None before = Nothing
 key_judged name true (Some word) before =
-    if not (is_key word) then Nothing else (if is_some before then Says (KeySet name) else Keeps (made true letter.Key (Some word)))
+    if not (is_key word) then Nothing else (if is_some before then Says (KeySet name) else Keeps (change_made true letter.Key (Some word)))
 key_judged name false word None = Nothing
-key_judged name false word (Some before) = Keeps (made false letter.Key (Some before))
+key_judged name false word (Some before) = Keeps (change_made false letter.Key (Some before))
 
 -- digits without the zeros in front
 abbrev pub without_zeros : List ℕ → List ℕ
@@ -66,8 +66,8 @@ without_zeros (digit ∷ digits) = if nat_eq digit 0x30 then without_zeros digit
 abbrev pub limit_judged : Bool → Option (List ℕ) → Option ℕ → Verdict
 limit_judged true None before = Nothing
 limit_judged true (Some word) before =
-    kept_if (is_limit word && not (option_map_or (nat_eq (number_of word)) before false)) (made true letter.Limit (Some (without_zeros word)))
-limit_judged false word before = kept_if (is_some before) (made false letter.Limit None)
+    kept_if (is_limit word && not (option_map_or (nat_eq (number_of word)) before false)) (change_made true letter.Limit (Some (without_zeros word)))
+limit_judged false word before = kept_if (is_some before) (change_made false letter.Limit None)
 
 -- the modes of the channel itself, but for its bans
 abbrev pub setting_judged : List ℕ → Modes → Bool → ModeLetter → Option (List ℕ) → Verdict
@@ -75,8 +75,8 @@ setting_judged name modes plus letter.InviteOnly word = turned plus letter.Invit
 setting_judged name modes plus letter.Moderated word = turned plus letter.Moderated modes.moderated
 setting_judged name modes plus letter.NoOutside word = turned plus letter.NoOutside modes.no_outside
 setting_judged name modes plus letter.TopicLocked word = turned plus letter.TopicLocked modes.topic_locked
-setting_judged name modes plus letter.Private word = kept_if (turns_private plus modes.privacy) (made plus letter.Private None)
-setting_judged name modes plus letter.Secret word = kept_if (turns_secret plus modes.privacy) (made plus letter.Secret None)
+setting_judged name modes plus letter.Private word = kept_if (turns_private plus modes.privacy) (change_made plus letter.Private None)
+setting_judged name modes plus letter.Secret word = kept_if (turns_secret plus modes.privacy) (change_made plus letter.Secret None)
 setting_judged name modes plus letter.Key word = key_judged name plus word modes.key
 setting_judged name modes plus letter.Limit word = limit_judged plus word modes.limit
 setting_judged name modes plus other word = Nothing
@@ -85,8 +85,8 @@ setting_judged name modes plus other word = Nothing
 -- another spelling neither; where as many are there as a channel may have, no other is; one that is taken away is written as it is stored.
 abbrev pub ban_judged : List ℕ → Bool → List ℕ → Option (List ℕ) → ℕ → Verdict
 ban_judged name true mask (Some there) count = Nothing
-ban_judged name true mask None count = if nat_le max_bans count then Says (BanListFull name) else Keeps (made true letter.Ban (Some mask))
-ban_judged name false mask (Some there) count = Keeps (made false letter.Ban (Some there))
+ban_judged name true mask None count = if nat_le max_bans count then Says (BanListFull name) else Keeps (change_made true letter.Ban (Some mask))
+ban_judged name false mask (Some there) count = Keeps (change_made false letter.Ban (Some there))
 ban_judged name false mask None count = Nothing
 
 -- a word that is no mask of a ban is ignored
@@ -101,8 +101,8 @@ flag_of other flags = flags.op
 
 -- o or v of a user that was found, by its flags in the channel, if it is a member; the user is written as it is stored
 abbrev pub flag_judged : List ℕ → List ℕ → Bool → ModeLetter → Option Flags → Verdict
-flag_judged name nick plus which None = Says (UserNotInChannel (kept nick) name)
-flag_judged name nick plus which (Some flags) = kept_if (differs plus (flag_of which flags)) (made plus which (Some nick))
+flag_judged name nick plus which None = Says (UserNotInChannel (bytes_kept nick) name)
+flag_judged name nick plus which (Some flags) = kept_if (differs plus (flag_of which flags)) (change_made plus which (Some nick))
 
 -- a word that is no user's nickname is told as it was given
 abbrev pub member_judged : Table Flags → List ℕ → Bool → ModeLetter → List ℕ → Option User → Verdict

@@ -6,12 +6,12 @@ ghost use Rattle.irc_modes.specs.declared.modes.ModeLetter.TheVariants.{Ban as B
 ghost use Rattle.irc_judging.specs.declared.verdict.Verdict.TheVariants.{Keeps};
 ghost use Rattle.irc_judging.specs.Judging.{
   ban_judged,
+  change_made,
   flag_judged,
   flag_of,
   kept_if,
   key_judged,
   limit_judged,
-  made,
   turned,
   turns_private,
   turns_secret,
@@ -80,7 +80,7 @@ fn setting_judged(name: &ChannelName, modes: &Modes, asked: &AskedChange<'_>) ->
 
 /// A change, if it is made.
 fn kept_if(test: bool, plus: bool, letter: ModeLetter, word: Option<ModeWord>) -> Verdict
-    ensures { result ≡ kept_if test (made plus letter word) }
+    ensures { result ≡ kept_if test (change_made plus letter word) }
 {
     if test {
         Verdict::Keeps(ModeChange { plus, letter, word })
@@ -257,7 +257,7 @@ fn ban_judged(
 
 /// A change of a ban.
 fn ban_kept(plus: bool, mask: &BanMask) -> Verdict
-    ensures { result ≡ Keeps (made plus BanLetter (Some (mask.now))) }
+    ensures { result ≡ Keeps (change_made plus BanLetter (Some (mask.now))) }
 {
     let word = Some(mode_word(mask.as_bytes()));
     Verdict::Keeps(ModeChange {

@@ -13,7 +13,7 @@ use Rattle.irc_link_words.specs.Words.{are_changes, are_members_named, changes_o
 use Rattle.irc_link_reader.specs.declared.commands.Command.{Command}
 use Rattle.irc_link_reader.specs.declared.commands.Command.TheVariants as command
 use Rattle.irc_link_reader.specs.Loops.Readings.{IsFound, IsListed, channel_change, found, row, takes_memory}
-use Rattle.irc_link_reader.specs.Means.{Checked, IsMeant, Row, first_fault, is_mode_line, mode_line, of_either, read_by, read_row, row_of, table, user_mode_line}
+use Rattle.irc_link_reader.specs.Means.{Checked, IsMeant, Row, first_fault, is_mode_line, mode_line, of_either, read_by, read_row, wire_row_of, wire_table, user_mode_line}
 use Rattle.irc_link_reader.specs.Reader.{Reader}
 
 -- want of memory is no fault of a line
@@ -52,8 +52,8 @@ row_is_so word (first ∷ rows) r is = by (is_command first.command word) refl i
     by true so is later = ap (λ o. is_command (unwrap_or o first).command word) (sym is) ∙ so
     by false so is later = later is
 
-mode_is_so : (command : Command) (word : List ℕ) → row_of word ≡ Some (row command) → takes_memory command ≡ true → is_command (codes "MODE") word ≡ true
-mode_is_so command.Mode word is takes = row_is_so word table (row command.Mode) is
+mode_is_so : (command : Command) (word : List ℕ) → wire_row_of word ≡ Some (row command) → takes_memory command ≡ true → is_command (codes "MODE") word ≡ true
+mode_is_so command.Mode word is takes = row_is_so word wire_table (row command.Mode) is
 mode_is_so command.Nick word is takes = cc takes
 mode_is_so command.Quit word is takes = cc takes
 mode_is_so command.Join word is takes = cc takes
@@ -85,7 +85,7 @@ listed_so message takes meant (Err fault) result mode is listed = subst (IsMeant
 
 -- a line of a command is what it means
 pub meant-so : (reader : Reader) (message : Parsed) (command : Command) (found : Result (Option Effect) WireFault) (result : Result (Vec Effect) WireFault)
-    → row_of message.command ≡ Some (row command)
+    → wire_row_of message.command ≡ Some (row command)
     → IsFound (takes_memory command) (first_fault ((row command).check reader message.prefix message.params)) found
     → IsListed found result → IsMeant message (read_by reader message) result
 meant-so reader message command found result is found_is listed =

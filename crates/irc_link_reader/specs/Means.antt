@@ -114,8 +114,8 @@ invite_line reader _ _ = malformed
 -- ---- a user comes, or takes another nickname
 
 -- the server that a word of the neighbour stands for
-abbrev pub home_of : Reader → List ℕ → Option (List ℕ)
-home_of reader token = reader.server (number_of token)
+abbrev pub home_of_token : Reader → List ℕ → Option (List ℕ)
+home_of_token reader token = reader.server (number_of token)
 
 -- a distance is looked at where the server is known that it is of
 abbrev pub is_distance_of : Reader → Option (List ℕ) → ℕ → Bool
@@ -126,8 +126,8 @@ abbrev pub introduction_line : Reader → (nick distance user host token mode re
 introduction_line reader nick distance user host token mode real = record {
   parameters =
       is_number distance && is_user_name user && is_number token && is_come_mode mode && fits max_real_name real
-      && is_distance_of reader (home_of reader token) (number_of distance);
-  token = is_some (home_of reader token);
+      && is_distance_of reader (home_of_token reader token) (number_of distance);
+  token = is_some (home_of_token reader token);
   direction = true;
   names = is_nick nick && is_host host;
   effects = AddUser (record {
@@ -135,7 +135,7 @@ introduction_line reader nick distance user host token mode real = record {
     user = user;
     host = host;
     real = real;
-    home = unwrap_or (home_of reader token) [];
+    home = unwrap_or (home_of_token reader token) [];
     invisible = bytes_eq mode with_i;
   }) ∷ [];
 }
@@ -195,14 +195,14 @@ pub record Row : Type 0 where
 abbrev pub line : List ℕ → (Reader → Option (List ℕ) → List (List ℕ) → Checked) → Row
 line command check = record { command = command; check = check }
 
-abbrev pub table : List Row
-table =
+abbrev pub wire_table : List Row
+wire_table =
     line (codes "NICK") nick_line ∷ line (codes "QUIT") quit_line ∷ line (codes "JOIN") join_line ∷ line (codes "PART") part_line
     ∷ line (codes "KICK") kick_line ∷ line (codes "MODE") mode_line ∷ line (codes "TOPIC") topic_line
     ∷ line (codes "PRIVMSG") (say_line false) ∷ line (codes "NOTICE") (say_line true) ∷ line (codes "INVITE") invite_line ∷ []
 
-abbrev pub row_of : List ℕ → Option Row
-row_of word = find (λ (r : Row). is_command r.command word) table
+abbrev pub wire_row_of : List ℕ → Option Row
+wire_row_of word = find (λ (r : Row). is_command r.command word) wire_table
 
 abbrev pub read_row : Reader → Parsed → Option Row → Result (List Effect) WireFault
 read_row reader message None = Err UnknownCommand
@@ -212,7 +212,7 @@ read_row reader message (Some r) = first_fault (r.check reader message.prefix me
 
 -- what a line means to a reader
 abbrev pub read_by : Reader → Parsed → Result (List Effect) WireFault
-read_by reader message = read_row reader message (row_of message.command)
+read_by reader message = read_row reader message (wire_row_of message.command)
 
 -- what a line means that came by a link
 abbrev pub means : Room → Known → ℕ → Parsed → Result (List Effect) WireFault

@@ -2,7 +2,7 @@
 ghost use Rattle.std.specs.Prelude.{◌≡◌};
 ghost use Rattle.std.specs.Option.{option_map};
 ghost use Rattle.irc_link_reader.specs.Loops.Readings.{row, telling_row};
-ghost use Rattle.irc_link_reader.specs.Means.{row_of};
+ghost use Rattle.irc_link_reader.specs.Means.{wire_row_of};
 
 use irc_link_words::is_command;
 
@@ -31,7 +31,7 @@ pub(crate) enum Command {
 
 /// The command that a word is, in any case of letters.
 pub(crate) fn command_of(word: &[u8]) -> Option<Command>
-    ensures { option_map row result ≡ row_of word.now }
+    ensures { option_map row result ≡ wire_row_of word.now }
 {
     if is_command(b"NICK", word) {
         Some(Command::Nick)

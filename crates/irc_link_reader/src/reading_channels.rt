@@ -1,6 +1,6 @@
 //! Lines about a channel (RFC 2813 section 4).
 ghost use Rattle.std.specs.Prelude.{◌≡◌, Some, option_to_list};
-ghost use Rattle.irc_link_reader.specs.Loops.Readings.{IsChange, Reads, counted, doer_or_fault, is_left_alone, reader};
+ghost use Rattle.irc_link_reader.specs.Loops.Readings.{IsChange, ReadsEffect, effects_counted, doer_or_fault, is_left_alone, reader};
 ghost use Rattle.irc_link_reader.specs.Means.{join_line, kick_line, part_line, topic_line};
 
 use crate::arrival::{Arrival, expect_from, if_there, is_far_channel};
@@ -14,7 +14,7 @@ pub(crate) fn join_line(
     nick: &[u8],
     mut params: Params<'_>,
 ) -> Result<Option<Effect>, WireFault>
-    ensures { Reads join_line at.entry (Some nick.now) params.entry result }
+    ensures { ReadsEffect join_line at.entry (Some nick.now) params.entry result }
 {
     let word = params.next()?;
     params.end()?;
@@ -37,7 +37,7 @@ pub(crate) fn part_line(
     nick: &[u8],
     mut params: Params<'_>,
 ) -> Result<Option<Effect>, WireFault>
-    ensures { Reads part_line at.entry (Some nick.now) params.entry result }
+    ensures { ReadsEffect part_line at.entry (Some nick.now) params.entry result }
 {
     let channel = params.next()?;
     let text = params.next()?;
@@ -62,7 +62,7 @@ pub(crate) fn kick_line(
     by: &[u8],
     mut params: Params<'_>,
 ) -> Result<Option<Effect>, WireFault>
-    ensures { Reads kick_line at.entry (Some by.now) params.entry result }
+    ensures { ReadsEffect kick_line at.entry (Some by.now) params.entry result }
 {
     let channel = params.next()?;
     let nick = params.next()?;
@@ -90,7 +90,7 @@ pub(crate) fn topic_line(
     name: &[u8],
     mut params: Params<'_>,
 ) -> Result<Option<Effect>, WireFault>
-    ensures { Reads topic_line at.entry (Some name.now) params.entry result }
+    ensures { ReadsEffect topic_line at.entry (Some name.now) params.entry result }
 {
     let channel = params.next()?;
     let text = params.next()?;
@@ -116,7 +116,7 @@ pub(crate) fn read_doer(name: &[u8]) -> Result<By, WireFault>
 /// The change of a channel, where it counts: a user's if that is there, a server's if all members of the channel are behind the link.
 pub(crate) fn if_counts(at: Arrival<'_>, effect: Effect) -> Option<Effect>
     requires { IsChange effect }
-    ensures { option_to_list result ≡ counted (reader at.entry) effect }
+    ensures { option_to_list result ≡ effects_counted (reader at.entry) effect }
 {
     if is_near_change(at, &effect) {
         None

@@ -2,7 +2,7 @@
 ghost use Rattle.std.specs.Prelude.{◌≡◌, ◌||◌, None, Some, IsOk, true};
 ghost use Rattle.std.specs.Str.{bytes_eq};
 ghost use Rattle.irc_line.specs.MessageViews.{optional_now};
-ghost use Rattle.irc_link_reader.specs.Loops.Readings.{IsNewcomer, IsUserMode, Reads, are_right, home_now, home_or_fault, introduction_of, reader};
+ghost use Rattle.irc_link_reader.specs.Loops.Readings.{IsNewcomer, IsUserMode, ReadsEffect, are_right, home_now, home_or_fault, introduction_of, reader};
 ghost use Rattle.irc_link_reader.specs.Means.{invite_line, is_itself_or_none, nick_line, quit_line, say_line};
 ghost use Rattle.irc_link_words.specs.Words.{with_i, without_i};
 
@@ -22,7 +22,7 @@ pub(crate) fn quit_line(
     nick: &[u8],
     mut params: Params<'_>,
 ) -> Result<Option<Effect>, WireFault>
-    ensures { Reads quit_line at.entry (Some nick.now) params.entry result }
+    ensures { ReadsEffect quit_line at.entry (Some nick.now) params.entry result }
 {
     let text = params.next()?;
     params.end()?;
@@ -39,7 +39,7 @@ pub(crate) fn say_line(
     by: &[u8],
     mut params: Params<'_>,
 ) -> Result<Option<Effect>, WireFault>
-    ensures { Reads (say_line notice) at.entry (Some by.now) params.entry result }
+    ensures { ReadsEffect (say_line notice) at.entry (Some by.now) params.entry result }
 {
     let target = params.next()?;
     let text = params.next()?;
@@ -65,7 +65,7 @@ pub(crate) fn invite_line(
     by: &[u8],
     mut params: Params<'_>,
 ) -> Result<Option<Effect>, WireFault>
-    ensures { Reads invite_line at.entry (Some by.now) params.entry result }
+    ensures { ReadsEffect invite_line at.entry (Some by.now) params.entry result }
 {
     let nick = params.next()?;
     let channel = params.next()?;
@@ -83,7 +83,7 @@ pub(crate) fn nick_line(
     prefix: Option<&[u8]>,
     params: Params<'_>,
 ) -> Result<Option<Effect>, WireFault>
-    ensures { Reads nick_line at.entry (optional_now prefix.entry) params.entry result }
+    ensures { ReadsEffect nick_line at.entry (optional_now prefix.entry) params.entry result }
 {
     match prefix {
         Some(nick) => rename_line(at, nick, params),
@@ -97,7 +97,7 @@ fn rename_line(
     nick: &[u8],
     mut params: Params<'_>,
 ) -> Result<Option<Effect>, WireFault>
-    ensures { Reads nick_line at.entry (Some nick.now) params.entry result }
+    ensures { ReadsEffect nick_line at.entry (Some nick.now) params.entry result }
 {
     let new = params.next()?;
     params.end()?;
@@ -145,7 +145,7 @@ fn words_of_newcomer(mut params: Params<'_>) -> Result<Newcomer<'_>, WireFault>
 
 /// A user comes (RFC 2813 section 4.1.3).
 fn introduction_line(at: Arrival<'_>, params: Params<'_>) -> Result<Option<Effect>, WireFault>
-    ensures { Reads nick_line at.entry None params.entry result }
+    ensures { ReadsEffect nick_line at.entry None params.entry result }
 {
     let words = words_of_newcomer(params)?;
     let home = read_home(at, words)?;

@@ -79,8 +79,8 @@ abbrev pub are_words : List ℕ → Bool
 are_words text = fits max_words text
 
 -- the text of a PRIVMSG or a NOTICE, as the code keeps it
-abbrev pub line_of : List ℕ → ArrayVec ℕ
-line_of bytes = record { items = bytes }
+abbrev pub as_text : List ℕ → ArrayVec ℕ
+as_text bytes = record { items = bytes }
 
 -- ---- a user name
 

@@ -8,7 +8,7 @@ ghost use Rattle.irc_names.specs.Limits.{max_real_name};
 ghost use Rattle.irc_names.specs.Names.{fits, is_channel, is_host, is_nick, is_server};
 ghost use Rattle.irc_names.specs.UserTexts.{is_user_byte};
 ghost use Rattle.irc_link_words.specs.declared.fault.WireFault.TheVariants.{BadName, Parameters};
-ghost use Rattle.irc_link_words.specs.Words.{are_words, is_come_mode, is_command, is_for_channel, is_marked, is_mode_word, is_user_name, line_of, target_or_fault, unmarked, with_i, without_i};
+ghost use Rattle.irc_link_words.specs.Words.{are_words, as_text, is_come_mode, is_command, is_for_channel, is_marked, is_mode_word, is_user_name, target_or_fault, unmarked, with_i, without_i};
 
 use crate::WireFault;
 use irc_channels::Words;
@@ -117,7 +117,7 @@ pub fn read_words(bytes: &[u8]) -> Result<Words, WireFault>
 /// # Errors
 /// [`WireFault::Parameters`] where it is longer than [`MAX_LINE`] bytes.
 pub fn read_line(bytes: &[u8]) -> Result<Line, WireFault>
-    ensures { result ≡ (if fits max_line bytes.now then Ok (line_of bytes.now) else Err Parameters) }
+    ensures { result ≡ (if fits max_line bytes.now then Ok (as_text bytes.now) else Err Parameters) }
 {
     if bytes.len() <= MAX_LINE {
         Ok(copied(bytes))

@@ -7,12 +7,12 @@ use Rattle.irc_acts.specs.declared.act.Act.{Act}
 use Rattle.irc_acts.specs.Ahead.{ahead, in_turn}
 use Rattle.irc_acts.specs.CommaLists.{pieces_left}
 use Rattle.irc_acts.specs.Moves.{AreOwnJoins, own_channels}
-use Rattle.irc_membership.specs.Join.{Asked, asks, with_keys, asked_for, is_zero, join_one, join_steps, leaves}
+use Rattle.irc_membership.specs.Join.{JoinEntry, asks, with_keys, asked_for, is_zero, join_one, join_steps, leaves}
 use Rattle.irc_membership.specs.Loops.JoinList.{IsNextKey}
 use Rattle.irc_acts.specs.AheadLaws.{one_served}
 
 -- the channels of what is left of the lists
-abbrev pub asked_left : Option (List ℕ) → Option (List ℕ) → List Asked
+abbrev pub asked_left : Option (List ℕ) → Option (List ℕ) → List JoinEntry
 asked_left names keys = filter (λ asked. not (is_nil asked.channel)) (with_keys (pieces_left names) (pieces_left keys))
 
 all_asked : (names keys : List ℕ) → asked_for names keys ≡ asked_left (Some names) (Some keys)
@@ -34,7 +34,7 @@ asked_more names keys more_names more_keys name given parted next =
 module _ (me : User) (room : Room) (names keys more_names more_keys : Option (List ℕ)) (name given : List ℕ) (total acts : List Act)
     (parted : pieces_left names ≡ name ∷ pieces_left more_names) (next : IsNextKey keys given more_keys)
     (so_far : acts ++ in_turn (join_one me) (ahead room acts) (asked_left names keys) ≡ total) where
-  abbrev rest : List Asked
+  abbrev rest : List JoinEntry
   rest = asked_left more_names more_keys
 
   -- another is served

@@ -21,13 +21,13 @@ use Rattle.irc_acts.specs.AheadLaws.{each-both}
 use Rattle.irc_acts.specs.Moves.{IsOwnJoin, AreOwnJoins, own_channels}
 use Rattle.irc_acts.specs.MoveLaws.{joined_as_it_was, joins_keep_users}
 use Rattle.irc_membership.specs.declared.TheConstants.{MAX_JOINED}
-use Rattle.irc_membership.specs.Join.{Asked, joins_found, join_one}
+use Rattle.irc_membership.specs.Join.{JoinEntry, joins_found, join_one}
 use Rattle.irc_membership.specs.Laws.JoinWalk.{found_by_users, one_so}
 
 -- ---- one channel, case by case
 
 module _ (me : User) (now : Room) (name given : List ℕ) where
-  abbrev asked : Asked
+  abbrev asked : JoinEntry
   asked = record { channel = name; key = given }
 
   named : is_channel name ≡ true → join_one me now asked
@@ -86,7 +86,7 @@ served_as me room acts name given all fine out fewer =
     ∙ ap (joins_found room me (record { channel = name; key = given })) (joined_as_it_was me.nick name room acts all out)
 
 -- so are all the steps, once it is served
-pub joins_more : (me : User) (room : Room) (acts new : List Act) (asked : Asked) → IsWellFormed room → AreOwnJoins me.nick room acts
+pub joins_more : (me : User) (room : Room) (acts new : List Act) (asked : JoinEntry) → IsWellFormed room → AreOwnJoins me.nick room acts
     → new ≡ acts ++ join_one me (ahead room acts) asked → AreOwnJoins me.nick room new
 joins_more me room acts new asked well all new_is =
     let now = ahead room acts in

@@ -19,27 +19,27 @@ use Rattle.irc_acts.specs.declared.act.Act.{Act}
 use Rattle.irc_acts.specs.declared.act.Act.TheVariants.{Answer, Do}
 use Rattle.irc_acts.specs.Ahead.{in_turn}
 use Rattle.irc_acts.specs.CommaLists.{pieces}
-use Rattle.irc_acts.specs.Acts.{kept, client_words}
+use Rattle.irc_acts.specs.Acts.{bytes_kept, client_words}
 use Rattle.irc_answers.specs.Names.{names_of, end_of_names}
 use Rattle.irc_acts.specs.Moves.{own_channels}
 use Rattle.irc_acts.specs.Standing.{is_banned}
 
 -- a channel that is asked for, and the key that is given with it; an empty one opens nothing
-pub record Asked : Type 0 where
+pub record JoinEntry : Type 0 where
   pub channel : List ℕ
   pub key : List ℕ
 
-abbrev pub asks : List ℕ → List ℕ → Asked
+abbrev pub asks : List ℕ → List ℕ → JoinEntry
 asks channel given = record { channel = channel; key = given }
 
 -- Each channel has the key at its own position in the list of keys, in which an empty place counts (our own choice).
-abbrev pub with_keys : List (List ℕ) → List (List ℕ) → List Asked
+abbrev pub with_keys : List (List ℕ) → List (List ℕ) → List JoinEntry
 with_keys [] keys = []
 with_keys (channel ∷ channels) [] = asks channel [] ∷ with_keys channels []
 with_keys (channel ∷ channels) (given ∷ keys) = asks channel given ∷ with_keys channels keys
 
 -- an entry that is skipped among the channels takes its key with it
-unfoldable pub asked_for : List ℕ → List ℕ → List Asked
+unfoldable pub asked_for : List ℕ → List ℕ → List JoinEntry
 asked_for channels keys = filter (λ asked. not (is_nil asked.channel)) (with_keys (pieces channels) (pieces keys))
 
 abbrev pub opens : Option (List ℕ) → List ℕ → Bool
@@ -62,7 +62,7 @@ kept_out me given channel =
 -- a joiner is told the topic where there is one
 abbrev pub topic_for_joiner : List ℕ → List ℕ → List Act
 topic_for_joiner name [] = []
-topic_for_joiner name (b ∷ bytes) = Answer (Topic name (kept (b ∷ bytes))) ∷ []
+topic_for_joiner name (b ∷ bytes) = Answer (Topic name (bytes_kept (b ∷ bytes))) ∷ []
 
 -- that of a channel
 abbrev pub joiner_topic : Channel → List Act
@@ -80,14 +80,14 @@ admitted room me name channel None = joins room me name false channel
 admitted room me name channel (Some refusal) = refusal ∷ []
 
 -- by the channel that was found under the name, if one was
-abbrev pub joins_found : Room → User → Asked → Option Channel → List Act
+abbrev pub joins_found : Room → User → JoinEntry → Option Channel → List Act
 joins_found room me asked None = joins room me asked.channel true (new_channel asked.channel)
 joins_found room me asked (Some channel) = admitted room me asked.channel channel (kept_out me asked.key channel)
 
-abbrev pub joins_asked : Room → User → Asked → List Act
+abbrev pub joins_asked : Room → User → JoinEntry → List Act
 joins_asked room me asked = joins_found room me asked (row room.channels (key asked.channel))
 
-abbrev pub join_one : User → Room → Asked → List Act
+abbrev pub join_one : User → Room → JoinEntry → List Act
 join_one me room asked =
     if not (is_channel asked.channel) then Answer (NoSuchChannel (client_words asked.channel)) ∷ []
     else (if is_member room me.nick asked.channel then []

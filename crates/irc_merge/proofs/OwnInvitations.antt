@@ -16,7 +16,7 @@ use Rattle.irc_room.specs.declared.effect.Effect.TheVariants.{Quit}
 use Rattle.irc_room.specs.Room.{Room, IsWellFormed, IsSoundRow}
 use Rattle.irc_room.specs.After.{after}
 use Rattle.irc_room.specs.Lemmas.Rows.{not_none, not_true, same_some, alter_same}
-use Rattle.irc_room.specs.Seen.{full_sender, line_of}
+use Rattle.irc_room.specs.Seen.{full_sender, line_from}
 use Rattle.irc_room.specs.Viewers.{shows_to}
 use Rattle.irc_merge.specs.ShownAlong.{shown_along}
 use Rattle.irc_merge.specs.Deeds.{after_deeds, shown_by_all}
@@ -109,7 +109,7 @@ quit_uninvited room nick text viewer =
     by_viewer : (o : Option User) → quit_to nick text (each channel_uninvited room.channels) (row room.users (key nick)) o ≡ quit_to nick text room.channels (row room.users (key nick)) o
     by_viewer None = refl
     by_viewer (Some user) =
-        ap (λ b. cond (not (same nick user.nick) && b) (line_of (codes "QUIT") [] (Some text) (option_map full_sender (row room.users (key nick)))) None)
+        ap (λ b. cond (not (same nick user.nick) && b) (line_from (codes "QUIT") [] (Some text) (option_map full_sender (row room.users (key nick)))) None)
         (ap (list_any (λ channel. has_member (key nick) channel && has_member (key user.nick) channel)) (values_each channel_uninvited room.channels)
         ∙ any_uninvited (λ channel. has_member (key nick) channel && has_member (key user.nick) channel) (λ channel. refl) (values room.channels))
 

@@ -22,7 +22,7 @@ use Rattle.irc_room.specs.declared.effect.Effect.TheVariants.{Join, ChangeModes,
 use Rattle.irc_room.specs.Room.{Room}
 use Rattle.irc_room.specs.Effects.{is_member}
 use Rattle.irc_room.specs.After.{after, alter_channel}
-use Rattle.irc_room.specs.Seen.{full_sender, line_of, names_member, shown_line}
+use Rattle.irc_room.specs.Seen.{full_sender, line_from, names_member, shown_line}
 use Rattle.irc_room.specs.Lemmas.Rows.{not_true}
 use Rattle.irc_room.specs.Lemmas.ModesKept.{same_rows}
 use Rattle.irc_room.specs.Viewers.{shows_to, line_for}
@@ -159,9 +159,9 @@ module _ (viewer name : List ℕ) where
   join_shown user title nick holder room sees outside at =
       ap (λ b. cond b None (option_and_then (line_for room (Join nick name false)) (row room.users (key viewer)))) outside
       ∙ ap (option_and_then (line_for room (Join nick name false))) sees.at
-      ∙ ap (λ b. cond b (line_of (codes "JOIN") (option_map_or (λ (c : Channel). c.name) (row room.channels (key name)) name ∷ []) None
+      ∙ ap (λ b. cond b (line_from (codes "JOIN") (option_map_or (λ (c : Channel). c.name) (row room.channels (key name)) name ∷ []) None
       (option_map full_sender (row room.users (key nick)))) None) (or_second (same nick user.nick) _ (member_seen user title room sees))
-      ∙ (λ i. line_of (codes "JOIN") (option_map_or (λ (c : Channel). c.name) (sees.there i) name ∷ []) None (option_map full_sender (at i)))
+      ∙ (λ i. line_from (codes "JOIN") (option_map_or (λ (c : Channel). c.name) (sees.there i) name ∷ []) None (option_map full_sender (at i)))
       ∙ ap (λ t. Some (join_line t holder)) sees.titled
 
   -- the line with which the viewer's own server gives a flag
@@ -171,7 +171,7 @@ module _ (viewer name : List ℕ) where
 
   abbrev written_mode : User → ModeLetter → List ℕ → Option (List ℕ) → Option (List ℕ)
   written_mode user which channel word =
-      line_of (codes "MODE") (channel ∷ (sign_byte true ∷ letter_byte which ∷ []) ∷ cons_option word []) None (Some (named user.home))
+      line_from (codes "MODE") (channel ∷ (sign_byte true ∷ letter_byte which ∷ []) ∷ cons_option word []) None (Some (named user.home))
 
   flag_shown : (which : ModeLetter) → names_member which ≡ true → (user : User) (title nick : List ℕ) (holder : User) (room : Room) → Sees user title room
       → row room.users (key nick) ≡ Some holder

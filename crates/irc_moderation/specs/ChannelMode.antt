@@ -26,30 +26,30 @@ pub record Outcome : Type 0 where
   pub replies : List Act
   pub changes : List ModeChange
 
-abbrev pub says : List Act → Outcome
-says replies = record { replies = replies; changes = [] }
+abbrev pub only_replies : List Act → Outcome
+only_replies replies = record { replies = replies; changes = [] }
 
 abbrev pub outcome_of : Verdict → Outcome
-outcome_of (Says reply) = says (Answer reply ∷ [])
+outcome_of (Says reply) = only_replies (Answer reply ∷ [])
 outcome_of (Keeps made) = record { replies = []; changes = made ∷ [] }
-outcome_of Nothing = says []
+outcome_of Nothing = only_replies []
 
 -- what is told to a letter that asks for no change, to anybody; the bans are those that stood at the command's start
-abbrev pub told : Channel → Asked → List Act
-told start list = bans_shown start
-told start no_word = Answer (NeedMoreParams (client_words (codes "MODE"))) ∷ []
-told start (unknown byte) = Answer (UnknownMode byte start.name) ∷ []
-told start (change plus which word) = []
+abbrev pub letter_replies : Channel → Asked → List Act
+letter_replies start list = bans_shown start
+letter_replies start no_word = Answer (NeedMoreParams (client_words (codes "MODE"))) ∷ []
+letter_replies start (unknown byte) = Answer (UnknownMode byte start.name) ∷ []
+letter_replies start (change plus which word) = []
 
 -- what comes of one letter, where the channel was one at the command's start and is another now
 abbrev pub one_served : Table User → Channel → Channel → Asked → Outcome
 one_served users start now (change plus which word) = outcome_of (judge users now plus which word)
-one_served users start now other = says (told start other)
+one_served users start now other = only_replies (letter_replies start other)
 
 -- What comes of the letters of an operator, each in the channel as the changes before it have left it. That it is an operator is asked of
 -- the command's start alone (our own choice).
 abbrev pub served : Table User → Channel → Channel → List Asked → Outcome
-served users start now [] = says []
+served users start now [] = only_replies []
 served users start now (item ∷ items) =
     let first = one_served users start now item in
     let rest = served users start (all_changed first.changes now) items in
@@ -59,8 +59,8 @@ served users start now (item ∷ items) =
 -- answered.
 abbrev pub denied : Channel → List Asked → List Act
 denied start [] = []
-denied start (change plus which word ∷ items) = Answer (ChanOPrivsNeeded start.name) ∷ flat_map (told start) items
-denied start (item ∷ items) = told start item ++ denied start items
+denied start (change plus which word ∷ items) = Answer (ChanOPrivsNeeded start.name) ∷ flat_map (letter_replies start) items
+denied start (item ∷ items) = letter_replies start item ++ denied start items
 
 -- all changes are made at once
 abbrev pub changing : User → Channel → List ModeChange → List Act

@@ -14,7 +14,7 @@ use Rattle.irc_modes.specs.Letters.{letter_byte, plus_byte}
 use Rattle.irc_numerics.specs.declared.replies.Reply.TheVariants.{ChannelModeIs, BanList, EndOfBanList}
 use Rattle.irc_acts.specs.declared.act.Act.{Act}
 use Rattle.irc_acts.specs.declared.act.Act.TheVariants.{Answer}
-use Rattle.irc_acts.specs.Acts.{kept}
+use Rattle.irc_acts.specs.Acts.{bytes_kept}
 
 -- the letter of a mode, where it is set
 abbrev pub if_set : Bool → ModeLetter → List ℕ
@@ -45,7 +45,7 @@ key_shown member word = if member then word else codes "*"
 -- the modes of a channel as a user is told them
 abbrev pub modes_shown : User → Channel → Act
 modes_shown me channel =
-    Answer (ChannelModeIs channel.name (kept (letters_set channel.modes)) (option_map (key_shown (has_member (key me.nick) channel)) channel.modes.key)
+    Answer (ChannelModeIs channel.name (bytes_kept (letters_set channel.modes)) (option_map (key_shown (has_member (key me.nick) channel)) channel.modes.key)
     channel.modes.limit)
 
 abbrev pub ban_shown : List ℕ → List ℕ → Act

@@ -10,9 +10,9 @@ ghost use Rattle.irc_moderation.specs.ChannelMode.{
   channel_mode_named,
   denied,
   in_channel,
+  letter_replies,
   obeyed,
   outcome_of,
-  told,
 };
 ghost use Rattle.irc_acts.specs.Standing.{is_operator};
 ghost use Rattle.irc_acts.specs.Steps.{among_users, by_room, AddsTo, Yields};
@@ -163,7 +163,7 @@ fn tell(
     item: &ModeItem<'_>,
     steps: &mut Vec<Act, Global>,
 ) -> Result<(), AllocError>
-    ensures { AddsTo result steps.old steps.new (told channel.now (asked item.now)) }
+    ensures { AddsTo result steps.old steps.new (letter_replies channel.now (asked item.now)) }
 {
     match item {
         ModeItem::Change(_) => Ok(()),

@@ -1,7 +1,7 @@
 //! How the modes of a channel are told.
 ghost use Rattle.std.specs.Prelude.{◌≡◌, ◌≤◌, ◌<◌, ◌+◌, [], ◌∷◌, ◌++◌, codes, length, if◌then◌else◌};
 ghost use Rattle.std.specs.Option.{option_copied, option_map};
-ghost use Rattle.irc_acts.specs.Acts.{kept};
+ghost use Rattle.irc_acts.specs.Acts.{bytes_kept};
 ghost use Rattle.irc_acts.specs.Steps.{AddsTo};
 ghost use Rattle.irc_moderation.specs.ModesShown.{ban_shown, bans_shown, key_shown, letters_set, modes_shown, privacy_letter};
 
@@ -56,7 +56,7 @@ fn star() -> Key
 
 /// `+`, and the letters of the modes that are set.
 fn letters_set(modes: &Modes) -> ModeLetters
-    ensures { result ≡ kept (letters_set modes.now) }
+    ensures { result ≡ bytes_kept (letters_set modes.now) }
 {
     let mut letters = copied(b"+");
     add_if(modes.invite_only, b'i', &mut letters);

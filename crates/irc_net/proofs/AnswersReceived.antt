@@ -7,10 +7,10 @@ use Rattle.irc_byte_network.specs.Behind.{emptied}
 use Rattle.irc_byte_network.specs.ByteNetwork.{ByteCourse, ByteNetwork, all_heard, byte_begun, bytes_come, completed_in, course_without_wires, item_given}
 use Rattle.irc_byte_network.specs.Turns.{TurnsGo, none_yet, turn_first, turn_in, turn_taken}
 use Rattle.irc_net.specs.declared.answer.Answer.{Answer}
-use Rattle.irc_net.specs.Calls.{AreTaken, Delivers, IsDelivered, IsGiven, IsSettled, NetView, delivers_it, given_it, line_between, piece_between, settles_it, standing, takes_them, wire_between}
+use Rattle.irc_net.specs.Calls.{BytesTaken, Delivers, IsDelivered, IsGiven, IsSettled, NetView, delivers_it, given_it, line_between, piece_between, settles_it, standing, takes_them, wire_between}
 use Rattle.irc_net.specs.Laws.{AnswersAreReceived, HasReceived}
 use Rattle.irc_network.specs.Laws.{ReceiptsAreReceived}
-use Rattle.irc_network.specs.Network.{AreReceived, Course, Ends, Network, Receipt, begun, ends_of, given, heard, lines_for, received_by}
+use Rattle.irc_network.specs.Network.{AreReceived, Course, LinkPlaces, Network, Receipt, begun, link_places, given, heard, lines_of_client, received_by}
 use Rattle.irc_network.specs.Views.{receipts_of}
 use Rattle.irc_wires.specs.Wires.{Direction, first_direction, has_byte, through_line_feed}
 
@@ -66,14 +66,14 @@ module _ (law : ReceiptsAreReceived) where
   turns_told net none_yet told = told
   turns_told net {old = old} (turn_first {between = between} turn all_is rest) told = turns_told net rest (turn_told net old between turn told)
 
-  piece_told : (count : ℕ) (net : ByteNetwork) (o : Option Ends) → IsTold net.network (option_map_or (piece_between count net) o (byte_begun net))
+  piece_told : (count : ℕ) (net : ByteNetwork) (o : Option LinkPlaces) → IsTold net.network (option_map_or (piece_between count net) o (byte_begun net))
   piece_told count net None = nothing_told net.network
   piece_told count net (Some ends) = come_told net.network ends.near ends.far count (byte_begun net) (nothing_told net.network)
 
-  abbrev through : ByteNetwork → Ends → ByteCourse
+  abbrev through : ByteNetwork → LinkPlaces → ByteCourse
   through net ends = piece_between (through_line_feed (wire_between net ends).bytes) net ends
 
-  line_told : (net : ByteNetwork) (ends : Ends) (last : ByteCourse) → line_between net ends ≡ Some last → IsTold net.network last
+  line_told : (net : ByteNetwork) (ends : LinkPlaces) (last : ByteCourse) → line_between net ends ≡ Some last → IsTold net.network last
   line_told net ends last = by (has_byte (wire_between net ends))
     where
       same_some : (a b : ByteCourse) → Some a ≡ Some b → a ≡ b
@@ -90,21 +90,21 @@ module _ (law : ReceiptsAreReceived) where
   given_received old new item answer (given_it stands gives) =
       as_course old new (receipts_of answer.lines.items) (item_given item old.network) gives.after gives.receipts (item_told old.network item)
 
-  taken_received : (old new : NetView) (from to : Name) (count taken : ℕ) (receipts : List Receipt) → AreTaken old from to count (Ok (taken, receipts)) new
+  taken_received : (old new : NetView) (from to : Name) (count taken : ℕ) (receipts : List Receipt) → BytesTaken old from to count (Ok (taken, receipts)) new
       → HasReceived old.network new.network receipts
   taken_received old new from to count taken receipts (takes_them stands takes) =
-      as_course old new receipts _ takes.after takes.received (piece_told count old.network (ends_of old.network.network from to))
+      as_course old new receipts _ takes.after takes.received (piece_told count old.network (link_places old.network.network from to))
 
   delivered_received : (old new : NetView) (from to : Name) (was_taken : Bool) (receipts : List Receipt)
       → IsDelivered old from to (Ok (was_taken, receipts)) new → HasReceived old.network new.network receipts
-  delivered_received old new from to was_taken receipts (delivers_it stands none delivers) = by (ends_of old.network.network from to) delivers
+  delivered_received old new from to was_taken receipts (delivers_it stands none delivers) = by (link_places old.network.network from to) delivers
     where
-      took : (ends : Ends) (o : Option ByteCourse) → line_between old.network ends ≡ o → Delivers o old.network was_taken receipts new
+      took : (ends : LinkPlaces) (o : Option ByteCourse) → line_between old.network ends ≡ o → Delivers o old.network was_taken receipts new
           → HasReceived old.network new.network receipts
       took ends None is so = none_received old new receipts so.2 so.1
       took ends (Some last) is so = as_course old new receipts last so.2 so.1 (line_told old.network ends last is)
 
-      by : (o : Option Ends) → Delivers (option_and_then (line_between old.network) o) old.network was_taken receipts new
+      by : (o : Option LinkPlaces) → Delivers (option_and_then (line_between old.network) o) old.network was_taken receipts new
           → HasReceived old.network new.network receipts
       by None so = none_received old new receipts so.2 so.1
       by (Some ends) so = took ends (line_between old.network ends) refl so

@@ -18,14 +18,14 @@ use Rattle.irc_line.specs.Bytes.{line_feed}
 use Rattle.irc_relay.specs.Links.{linked as are_linked}
 use Rattle.irc_world.specs.Refused.{Refusal, no_such_server, not_linked}
 use Rattle.irc_wires.specs.Wires.{is_none, through_line_feed}
-use Rattle.irc_net.specs.Calls.{ArePlayed, AreTaken, Breaks, Delivers, IsDelivered, IsGiven, IsSettled, IsStep, IsStepDone, NetView, Plays, Settles, StopsAt, count_between, delivery, line_between, piece, piece_between, standing, step_refused, then_one, wire_between}
+use Rattle.irc_net.specs.Calls.{ArePlayed, BytesTaken, Breaks, Delivers, IsDelivered, IsGiven, IsSettled, IsStep, IsStepDone, NetView, PlaysSteps, Settles, StopsAt, count_between, delivery, line_between, piece, piece_between, standing, step_refused, then_one, wire_between}
 use Rattle.irc_net.specs.Loops.Coming.{AreEnds, ComesTo, HaveComeTo, IsNoWay}
 use Rattle.irc_net.specs.Calls as calls
 use Rattle.irc_net.specs.Faults.{deliver_fault, fault_by, is_refusal, item_fault}
 use Rattle.irc_net.specs.Loops.Settling.{SettlesAt}
 use Rattle.irc_network.specs.declared.network.Ends.{Ends as KeptEnds}
 use Rattle.irc_network.specs.Loops.Courses.{ends_now}
-use Rattle.irc_network.specs.Network.{Ends, Network, Receipt, ends_of, place_of}
+use Rattle.irc_network.specs.Network.{LinkPlaces, Network, Receipt, link_places, server_place}
 use Rattle.irc_network.specs.Refusing.{way_fault}
 use Rattle.irc_net.specs.Views.{answers_now, counted_now, delivered_now}
 use Rattle.irc_network.specs.Views.{receipts_of}
@@ -54,28 +54,28 @@ pub delivery_fails : (net : NetView) (from to : Name) (fault : NetFault) (r : Re
 delivery_fails net from to fault (Ok answer) is no_way = absurd is
 delivery_fails net from to fault (Err e) is no_way = subst (λ f. IsDelivered net from to (Err f) net) (sym is) (no_delivery net from to fault no_way)
 
-no_taking : (net : NetView) (from to : Name) (count : ℕ) (fault : NetFault) → IsNoWay net from to fault → AreTaken net from to count (Err fault) net
-no_taking net from to count fault (inl failed) = subst (λ e. AreTaken net from to count (Err e) net) (sym failed.1) (calls.taking_by_failed failed.0)
+no_taking : (net : NetView) (from to : Name) (count : ℕ) (fault : NetFault) → IsNoWay net from to fault → BytesTaken net from to count (Err fault) net
+no_taking net from to count fault (inl failed) = subst (λ e. BytesTaken net from to count (Err e) net) (sym failed.1) (calls.taking_by_failed failed.0)
 no_taking net from to count fault (inr refused) = calls.taking_refused refused.0 refused.1
 
 pub taking_fails : (net : NetView) (from to : Name) (count : ℕ) (fault : NetFault) (r : Result (ℕ × Vec KeptReceipt) NetFault) → IsErrAnd r (λ e. e ≡ fault)
-    → IsNoWay net from to fault → AreTaken net from to count (counted_now r) net
+    → IsNoWay net from to fault → BytesTaken net from to count (counted_now r) net
 taking_fails net from to count fault (Ok answer) is no_way = absurd is
 taking_fails net from to count fault (Err e) is no_way =
-    subst (λ f. AreTaken net from to count (Err f) net) (sym is) (no_taking net from to count fault no_way)
+    subst (λ f. BytesTaken net from to count (Err f) net) (sym is) (no_taking net from to count fault no_way)
 
 -- linked servers are there
-placed : (net : Network) (near far : Name) → way_fault net near far ≡ None → (ends : Ends) × (ends_of net near far ≡ Some ends)
-placed net near far none = by (place_of net near) (place_of net far) none
+placed : (net : Network) (near far : Name) → way_fault net near far ≡ None → (ends : LinkPlaces) × (link_places net near far ≡ Some ends)
+placed net near far none = by (server_place net near) (server_place net far) none
   where
     by : (one other : Option ℕ)
         → (if not (is_some one) || not (is_some other) then Some no_such_server else (if are_linked net.links near far then None else Some not_linked)) ≡ None
-        → (ends : Ends) × (option_and_then (λ x. option_map (λ y. record { near = x; far = y }) other) one ≡ Some ends)
+        → (ends : LinkPlaces) × (option_and_then (λ x. option_map (λ y. record { near = x; far = y }) other) one ≡ Some ends)
     by None other is = cc is
     by (Some one) None is = cc is
     by (Some one) (Some other) is = (record { near = one; far = other }, refl)
 
-pub are_placed : (net : ByteNetwork) (near far : Name) → deliver_fault net near far ≡ None → ends_of net.network near far ≡ None → ⊥
+pub are_placed : (net : ByteNetwork) (near far : Name) → deliver_fault net near far ≡ None → link_places net.network near far ≡ None → ⊥
 unfolding deliver_fault
 are_placed net near far none nowhere = by (way_fault net.network near far) refl none
   where
@@ -102,13 +102,13 @@ some_feed [] some = absurd (some refl)
 some_feed (byte ∷ bytes) some = refl
 
 -- between two servers at these places
-between_none : (net : ByteNetwork) (from to : Name) (ends : Ends) → ends_of net.network from to ≡ Some ends
+between_none : (net : ByteNetwork) (from to : Name) (ends : LinkPlaces) → link_places net.network from to ≡ Some ends
     → through_line_feed (wire_between net ends).bytes ≡ 0 → delivery net from to ≡ None
 between_none net from to ends is none =
     ap (option_and_then (line_between net)) is
     ∙ ap (λ b. if b then Some (piece_between (through_line_feed (wire_between net ends).bytes) net ends) else None) (no_feed (wire_between net ends).bytes none)
 
-between_some : (net : ByteNetwork) (from to : Name) (ends : Ends) → ends_of net.network from to ≡ Some ends
+between_some : (net : ByteNetwork) (from to : Name) (ends : LinkPlaces) → link_places net.network from to ≡ Some ends
     → (through_line_feed (wire_between net ends).bytes ≡ 0 → ⊥)
     → delivery net from to ≡ Some (piece_between (through_line_feed (wire_between net ends).bytes) net ends)
 between_some net from to ends is some =
@@ -142,7 +142,7 @@ line_wants old new from to ends fault (Err e) is are wants =
 
 -- so many bytes came, or memory ran out
 pub pieces_came : (old new : NetView) (from to : Name) (ends : KeptEnds) (count : ℕ) (r : Result (ℕ × List Receipt) NetFault) → AreEnds old from to ends
-    → HaveComeTo old ends count r new → AreTaken old from to count r new
+    → HaveComeTo old ends count r new → BytesTaken old from to count r new
 pieces_came old new from to ends count (Ok pair) are comes =
     calls.takes_them are.stands (record {
       none = are.none;
@@ -154,7 +154,7 @@ pieces_came old new from to ends count (Ok pair) are comes =
     at : piece count old.network from to ≡ piece_between count old.network (ends_now ends)
     at = ap (λ o. option_map_or (piece_between count old.network) o (byte_begun old.network)) are.ends_are
 pieces_came old new from to ends count (Err fault) are wants =
-    subst (λ f. AreTaken old from to count (Err f) new) (sym wants.0) (calls.taking_wants_memory are.stands are.none wants.1)
+    subst (λ f. BytesTaken old from to count (Err f) new) (sym wants.0) (calls.taking_wants_memory are.stands are.none wants.1)
 
 -- as the code answers it
 pub came_to : (old : NetView) (net new : ByteNetwork) (ends : KeptEnds) (count taken : ℕ) (lines none : List KeptReceipt) → net ≡ old.network → none ≡ []
@@ -210,16 +210,16 @@ parted (first ∷ steps) zero step is = ap (λ s. s ∷ steps) (same_some first 
 parted (first ∷ steps) (suc i) step is = ap (λ ss. first ∷ ss) (parted steps i step is)
 
 pub plays_on : {first between last : NetView} (steps : List Step) (answers more : List StepAnswer) (i : ℕ) (step : Step) (answer : StepAnswer)
-    → Plays first (take i steps) answers between → IsStep between step answer last → slice_get steps i ≡ Some step → more ≡ answers ++ answer ∷ []
-    → Plays first (take (i + 1) steps) more last
+    → PlaysSteps first (take i steps) answers between → IsStep between step answer last → slice_get steps i ≡ Some step → more ≡ answers ++ answer ∷ []
+    → PlaysSteps first (take (i + 1) steps) more last
 plays_on {first = first} {last = last} steps answers more i step answer plays done is behind =
-    subst (λ n. Plays first (take n steps) more last) (counted_on i) (then_one step answer plays done (taken_on steps i step is) behind)
+    subst (λ n. PlaysSteps first (take n steps) more last) (counted_on i) (then_one step answer plays done (taken_on steps i step is) behind)
   where
     counted_on : (n : ℕ) → suc n ≡ n + 1
     counted_on n = omega arith
 
 pub stops : {first between last : NetView} (steps : List Step) (answers : List StepAnswer) (i : ℕ) (step : Step) (fault : NetFault)
-    → Plays first (take i steps) answers between → slice_get steps i ≡ Some step → IsStepDone between step (Err fault) last → StopsAt first steps fault last
+    → PlaysSteps first (take i steps) answers between → slice_get steps i ≡ Some step → IsStepDone between step (Err fault) last → StopsAt first steps fault last
 stops {between = between} steps answers i step fault plays is broke = record {
   done = take i steps;
   step = step;
@@ -232,12 +232,12 @@ stops {between = between} steps answers i step fault plays is broke = record {
   is_want = broke.1;
 }
 
-pub none_played : (old : NetView) (answers : List StepAnswer) → answers ≡ [] → Plays old [] answers old
-none_played old answers is = subst (λ done. Plays old [] done old) (sym is) calls.none_yet
+pub none_played : (old : NetView) (answers : List StepAnswer) → answers ≡ [] → PlaysSteps old [] answers old
+none_played old answers is = subst (λ done. PlaysSteps old [] done old) (sym is) calls.none_yet
 
-pub all_played : {old new : NetView} (steps : List Step) (answers : List StepAnswer) (i : ℕ) → length steps ≤ i → Plays old (take i steps) answers new
+pub all_played : {old new : NetView} (steps : List Step) (answers : List StepAnswer) (i : ℕ) → length steps ≤ i → PlaysSteps old (take i steps) answers new
     → ArePlayed old steps (Ok answers) new
-all_played {old = old} {new = new} steps answers i behind plays = calls.plays_them (subst (λ ss. Plays old ss answers new) (all_taken steps i behind) plays)
+all_played {old = old} {new = new} steps answers i behind plays = calls.plays_them (subst (λ ss. PlaysSteps old ss answers new) (all_taken steps i behind) plays)
   where
     all_taken : {X : Type 0} (xs : List X) (n : ℕ) → length xs ≤ n → take n xs ≡ xs
     all_taken [] zero behind = refl

@@ -12,8 +12,8 @@ use Rattle.irc_server.specs.declared.config.Config.{Config}
 use Rattle.irc_server.specs.declared.config.ConfigFault.TheVariants as one
 use Rattle.irc_net.specs.declared.making.NetConfigFault.{NetConfigFault}
 use Rattle.irc_net.specs.declared.making.NetConfigFault.TheVariants.{BadName, DoubleName, TooMany}
-use Rattle.irc_net.specs.Making.{configs_fault, has_name_twice, is_bad, is_bad_name, is_double}
-use Rattle.irc_net.specs.Loops.Ordering.{IsNamed}
+use Rattle.irc_net.specs.Making.{configs_fault, has_name_twice, is_bad_config, is_bad_name, is_double}
+use Rattle.irc_net.specs.Loops.Ordering.{IsServerConfig}
 
 -- ---- one configuration
 
@@ -22,7 +22,7 @@ own_name : (a b c d twice : Bool) → is_bad_name (if not ((a && b && c) && d) t
 own_name true b c d twice good = refl
 own_name false b c d twice good = cc good
 
-named : (config : Config) → is_bad config ≡ false → IsNamed config
+named : (config : Config) → is_bad_config config ≡ false → IsServerConfig config
 named config good =
     own_name (is_server config.own.name.items) (is_info config.own.info.items)
     (is_some_text config.own.created.items && fits max_created config.own.created.items)
@@ -30,12 +30,12 @@ named config good =
 
 -- ---- all of them
 
-pub all_named : (configs : List Config) → list_any is_bad configs ≡ false → AllByRecursion IsNamed configs
+pub all_named : (configs : List Config) → list_any is_bad_config configs ≡ false → AllByRecursion IsServerConfig configs
 all_named [] good = tt
-all_named (config ∷ configs) good = by (is_bad config) refl (all_named configs) good
+all_named (config ∷ configs) good = by (is_bad_config config) refl (all_named configs) good
   where
-    by : (b : Bool) → is_bad config ≡ b → (list_any is_bad configs ≡ false → AllByRecursion IsNamed configs) → (b || list_any is_bad configs) ≡ false
-        → AllByRecursion IsNamed (config ∷ configs)
+    by : (b : Bool) → is_bad_config config ≡ b → (list_any is_bad_config configs ≡ false → AllByRecursion IsServerConfig configs) → (b || list_any is_bad_config configs) ≡ false
+        → AllByRecursion IsServerConfig (config ∷ configs)
     by true bad others left = cc left
     by false fine others left = (named config fine, others left)
 
@@ -56,11 +56,11 @@ none_then false false false true none = cc none
 none_then false false false false none = record { bad_none = refl; twice_none = refl; many_none = refl }
 
 pub without_fault : (configs : List Config) → configs_fault configs ≡ None
-    → AreNone (list_any is_bad configs) (list_any is_double configs) (has_name_twice configs) (nat_lt 256 (length configs))
-without_fault configs none = none_then (list_any is_bad configs) (list_any is_double configs) (has_name_twice configs) (nat_lt 256 (length configs)) none
+    → AreNone (list_any is_bad_config configs) (list_any is_double configs) (has_name_twice configs) (nat_lt 256 (length configs))
+without_fault configs none = none_then (list_any is_bad_config configs) (list_any is_double configs) (has_name_twice configs) (nat_lt 256 (length configs)) none
 
-pub ordered_named : (configs ordered : List Config) → configs_fault configs ≡ None → IsPermutation configs ordered → AllByRecursion IsNamed ordered
-ordered_named configs ordered none same = all_named ordered (sym (list_any-IsPermutation is_bad configs ordered same) ∙ (without_fault configs none).bad_none)
+pub ordered_named : (configs ordered : List Config) → configs_fault configs ≡ None → IsPermutation configs ordered → AllByRecursion IsServerConfig ordered
+ordered_named configs ordered none same = all_named ordered (sym (list_any-IsPermutation is_bad_config configs ordered same) ∙ (without_fault configs none).bad_none)
 
 pub ordered_few : (configs ordered : List Config) → configs_fault configs ≡ None → IsPermutation configs ordered → length ordered ≤ 256
 ordered_few configs ordered none same =

@@ -24,10 +24,10 @@ use Rattle.irc_stage.specs.View.{View, known_peer}
 use Rattle.irc_stage.specs.declared.peer.Peer.{Peer}
 use Rattle.irc_byte_network.specs.ByteNetwork.{ByteNetwork}
 use Rattle.irc_byte_network.specs.Whole.{no_wires}
-use Rattle.irc_network.specs.Network.{Network, Site, place_of, site_at}
+use Rattle.irc_network.specs.Network.{Network, Site, server_place, site_at}
 use Rattle.irc_items.specs.SetUp.{named_at, no_view, view_at, HasPassword, IsConfigured, IsNew, IsNewServer}
 use Rattle.irc_items.proofs.SetUpFacts.{placed_if}
-use Rattle.irc_net.specs.Making.{configs_fault, has_name_twice, is_bad, is_bad_name, is_named, made_of, name_of, new_site}
+use Rattle.irc_net.specs.Making.{config_name, configs_fault, has_name_twice, is_bad_config, is_bad_name, is_config_of, made_of, new_site}
 use Rattle.irc_net.proofs.Named.{ordered_few, without_fault}
 
 -- ---- no name is there twice
@@ -41,26 +41,26 @@ uncounted : (k n : ℕ) → n ≡ 0 + k → k ≡ 0 → n ≡ 0
 uncounted k n is none = omega (arith, is, none)
 
 -- the name of none of these is counted among theirs
-none_counted : (server : Name) (configs : List Config) → list_any (is_named server) configs ≡ false → count_by (same server) (map name_of configs) ≡ 0
+none_counted : (server : Name) (configs : List Config) → list_any (is_config_of server) configs ≡ false → count_by (same server) (map config_name configs) ≡ 0
 none_counted server [] none = refl
 none_counted server (config ∷ configs) none =
-    uncounted (count_by (same server) (map name_of configs)) (count_by (same server) (map name_of (config ∷ configs)))
-    (counted server (name_of config) (map name_of configs) false (other (tell (name_of config) server))) (none_counted server configs parts.1)
+    uncounted (count_by (same server) (map config_name configs)) (count_by (same server) (map config_name (config ∷ configs)))
+    (counted server (config_name config) (map config_name configs) false (other (tell (config_name config) server))) (none_counted server configs parts.1)
   where
-    parts : (same (name_of config) server ≡ false) × (list_any (is_named server) configs ≡ false)
-    parts = or_parts (same (name_of config) server) (list_any (is_named server) configs) none
+    parts : (same (config_name config) server ≡ false) × (list_any (is_config_of server) configs ≡ false)
+    parts = or_parts (same (config_name config) server) (list_any (is_config_of server) configs) none
 
-    other : Telling (name_of config) server → same server (name_of config) ≡ false
+    other : Telling (config_name config) server → same server (config_name config) ≡ false
     other (alike is _) = absurd (true≢false (sym is ∙ parts.0))
-    other (unlike _ two) = same_unless server (name_of config) (λ e. two (sym e))
+    other (unlike _ two) = same_unless server (config_name config) (λ e. two (sym e))
 
-counted_once : (configs : List Config) → has_name_twice configs ≡ false → (server : Name) → IsAmong (map name_of configs) server
-    → count_by (same server) (map name_of configs) ≡ 1
+counted_once : (configs : List Config) → has_name_twice configs ≡ false → (server : Name) → IsAmong (map config_name configs) server
+    → count_by (same server) (map config_name configs) ≡ 1
 counted_once [] none server among = absurd (true≢false (sym among))
-counted_once (config ∷ configs) none server among = by (tell server (name_of config)) (counted_once configs parts.1 server)
+counted_once (config ∷ configs) none server among = by (tell server (config_name config)) (counted_once configs parts.1 server)
   where
-    parts : (list_any (is_named (name_of config)) configs ≡ false) × (has_name_twice configs ≡ false)
-    parts = or_parts (list_any (is_named (name_of config)) configs) (has_name_twice configs) none
+    parts : (list_any (is_config_of (config_name config)) configs ≡ false) × (has_name_twice configs ≡ false)
+    parts = or_parts (list_any (is_config_of (config_name config)) configs) (has_name_twice configs) none
 
     first : (k n : ℕ) → n ≡ 1 + k → k ≡ 0 → n ≡ 1
     first k n is none_more = omega (arith, is, none_more)
@@ -68,26 +68,26 @@ counted_once (config ∷ configs) none server among = by (tell server (name_of c
     later : (k n : ℕ) → n ≡ 0 + k → k ≡ 1 → n ≡ 1
     later k n is once = omega (arith, is, once)
 
-    by : Telling server (name_of config) → (IsAmong (map name_of configs) server → count_by (same server) (map name_of configs) ≡ 1)
-        → count_by (same server) (map name_of (config ∷ configs)) ≡ 1
+    by : Telling server (config_name config) → (IsAmong (map config_name configs) server → count_by (same server) (map config_name configs) ≡ 1)
+        → count_by (same server) (map config_name (config ∷ configs)) ≡ 1
     by (alike is e) rest =
-        first (count_by (same server) (map name_of configs)) (count_by (same server) (map name_of (config ∷ configs)))
-        (counted server (name_of config) (map name_of configs) true is)
-        (none_counted server configs (ap (λ name. list_any (is_named name) configs) e ∙ parts.0))
+        first (count_by (same server) (map config_name configs)) (count_by (same server) (map config_name (config ∷ configs)))
+        (counted server (config_name config) (map config_name configs) true is)
+        (none_counted server configs (ap (λ name. list_any (is_config_of name) configs) e ∙ parts.0))
     by (unlike is _) rest =
-        later (count_by (same server) (map name_of configs)) (count_by (same server) (map name_of (config ∷ configs)))
-        (counted server (name_of config) (map name_of configs) false is)
-        (rest (sym (ap (λ b. b || list_any (same server) (map name_of configs)) is) ∙ among))
+        later (count_by (same server) (map config_name configs)) (count_by (same server) (map config_name (config ∷ configs)))
+        (counted server (config_name config) (map config_name configs) false is)
+        (rest (sym (ap (λ b. b || list_any (same server) (map config_name configs)) is) ∙ among))
 
 -- the order of servers is no matter
 ordered_once : (configs ordered : List Config) → IsPermutation configs ordered → has_name_twice configs ≡ false → (server : Name)
-    → IsAmong (map name_of ordered) server → count_by (same server) (map name_of ordered) ≡ 1
+    → IsAmong (map config_name ordered) server → count_by (same server) (map config_name ordered) ≡ 1
 ordered_once configs ordered ones none server among =
-    sum_by-IsPermutation (λ x. cond (same server x) 1 0) (map name_of configs) (map name_of ordered) names
-    ∙ counted_once configs none server (list_any-IsPermutation (same server) (map name_of configs) (map name_of ordered) names ∙ among)
+    sum_by-IsPermutation (λ x. cond (same server x) 1 0) (map config_name configs) (map config_name ordered) names
+    ∙ counted_once configs none server (list_any-IsPermutation (same server) (map config_name configs) (map config_name ordered) names ∙ among)
   where
-    names : IsPermutation (map name_of configs) (map name_of ordered)
-    names = IsPermutation-map name_of configs ordered ones
+    names : IsPermutation (map config_name configs) (map config_name ordered)
+    names = IsPermutation-map config_name configs ordered ones
 
 -- ---- each is configured
 
@@ -116,7 +116,7 @@ passwords_kept (peer ∷ peers) all = ((both (is_server peer.name.items) (is_pas
     now : (is_peer peer ≡ true) × (list_all is_peer peers ≡ true)
     now = both (is_peer peer) (list_all is_peer peers) all
 
-configured : (config : Config) → is_bad config ≡ false → IsConfigured (made_view config)
+configured : (config : Config) → is_bad_config config ≡ false → IsConfigured (made_view config)
 configured config good = record {
   name = rules.named_so;
   info = rules.known_so;
@@ -131,18 +131,18 @@ configured config good = record {
         (is_some_text config.own.created.items && fits max_created config.own.created.items) (list_all is_peer config.peers.items)
         (is_among config.own.name.items config.peers.items || has_double config.peers.items) good
 
-all_configured : (configs : List Config) → list_any is_bad configs ≡ false → AllByRecursion (λ (config : Config). IsConfigured (made_view config)) configs
+all_configured : (configs : List Config) → list_any is_bad_config configs ≡ false → AllByRecursion (λ (config : Config). IsConfigured (made_view config)) configs
 all_configured [] good = tt
 all_configured (config ∷ configs) good = (configured config parts.0, all_configured configs parts.1)
   where
-    parts : (is_bad config ≡ false) × (list_any is_bad configs ≡ false)
-    parts = or_parts (is_bad config) (list_any is_bad configs) good
+    parts : (is_bad_config config ≡ false) × (list_any is_bad_config configs ≡ false)
+    parts = or_parts (is_bad_config config) (list_any is_bad_config configs) good
 
 -- ---- each is there
 
-sites_named : (configs : List Config) → map named_at (map new_site configs) ≡ map Some (map name_of configs)
+sites_named : (configs : List Config) → map named_at (map new_site configs) ≡ map Some (map config_name configs)
 sites_named [] = refl
-sites_named (config ∷ configs) = ap (λ names. Some (name_of config) ∷ names) (sites_named configs)
+sites_named (config ∷ configs) = ap (λ names. Some (config_name config) ∷ names) (sites_named configs)
 
 none_queued : (configs : List Config) → AllByRecursion (λ (site : Site). site.queues ≡ empty) (map new_site configs)
 none_queued [] = tt
@@ -160,14 +160,14 @@ abbrev seen : List Config → Option ℕ → View
 seen configs o = unwrap_or (option_and_then (λ (site : Site). site.server) (option_and_then (site_at (made_of configs)) o)) no_view
 
 made_at : (P : View → Type 0) (configs : List Config) (server : Name) → AllByRecursion (λ (config : Config). P (made_view config)) configs
-    → IsAmong (map name_of configs) server → P (view_at (made_of configs) server)
-made_at P configs server all among = by (place_of (made_of configs) server) refl
+    → IsAmong (map config_name configs) server → P (view_at (made_of configs) server)
+made_at P configs server all among = by (server_place (made_of configs) server) refl
   where
-    by : (o : Option ℕ) → place_of (made_of configs) server ≡ o → P (seen configs (place_of (made_of configs) server))
-    by None is = absurd (true≢false (sym (sym (ap is_some is) ∙ placed_if (map name_of configs) server ∙ among)))
+    by : (o : Option ℕ) → server_place (made_of configs) server ≡ o → P (seen configs (server_place (made_of configs) server))
+    by None is = absurd (true≢false (sym (sym (ap is_some is) ∙ placed_if (map config_name configs) server ∙ among)))
     by (Some place) is = subst (λ o. P (seen configs o)) (sym is)
         (made_there P configs place all
-        (subst (λ n. place < n) (length-map configs name_of) (position-Some (λ (known : Name). same known server) (map name_of configs) place [] is).0))
+        (subst (λ n. place < n) (length-map configs config_name) (position-Some (λ (known : Name). same known server) (map config_name configs) place [] is).0))
 
 all_new : (configs : List Config) → AllByRecursion (λ (config : Config). IsNewServer (made_view config)) configs
 all_new [] = tt
@@ -180,9 +180,9 @@ made_is_new configs ordered none ones = record {
   set_up = record {
     named = sites_named ordered;
     once = ordered_once configs ordered ones (without_fault configs none).twice_none;
-    few = subst (λ n. n ≤ 256) (sym (length-map ordered name_of)) (ordered_few configs ordered none ones);
+    few = subst (λ n. n ≤ 256) (sym (length-map ordered config_name)) (ordered_few configs ordered none ones);
     configured = λ server among. made_at IsConfigured ordered server
-        (all_configured ordered (sym (list_any-IsPermutation is_bad configs ordered ones) ∙ (without_fault configs none).bad_none)) among;
+        (all_configured ordered (sym (list_any-IsPermutation is_bad_config configs ordered ones) ∙ (without_fault configs none).bad_none)) among;
   };
   servers = λ server among. made_at IsNewServer ordered server (all_new ordered) among;
   queues = none_queued ordered;
@@ -203,7 +203,7 @@ made_with forest sites = record { names = forest.names; sites = sites; links = f
 
 -- a network of their forest and their sites is what they make
 pub network_made : (ordered configs : List Config) (forest : Forest) (sites : List Site) → configs ≡ ordered
-    → forest ≡ record { names = map name_of configs; links = [] } → sites ≡ map new_site ordered → made_with forest sites ≡ made_of ordered
+    → forest ≡ record { names = map config_name configs; links = [] } → sites ≡ map new_site ordered → made_with forest sites ≡ made_of ordered
 network_made ordered configs forest sites ones named placed =
-    ap (λ f. made_with f sites) (named ∙ ap (λ cs. record { names = map name_of cs; links = [] }) ones)
-    ∙ ap (made_with (record { names = map name_of ordered; links = [] })) placed
+    ap (λ f. made_with f sites) (named ∙ ap (λ cs. record { names = map config_name cs; links = [] }) ones)
+    ∙ ap (made_with (record { names = map config_name ordered; links = [] })) placed

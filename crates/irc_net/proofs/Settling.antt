@@ -2,7 +2,7 @@
 use Rattle.std.proofs.Common.{◌≡◌, ℕ, true, zero, suc, ◌+◌, ◌<◌, ◌≤◌, min, List, Option, Some, None, option_map, refl, sym, subst, ◌∙◌, ap, arith}
 use Rattle.irc_items.specs.Kept.{TurnLeavesFewer}
 use Rattle.irc_items.specs.Sound.{most_now}
-use Rattle.irc_byte_network.specs.ByteNetwork.{ByteCourse, ByteNetwork, byte_begun, course_in_lines, in_lines, is_byte_rest}
+use Rattle.irc_byte_network.specs.ByteNetwork.{ByteCourse, ByteNetwork, byte_begun, course_in_lines, net_in_lines, is_byte_rest}
 use Rattle.irc_byte_network.specs.Turns.{ComesToLine, GoesToLine, TurnsGo, lines_in_turn, none_yet, turn_first, turn_in, turn_taken}
 use Rattle.irc_byte_network.specs.Whole.{ComesToSome, EachComesToLine, NoByteRests}
 use Rattle.irc_net.specs.Calls.{NetView, Settles, standing}
@@ -82,7 +82,7 @@ module _ (laws : AreTurning) where
       by (nothing none same) zero_is = same
       by (next_line one next) zero_is = cc (sym one ∙ zero_is)
 
-  pub leaves_fewer : TurnLeavesFewer → (most lines : ℕ) (old new : ByteCourse) → IsKeptSound old.net → most_now (in_lines old.net) ≤ most
+  pub leaves_fewer : TurnLeavesFewer → (most lines : ℕ) (old new : ByteCourse) → IsKeptSound old.net → most_now (net_in_lines old.net) ≤ most
       → GoesToLine lines old new → lines_left most (course_in_lines new) < lines_left most (course_in_lines old)
   leaves_fewer fewer most lines old new kept few goes = by (turn_is laws goes.between new (turns_kept laws goes.goes kept).kept goes.turn)
     where
@@ -107,10 +107,10 @@ module _ (laws : AreTurning) where
 
   pub counted_fewer : TurnLeavesFewer → {first : ByteCourse} (old new : ByteCourse) (counted lines : ℕ) → IsKeptSound first.net
       → GoesCounted counted first old → GoesToLine lines old new
-      → lines_left (most_now (in_lines first.net)) (course_in_lines new) < lines_left (most_now (in_lines first.net)) (course_in_lines old)
+      → lines_left (most_now (net_in_lines first.net)) (course_in_lines new) < lines_left (most_now (net_in_lines first.net)) (course_in_lines old)
   counted_fewer fewer {first = first} old new counted lines kept turns goes =
       let now = turns_kept laws turns.goes kept in
-      leaves_fewer fewer (most_now (in_lines first.net)) lines old new now.kept (same (most_now (in_lines old.net)) (most_now (in_lines first.net)) now.keeps.most) goes
+      leaves_fewer fewer (most_now (net_in_lines first.net)) lines old new now.kept (same (most_now (net_in_lines old.net)) (most_now (net_in_lines first.net)) now.keeps.most) goes
     where
       same : (a b : ℕ) → a ≡ b → a ≤ b
       same a b is = omega (arith, is)
@@ -139,7 +139,7 @@ module _ (laws : AreTurning) where
     rest : is_byte_rest last.net ≡ true
 
   settling : TurnLeavesFewer → EachComesToLine → NoByteRests → (fuel most : ℕ) (course : ByteCourse) → IsKeptSound course.net
-      → most_now (in_lines course.net) ≤ most → lines_left most (course_in_lines course) < fuel → Settling course
+      → most_now (net_in_lines course.net) ≤ most → lines_left most (course_in_lines course) < fuel → Settling course
   settling fewer comes no_byte zero most course kept few less = absurd (nothing_less (lines_left most (course_in_lines course)) less)
     where
       nothing_less : (n : ℕ) → n < 0 → ⊥
@@ -151,7 +151,7 @@ module _ (laws : AreTurning) where
       further a b n one other = omega (arith, one, other)
 
       at : (lines : Option ℕ) (new : ByteCourse) → ComesToLine lines course new
-          → ((next : ByteCourse) → IsKeptSound next.net → most_now (in_lines next.net) ≤ most → lines_left most (course_in_lines next) < fuel → Settling next)
+          → ((next : ByteCourse) → IsKeptSound next.net → most_now (net_in_lines next.net) ≤ most → lines_left most (course_in_lines next) < fuel → Settling next)
           → Settling course
       at None new so on = record { count = 0; last = new; goes = so.0; rest = rests no_byte new (turns_kept laws so.0 kept).kept so.1 }
       at (Some lines) new so on =
@@ -167,13 +167,13 @@ module _ (laws : AreTurning) where
           }
 
       by : ComesToSome course
-          → ((next : ByteCourse) → IsKeptSound next.net → most_now (in_lines next.net) ≤ most → lines_left most (course_in_lines next) < fuel → Settling next)
+          → ((next : ByteCourse) → IsKeptSound next.net → most_now (net_in_lines next.net) ≤ most → lines_left most (course_in_lines next) < fuel → Settling next)
           → Settling course
       by some on = at some.lines some.new some.comes on
 
   pub each_settles : TurnLeavesFewer → EachComesToLine → NoByteRests → (net : ByteNetwork) → IsKeptSound net → SettlesOnce net
   each_settles fewer comes no_byte net kept =
-      let most = most_now (in_lines net) in
+      let most = most_now (net_in_lines net) in
       let so = settling fewer comes no_byte (suc (lines_left most (course_in_lines (byte_begun net)))) most (byte_begun net) kept (same most) (less _) in
       record {
         counted = min so.count max_count;

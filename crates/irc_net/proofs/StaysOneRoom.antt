@@ -12,9 +12,9 @@ use Rattle.irc_items.specs.Laws.{GivenStaysSound, IsGivenAtRest, NewLinkIsOpen, 
 use Rattle.irc_items.specs.OneRoom.{IsOneRoom}
 use Rattle.irc_items.specs.Sound.{IsSound, most_now, owed_now, world_now}
 use Rattle.irc_items.specs.SetUp.{IsNew, settings_of}
-use Rattle.irc_byte_network.specs.ByteNetwork.{ByteCourse, ByteNetwork, byte_begun, bytes_come, course_in_lines, in_lines, is_byte_rest, item_given}
+use Rattle.irc_byte_network.specs.ByteNetwork.{ByteCourse, ByteNetwork, byte_begun, bytes_come, course_in_lines, net_in_lines, is_byte_rest, item_given}
 use Rattle.irc_byte_network.specs.Turns.{TurnsGo, lines_in_turn, none_yet, turn_first, turn_taken}
-use Rattle.irc_byte_network.specs.Whole.{AreLines, BytesComeAsLines, Delivers, GivenAsLines, NewIsWhole, RestAsLines, TurnAsLines, TurnsAsLines, no_line, no_more, no_wires, one_first, one_line}
+use Rattle.irc_byte_network.specs.Whole.{AreLinesWaiting, BytesComeAsLines, Delivers, GivenAsLines, NewIsWhole, RestAsLines, TurnAsLines, TurnsAsLines, no_line, no_more, no_wires, one_first, one_line}
 use Rattle.irc_byte_network.specs.Loops.Coming.{byte_course, come_between}
 use Rattle.irc_net.specs.Calls.{NetView}
 use Rattle.irc_net.specs.Laws.{StaysKept}
@@ -31,23 +31,23 @@ IsKept net = net.failed ≡ false → IsKeptSound net.network
 -- ---- what a network is to its clients
 
 -- of who it is, bytes on their way change nothing
-pub same_received : (net : ByteNetwork) (client : ℕ) → received_by (in_lines net) client ≡ received_by net.network client
+pub same_received : (net : ByteNetwork) (client : ℕ) → received_by (net_in_lines net) client ≡ received_by net.network client
 same_received net zero = refl
 same_received net (suc earlier) = refl
 
 pub owed : ReceivedIsFront → RestIsOneRoom → RestAsLines → (net : NetView) (client : ℕ) (lines : List (List ℕ)) → IsKept net
     → lines ≡ received_by net.network.network client → IsOwed net client lines
 owed is_front one_room resting net client lines kept is = record {
-  front = λ stands. subst (λ ls. IsFront ls (owed_now (in_lines net.network) client)) (sym same) (is_front (in_lines net.network) client (kept stands).sound);
+  front = λ stands. subst (λ ls. IsFront ls (owed_now (net_in_lines net.network) client)) (sym same) (is_front (net_in_lines net.network) client (kept stands).sound);
   all = λ stands rest.
-      same ∙ (one_room (in_lines net.network) (kept stands).sound (resting net.network (kept stands).whole rest).at_rest).received client;
+      same ∙ (one_room (net_in_lines net.network) (kept stands).sound (resting net.network (kept stands).whole rest).at_rest).received client;
 }
   where
-    same : lines ≡ received_by (in_lines net.network) client
+    same : lines ≡ received_by (net_in_lines net.network) client
     same = is ∙ sym (same_received net.network client)
 
 pub takes_few : TakenAreFew → (net : NetView) (count : ℕ) → IsKept net → count ≡ net.network.network.taken → TakesFew net count
-takes_few few net count kept is stands = subst (λ n. n ≤ most_now (in_lines net.network)) (sym is) (few (in_lines net.network) (kept stands).sound)
+takes_few few net count kept is stands = subst (λ n. n ≤ most_now (net_in_lines net.network)) (sym is) (few (net_in_lines net.network) (kept stands).sound)
 
 -- of what a network is before a call
 abbrev RefusesSo : Item → Network → Type 0
@@ -56,16 +56,16 @@ RefusesSo item net = fault_at_rest net item ≡ refused (settings_of net) (world
 pub refuses : RefusalsAreTheWorlds → RestAsLines → (net old : NetView) (item : Item) → IsKept net → net ≡ old → RefusesAsTheWorld old item
 refuses refusals resting net old item kept is = subst (λ old. RefusesAsTheWorld old item) is (λ stands rest.
     let resting_so = resting net.network (kept stands).whole rest in
-    subst (RefusesSo item) resting_so.as_lines (refusals (in_lines net.network) item (kept stands).sound resting_so.at_rest))
+    subst (RefusesSo item) resting_so.as_lines (refusals (net_in_lines net.network) item (kept stands).sound resting_so.at_rest))
 
 pub one_room : RestIsOneRoom → NoLinkIsClosed → NewLinkIsOpen → RestAsLines → (net : NetView) → IsKept net → IsOneRoomNet net
 one_room at_rest no_link new_link resting net kept = record {
   coming = λ stands. (kept stands).sound;
   at_rest = λ stands rest.
       let resting_so = resting net.network (kept stands).whole rest in
-      subst IsOneRoom resting_so.as_lines (at_rest (in_lines net.network) (kept stands).sound resting_so.at_rest);
-  closes_none = λ stands. no_link (in_lines net.network) (kept stands).sound;
-  opens = λ stands near far. new_link (in_lines net.network) near far (kept stands).sound;
+      subst IsOneRoom resting_so.as_lines (at_rest (net_in_lines net.network) (kept stands).sound resting_so.at_rest);
+  closes_none = λ stands. no_link (net_in_lines net.network) (kept stands).sound;
+  opens = λ stands near far. new_link (net_in_lines net.network) near far (kept stands).sound;
 }
 
 -- ---- a new one
@@ -100,7 +100,7 @@ unfolding given
 given_taken net item = refl
 
 -- what waits in a sound network are lines
-pub are_lines : WaitingAreLines → (net : Network) → IsSound net → AreLines net
+pub are_lines : WaitingAreLines → (net : Network) → IsSound net → AreLinesWaiting net
 are_lines waiting net sound place to site is = waiting net place to site sound is
 
 pub kept_given : GivenStaysSound → WaitingAreLines → GivenAsLines → RestAsLines → (net : ByteNetwork) (item : Item) → IsKeptSound net
@@ -108,17 +108,17 @@ pub kept_given : GivenStaysSound → WaitingAreLines → GivenAsLines → RestAs
 kept_given given_sound waiting as_lines resting net item kept none within =
     let is_free = free net item none in
     let resting_so = resting net kept.whole is_free.at_rest in
-    let at : IsGivenAtRest (in_lines net) item = record {
+    let at : IsGivenAtRest (net_in_lines net) item = record {
       at_rest = resting_so.at_rest;
       taken = ap (λ (n : Network). fault_at_rest n item) resting_so.as_lines ∙ is_free.none;
       within = within;
     } in
-    let sound = given_sound (in_lines net) item kept.sound at in
-    let so = as_lines net item kept.whole is_free.at_rest (are_lines waiting (given item (in_lines net)).net sound) in
+    let sound = given_sound (net_in_lines net) item kept.sound at in
+    let so = as_lines net item kept.whole is_free.at_rest (are_lines waiting (given item (net_in_lines net)).net sound) in
     record {
       sound = subst IsSound (sym (ap (λ (c : Course). c.net) so.as_lines)) sound;
       whole = so.whole;
-      counted = subst (λ n. n ≤ max_count) (sym (ap (λ (c : Course). c.net.taken) so.as_lines ∙ given_taken (in_lines net) item)) (omega arith);
+      counted = subst (λ n. n ≤ max_count) (sym (ap (λ (c : Course). c.net.taken) so.as_lines ∙ given_taken (net_in_lines net) item)) (omega arith);
     }
 
 -- ---- lines that are delivered
@@ -169,7 +169,7 @@ kept_come law waiting as_lines net from to count kept =
     record {
       sound = subst IsSound (sym (ap (λ (c : Course). c.net) same)) sound;
       whole = come.whole are;
-      counted = subst (λ n. n ≤ max_count) (sym (ap (λ (c : Course). c.net.taken) same)) (few_now _ (in_lines net) come.last.net keeps);
+      counted = subst (λ n. n ≤ max_count) (sym (ap (λ (c : Course). c.net.taken) same)) (few_now _ (net_in_lines net) come.last.net keeps);
     }
 
 -- as the code lets them come
@@ -194,7 +194,7 @@ pub record AreTurning : Type 0 where
 -- a turn keeps a network sound, and counts for the lines that it completes
 pub record IsTurnKept (old new : ByteCourse) : Type 0 where
   pub kept : IsKeptSound new.net
-  pub keeps : KeepsItems (lines_in_turn old.net) (in_lines old.net) (in_lines new.net)
+  pub keeps : KeepsItems (lines_in_turn old.net) (net_in_lines old.net) (net_in_lines new.net)
 
 pub data IsTurnOf (old new : ByteCourse) : Type 0 where
   nothing : lines_in_turn old.net ≡ 0 → course_in_lines new ≡ course_in_lines old → IsTurnOf old new
@@ -210,36 +210,36 @@ delivery_of old new is = by (first_direction old.net) is
 
 module _ (laws : AreTurning) where
   pub turn_as : (old new : ByteCourse) → IsKeptSound old.net → turn_taken old ≡ Some new → TurnsAsLines old new
-  turn_as old new kept turn = laws.turns old new kept.whole (are_lines laws.waiting (in_lines old.net) kept.sound) turn
+  turn_as old new kept turn = laws.turns old new kept.whole (are_lines laws.waiting (net_in_lines old.net) kept.sound) turn
 
   pub turn_kept : (old new : ByteCourse) → IsKeptSound old.net → turn_taken old ≡ Some new → IsTurnKept old new
   turn_kept old new kept turn = by (turn_as old new kept turn)
     where
       by : TurnsAsLines old new → IsTurnKept old new
       by (no_line none same whole) =
-          let net_is : in_lines old.net ≡ in_lines new.net = sym (ap (λ (c : Course). c.net) same) in
+          let net_is : net_in_lines old.net ≡ net_in_lines new.net = sym (ap (λ (c : Course). c.net) same) in
           record {
             kept = record {
               sound = subst IsSound net_is kept.sound;
               whole = whole;
               counted = subst (λ (n : Network). n.taken ≤ max_count) net_is kept.counted;
             };
-            keeps = subst (λ n. KeepsItems n (in_lines old.net) (in_lines new.net)) (sym none)
-                (subst (KeepsItems 0 (in_lines old.net)) net_is (none_kept (in_lines old.net) kept.counted));
+            keeps = subst (λ n. KeepsItems n (net_in_lines old.net) (net_in_lines new.net)) (sym none)
+                (subst (KeepsItems 0 (net_in_lines old.net)) net_is (none_kept (net_in_lines old.net) kept.counted));
           }
       by (one_line last one next same whole) =
           let d = delivery_of (course_in_lines old) last next in
           let keeps = laws.delivered d.0.from d.0.to (course_in_lines old) last d.1 kept.counted in
           let sound = keeps.sound kept.sound in
           let are = are_lines laws.waiting last.net sound in
-          let net_is : last.net ≡ in_lines new.net = sym (ap (λ (c : Course). c.net) (same are)) in
+          let net_is : last.net ≡ net_in_lines new.net = sym (ap (λ (c : Course). c.net) (same are)) in
           record {
             kept = record {
               sound = subst IsSound net_is sound;
               whole = whole are;
-              counted = subst (λ (n : Network). n.taken ≤ max_count) net_is (few_now 1 (in_lines old.net) last.net keeps);
+              counted = subst (λ (n : Network). n.taken ≤ max_count) net_is (few_now 1 (net_in_lines old.net) last.net keeps);
             };
-            keeps = subst (λ n. KeepsItems n (in_lines old.net) (in_lines new.net)) (sym one) (subst (KeepsItems 1 (in_lines old.net)) net_is keeps);
+            keeps = subst (λ n. KeepsItems n (net_in_lines old.net) (net_in_lines new.net)) (sym one) (subst (KeepsItems 1 (net_in_lines old.net)) net_is keeps);
           }
 
   -- where links carry lines it is nothing, or the next line in turn
@@ -256,15 +256,15 @@ module _ (laws : AreTurning) where
   -- so do turns one after another
   pub record AreTurnsKept (count : ℕ) (old new : ByteCourse) : Type 0 where
     pub kept : IsKeptSound new.net
-    pub keeps : KeepsItems count (in_lines old.net) (in_lines new.net)
+    pub keeps : KeepsItems count (net_in_lines old.net) (net_in_lines new.net)
 
   pub turns_kept : {count : ℕ} {old new : ByteCourse} → TurnsGo count old new → IsKeptSound old.net → AreTurnsKept count old new
-  turns_kept {old = old} none_yet kept = record { kept = kept; keeps = none_kept (in_lines old.net) kept.counted }
+  turns_kept {old = old} none_yet kept = record { kept = kept; keeps = none_kept (net_in_lines old.net) kept.counted }
   turns_kept {old = old} {new = new} (turn_first {count = count} {between = between} turn all_is rest) kept =
       let one = turn_kept old between kept turn in
       let more = turns_kept rest one.kept in
       record {
         kept = more.kept;
-        keeps = subst (λ n. KeepsItems n (in_lines old.net) (in_lines new.net)) (sym all_is)
-            (both_kept (lines_in_turn old.net) count (in_lines old.net) (in_lines between.net) (in_lines new.net) one.keeps more.keeps);
+        keeps = subst (λ n. KeepsItems n (net_in_lines old.net) (net_in_lines new.net)) (sym all_is)
+            (both_kept (lines_in_turn old.net) count (net_in_lines old.net) (net_in_lines between.net) (net_in_lines new.net) one.keeps more.keeps);
       }

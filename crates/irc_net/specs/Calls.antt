@@ -13,7 +13,7 @@ use Rattle.irc_net.specs.declared.step.Step.TheVariants.{Bytes, Deliver, Give, S
 use Rattle.irc_net.specs.declared.step.StepAnswer.{StepAnswer}
 use Rattle.irc_net.specs.declared.step.StepAnswer.TheVariants.{Delivered, Given, Refused, Settled, Taken}
 use Rattle.irc_net.specs.Faults.{deliver_fault, is_refusal, item_fault}
-use Rattle.irc_network.specs.Network.{Ends, Receipt, ends_of, max_count, number_given}
+use Rattle.irc_network.specs.Network.{LinkPlaces, Receipt, link_places, max_count, number_given}
 use Rattle.irc_network.specs.Views.{item_of, receipts_of}
 use Rattle.irc_wires.specs.Wires.{Wire, has_byte, through_line_feed, wire_at}
 use Rattle.irc_byte_network.specs.ByteNetwork.{ByteCourse, ByteNetwork, byte_begun, bytes_come, is_byte_rest, item_given}
@@ -58,22 +58,22 @@ pub data IsGiven : NetView → Item → Result Answer NetFault → NetView → T
 
 -- ---- bytes that come
 
-abbrev pub wire_between : ByteNetwork → Ends → Wire
+abbrev pub wire_between : ByteNetwork → LinkPlaces → Wire
 wire_between net ends = wire_at net.wires ends.near ends.far
 
 -- so many bytes come from one server to another, or all that are on their way where there are fewer
-abbrev pub piece_between : ℕ → ByteNetwork → Ends → ByteCourse
+abbrev pub piece_between : ℕ → ByteNetwork → LinkPlaces → ByteCourse
 piece_between count net ends = bytes_come ends.near ends.far count (byte_begun net)
 
 abbrev pub piece : ℕ → ByteNetwork → Name → Name → ByteCourse
-piece count net from to = option_map_or (piece_between count net) (ends_of net.network from to) (byte_begun net)
+piece count net from to = option_map_or (piece_between count net) (link_places net.network from to) (byte_begun net)
 
 -- how many come
-abbrev pub count_between : ℕ → ByteNetwork → Ends → ℕ
+abbrev pub count_between : ℕ → ByteNetwork → LinkPlaces → ℕ
 count_between count net ends = min count (length (wire_between net ends).bytes)
 
 abbrev pub piece_count : ℕ → ByteNetwork → Name → Name → ℕ
-piece_count count net from to = option_map_or (count_between count net) (ends_of net.network from to) 0
+piece_count count net from to = option_map_or (count_between count net) (link_places net.network from to) 0
 
 -- how many came, and what clients received by them
 pub record Takes (net : ByteNetwork) (from to : Name) (count taken : ℕ) (receipts : List Receipt) (new : NetView) : Type 0 where
@@ -82,25 +82,25 @@ pub record Takes (net : ByteNetwork) (from to : Name) (count taken : ℕ) (recei
   pub received : receipts ≡ (piece count net from to).receipts
   pub after : new ≡ standing (piece count net from to).net
 
-pub data AreTaken : NetView → Name → Name → ℕ → Result (ℕ × List Receipt) NetFault → NetView → Type 0 where
+pub data BytesTaken : NetView → Name → Name → ℕ → Result (ℕ × List Receipt) NetFault → NetView → Type 0 where
   takes_them : {old new : NetView} {from to : Name} {count taken : ℕ} {receipts : List Receipt} → old.failed ≡ false
-      → Takes old.network from to count taken receipts new → AreTaken old from to count (Ok (taken, receipts)) new
+      → Takes old.network from to count taken receipts new → BytesTaken old from to count (Ok (taken, receipts)) new
   taking_refused : {old : NetView} {from to : Name} {count : ℕ} {fault : NetFault} → old.failed ≡ false
-      → deliver_fault old.network from to ≡ Some fault → AreTaken old from to count (Err fault) old
+      → deliver_fault old.network from to ≡ Some fault → BytesTaken old from to count (Err fault) old
   taking_wants_memory : {old new : NetView} {from to : Name} {count : ℕ} → old.failed ≡ false → deliver_fault old.network from to ≡ None
-      → new.failed ≡ true → AreTaken old from to count (Err Memory) new
-  taking_by_failed : {old : NetView} {from to : Name} {count : ℕ} → old.failed ≡ true → AreTaken old from to count (Err Failed) old
+      → new.failed ≡ true → BytesTaken old from to count (Err Memory) new
+  taking_by_failed : {old : NetView} {from to : Name} {count : ℕ} → old.failed ≡ true → BytesTaken old from to count (Err Failed) old
 
 -- ---- a delivery
 
 -- all bytes up to and with the next LF
-abbrev pub line_between : ByteNetwork → Ends → Option ByteCourse
+abbrev pub line_between : ByteNetwork → LinkPlaces → Option ByteCourse
 line_between net ends =
     if has_byte (wire_between net ends) then Some (piece_between (through_line_feed (wire_between net ends).bytes) net ends) else None
 
 -- none where no byte is on its way from one server to another
 abbrev pub delivery : ByteNetwork → Name → Name → Option ByteCourse
-delivery net from to = option_and_then (line_between net) (ends_of net.network from to)
+delivery net from to = option_and_then (line_between net) (link_places net.network from to)
 
 -- whether some came, and what clients received by them
 abbrev pub Delivers : Option ByteCourse → ByteNetwork → Bool → List Receipt → NetView → Type 0
@@ -143,8 +143,8 @@ IsStep old (Give item) (Given answer) new = IsGiven old (item_of item) (Ok answe
 IsStep old (Give item) (Refused fault) new = IsGiven old (item_of item) (Err fault) new × (is_refusal fault ≡ true)
 IsStep old (Deliver from to) (Delivered was_taken lines) new = IsDelivered old from to (Ok (was_taken, receipts_of lines.items)) new
 IsStep old (Deliver from to) (Refused fault) new = IsDelivered old from to (Err fault) new × (is_refusal fault ≡ true)
-IsStep old (Bytes from to count) (Taken taken lines) new = AreTaken old from to count (Ok (taken, receipts_of lines.items)) new
-IsStep old (Bytes from to count) (Refused fault) new = AreTaken old from to count (Err fault) new × (is_refusal fault ≡ true)
+IsStep old (Bytes from to count) (Taken taken lines) new = BytesTaken old from to count (Ok (taken, receipts_of lines.items)) new
+IsStep old (Bytes from to count) (Refused fault) new = BytesTaken old from to count (Err fault) new × (is_refusal fault ≡ true)
 IsStep old Settle (Settled counted lines) new = IsSettled old (Ok (counted, receipts_of lines.items)) new
 IsStep old step answer new = ⊥
 
@@ -152,7 +152,7 @@ IsStep old step answer new = ⊥
 abbrev pub Breaks : NetView → Step → NetFault → NetView → Type 0
 Breaks old (Give item) fault new = IsGiven old (item_of item) (Err fault) new
 Breaks old (Deliver from to) fault new = IsDelivered old from to (Err fault) new
-Breaks old (Bytes from to count) fault new = AreTaken old from to count (Err fault) new
+Breaks old (Bytes from to count) fault new = BytesTaken old from to count (Err fault) new
 Breaks old Settle fault new = IsSettled old (Err fault) new
 
 -- a refusal is the answer of a step, and want of memory is not
@@ -165,11 +165,11 @@ IsStepDone old step (Ok answer) new = IsStep old step answer new
 IsStepDone old step (Err fault) new = Breaks old step fault new × (is_refusal fault ≡ false)
 
 -- steps are done one after another
-pub data Plays : NetView → List Step → List StepAnswer → NetView → Type 0 where
-  none_yet : {net : NetView} → Plays net [] [] net
+pub data PlaysSteps : NetView → List Step → List StepAnswer → NetView → Type 0 where
+  none_yet : {net : NetView} → PlaysSteps net [] [] net
   then_one : {first between last : NetView} {steps all : List Step} {answers more : List StepAnswer} (step : Step) (answer : StepAnswer)
-      → Plays first steps answers between → IsStep between step answer last → all ≡ steps ++ step ∷ [] → more ≡ answers ++ answer ∷ []
-      → Plays first all more last
+      → PlaysSteps first steps answers between → IsStep between step answer last → all ≡ steps ++ step ∷ [] → more ≡ answers ++ answer ∷ []
+      → PlaysSteps first all more last
 
 -- some of them were done, and the next one broke
 pub record StopsAt (first : NetView) (steps : List Step) (fault : NetFault) (last : NetView) : Type 0 where
@@ -179,12 +179,12 @@ pub record StopsAt (first : NetView) (steps : List Step) (fault : NetFault) (las
   pub parts : steps ≡ done ++ step ∷ left
   pub answers : List StepAnswer
   pub between : NetView
-  pub plays : Plays first done answers between
+  pub plays : PlaysSteps first done answers between
   pub breaks : Breaks between step fault last
   pub is_want : is_refusal fault ≡ false
 
 -- all steps are done, one broke, or there was no memory for the answers, and the network has failed
 pub data ArePlayed : NetView → List Step → Result (List StepAnswer) NetFault → NetView → Type 0 where
-  plays_them : {old new : NetView} {steps : List Step} {answers : List StepAnswer} → Plays old steps answers new → ArePlayed old steps (Ok answers) new
+  plays_them : {old new : NetView} {steps : List Step} {answers : List StepAnswer} → PlaysSteps old steps answers new → ArePlayed old steps (Ok answers) new
   stops_at : {old new : NetView} {steps : List Step} {fault : NetFault} → StopsAt old steps fault new → ArePlayed old steps (Err fault) new
   answers_want_memory : {old new : NetView} {steps : List Step} → new.failed ≡ true → ArePlayed old steps (Err Memory) new

@@ -7,23 +7,23 @@ use Rattle.irc_items.specs.SetUp.{IsNew}
 use Rattle.irc_byte_network.specs.ByteNetwork.{ByteNetwork, byte_begun, bytes_come, item_given}
 use Rattle.irc_byte_network.specs.Whole.{no_wires}
 use Rattle.irc_net.specs.declared.answer.Answer.{Answer}
-use Rattle.irc_net.specs.Calls.{AreTaken, IsDelivered, IsGiven, IsSettled, NetView, Settles, standing}
+use Rattle.irc_net.specs.Calls.{BytesTaken, IsDelivered, IsGiven, IsSettled, NetView, Settles, standing}
 use Rattle.irc_net.specs.Faults.{item_fault}
 use Rattle.irc_net.specs.OneRoom.{IsKeptSound}
-use Rattle.irc_network.specs.Network.{Network, Receipt, lines_for, received_by}
+use Rattle.irc_network.specs.Network.{Network, Receipt, lines_of_client, received_by}
 use Rattle.irc_network.specs.Views.{receipts_of}
 
 -- ---- what is answered
 
 -- Each client has received just its lines among these, behind all that it had.
 abbrev pub HasReceived : ByteNetwork → ByteNetwork → List Receipt → Type 0
-HasReceived old new receipts = (client : ℕ) → received_by new.network client ≡ received_by old.network client ++ lines_for client receipts
+HasReceived old new receipts = (client : ℕ) → received_by new.network client ≡ received_by old.network client ++ lines_of_client client receipts
 
 -- What a call answers is what clients have received by it.
 pub record AnswersAreReceived : Type 0 where
   pub given : (old new : NetView) (item : Item) (answer : Answer) → IsGiven old item (Ok answer) new
       → HasReceived old.network new.network (receipts_of answer.lines.items)
-  pub taken : (old new : NetView) (from to : Name) (count taken : ℕ) (receipts : List Receipt) → AreTaken old from to count (Ok (taken, receipts)) new
+  pub taken : (old new : NetView) (from to : Name) (count taken : ℕ) (receipts : List Receipt) → BytesTaken old from to count (Ok (taken, receipts)) new
       → HasReceived old.network new.network receipts
   pub delivered : (old new : NetView) (from to : Name) (was_taken : Bool) (receipts : List Receipt) → IsDelivered old from to (Ok (was_taken, receipts)) new
       → HasReceived old.network new.network receipts

@@ -17,16 +17,16 @@ use Rattle.irc_byte_network.specs.ByteNetwork.{ByteNetwork}
 use Rattle.irc_byte_network.specs.Whole.{no_wires}
 use Rattle.irc_network.specs.Network.{Network, Site}
 
-abbrev pub name_of : Config → Name
-name_of config = config.own.name.items
+abbrev pub config_name : Config → Name
+config_name config = config.own.name.items
 
 -- a name, a text or a password of it is outside its limits
 abbrev pub is_bad_name : Option ConfigFault → Bool
 is_bad_name (Some one.BadName) = true
 is_bad_name fault = false
 
-abbrev pub is_bad : Config → Bool
-is_bad config = is_bad_name (config_fault config)
+abbrev pub is_bad_config : Config → Bool
+is_bad_config config = is_bad_name (config_fault config)
 
 -- a peer of it is there twice, or is the server itself
 abbrev pub is_double_name : Option ConfigFault → Bool
@@ -36,18 +36,18 @@ is_double_name fault = false
 abbrev pub is_double : Config → Bool
 is_double config = is_double_name (config_fault config)
 
-abbrev pub is_named : Name → Config → Bool
-is_named name config = same (name_of config) name
+abbrev pub is_config_of : Name → Config → Bool
+is_config_of name config = same (config_name config) name
 
 -- two servers have one name
 abbrev pub has_name_twice : List Config → Bool
 has_name_twice [] = false
-has_name_twice (config ∷ configs) = list_any (is_named (name_of config)) configs || has_name_twice configs
+has_name_twice (config ∷ configs) = list_any (is_config_of (config_name config)) configs || has_name_twice configs
 
 -- why no network is made of configurations: the causes in the order in which they are looked for
 abbrev pub configs_fault : List Config → Option NetConfigFault
 configs_fault configs =
-    if list_any is_bad configs then Some BadName
+    if list_any is_bad_config configs then Some BadName
     else (if list_any is_double configs || has_name_twice configs then Some DoubleName
     else (if nat_lt 256 (length configs) then Some TooMany else None))
 
@@ -58,17 +58,17 @@ new_site config = record { server = Some (made_view config); queues = empty }
 
 -- servers in this order: no link, and nobody connected
 abbrev pub made_of : List Config → Network
-made_of ordered = record { names = map name_of ordered; sites = map new_site ordered; links = []; homes = []; received = []; items = []; taken = 0 }
+made_of ordered = record { names = map config_name ordered; sites = map new_site ordered; links = []; homes = []; received = []; items = []; taken = 0 }
 
 -- in order of name, and nothing is on its way
 pub record IsMadeOf (configs : List Config) (net : ByteNetwork) : Type 0 where
   pub ordered : List Config
   pub same_ones : IsPermutation configs ordered
-  pub in_order : IsSortedByKey name_of (slice_cmp nat_cmp) ordered
+  pub in_order : IsSortedByKey config_name (slice_cmp nat_cmp) ordered
   pub network_is : net ≡ no_wires (made_of ordered)
 
 -- what comes of configurations
-abbrev pub IsMade : List Config → Result NetView NetConfigFault → Type 0
-IsMade configs (Ok net) = (configs_fault configs ≡ None) × (net.failed ≡ false) × IsMadeOf configs net.network
-IsMade configs (Err Memory) = configs_fault configs ≡ None
-IsMade configs (Err fault) = configs_fault configs ≡ Some fault
+abbrev pub IsNetMade : List Config → Result NetView NetConfigFault → Type 0
+IsNetMade configs (Ok net) = (configs_fault configs ≡ None) × (net.failed ≡ false) × IsMadeOf configs net.network
+IsNetMade configs (Err Memory) = configs_fault configs ≡ None
+IsNetMade configs (Err fault) = configs_fault configs ≡ Some fault

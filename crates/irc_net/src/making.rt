@@ -4,8 +4,8 @@ ghost use Rattle.std.specs.List.{AllByRecursion, list_any};
 ghost use Rattle.std.specs.List.Sorted.{IsPermutation, IsSortedByKey};
 ghost use Rattle.std.specs.Cmp.Lexicographic.{slice_cmp};
 ghost use Rattle.std.specs.Ordering.{nat_cmp};
-ghost use Rattle.irc_net.specs.Making.{configs_fault, has_name_twice, is_bad, is_double, is_named, name_of, new_site};
-ghost use Rattle.irc_net.specs.Loops.Ordering.{IsNamed, new_forest};
+ghost use Rattle.irc_net.specs.Making.{config_name, configs_fault, has_name_twice, is_bad_config, is_config_of, is_double, new_site};
+ghost use Rattle.irc_net.specs.Loops.Ordering.{IsServerConfig, new_forest};
 
 use irc_forest::{Forest, MAX_SERVERS};
 use irc_names::ServerName;
@@ -60,7 +60,7 @@ pub(crate) fn configs_fault(configs: &[Config]) -> Option<NetConfigFault>
 }
 
 fn has_bad(configs: &[Config]) -> bool
-    ensures { result ≡ list_any is_bad configs.now }
+    ensures { result ≡ list_any is_bad_config configs.now }
 {
     configs.iter().any(is_bad)
 }
@@ -73,7 +73,7 @@ fn has_double(configs: &[Config]) -> bool
 
 /// Whether a name, a text or a password of a configuration is outside its limits.
 fn is_bad(config: &Config) -> bool
-    ensures { result ≡ is_bad config.now }
+    ensures { result ≡ is_bad_config config.now }
 {
     config_fault(config) == Some(ConfigFault::BadName)
 }
@@ -101,7 +101,7 @@ fn has_name_twice(configs: &[Config]) -> bool
 
 /// Whether one of these has the name of this one.
 fn is_among(config: &Config, others: &[Config]) -> bool
-    ensures { result ≡ list_any (is_named (name_of config.now)) others.now }
+    ensures { result ≡ list_any (is_config_of (config_name config.now)) others.now }
 {
     others.iter().any(|other| other.own.name.as_slice() == config.own.name.as_slice())
 }
@@ -109,12 +109,12 @@ fn is_among(config: &Config, others: &[Config]) -> bool
 /// Configurations in the order of their names.
 pub(crate) fn in_order(configs: Vec<Config, Global>) -> Vec<Config, Global>
     ensures ones { IsPermutation configs.items result.items }
-    ensures sorted { IsSortedByKey name_of (slice_cmp nat_cmp) result.items }
+    ensures sorted { IsSortedByKey config_name (slice_cmp nat_cmp) result.items }
 {
     let mut ordered = configs;
     ordered.sort_unstable_by(
         |one: &Config, other: &Config| -> Ordering
-            ensures { result ≡ slice_cmp nat_cmp (name_of one.entry.now) (name_of other.entry.now) }
+            ensures { result ≡ slice_cmp nat_cmp (config_name one.entry.now) (config_name other.entry.now) }
         { one.own.name.as_slice().cmp(other.own.name.as_slice()) },
     );
     ordered
@@ -122,7 +122,7 @@ pub(crate) fn in_order(configs: Vec<Config, Global>) -> Vec<Config, Global>
 
 /// Servers of these configurations, not linked.
 pub(crate) fn forest_of(alloc: Global, configs: &[Config]) -> Result<Forest, AllocError>
-    requires named { AllByRecursion IsNamed configs.now }
+    requires named { AllByRecursion IsServerConfig configs.now }
     requires few { length configs.now ≤ 256 }
     ensures { IfOk result (λ forest. forest ≡ new_forest configs.now) }
 {
@@ -134,8 +134,8 @@ pub(crate) fn forest_of(alloc: Global, configs: &[Config]) -> Result<Forest, All
 }
 
 fn name_of(config: &Config) -> ServerName
-    requires { IsNamed config.now }
-    ensures { result ≡ name_of config.now }
+    requires { IsServerConfig config.now }
+    ensures { result ≡ config_name config.now }
 {
     let Some(name) = ServerName::read(&config.own.name) else {
         unreachable!();

@@ -3,9 +3,9 @@ ghost use Rattle.std.specs.Prelude.{◌≡◌, true, false, [], ◌∷◌, ◌++
 ghost use Rattle.std.specs.Option.{option_map};
 ghost use Rattle.irc_byte_network.specs.ByteNetwork.{is_byte_rest};
 ghost use Rattle.irc_net.specs.declared.step.Step.TheVariants.{Bytes, Deliver, Give, Settle};
-ghost use Rattle.irc_net.specs.Calls.{step_refused, ArePlayable, ArePlayed, AreTaken, IsDelivered, IsGivable, IsGiven, IsPlayable, IsSettled, IsStepDone};
+ghost use Rattle.irc_net.specs.Calls.{step_refused, ArePlayable, ArePlayed, BytesTaken, IsDelivered, IsGivable, IsGiven, IsPlayable, IsSettled, IsStepDone};
 ghost use Rattle.irc_net.specs.Faults.{deliver_fault, do_agree, fault_by, item_fault};
-ghost use Rattle.irc_net.specs.Making.{IsMade};
+ghost use Rattle.irc_net.specs.Making.{IsNetMade};
 ghost use Rattle.irc_net.specs.Loops.Answering.{KeepsAnswer};
 ghost use Rattle.irc_net.specs.Loops.Coming.{AreLinkedEnds, HaveComeTo};
 ghost use Rattle.irc_net.specs.Loops.Settling.{HasComeToRest};
@@ -13,7 +13,7 @@ ghost use Rattle.irc_net.specs.OneRoom.{IsKeptSound, IsOneRoomNet, IsOwed, Refus
 ghost use Rattle.irc_net.specs.Views.{answers_now, counted_now, delivered_now};
 ghost use Rattle.irc_network.specs.Network.{received_by};
 ghost use Rattle.irc_network.specs.Views.{item_of, items_of, refusal_of};
-ghost use Rattle.irc_sites.specs.Loops.Queues.{bytes_of};
+ghost use Rattle.irc_sites.specs.Loops.Queues.{line_bytes};
 ghost use Rattle.irc_world.specs.WithinLimits.{IsItemWithin};
 
 use crate::answer::Answer;
@@ -61,7 +61,7 @@ impl Net {
     /// # Errors
     /// [`NetConfigFault`]s 1 to 3 for their causes in this order; [`NetConfigFault::Memory`] where memory runs out.
     pub fn new(alloc: Global, configs: Vec<Config, Global>) -> Result<Self, NetConfigFault>
-        ensures { IsMade configs.items result }
+        ensures { IsNetMade configs.items result }
     {
         crate::laws::networks_stay_sound();
         if let Some(fault) = configs_fault(&configs) {
@@ -81,8 +81,8 @@ impl Net {
     /// What a client has received, whole lines; also once it is closed. Nothing for a number that was never given. They are a front of the lines that one
     /// room machine for its joined part sends it, and at rest all of them.
     pub fn received(&self, client: u64) -> &[Text]
-        ensures lines { map bytes_of result.now ≡ received_by self.now.network.network client }
-        ensures owed { IsOwed self.now client (map bytes_of result.now) }
+        ensures lines { map line_bytes result.now ≡ received_by self.now.network.network client }
+        ensures owed { IsOwed self.now client (map line_bytes result.now) }
     {
         laws::received_is_front();
         laws::rest_is_one_room();
@@ -182,7 +182,7 @@ impl Net {
         to: &ServerName,
         count: usize,
     ) -> Result<(usize, Vec<Receipt, Global>), NetFault>
-        ensures { AreTaken self.old from.now to.now count (counted_now result) self.new }
+        ensures { BytesTaken self.old from.now to.now count (counted_now result) self.new }
     {
         let ends = self.ends_linked(from, to)?;
         self.come(ends, count)

@@ -6,7 +6,7 @@ use Rattle.irc_batch.specs.Batches.{Sent, line_to, end_of, line_on, end_of_link}
 use Rattle.irc_server.specs.Served.{Occurrence}
 use Rattle.irc_stage.specs.View.{View}
 use Rattle.irc_world.specs.Stepping.{Item, connect, line, gone, link, cut}
-use Rattle.irc_network.specs.Network.{Course, Ends, Network, Site, all_sent_out, asked, asked_at, asked_of, begun, changed_at, done_by, ends_of, has_received, has_received_at, home_place, lost, made, place_of, reply, sent_out, site_at, with_reply, with_site}
+use Rattle.irc_network.specs.Network.{Course, LinkPlaces, Network, Site, all_sent_out, site_asked, asked_at, site_asked_if, begun, site_changed_at, done_by, link_places, has_received, has_received_at, home_place, servers_parted, servers_linked, server_place, reply, sent_out, site_at, with_reply, with_site}
 
 abbrev pub items_of : Course → List Item
 items_of course = course.net.items
@@ -19,7 +19,7 @@ received_keeps (suc earlier) text course = by (slice_get course.net.received ear
     by None = refl
     by (Some lines) = refl
 
-changed_keeps : (place : ℕ) (change : Site → Site) (net : Network) → (changed_at place change net).items ≡ net.items
+changed_keeps : (place : ℕ) (change : Site → Site) (net : Network) → (site_changed_at place change net).items ≡ net.items
 changed_keeps place change net = by (site_at net place)
   where
     by : (o : Option Site) → (option_map_or (λ site. with_site place (change site) net) o net).items ≡ net.items
@@ -36,8 +36,8 @@ all_keep : (place : ℕ) (out : List Sent) (course : Course) → items_of (all_s
 all_keep place [] course = refl
 all_keep place (sent ∷ more) course = all_keep place more (sent_out place sent course) ∙ sent_keeps place sent course
 
-asked_keeps : (place : ℕ) (occurrence : Occurrence) (course : Course) → items_of (asked place occurrence course) ≡ items_of course
-unfolding asked
+asked_keeps : (place : ℕ) (occurrence : Occurrence) (course : Course) → items_of (site_asked place occurrence course) ≡ items_of course
+unfolding site_asked
 asked_keeps place occurrence course = by (site_at course.net place)
   where
     by_view : (site : Site) (o : Option View)
@@ -50,24 +50,24 @@ asked_keeps place occurrence course = by (site_at course.net place)
     by None = refl
     by (Some site) = by_view site site.server
 
-asked_of_keeps : (place : Option ℕ) (occurrence : Occurrence) (course : Course) → items_of (asked_of place occurrence course) ≡ items_of course
+asked_of_keeps : (place : Option ℕ) (occurrence : Occurrence) (course : Course) → items_of (site_asked_if place occurrence course) ≡ items_of course
 asked_of_keeps None occurrence course = refl
 asked_of_keeps (Some place) occurrence course = asked_keeps place occurrence course
 
-both_keep : (net : Network) (place other : ℕ) (change turn : Site → Site) → (changed_at other turn (changed_at place change net)).items ≡ net.items
-both_keep net place other change turn = changed_keeps other turn (changed_at place change net) ∙ changed_keeps place change net
+both_keep : (net : Network) (place other : ℕ) (change turn : Site → Site) → (site_changed_at other turn (site_changed_at place change net)).items ≡ net.items
+both_keep net place other change turn = changed_keeps other turn (site_changed_at place change net) ∙ changed_keeps place change net
 
 pub same_items : (item : Item) (net : Network) → items_of (done_by item net) ≡ net.items
-same_items (connect server host) net = asked_of_keeps (place_of net server) _ _
+same_items (connect server host) net = asked_of_keeps (server_place net server) _ _
 same_items (line client bytes) net = asked_of_keeps (home_place net client) _ (begun net)
 same_items (gone client) net = asked_of_keeps (home_place net client) _ (begun net)
-same_items (link near far) net = by (ends_of net near far)
+same_items (link near far) net = by (link_places net near far)
   where
-    by : (o : Option Ends) → items_of (option_map_or (made near far net) o (begun net)) ≡ net.items
+    by : (o : Option LinkPlaces) → items_of (option_map_or (servers_linked near far net) o (begun net)) ≡ net.items
     by None = refl
     by (Some ends) = asked_keeps ends.far _ _ ∙ asked_keeps ends.near _ _ ∙ both_keep _ ends.near ends.far _ _
-same_items (cut near far) net = by (ends_of net near far)
+same_items (cut near far) net = by (link_places net near far)
   where
-    by : (o : Option Ends) → items_of (option_map_or (lost near far net) o (begun net)) ≡ net.items
+    by : (o : Option LinkPlaces) → items_of (option_map_or (servers_parted near far net) o (begun net)) ≡ net.items
     by None = refl
     by (Some ends) = asked_keeps ends.far _ _ ∙ asked_keeps ends.near _ _ ∙ both_keep _ ends.near ends.far _ _

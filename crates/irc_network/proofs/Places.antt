@@ -8,7 +8,7 @@ use Rattle.irc_network.specs.declared.receipt.Receipt.{Receipt as KeptReceipt}
 use Rattle.irc_network.specs.declared.network.Network.TheInside.{Inside}
 use Rattle.irc_network.specs.Loops.Courses.{IsEmptyAt, IsLineTaken, course}
 use Rattle.irc_sites.specs.Loops.Sites.{IsTaken}
-use Rattle.irc_network.specs.Network.{Network, Receipt, Site, changed_at, has_received, has_received_at, receipt, with_site}
+use Rattle.irc_network.specs.Network.{Network, Receipt, Site, site_changed_at, has_received, has_received_at, receipt, with_site}
 use Rattle.irc_network.specs.Views.{items_of, receipt_of, receipts_of}
 
 -- a network as its code has it
@@ -50,12 +50,12 @@ set_again (y ∷ xs) (suc i) x is = ap (λ zs. y ∷ zs) (set_again xs i x is)
 
 pub changed_there : (net : Network) (place : ℕ) (change : Site → Site) (site new : Site) (sites : List Site) → slice_get net.sites place ≡ Some site
     → new ≡ change site
-    → sites ≡ slice_set net.sites place new → record net { sites = sites } ≡ changed_at place change net
+    → sites ≡ slice_set net.sites place new → record net { sites = sites } ≡ site_changed_at place change net
 changed_there net place change site new sites is so set =
     ap (λ (ss : List Site). record net { sites = ss }) (set ∙ ap (slice_set net.sites place) so)
     ∙ sym (ap (λ o. option_map_or (λ (s : Site). with_site place (change s) net) o net) is)
 
-pub changed_nowhere : (net : Network) (place : ℕ) (change : Site → Site) → slice_get net.sites place ≡ None → net ≡ changed_at place change net
+pub changed_nowhere : (net : Network) (place : ℕ) (change : Site → Site) → slice_get net.sites place ≡ None → net ≡ site_changed_at place change net
 changed_nowhere net place change is = sym (ap (λ o. option_map_or (λ (s : Site). with_site place (change s) net) o net) is)
 
 -- ---- a line is received

@@ -7,7 +7,7 @@ use Rattle.std.specs.Option.{option_and_then, option_map_or}
 use Rattle.irc_batch.specs.Batches.{Sent, line_to as line_out, end_of, line_on, end_of_link}
 use Rattle.irc_line.specs.Reading.{read_of}
 use Rattle.irc_network.specs.Laws.{ReceiptsAreReceived}
-use Rattle.irc_network.specs.Network.{Course, Ends, Network, Receipt, Site, TakesInTurn, all_sent_out, asked, asked_at, asked_of, begun, changed_at, counted, delivered, done_by, ends_of, given, has_received, has_received_at, home_place, left, lost, made, none_yet, place_of, queued, receipt, received_by, reply, sent_out, site_at, taken_of, then_one, waiting, with_client, with_reply, with_site, line_for, lines_for}
+use Rattle.irc_network.specs.Network.{Course, LinkPlaces, Network, Receipt, Site, TakesInTurn, all_sent_out, site_asked, asked_at, site_asked_if, begun, site_changed_at, line_counted, delivered, done_by, link_places, given, has_received, has_received_at, home_place, left, servers_parted, servers_linked, none_yet, server_place, line_queued, receipt, received_by, reply, sent_out, site_at, taken_of, then_one, waiting, with_client, with_reply, with_site, line_received, lines_of_client}
 use Rattle.irc_relay.specs.Links.{Name}
 use Rattle.irc_server.specs.Served.{Occurrence, link_says}
 use Rattle.irc_stage.specs.View.{View}
@@ -15,7 +15,7 @@ use Rattle.irc_world.specs.Stepping.{Item, connect, line, gone, link, cut}
 
 -- since clients had received so much
 abbrev pub IsTold : (ℕ → List (List ℕ)) → Course → Type 0
-IsTold before course = (client : ℕ) → received_by course.net client ≡ before client ++ lines_for client course.receipts
+IsTold before course = (client : ℕ) → received_by course.net client ≡ before client ++ lines_of_client client course.receipts
 
 pub nothing_told : (net : Network) → IsTold (received_by net) (begun net)
 nothing_told net client = sym (append-nil (received_by net client))
@@ -28,7 +28,7 @@ same_received old new same (suc earlier) = ap (λ (inboxes : List (List (List �
 told_still : (before : ℕ → List (List ℕ)) (old new : Course) → new.net.received ≡ old.net.received → new.receipts ≡ old.receipts → IsTold before old
     → IsTold before new
 told_still before old new same receipts told client =
-    same_received old.net new.net same client ∙ told client ∙ ap (λ rs. before client ++ lines_for client rs) (sym receipts)
+    same_received old.net new.net same client ∙ told client ∙ ap (λ rs. before client ++ lines_of_client client rs) (sym receipts)
 
 -- ---- a line to a client
 
@@ -63,15 +63,15 @@ received_behind course earlier text lines is (suc other) =
     put_behind course.net.received earlier other lines text is ∙ next_there (unwrap_or (slice_get course.net.received other) []) earlier other text
 
 told_behind : (client earlier : ℕ) (text : List ℕ) (receipts : List Receipt)
-    → lines_for client (receipts ++ receipt (suc earlier) text ∷ []) ≡ lines_for client receipts ++ if_there (suc earlier) client text
-told_behind client earlier text receipts = filter_map-append (line_for client) receipts (receipt (suc earlier) text ∷ [])
+    → lines_of_client client (receipts ++ receipt (suc earlier) text ∷ []) ≡ lines_of_client client receipts ++ if_there (suc earlier) client text
+told_behind client earlier text receipts = filter_map-append (line_received client) receipts (receipt (suc earlier) text ∷ [])
 
 told_at : (before : ℕ → List (List ℕ)) (course : Course) (earlier : ℕ) (text : List ℕ) (lines : List (List ℕ))
     → slice_get course.net.received earlier ≡ Some lines → IsTold before course → IsTold before (has_received_at earlier text course lines)
 told_at before course earlier text lines is told client =
     received_behind course earlier text lines is client
     ∙ ap (λ ls. ls ++ if_there (suc earlier) client text) (told client)
-    ∙ append_assoc (before client) (lines_for client course.receipts) (if_there (suc earlier) client text)
+    ∙ append_assoc (before client) (lines_of_client client course.receipts) (if_there (suc earlier) client text)
     ∙ ap (λ ls. before client ++ ls) (sym (told_behind client earlier text course.receipts))
 
 client_told : (before : ℕ → List (List ℕ)) (client : ℕ) (text : List ℕ) (course : Course) → IsTold before course
@@ -85,7 +85,7 @@ client_told before (suc earlier) text course told = by (slice_get course.net.rec
 
 -- ---- what a server puts out
 
-changed_received : (place : ℕ) (change : Site → Site) (net : Network) → (changed_at place change net).received ≡ net.received
+changed_received : (place : ℕ) (change : Site → Site) (net : Network) → (site_changed_at place change net).received ≡ net.received
 changed_received place change net = by (site_at net place)
   where
     by : (o : Option Site) → (option_map_or (λ (site : Site). with_site place (change site) net) o net).received ≡ net.received
@@ -96,7 +96,7 @@ sent_told : (before : ℕ → List (List ℕ)) (place : ℕ) (sent : Sent) (cour
 sent_told before place (line_out client text) course told = client_told before client text course told
 sent_told before place (end_of client) course told = told
 sent_told before place (line_on to text) course told =
-    told_still before course (sent_out place (line_on to text) course) (changed_received place (queued to text) course.net) refl told
+    told_still before course (sent_out place (line_on to text) course) (changed_received place (line_queued to text) course.net) refl told
 sent_told before place (end_of_link to reason) course told = told
 
 all_told : (before : ℕ → List (List ℕ)) (place : ℕ) (out : List Sent) (course : Course) → IsTold before course → IsTold before (all_sent_out place out course)
@@ -112,8 +112,8 @@ replied_told before place occurrence course site view told =
     put site = record course { net = with_site place (record site { server = Some (reply view occurrence).view }) course.net }
 
 asked_told : (before : ℕ → List (List ℕ)) (place : ℕ) (occurrence : Occurrence) (course : Course) → IsTold before course
-    → IsTold before (asked place occurrence course)
-unfolding asked
+    → IsTold before (site_asked place occurrence course)
+unfolding site_asked
 asked_told before place occurrence course told = by (site_at course.net place)
   where
     at : (site : Site) (o : Option View) → IsTold before (option_map_or (λ (view : View). with_reply place course site (reply view occurrence)) o course)
@@ -137,7 +137,7 @@ delivered_told before from to old new is told = by (site_at old.net from) is
     took site [] e = absurd (cc e)
     took site (first ∷ rest) e =
         let between : Course = record old { net = record (with_site from (left to rest site) old.net) { taken = _ } } in
-        subst (IsTold before) (same_course (asked to (link_says from (read_of first)) between) new e)
+        subst (IsTold before) (same_course (site_asked to (link_says from (read_of first)) between) new e)
         (asked_told before to (link_says from (read_of first)) between (told_still before old between refl refl told))
 
     by : (o : Option Site) → option_and_then (λ (site : Site). taken_of from to old site (waiting site to)) o ≡ Some new → IsTold before new
@@ -163,31 +163,31 @@ client_more net home zero = refl
 client_more net home (suc earlier) = one_inbox_more net.received earlier
 
 asked_of_told : (before : ℕ → List (List ℕ)) (place : Option ℕ) (occurrence : Occurrence) (course : Course) → IsTold before course
-    → IsTold before (asked_of place occurrence course)
+    → IsTold before (site_asked_if place occurrence course)
 asked_of_told before None occurrence course told = told
 asked_of_told before (Some place) occurrence course told = asked_told before place occurrence course told
 
 -- both ends are asked, once the network is changed so
 both_told : (net between : Network) (near far : ℕ) (one other : Occurrence) → between.received ≡ net.received
-    → IsTold (received_by net) (asked far other (asked near one (begun between)))
+    → IsTold (received_by net) (site_asked far other (site_asked near one (begun between)))
 both_told net between near far one other same =
-    asked_told (received_by net) far other (asked near one (begun between))
+    asked_told (received_by net) far other (site_asked near one (begun between))
     (asked_told (received_by net) near one (begun between) (told_still (received_by net) (begun net) (begun between) same refl (nothing_told net)))
 
 done_told : (item : Item) (net : Network) → IsTold (received_by net) (done_by item net)
 done_told (connect server host) net =
-    asked_of_told (received_by net) (place_of net server) _ (begun (with_client server net))
+    asked_of_told (received_by net) (server_place net server) _ (begun (with_client server net))
     (λ client. client_more net server client ∙ sym (append-nil (received_by net client)))
 done_told (line client bytes) net = asked_of_told (received_by net) (home_place net client) _ (begun net) (nothing_told net)
 done_told (gone client) net = asked_of_told (received_by net) (home_place net client) _ (begun net) (nothing_told net)
-done_told (link near far) net = by (ends_of net near far)
+done_told (link near far) net = by (link_places net near far)
   where
-    by : (o : Option Ends) → IsTold (received_by net) (option_map_or (made near far net) o (begun net))
+    by : (o : Option LinkPlaces) → IsTold (received_by net) (option_map_or (servers_linked near far net) o (begun net))
     by None = nothing_told net
     by (Some ends) = both_told net _ ends.near ends.far _ _ (changed_received ends.far _ _ ∙ changed_received ends.near _ _)
-done_told (cut near far) net = by (ends_of net near far)
+done_told (cut near far) net = by (link_places net near far)
   where
-    by : (o : Option Ends) → IsTold (received_by net) (option_map_or (lost near far net) o (begun net))
+    by : (o : Option LinkPlaces) → IsTold (received_by net) (option_map_or (servers_parted near far net) o (begun net))
     by None = nothing_told net
     by (Some ends) = both_told net _ ends.near ends.far _ _ (changed_received ends.far _ _ ∙ changed_received ends.near _ _)
 
@@ -198,8 +198,8 @@ given_told item net = told_still (received_by net) (done_by item net) (given ite
 pub receipts_are_received : ReceiptsAreReceived
 receipts_are_received = record {
   heard = λ from to bytes net between are.
-      asked_told (received_by net) to (link_says from (read_of bytes)) (record between { net = counted between.net })
-      (told_still (received_by net) between (record between { net = counted between.net }) refl refl are);
+      asked_told (received_by net) to (link_says from (read_of bytes)) (record between { net = line_counted between.net })
+      (told_still (received_by net) between (record between { net = line_counted between.net }) refl refl are);
   given = λ item net. given_told item net;
   delivered = λ from to net new is. delivered_told (received_by net) from to (begun net) new is (nothing_told net);
   in_turn = λ count net new takes. taken_told (received_by net) takes (nothing_told net);

@@ -5,7 +5,7 @@ use Rattle.std.specs.Option.{option_map_or}
 use Rattle.irc_server.specs.Served.{Occurrence}
 use Rattle.irc_stage.specs.View.{View}
 use Rattle.irc_sites.specs.Site.{Replies}
-use Rattle.irc_network.specs.Network.{Course, Site, all_sent_out, asked, asked_at, reply, sent_out, with_reply, with_site}
+use Rattle.irc_network.specs.Network.{Course, Site, all_sent_out, site_asked, asked_at, reply, sent_out, with_reply, with_site}
 use Rattle.irc_network.specs.Loops.Courses.{sent_at}
 use Rattle.irc_batch.specs.Batches.{Sent}
 
@@ -31,16 +31,16 @@ one_more_sent place out i course within = next_sent place out i course within �
 
 -- ---- a server is asked
 
-pub asked_nowhere : (place : ℕ) (occurrence : Occurrence) (course : Course) → slice_get course.net.sites place ≡ None → course ≡ asked place occurrence course
-unfolding asked
+pub asked_nowhere : (place : ℕ) (occurrence : Occurrence) (course : Course) → slice_get course.net.sites place ≡ None → course ≡ site_asked place occurrence course
+unfolding site_asked
 asked_nowhere place occurrence course is = sym (ap (λ o. option_map_or (asked_at place occurrence course) o course) is)
 
 abbrev pub put_site : ℕ → Site → Course → Course
 put_site place site course = record course { net = with_site place site course.net }
 
 pub asked_there : (place : ℕ) (occurrence : Occurrence) (course : Course) (site new : Site) (out : List Sent) → slice_get course.net.sites place ≡ Some site
-    → Replies site occurrence new out → all_sent_out place out (put_site place new course) ≡ asked place occurrence course
-unfolding asked
+    → Replies site occurrence new out → all_sent_out place out (put_site place new course) ≡ site_asked place occurrence course
+unfolding site_asked
 asked_there place occurrence course site new out is answered =
     ap (λ (n : Site). all_sent_out place out (put_site place n course)) answered.new_is
     ∙ ap (λ (o : List Sent). all_sent_out place o (put_site place (record site { server = Some (reply answered.view occurrence).view }) course)) answered.out_is

@@ -16,7 +16,7 @@ use Rattle.irc_stage.specs.View.{View}
 use Rattle.irc_server.specs.Served.{Occurrence, of_client, link_up, link_says, link_down}
 use Rattle.irc_world.specs.Stepping.{Item, connect, line, gone, link, cut}
 use Rattle.irc_world.specs.World.{home_in}
-pub use Rattle.irc_sites.specs.Site.{Reply, Site, body, first_way, is_nothing, is_quiet, is_taken, left, queued, reply, waiting, waits, with_way, without_way}
+pub use Rattle.irc_sites.specs.Site.{Reply, Site, line_body, first_way, is_nothing, is_quiet, serves_occurrence, left, line_queued, reply, waiting, waits, with_way, without_way}
 
 -- The servers' names in order, and the servers in the order of their names; the links, the newest first; the home of each client, in the order of their
 -- numbers, which begin with 1, and what it has received, whole lines; what was given, in turn; how many lines were taken since.
@@ -49,17 +49,17 @@ begun net = record { net = net; receipts = [] }
 
 -- ---- who is where
 
-abbrev pub place_of : Network → Name → Option ℕ
-place_of net name = place_in net.names name
+abbrev pub server_place : Network → Name → Option ℕ
+server_place net name = place_in net.names name
 
 abbrev pub site_at : Network → ℕ → Option Site
 site_at net place = slice_get net.sites place
 
 abbrev pub site_of : Network → Name → Option Site
-site_of net name = option_and_then (site_at net) (place_of net name)
+site_of net name = option_and_then (site_at net) (server_place net name)
 
-abbrev pub view_of : Network → Name → Option View
-view_of net name = option_and_then (λ (site : Site). site.server) (site_of net name)
+abbrev pub site_view : Network → Name → Option View
+site_view net name = option_and_then (λ (site : Site). site.server) (site_of net name)
 
 -- ---- lines on their way
 
@@ -71,8 +71,8 @@ is_at_rest net = list_all is_quiet net.sites
 abbrev pub with_site : ℕ → Site → Network → Network
 with_site place site net = record net { sites = slice_set net.sites place site }
 
-abbrev pub changed_at : ℕ → (Site → Site) → Network → Network
-changed_at place change net = option_map_or (λ site. with_site place (change site) net) (site_at net place) net
+abbrev pub site_changed_at : ℕ → (Site → Site) → Network → Network
+site_changed_at place change net = option_map_or (λ site. with_site place (change site) net) (site_at net place) net
 
 -- ---- what a server puts out
 
@@ -95,7 +95,7 @@ has_received (suc earlier) text course =
 abbrev pub sent_out : ℕ → Sent → Course → Course
 sent_out place (line_to client text) course = has_received client text course
 sent_out place (end_of client) course = course
-sent_out place (line_on to text) course = record course { net = changed_at place (queued to text) course.net }
+sent_out place (line_on to text) course = record course { net = site_changed_at place (line_queued to text) course.net }
 sent_out place (end_of_link to reason) course = course
 
 abbrev pub all_sent_out : ℕ → List Sent → Course → Course
@@ -111,8 +111,8 @@ asked_at place occurrence course site =
     option_map_or (λ (view : View). with_reply place course site (reply view occurrence)) site.server course
 
 -- a server is asked for something that happens, and what it puts out goes its way
-unfoldable pub asked : ℕ → Occurrence → Course → Course
-asked place occurrence course = option_map_or (asked_at place occurrence course) (site_at course.net place) course
+unfoldable pub site_asked : ℕ → Occurrence → Course → Course
+site_asked place occurrence course = option_map_or (asked_at place occurrence course) (site_at course.net place) course
 
 -- ---- a line is delivered
 
@@ -120,17 +120,17 @@ asked place occurrence course = option_map_or (asked_at place occurrence course)
 abbrev pub max_count : ℕ
 max_count = 18446744073709551615
 
-abbrev pub counted : Network → Network
-counted net = record net { taken = min (net.taken + 1) max_count }
+abbrev pub line_counted : Network → Network
+line_counted net = record net { taken = min (net.taken + 1) max_count }
 
 -- a server is asked for a line that has come from another, and the line is counted
 abbrev pub heard : ℕ → ℕ → Course → List ℕ → Course
-heard from to course bytes = asked to (link_says from (read_of bytes)) (record course { net = counted course.net })
+heard from to course bytes = site_asked to (link_says from (read_of bytes)) (record course { net = line_counted course.net })
 
 abbrev pub taken_of : ℕ → ℕ → Course → Site → List (List ℕ) → Option Course
 taken_of from to course site [] = None
 taken_of from to course site (first ∷ rest) =
-    Some (asked to (link_says from (read_of first)) (record course { net = counted (with_site from (left to rest site) course.net) }))
+    Some (site_asked to (link_says from (read_of first)) (record course { net = line_counted (with_site from (left to rest site) course.net) }))
 
 -- The oldest line from one server to another is taken, and the other is asked for it. None: no line waits there.
 unfoldable pub delivered : ℕ → ℕ → Course → Option Course
@@ -174,33 +174,33 @@ abbrev pub with_client : Name → Network → Network
 with_client home net = record net { homes = net.homes ++ home ∷ []; received = net.received ++ [] ∷ [] }
 
 -- a server is asked, if it is there
-abbrev pub asked_of : Option ℕ → Occurrence → Course → Course
-asked_of None occurrence course = course
-asked_of (Some place) occurrence course = asked place occurrence course
+abbrev pub site_asked_if : Option ℕ → Occurrence → Course → Course
+site_asked_if None occurrence course = course
+site_asked_if (Some place) occurrence course = site_asked place occurrence course
 
 abbrev pub home_place : Network → ℕ → Option ℕ
-home_place net client = option_and_then (place_of net) (home_in net.homes client)
+home_place net client = option_and_then (server_place net) (home_in net.homes client)
 
 -- where two servers are
-pub record Ends : Type 0 where
+pub record LinkPlaces : Type 0 where
   pub near : ℕ
   pub far : ℕ
 
-abbrev pub ends_of : Network → Name → Name → Option Ends
-ends_of net near far =
-    option_and_then (λ one. option_map (λ other. record { near = one; far = other }) (place_of net far)) (place_of net near)
+abbrev pub link_places : Network → Name → Name → Option LinkPlaces
+link_places net near far =
+    option_and_then (λ one. option_map (λ other. record { near = one; far = other }) (server_place net far)) (server_place net near)
 
 -- Two servers are linked, the first connecting; a link between two is lost, at the first of them first.
-abbrev pub made : Name → Name → Network → Ends → Course
-made near far net ends =
-    asked ends.far (link_up ends.near None) (asked ends.near (link_up ends.far (Some far))
-    (begun (changed_at ends.far (with_way ends.near) (changed_at ends.near (with_way ends.far)
+abbrev pub servers_linked : Name → Name → Network → LinkPlaces → Course
+servers_linked near far net ends =
+    site_asked ends.far (link_up ends.near None) (site_asked ends.near (link_up ends.far (Some far))
+    (begun (site_changed_at ends.far (with_way ends.near) (site_changed_at ends.near (with_way ends.far)
     (record net { links = record { near = near; far = far } ∷ net.links })))))
 
-abbrev pub lost : Name → Name → Network → Ends → Course
-lost near far net ends =
-    asked ends.far (link_down ends.near) (asked ends.near (link_down ends.far)
-    (begun (changed_at ends.far (without_way ends.near) (changed_at ends.near (without_way ends.far)
+abbrev pub servers_parted : Name → Name → Network → LinkPlaces → Course
+servers_parted near far net ends =
+    site_asked ends.far (link_down ends.near) (site_asked ends.near (link_down ends.far)
+    (begun (site_changed_at ends.far (without_way ends.near) (site_changed_at ends.near (without_way ends.far)
     (record net { links = links_without net.links near far })))))
 
 abbrev pub next_client : Network → ℕ
@@ -208,18 +208,18 @@ next_client net = length net.homes + 1
 
 abbrev pub done_by : Item → Network → Course
 done_by (connect server host) net =
-    asked_of (place_of net server) (of_client (connects (next_client net) host)) (begun (with_client server net))
-done_by (line client bytes) net = asked_of (home_place net client) (of_client (says client (read_of bytes))) (begun net)
-done_by (gone client) net = asked_of (home_place net client) (of_client (goes client)) (begun net)
-done_by (link near far) net = option_map_or (made near far net) (ends_of net near far) (begun net)
-done_by (cut near far) net = option_map_or (lost near far net) (ends_of net near far) (begun net)
+    site_asked_if (server_place net server) (of_client (connects (next_client net) host)) (begun (with_client server net))
+done_by (line client bytes) net = site_asked_if (home_place net client) (of_client (says client (read_of bytes))) (begun net)
+done_by (gone client) net = site_asked_if (home_place net client) (of_client (goes client)) (begun net)
+done_by (link near far) net = option_map_or (servers_linked near far net) (link_places net near far) (begun net)
+done_by (cut near far) net = option_map_or (servers_parted near far net) (link_places net near far) (begun net)
 
 -- it is kept, and lines are counted anew
-abbrev pub kept : Item → Course → Course
-kept item course = record course { net = record course.net { items = course.net.items ++ item ∷ []; taken = 0 } }
+abbrev pub item_kept : Item → Course → Course
+item_kept item course = record course { net = record course.net { items = course.net.items ++ item ∷ []; taken = 0 } }
 
 unfoldable pub given : Item → Network → Course
-given item net = kept item (done_by item net)
+given item net = item_kept item (done_by item net)
 
 -- the number that it gives to a client
 abbrev pub number_given : Network → Item → Option ℕ
@@ -237,12 +237,12 @@ received_by net zero = []
 received_by net (suc earlier) = unwrap_or (slice_get net.received earlier) []
 
 -- the lines among these that are for a client, in turn
-abbrev pub line_for : ℕ → Receipt → Option (List ℕ)
-line_for client receipt = if nat_eq receipt.client client then Some receipt.text else None
+abbrev pub line_received : ℕ → Receipt → Option (List ℕ)
+line_received client receipt = if nat_eq receipt.client client then Some receipt.text else None
 
-abbrev pub lines_for : ℕ → List Receipt → List (List ℕ)
-lines_for client = filter_map (line_for client)
+abbrev pub lines_of_client : ℕ → List Receipt → List (List ℕ)
+lines_of_client client = filter_map (line_received client)
 
 -- By something that is done to a network each client has received just its lines among the receipts, behind all that it had.
 abbrev pub AreReceived : Network → Course → Type 0
-AreReceived old new = (client : ℕ) → received_by new.net client ≡ received_by old client ++ lines_for client new.receipts
+AreReceived old new = (client : ℕ) → received_by new.net client ≡ received_by old client ++ lines_of_client client new.receipts

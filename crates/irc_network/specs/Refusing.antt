@@ -9,14 +9,14 @@ use Rattle.irc_stage.specs.View.{View, password_for}
 use Rattle.irc_world.specs.Refused.{Refusal, are_equal, disagree, link_refused, no_such_client, no_such_server, not_linked}
 use Rattle.irc_world.specs.Stepping.{Item, connect, line, gone, link, cut}
 use Rattle.irc_world.specs.World.{home_in}
-use Rattle.irc_network.specs.Network.{Network, place_of, view_of}
+use Rattle.irc_network.specs.Network.{Network, server_place, site_view}
 
 -- whether a client is connected
 abbrev pub has_client : ℕ → View → Bool
 has_client client view = is_some (get view.clients client)
 
 abbrev pub is_there : Network → ℕ → Bool
-is_there net client = option_map_or (has_client client) (option_and_then (view_of net) (home_in net.homes client)) false
+is_there net client = option_map_or (has_client client) (option_and_then (site_view net) (home_in net.homes client)) false
 
 abbrev pub client_fault : Network → ℕ → Option Refusal
 client_fault net client = if is_there net client then None else Some no_such_client
@@ -36,7 +36,7 @@ link_fault net near far (Some near_view) (Some far_view) = meeting_fault net nea
 link_fault net near far near_view far_view = Some no_such_server
 
 abbrev pub is_server : Network → Name → Bool
-is_server net name = is_some (place_of net name)
+is_server net name = is_some (server_place net name)
 
 abbrev pub server_fault : Network → Name → Option Refusal
 server_fault net server = if is_server net server then None else Some no_such_server
@@ -51,7 +51,7 @@ abbrev pub fault_at_rest : Network → Item → Option Refusal
 fault_at_rest net (connect server host) = server_fault net server
 fault_at_rest net (line client bytes) = client_fault net client
 fault_at_rest net (gone client) = client_fault net client
-fault_at_rest net (link near far) = link_fault net near far (view_of net near) (view_of net far)
+fault_at_rest net (link near far) = link_fault net near far (site_view net near) (site_view net far)
 fault_at_rest net (cut near far) = way_fault net near far
 
 -- whether two servers are there, and agree

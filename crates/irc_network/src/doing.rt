@@ -5,7 +5,7 @@ ghost use Rattle.irc_line.specs.Limits.{max_text};
 ghost use Rattle.irc_network.specs.Calls.{IsLineHeard};
 ghost use Rattle.irc_network.specs.Loops.Courses.{direction_now, AreSentOut, IsAsked, IsFirstTaken, IsLineTaken, IsReceived, IsSentAt};
 ghost use Rattle.irc_network.specs.Loops.Waiting.{lines_waiting};
-ghost use Rattle.irc_network.specs.Network.{changed_at, first_direction, queued};
+ghost use Rattle.irc_network.specs.Network.{first_direction, line_queued, site_changed_at};
 
 use crate::desk::Desk;
 use crate::network::Network;
@@ -87,7 +87,7 @@ impl Network {
     /// A line waits on a way, if there is one.
     fn queue(&mut self, from: usize, to: u64, text: &[u8]) -> Result<(), AllocError>
         requires fits { length text.now ≤ max_text }
-        ensures { OnOk result (self.new ≡ changed_at from (queued to text.now) self.old) }
+        ensures { OnOk result (self.new ≡ site_changed_at from (line_queued to text.now) self.old) }
     {
         let Some(site) = self.sites.get_mut(from) else {
             return Ok(());

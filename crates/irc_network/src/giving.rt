@@ -2,7 +2,7 @@
 ghost use Rattle.std.specs.Prelude.{◌≡◌, [], OnOk};
 ghost use Rattle.irc_network.specs.Calls.{course_at};
 ghost use Rattle.irc_network.specs.Loops.Courses.{IsDone, IsHomeAsked};
-ghost use Rattle.irc_network.specs.Network.{changed_at, given, with_way, without_way};
+ghost use Rattle.irc_network.specs.Network.{given, site_changed_at, with_way, without_way};
 ghost use Rattle.irc_network.specs.Views.{item_of};
 ghost use Rattle.irc_world.specs.Stepping.{connect, cut, line as line_by, link};
 
@@ -127,7 +127,7 @@ impl Network {
 
     /// A way goes from one server to another.
     fn open_way(&mut self, from: usize, to: usize) -> Result<(), AllocError>
-        ensures { OnOk result (self.new ≡ changed_at from (with_way to) self.old) }
+        ensures { OnOk result (self.new ≡ site_changed_at from (with_way to) self.old) }
     {
         match self.sites.get_mut(from) {
             Some(site) => site.open_way(self.alloc, to as u64),
@@ -137,7 +137,7 @@ impl Network {
 
     /// No way goes from one server to another any more.
     fn close_way(&mut self, from: usize, to: usize)
-        ensures { self.new ≡ changed_at from (without_way to) self.old }
+        ensures { self.new ≡ site_changed_at from (without_way to) self.old }
     {
         if let Some(site) = self.sites.get_mut(from) {
             site.close_way(to as u64);

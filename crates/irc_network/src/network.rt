@@ -3,8 +3,8 @@ ghost use Rattle.std.specs.Prelude.{◌≡◌, ◌<◌, length, map, IfSome};
 ghost use Rattle.std.specs.Option.{option_copied, option_map};
 ghost use Rattle.irc_forest.specs.Forests.{name_at};
 ghost use Rattle.irc_network.specs.Loops.Courses.{AreNamed, AreWithin, ends_now, inbox_of};
-ghost use Rattle.irc_sites.specs.Loops.Queues.{bytes_of};
-ghost use Rattle.irc_network.specs.Network.{ends_of, home_place, new_network, next_client, number_given, place_of, received_by, site_at};
+ghost use Rattle.irc_sites.specs.Loops.Queues.{line_bytes};
+ghost use Rattle.irc_network.specs.Network.{home_place, link_places, new_network, next_client, number_given, received_by, server_place, site_at};
 ghost use Rattle.irc_network.specs.Views.{item_of, items_of};
 ghost use Rattle.irc_world.specs.World.{home_in};
 
@@ -86,7 +86,7 @@ impl Network {
 
     /// What a client has received, whole lines, the oldest first; also once it is closed. Nothing for a number that was never given.
     pub fn received(&self, client: u64) -> &[Text]
-        ensures { map bytes_of result.now ≡ received_by self.now client }
+        ensures { map line_bytes result.now ≡ received_by self.now client }
     {
         match self.inbox(client) {
             Some(inbox) => inbox.as_slice(),
@@ -134,7 +134,7 @@ impl Network {
 
     /// Where the server of a name is.
     pub(crate) fn place_of(&self, name: &ServerName) -> Option<usize>
-        ensures value { result ≡ place_of self.now name.now }
+        ensures value { result ≡ server_place self.now name.now }
         ensures within { IfSome result (λ place. place < length self.now.names) }
         ensures named { IfSome result (λ place. name_at self.now.names place ≡ name.now) }
     {
@@ -150,7 +150,7 @@ impl Network {
 
     /// Where two servers are, if both are there.
     pub fn ends_of(&self, near: &ServerName, far: &ServerName) -> Option<Ends>
-        ensures ends { option_map ends_now result ≡ ends_of self.now near.now far.now }
+        ensures ends { option_map ends_now result ≡ link_places self.now near.now far.now }
         ensures within { IfSome result (λ ends. AreWithin self.now ends) }
         ensures named { IfSome result (λ ends. AreNamed self.now ends near.now far.now) }
     {

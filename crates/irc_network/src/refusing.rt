@@ -3,7 +3,7 @@ ghost use Rattle.std.specs.Prelude.{◌≡◌};
 ghost use Rattle.std.specs.Option.{option_copied, option_map};
 ghost use Rattle.irc_network.specs.Refusing.{are_agreed, client_fault, fault_at_rest, is_there, server_fault, way_fault};
 ghost use Rattle.irc_network.specs.Loops.Parties.{home_site, linking_fault, parties_fault, have_one_password, IsParty, IsPartyOf};
-ghost use Rattle.irc_network.specs.Network.{view_of};
+ghost use Rattle.irc_network.specs.Network.{site_view};
 ghost use Rattle.irc_network.specs.Views.{item_of, refusal_of};
 
 use crate::item::Item;
@@ -115,7 +115,7 @@ impl Network {
 
     /// Whether two servers are there, and agree on all channels that both would have if they were linked.
     pub fn agrees(&self, one: &ServerName, other: &ServerName) -> bool
-        ensures { result ≡ are_agreed (view_of self.now one.now) (view_of self.now other.now) }
+        ensures { result ≡ are_agreed (site_view self.now one.now) (site_view self.now other.now) }
     {
         match self.party(one) {
             Some(one) => match self.party(other) {

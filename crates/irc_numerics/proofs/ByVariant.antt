@@ -1,7 +1,7 @@
 -- From the line of a variant's words to that of the reply.
 use Rattle.std.proofs.Common.{◌≡◌, ℕ, Option, List, [], ◌∷◌, refl, sym, ◌∙◌, ap}
 use Rattle.irc_numerics.specs.declared.replies.Reply.{Reply}
-use Rattle.irc_numerics.specs.Replies.{ReplyWords, number, words, numbered, saying, plain, mode_words}
+use Rattle.irc_numerics.specs.Replies.{ReplyWords, reply_number, words, numbered, saying, plain, mode_words}
 
 -- two lists with equal parts
 pub both : {x y : List ℕ} {xs ys : List (List ℕ)} → x ≡ y → xs ≡ ys → (x ∷ xs) ≡ (y ∷ ys)
@@ -34,7 +34,7 @@ no_more = refl
 -- the line of a variant is that of the reply that is this variant
 pub is_line : (server name : List ℕ) {line digits : List ℕ} {said : ReplyWords} {reply v : Reply} → reply ≡ v → line
     ≡ numbered server name digits said
-    → digits ≡ number v → said ≡ words v → line ≡ numbered server name (number reply) (words reply)
+    → digits ≡ reply_number v → said ≡ words v → line ≡ numbered server name (reply_number reply) (words reply)
 is_line server name {digits = digits} {said = said} {reply = reply} {v = v} is written number_is words_is =
-    written ∙ ap (λ n. numbered server name n said) number_is ∙ ap (numbered server name (number v)) words_is
-    ∙ ap (λ r. numbered server name (number r) (words r)) (sym is)
+    written ∙ ap (λ n. numbered server name n said) number_is ∙ ap (numbered server name (reply_number v)) words_is
+    ∙ ap (λ r. numbered server name (reply_number r) (words r)) (sym is)

@@ -15,7 +15,7 @@ use Rattle.irc_numerics.specs.declared.replies.Listed.{Listed}
 use Rattle.irc_numerics.specs.declared.replies.OnChannel.{OnChannel}
 use Rattle.irc_numerics.specs.declared.replies.Reply.{Reply}
 use Rattle.irc_numerics.specs.declared.replies.Reply.TheVariants.{Welcome, YourHost, Created, MyInfo, UserModeIs, LuserClient, LuserChannels, LuserMe, IsOn, WhoisUser, WhoisServer, EndOfWho, EndOfWhois, WhoisChannels, List as ListRow, ListEnd, ChannelModeIs, NoTopic, Topic, Inviting, WhoReply, NamReply, EndOfNames, BanList, EndOfBanList, NoSuchNick, NoSuchChannel, CannotSendToChan, TooManyChannels, TooManyTargets, NoOrigin, NoRecipient, NoTextToSend, UnknownCommand, NoMotd, NoNicknameGiven, ErroneousNickname, NicknameInUse, UserNotInChannel, NotOnChannel, UserOnChannel, NotRegistered, NeedMoreParams, AlreadyRegistered, KeySet, ChannelIsFull, UnknownMode, InviteOnlyChan, BannedFromChan, BadChannelKey, BanListFull, ChanOPrivsNeeded, UModeUnknownFlag, UsersDontMatch}
-use Rattle.irc_numerics.specs.Replies.{ReplyWords, number, words, table, numbered, reply_parts, reply_name, spaced, in_a_row, mark_text, listed, on_channel}
+use Rattle.irc_numerics.specs.Replies.{ReplyWords, reply_number, words, table, numbered, reply_parts, reply_name, spaced, in_a_row, mark_text, marked_nick, on_channel}
 use Rattle.irc_numerics.specs.Laws.{IsWithinLimits, IsWhole}
 
 -- the words, each behind a space
@@ -74,7 +74,7 @@ spaced-fits entry most (x ∷ y ∷ rest) fit =
     omega arith
 
 members_fit : (names : List Listed) → AllByRecursion (λ member. length member.nick ≤ max_nick) names → AllByRecursion
-    (λ member. length (listed member) ≤ 10) names
+    (λ member. length (marked_nick member) ≤ 10) names
 members_fit [] fit = fit
 members_fit (x ∷ xs) fit =
     let nick : length x.nick ≤ max_nick = fit.0 in
@@ -92,9 +92,9 @@ places_fit (x ∷ xs) fit =
     (omega arith, places_fit xs fit.1)
 
 -- what a reply within its limits says leaves room for the longest server name and nickname
-short : (reply : Reply) → IsWithinLimits reply → length (number reply) + sizes ((words reply).middle) + last_size
+short : (reply : Reply) → IsWithinLimits reply → length (reply_number reply) + sizes ((words reply).middle) + last_size
     ((words reply).last) ≤ 435
-unfolding number words table
+unfolding reply_number words table
 short (Welcome nick user host) limits =
     row_fits (codes "001") []
     (codes "Welcome to the Internet Relay Network " ∷ nick ∷ codes "!" ∷ user ∷ codes "@" ∷ host ∷ [])
@@ -142,17 +142,17 @@ short (WhoReply (Some place) user host server nick mark hops real) limits =
     (decimal hops ∷ codes " " ∷ real ∷ []) (omega (arith, digits hops limits.5, length-mark_text mark, limits.0))
 short (NamReply Public channel names) limits = omega (
   arith,
-  spaced-fits listed 10 names
+  spaced-fits marked_nick 10 names
       (members_fit names limits.2),
 )
 short (NamReply Private channel names) limits = omega (
   arith,
-  spaced-fits listed 10 names
+  spaced-fits marked_nick 10 names
       (members_fit names limits.2),
 )
 short (NamReply Secret channel names) limits = omega (
   arith,
-  spaced-fits listed 10 names
+  spaced-fits marked_nick 10 names
       (members_fit names limits.2),
 )
 short (EndOfNames _) limits = absurd limits
@@ -214,8 +214,8 @@ pub within_limits_is_whole : (server : List ℕ) (nick : Option (List ℕ)) (rep
 unfolding numbered line_text
 within_limits_is_whole server nick reply server_fits nick_fits limits =
     let name = reply_name nick in
-    let all = length-joined server name (number reply) (words reply) in
+    let all = length-joined server name (reply_number reply) (words reply) in
     let name_fits = reply_name_fits nick nick_fits in
     let said_fits = short reply limits in
-    let line_fits : length (joined_text (reply_parts server name (number reply) (words reply))) ≤ max_line = omega arith in
+    let line_fits : length (joined_text (reply_parts server name (reply_number reply) (words reply))) ≤ max_line = omega arith in
     record { fits = line_fits; uncut = ap (λ line. line ++ crlf) (cut_all _ line_fits) }

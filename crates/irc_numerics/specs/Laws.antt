@@ -8,7 +8,7 @@ use Rattle.irc_names.specs.Limits.{max_nick, max_channel, max_host, max_server, 
 use Rattle.irc_numerics.specs.Limits.{max_names, max_whois_channels, max_mode_letters}
 use Rattle.irc_numerics.specs.declared.replies.Reply.{Reply}
 use Rattle.irc_numerics.specs.declared.replies.Reply.TheVariants.{Welcome, YourHost, Created, MyInfo, UserModeIs, LuserClient, LuserChannels, LuserMe, IsOn, WhoisUser, WhoisServer, EndOfWho, EndOfWhois, WhoisChannels, List as ListRow, ListEnd, ChannelModeIs, NoTopic, Topic, Inviting, WhoReply, NamReply, EndOfNames, BanList, EndOfBanList, NoSuchNick, NoSuchChannel, CannotSendToChan, TooManyChannels, TooManyTargets, NoOrigin, NoRecipient, NoTextToSend, UnknownCommand, NoMotd, NoNicknameGiven, ErroneousNickname, NicknameInUse, UserNotInChannel, NotOnChannel, UserOnChannel, NotRegistered, NeedMoreParams, AlreadyRegistered, KeySet, ChannelIsFull, UnknownMode, InviteOnlyChan, BannedFromChan, BadChannelKey, BanListFull, ChanOPrivsNeeded, UModeUnknownFlag, UsersDontMatch}
-use Rattle.irc_numerics.specs.Replies.{reply_text, reply_name, reply_parts, number, words}
+use Rattle.irc_numerics.specs.Replies.{reply_text, reply_name, reply_parts, reply_number, words}
 
 -- A reply whose names and texts are as short as their limits say. One with a client's own words has no limit: its line may be cut.
 abbrev pub IsWithinLimits : Reply → Type 0
@@ -79,8 +79,8 @@ IsWithinLimits UsersDontMatch = ⊤
 
 -- a line that holds the whole reply
 pub record IsWhole (server : List ℕ) (nick : Option (List ℕ)) (reply : Reply) : Type 0 where
-  pub fits : length (joined_text (reply_parts server (reply_name nick) (number reply) (words reply))) ≤ max_line
-  pub uncut : reply_text server nick reply ≡ joined_text (reply_parts server (reply_name nick) (number reply)
+  pub fits : length (joined_text (reply_parts server (reply_name nick) (reply_number reply) (words reply))) ≤ max_line
+  pub uncut : reply_text server nick reply ≡ joined_text (reply_parts server (reply_name nick) (reply_number reply)
       (words reply)) ++ crlf
 
 -- A reply within its limits, to a client with a nickname or without one, is written whole.

@@ -51,8 +51,8 @@ visibility_text Public = codes "="
 visibility_text Private = codes "*"
 visibility_text Secret = codes "@"
 
-abbrev pub listed : Listed → List ℕ
-listed member = mark_text member.mark ++ member.nick
+abbrev pub marked_nick : Listed → List ℕ
+marked_nick member = mark_text member.mark ++ member.nick
 
 abbrev pub on_channel : OnChannel → List ℕ
 on_channel place = mark_text place.mark ++ place.channel
@@ -103,7 +103,7 @@ table (Inviting channel nick) = bare 341 (channel ∷ nick ∷ [])
 table (WhoReply channel user host server nick mark hops real) = says 352
     (unwrap_or channel (codes "*") ∷ user ∷ host ∷ server ∷ nick ∷ (codes "H" ++ mark_text mark) ∷ [])
     (in_a_row (decimal hops ∷ codes " " ∷ real ∷ []))
-table (NamReply visibility channel names) = says 353 (visibility_text visibility ∷ channel ∷ []) (spaced (map listed names))
+table (NamReply visibility channel names) = says 353 (visibility_text visibility ∷ channel ∷ []) (spaced (map marked_nick names))
 table (EndOfNames name) = says 366 (name.items ∷ []) (codes "End of NAMES list")
 table (BanList channel mask) = bare 367 (channel ∷ mask ∷ [])
 table (EndOfBanList channel) = says 368 (channel ∷ []) (codes "End of channel ban list")
@@ -142,8 +142,8 @@ abbrev pub three_digits : ℕ → List ℕ
 three_digits n = (48 + n / 100) ∷ (48 + n / 10 % 10) ∷ (48 + n % 10) ∷ []
 
 -- what stands for a reply in its line: its number
-unfoldable pub number : Reply → List ℕ
-number reply = three_digits (table reply).number
+unfoldable pub reply_number : Reply → List ℕ
+reply_number reply = three_digits (table reply).number
 
 -- and its words
 unfoldable pub words : Reply → ReplyWords
@@ -164,4 +164,4 @@ numbered server name number words = text (reply_parts server name number words)
 
 -- the line of a reply
 abbrev pub reply_text : List ℕ → Option (List ℕ) → Reply → List ℕ
-reply_text server nick reply = numbered server (reply_name nick) (number reply) (words reply)
+reply_text server nick reply = numbered server (reply_name nick) (reply_number reply) (words reply)

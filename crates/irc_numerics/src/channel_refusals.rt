@@ -1,7 +1,7 @@
 //! Refusals from 441 on, most of them on channels.
 ghost use Rattle.std.specs.Prelude.{◌≡◌};
-ghost use Rattle.irc_numerics.specs.Loops.Heads.{line_of};
-ghost use Rattle.irc_numerics.specs.Replies.{number, words};
+ghost use Rattle.irc_numerics.specs.Loops.Heads.{line_behind};
+ghost use Rattle.irc_numerics.specs.Replies.{reply_number, words};
 ghost use Rattle.irc_numerics.specs.Loops.Places.{IsBehindNicks, IsBehindKeys};
 
 use crate::replies::Reply;
@@ -11,7 +11,7 @@ use irc_line::Text;
 /// The line of a refusal from 441 on.
 pub(crate) fn late_refusal_line(head: Head<'_>, reply: &Reply) -> Text
     requires { IsBehindNicks reply.now }
-    ensures { result.items ≡ line_of head.entry (number reply.now) (words reply.now) }
+    ensures { result.items ≡ line_behind head.entry (reply_number reply.now) (words reply.now) }
 {
     match reply {
         Reply::UserNotInChannel { nick, channel } => head.saying(
@@ -40,7 +40,7 @@ pub(crate) fn late_refusal_line(head: Head<'_>, reply: &Reply) -> Text
 /// The line of a refusal from 471 on.
 fn mode_refusal_line(head: Head<'_>, reply: &Reply) -> Text
     requires { IsBehindKeys reply.now }
-    ensures { result.items ≡ line_of head.entry (number reply.now) (words reply.now) }
+    ensures { result.items ≡ line_behind head.entry (reply_number reply.now) (words reply.now) }
 {
     match reply {
         Reply::ChannelIsFull { channel } => head.on(b"471", channel, b"Cannot join channel (+l)"),

@@ -2,8 +2,8 @@
 ghost use Rattle.std.specs.Prelude.{◌≡◌, [], ◌∷◌, codes, decimal};
 ghost use Rattle.std.specs.Option.{option_map};
 ghost use Rattle.irc_line.specs.MessageViews.{optional_now};
-ghost use Rattle.irc_numerics.specs.Loops.Heads.{line_of};
-ghost use Rattle.irc_numerics.specs.Replies.{number, words, plain, saying, mode_words};
+ghost use Rattle.irc_numerics.specs.Loops.Heads.{line_behind};
+ghost use Rattle.irc_numerics.specs.Replies.{reply_number, words, plain, saying, mode_words};
 ghost use Rattle.irc_numerics.specs.Loops.Places.{IsBehindUsers};
 
 use crate::lists::list_line;
@@ -16,7 +16,7 @@ use itoa::Buffer;
 /// The line of a reply on a channel, and of each reply with a higher number.
 pub(crate) fn channel_line(head: Head<'_>, reply: &Reply) -> Text
     requires { IsBehindUsers reply.now }
-    ensures { result.items ≡ line_of head.entry (number reply.now) (words reply.now) }
+    ensures { result.items ≡ line_behind head.entry (reply_number reply.now) (words reply.now) }
 {
     match reply {
         Reply::List {
@@ -43,7 +43,7 @@ pub(crate) fn channel_line(head: Head<'_>, reply: &Reply) -> Text
 
 /// The line of one channel in the answer to a LIST.
 fn entry_line(head: Head<'_>, channel: &ChannelName, count: usize, topic: &[u8]) -> Text
-    ensures { result.items ≡ line_of head.entry (codes "322")
+    ensures { result.items ≡ line_behind head.entry (codes "322")
         (saying (channel.now ∷ decimal count ∷ []) topic.now) }
 {
     let mut digits = Buffer::new();
@@ -56,7 +56,7 @@ fn entry_line(head: Head<'_>, channel: &ChannelName, count: usize, topic: &[u8])
 }
 
 fn counted_line<'a>(head: Head<'_>, channel: &'a [u8], count: &'a [u8], topic: &[u8]) -> Text
-    ensures { result.items ≡ line_of head.entry (codes "322")
+    ensures { result.items ≡ line_behind head.entry (codes "322")
         (saying (channel.now ∷ count.now ∷ []) topic.now) }
 {
     head.saying(b"322", &[channel, count], topic)
@@ -70,7 +70,7 @@ fn mode_line(
     key: &Option<Key>,
     limit: Option<u16>,
 ) -> Text
-    ensures { result.items ≡ line_of head.entry (codes "324")
+    ensures { result.items ≡ line_behind head.entry (codes "324")
         (plain (mode_words channel.now modes.now key.now (option_map decimal limit))) }
 {
     let mut digits = Buffer::new();
@@ -85,7 +85,7 @@ fn mode_words_line<'a>(
     key: Option<&'a [u8]>,
     limit: Option<&'a [u8]>,
 ) -> Text
-    ensures { result.items ≡ line_of head.entry (codes "324")
+    ensures { result.items ≡ line_behind head.entry (codes "324")
         (plain (mode_words channel.now modes.now (optional_now key.entry) (optional_now limit.entry))) }
 {
     match (key, limit) {

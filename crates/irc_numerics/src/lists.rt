@@ -2,8 +2,8 @@
 ghost use Rattle.std.specs.Prelude.{◌≡◌, ◌<◌, [], ◌∷◌, ◌++◌, length, map, codes, decimal, unwrap_or};
 ghost use Rattle.irc_line.specs.Bytes.{cut};
 ghost use Rattle.irc_line.specs.PartViews.{words_now};
-ghost use Rattle.irc_numerics.specs.Loops.Heads.{line_of};
-ghost use Rattle.irc_numerics.specs.Replies.{number, words, spaced, listed, mark_text, visibility_text, saying, plain, in_a_row};
+ghost use Rattle.irc_numerics.specs.Loops.Heads.{line_behind};
+ghost use Rattle.irc_numerics.specs.Replies.{reply_number, words, spaced, marked_nick, mark_text, visibility_text, saying, plain, in_a_row};
 ghost use Rattle.irc_numerics.specs.Loops.Places.{IsBehindChannels};
 
 use crate::refusals::refusal_line;
@@ -18,7 +18,7 @@ use itoa::Buffer;
 /// The line of a reply of a list, and of each reply with a higher number.
 pub(crate) fn list_line(head: Head<'_>, reply: &Reply) -> Text
     requires { IsBehindChannels reply.now }
-    ensures { result.items ≡ line_of head.entry (number reply.now) (words reply.now) }
+    ensures { result.items ≡ line_behind head.entry (reply_number reply.now) (words reply.now) }
 {
     match reply {
         Reply::WhoReply {
@@ -58,7 +58,7 @@ pub(crate) fn list_line(head: Head<'_>, reply: &Reply) -> Text
 /// The line of one user in the answer to a WHO: the hops to its server stand before its real name.
 fn who_line(head: Head<'_>, words: &[&[u8]], hops: u32, real: &[u8]) -> Text
     requires { length words.now < MAX_PARAMETERS }
-    ensures { result.items ≡ line_of head.entry (codes "352")
+    ensures { result.items ≡ line_behind head.entry (codes "352")
         (saying (words_now words.now) (in_a_row (decimal hops ∷ codes " " ∷ real.now ∷ []))) }
 {
     let mut digits = Buffer::new();
@@ -67,7 +67,7 @@ fn who_line(head: Head<'_>, words: &[&[u8]], hops: u32, real: &[u8]) -> Text
 
 fn who_text<'a>(head: Head<'_>, words: &[&[u8]], hops: &'a [u8], real: &'a [u8]) -> Text
     requires { length words.now < MAX_PARAMETERS }
-    ensures { result.items ≡ line_of head.entry (codes "352")
+    ensures { result.items ≡ line_behind head.entry (codes "352")
         (saying (words_now words.now) (in_a_row (hops.now ∷ codes " " ∷ real.now ∷ []))) }
 {
     head.telling(b"352", words, &[hops, b" ", real])
@@ -80,8 +80,8 @@ fn names_line<'a>(
     channel: &'a ChannelName,
     names: &[Listed],
 ) -> Text
-    ensures { result.items ≡ line_of head.entry (codes "353")
-        (saying (visibility_text visibility.now ∷ channel.now ∷ []) (spaced (map listed names.now))) }
+    ensures { result.items ≡ line_behind head.entry (codes "353")
+        (saying (visibility_text visibility.now ∷ channel.now ∷ []) (spaced (map marked_nick names.now))) }
 {
     head.cut_text(
         b"353",
@@ -92,7 +92,7 @@ fn names_line<'a>(
 
 /// The line of one ban of a channel.
 fn ban_line<'a>(head: Head<'_>, channel: &'a ChannelName, mask: &'a BanMask) -> Text
-    ensures { result.items ≡ line_of head.entry (codes "367") (plain (channel.now ∷ mask.now ∷ [])) }
+    ensures { result.items ≡ line_behind head.entry (codes "367") (plain (channel.now ∷ mask.now ∷ [])) }
 {
     head.plain(b"367", &[channel.as_bytes(), mask.as_bytes()])
 }
@@ -120,7 +120,7 @@ fn here(mark: &Mark) -> &[u8]
 
 /// The members in a row, as far as a line has room.
 fn names_text(names: &[Listed]) -> Line
-    ensures { result.items ≡ cut (spaced (map listed names.now)) }
+    ensures { result.items ≡ cut (spaced (map marked_nick names.now)) }
 {
     let mut text = ArrayVec::new();
     for (i, member) in names.iter().enumerate() {

@@ -1,7 +1,7 @@
 //! Refusals: 401 to 443.
 ghost use Rattle.std.specs.Prelude.{◌≡◌};
-ghost use Rattle.irc_numerics.specs.Loops.Heads.{line_of};
-ghost use Rattle.irc_numerics.specs.Replies.{number, words};
+ghost use Rattle.irc_numerics.specs.Loops.Heads.{line_behind};
+ghost use Rattle.irc_numerics.specs.Replies.{reply_number, words};
 ghost use Rattle.irc_numerics.specs.Loops.Places.{IsBehindLists};
 
 use crate::channel_refusals::late_refusal_line;
@@ -12,7 +12,7 @@ use irc_line::Text;
 /// The line of a refusal from 401 on.
 pub(crate) fn refusal_line(head: Head<'_>, reply: &Reply) -> Text
     requires { IsBehindLists reply.now }
-    ensures { result.items ≡ line_of head.entry (number reply.now) (words reply.now) }
+    ensures { result.items ≡ line_behind head.entry (reply_number reply.now) (words reply.now) }
 {
     match reply {
         Reply::NoSuchNick { name } => head.saying(b"401", &[name], b"No such nick/channel"),

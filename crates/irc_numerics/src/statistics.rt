@@ -1,7 +1,7 @@
 //! Replies on a connection and on the network: 001 to 303.
 ghost use Rattle.std.specs.Prelude.{◌≡◌, [], ◌∷◌, codes, decimal, if◌then◌else◌};
-ghost use Rattle.irc_numerics.specs.Loops.Heads.{line_of};
-ghost use Rattle.irc_numerics.specs.Replies.{number, words, said, in_a_row};
+ghost use Rattle.irc_numerics.specs.Loops.Heads.{line_behind};
+ghost use Rattle.irc_numerics.specs.Replies.{reply_number, words, said, in_a_row};
 
 use crate::replies::Reply;
 use crate::users::user_line;
@@ -12,7 +12,7 @@ use itoa::Buffer;
 
 /// The line of a reply on a connection or on the network, and of each reply with a higher number.
 pub(crate) fn statistics_line(head: Head<'_>, reply: &Reply) -> Text
-    ensures { result.items ≡ line_of head.entry (number reply.now) (words reply.now) }
+    ensures { result.items ≡ line_behind head.entry (reply_number reply.now) (words reply.now) }
 {
     let mut digits = Buffer::new();
     match reply {
@@ -42,7 +42,7 @@ pub(crate) fn statistics_line(head: Head<'_>, reply: &Reply) -> Text
 
 /// The first line that a user gets.
 fn welcome_line<'a>(head: Head<'_>, nick: &'a Nick, user: &'a UserName, host: &'a Host) -> Text
-    ensures { result.items ≡ line_of head.entry (codes "001")
+    ensures { result.items ≡ line_behind head.entry (codes "001")
         (said (in_a_row (codes "Welcome to the Internet Relay Network " ∷ nick.now ∷ codes "!" ∷ user.now ∷ codes "@" ∷ host.now ∷ []))) }
 {
     let welcome: &[u8] = b"Welcome to the Internet Relay Network ";
@@ -62,7 +62,7 @@ fn welcome_line<'a>(head: Head<'_>, nick: &'a Nick, user: &'a UserName, host: &'
 
 /// The line that names the server.
 fn host_line(head: Head<'_>, server: &ServerName) -> Text
-    ensures { result.items ≡ line_of head.entry (codes "002")
+    ensures { result.items ≡ line_behind head.entry (codes "002")
         (said (in_a_row (codes "Your host is " ∷ server.now ∷ codes ", running version treeircd-1" ∷ []))) }
 {
     let version: &[u8] = b", running version treeircd-1";
@@ -71,7 +71,7 @@ fn host_line(head: Head<'_>, server: &ServerName) -> Text
 
 /// The line that counts users and servers.
 fn client_line(head: Head<'_>, users: usize, servers: usize) -> Text
-    ensures { result.items ≡ line_of head.entry (codes "251")
+    ensures { result.items ≡ line_behind head.entry (codes "251")
         (said (in_a_row (codes "There are " ∷ decimal users ∷ codes " users and 0 services on " ∷ decimal servers ∷ codes " servers" ∷ []))) }
 {
     let mut first = Buffer::new();
@@ -84,7 +84,7 @@ fn client_line(head: Head<'_>, users: usize, servers: usize) -> Text
 }
 
 fn client_counts<'a>(head: Head<'_>, users: &'a [u8], servers: &'a [u8]) -> Text
-    ensures { result.items ≡ line_of head.entry (codes "251")
+    ensures { result.items ≡ line_behind head.entry (codes "251")
         (said (in_a_row (codes "There are " ∷ users.now ∷ codes " users and 0 services on " ∷ servers.now ∷ codes " servers" ∷ []))) }
 {
     head.telling(
@@ -102,7 +102,7 @@ fn client_counts<'a>(head: Head<'_>, users: &'a [u8], servers: &'a [u8]) -> Text
 
 /// The line that counts a server's own clients and links.
 fn own_line(head: Head<'_>, clients: usize, links: usize) -> Text
-    ensures { result.items ≡ line_of head.entry (codes "255")
+    ensures { result.items ≡ line_behind head.entry (codes "255")
         (said (in_a_row (codes "I have " ∷ decimal clients ∷ codes " clients and " ∷ decimal links ∷ codes " servers" ∷ []))) }
 {
     let mut first = Buffer::new();
@@ -115,7 +115,7 @@ fn own_line(head: Head<'_>, clients: usize, links: usize) -> Text
 }
 
 fn own_counts<'a>(head: Head<'_>, clients: &'a [u8], links: &'a [u8]) -> Text
-    ensures { result.items ≡ line_of head.entry (codes "255")
+    ensures { result.items ≡ line_behind head.entry (codes "255")
         (said (in_a_row (codes "I have " ∷ clients.now ∷ codes " clients and " ∷ links.now ∷ codes " servers" ∷ []))) }
 {
     head.telling(

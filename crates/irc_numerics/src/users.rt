@@ -1,8 +1,8 @@
 //! Replies on users: 311 to 319.
 ghost use Rattle.std.specs.Prelude.{◌≡◌, map};
 ghost use Rattle.irc_line.specs.Bytes.{cut};
-ghost use Rattle.irc_numerics.specs.Loops.Heads.{line_of};
-ghost use Rattle.irc_numerics.specs.Replies.{number, words, spaced, on_channel};
+ghost use Rattle.irc_numerics.specs.Loops.Heads.{line_behind};
+ghost use Rattle.irc_numerics.specs.Replies.{reply_number, words, spaced, on_channel};
 ghost use Rattle.irc_numerics.specs.Loops.Places.{IsBehindStatistics};
 
 use crate::channels::channel_line;
@@ -14,7 +14,7 @@ use irc_line::{Line, Text};
 /// The line of a reply on users, and of each reply with a higher number.
 pub(crate) fn user_line(head: Head<'_>, reply: &Reply) -> Text
     requires { IsBehindStatistics reply.now }
-    ensures { result.items ≡ line_of head.entry (number reply.now) (words reply.now) }
+    ensures { result.items ≡ line_behind head.entry (reply_number reply.now) (words reply.now) }
 {
     match reply {
         Reply::WhoisUser {

@@ -3,7 +3,7 @@ ghost use Rattle.std.specs.Prelude.{◌≡◌, ℕ, ◌<◌, List, [], ◌∷◌
 ghost use Rattle.irc_line.specs.Bytes.{cut, space};
 ghost use Rattle.irc_line.specs.PartViews.{words_now};
 ghost use Rattle.irc_line.specs.MessageViews.{optional_now, params_now};
-ghost use Rattle.irc_numerics.specs.Loops.Heads.{line_of};
+ghost use Rattle.irc_numerics.specs.Loops.Heads.{line_behind};
 ghost use Rattle.irc_numerics.specs.Replies.{reply_text, plain, said, saying, in_a_row, mark_text};
 
 use crate::replies::{Mark, Reply};
@@ -42,14 +42,14 @@ impl Head<'_> {
     /// A reply of words without a space.
     pub(crate) fn plain(self, number: &[u8], words: &[&[u8]]) -> Text
         requires { length words.now < MAX_PARAMETERS }
-        ensures { result.items ≡ line_of self.entry number.now (plain (words_now words.now)) }
+        ensures { result.items ≡ line_behind self.entry number.now (plain (words_now words.now)) }
     {
         self.write(number, words, None)
     }
 
     /// A reply of a text alone.
     pub(crate) fn said(self, number: &[u8], text: &[u8]) -> Text
-        ensures { result.items ≡ line_of self.entry number.now (said text.now) }
+        ensures { result.items ≡ line_behind self.entry number.now (said text.now) }
     {
         self.write(number, &[], Some(text))
     }
@@ -57,14 +57,14 @@ impl Head<'_> {
     /// A reply of words without a space, and a text.
     pub(crate) fn saying(self, number: &[u8], words: &[&[u8]], text: &[u8]) -> Text
         requires { length words.now < MAX_PARAMETERS }
-        ensures { result.items ≡ line_of self.entry number.now (saying (words_now words.now) text.now) }
+        ensures { result.items ≡ line_behind self.entry number.now (saying (words_now words.now) text.now) }
     {
         self.write(number, words, Some(text))
     }
 
     /// A reply of a channel's name, and a text.
     pub(crate) fn on(self, number: &[u8], channel: &ChannelName, text: &[u8]) -> Text
-        ensures { result.items ≡ line_of self.entry number.now (saying (channel.now ∷ []) text.now) }
+        ensures { result.items ≡ line_behind self.entry number.now (saying (channel.now ∷ []) text.now) }
     {
         self.saying(number, &[channel.as_bytes()], text)
     }
@@ -72,7 +72,7 @@ impl Head<'_> {
     /// A reply of words without a space, and a text in pieces.
     pub(crate) fn telling(self, number: &[u8], words: &[&[u8]], pieces: &[&[u8]]) -> Text
         requires { length words.now < MAX_PARAMETERS }
-        ensures { result.items ≡ line_of self.entry number.now
+        ensures { result.items ≡ line_behind self.entry number.now
             (saying (words_now words.now) (in_a_row (words_now pieces.now))) }
     {
         let text = joined(pieces);
@@ -82,7 +82,7 @@ impl Head<'_> {
     /// A reply of words without a space, and a text of which no line has room for more.
     pub(crate) fn cut_text(self, number: &[u8], words: &[&[u8]], text: &Line) -> Text
         requires { length words.now < MAX_PARAMETERS }
-        ensures { (whole : List ℕ) → text.now.items ≡ cut whole → result.items ≡ line_of self.entry number.now
+        ensures { (whole : List ℕ) → text.now.items ≡ cut whole → result.items ≡ line_behind self.entry number.now
             (saying (words_now words.now) whole) }
     {
         self.write(number, words, Some(text.as_slice()))
@@ -91,7 +91,7 @@ impl Head<'_> {
     #[tactic(auto, unfolding(crate::specs::Replies::numbered))]
     fn write(self, number: &[u8], words: &[&[u8]], last: Option<&[u8]>) -> Text
         requires { length words.now < MAX_PARAMETERS }
-        ensures { result.items ≡ line_of self.entry number.now
+        ensures { result.items ≡ line_behind self.entry number.now
             (record { middle = words_now words.now; last = optional_now last.entry }) }
     {
         let middle = behind(self.name, words);

@@ -7,7 +7,7 @@ use Rattle.irc_outbox.specs.declared.memory.WireStep.{WireStep}
 use Rattle.irc_outbox.specs.declared.wire.Ready.{Ready}
 use Rattle.irc_outbox.specs.declared.wire.Ready.TheVariants as ready
 use Rattle.irc_outbox.specs.Memory.{told_at, Changes}
-use Rattle.irc_outbox.specs.Steps.{bytes_of, conn_of, giver_of, is_served, left_of, meets, report_of, ServesNext, serves_step, serves_none}
+use Rattle.irc_outbox.specs.Steps.{step_bytes, step_conn, giver_of, is_served, left_of, meets, step_report, ServesNext, serves_step, serves_none}
 use Rattle.irc_outbox.specs.Loops.Passing.{HasPassed}
 use Rattle.irc_outbox.proofs.MemoryLaws.{still_told, still_on}
 use Rattle.irc_outbox.proofs.StepLaws.{meets_keeps, none_more, passed_over, served_alike, stood}
@@ -23,14 +23,14 @@ none_passed wire = record { passed = []; left = refl; none = refl; stands = λ q
 
 -- one more is passed over
 pub passes_on : (old mid now : MemoryWire) (step : WireStep) → HasPassed old mid → left_of mid ≡ step ∷ left_of now
-    → Changes (conn_of step) (meets step) mid.fars now.fars → is_served mid.fars step ≡ false → now ≡ record mid { at = now.at; fars = now.fars }
+    → Changes (step_conn step) (meets step) mid.fars now.fars → is_served mid.fars step ≡ false → now ≡ record mid { at = now.at; fars = now.fars }
     → HasPassed old now
 passes_on old mid now step so left changes unserved same = record {
   passed = so.passed ++ step ∷ [];
   left = so.left ∙ ap (λ xs. so.passed ++ xs) left ∙ sym (append_assoc so.passed (step ∷ []) (left_of now));
   none = none_more (is_served old.fars) so.passed step so.none (served_alike step old.fars mid.fars so.stands ∙ unserved);
   stands = λ q. passed_over step mid.fars now.fars changes unserved q ∙ so.stands q;
-  told = still_on old.fars mid.fars now.fars so.told (still_told (conn_of step) (meets step) mid.fars now.fars (meets_keeps step) changes);
+  told = still_on old.fars mid.fars now.fars so.told (still_told (step_conn step) (meets step) mid.fars now.fars (meets_keeps step) changes);
   unread = ap (λ (w : MemoryWire). w.was_read) same ∙ so.unread;
   same = same ∙ ap (λ (w : MemoryWire). record w { at = now.at; fars = now.fars }) so.same
       ∙ ap (λ (b : Bool). record old { at = now.at; fars = now.fars; was_read = b }) (sym (ap (λ (w : MemoryWire). w.was_read) same));
@@ -41,15 +41,15 @@ same_capacity old mid so = ap (λ (w : MemoryWire). w.pending.capacity) so.same
 
 -- the next one is served
 pub serves_this : (old mid new : MemoryWire) (step : WireStep) (report : Ready) → HasPassed old mid → left_of mid ≡ step ∷ left_of new
-    → Changes (conn_of step) (meets step) mid.fars new.fars → is_served mid.fars step ≡ true → new.hand ≡ giver_of step
-    → (length (bytes_of step) ≤ mid.pending.capacity → new.pending.items ≡ bytes_of step) → new.pending.capacity ≡ mid.pending.capacity
-    → report ≡ report_of step → ServesNext old new report
+    → Changes (step_conn step) (meets step) mid.fars new.fars → is_served mid.fars step ≡ true → new.hand ≡ giver_of step
+    → (length (step_bytes step) ≤ mid.pending.capacity → new.pending.items ≡ step_bytes step) → new.pending.capacity ≡ mid.pending.capacity
+    → report ≡ step_report step → ServesNext old new report
 serves_this old mid new step report so left changes served giver bytes same_room is =
     serves_step so.passed step (so.left ∙ ap (λ xs. so.passed ++ xs) left) so.none (served_alike step old.fars mid.fars so.stands ∙ served)
     (record {
       stands = stood step old.fars mid.fars new.fars so.stands changes served;
       giver = giver;
-      bytes = λ fits. bytes (subst (λ (n : ℕ). length (bytes_of step) ≤ n) (sym (same_capacity old mid so)) fits);
+      bytes = λ fits. bytes (subst (λ (n : ℕ). length (step_bytes step) ≤ n) (sym (same_capacity old mid so)) fits);
       same_room = same_room ∙ same_capacity old mid so;
     })
     is

@@ -11,11 +11,11 @@ use Rattle.irc_outbox.specs.declared.memory.WireStep.{WireStep}
 use Rattle.irc_outbox.specs.declared.memory.WireStep.TheVariants as step
 use Rattle.irc_outbox.specs.declared.memory.Way.{Way}
 use Rattle.irc_outbox.specs.declared.memory.Way.TheVariants as way
-use Rattle.irc_outbox.specs.Memory.{Told, told_by_far, told_at, far_of, Changes, at_far, no_far}
-use Rattle.irc_outbox.specs.Steps.{bytes_of, conn_of, failed_once, is_reported, is_reported_at, is_served, longest_of, meets, met}
+use Rattle.irc_outbox.specs.Memory.{WireTold, told_by_far, told_at, far_at, Changes, at_far, no_far}
+use Rattle.irc_outbox.specs.Steps.{failed_once, is_reported, is_reported_at, is_served, longest_of, meets, step_bytes, step_conn, told_then}
 use Rattle.irc_outbox.proofs.MemoryLaws.{IsAlike, KeepsTold}
 
-pub met_alike : (step : WireStep) (t : Told) → IsAlike (met step t) t
+pub met_alike : (step : WireStep) (t : WireTold) → IsAlike (told_then step t) t
 met_alike (step.Client conn host) t = record { taken = refl; written = refl; closed = refl }
 met_alike (step.Linked conn name) t = record { taken = refl; written = refl; closed = refl }
 met_alike (step.Bytes conn bytes) t = record { taken = refl; written = refl; closed = refl }
@@ -27,7 +27,7 @@ met_alike (step.WriteFails conn) t = record { taken = refl; written = refl; clos
 pub meets_keeps : (step : WireStep) → KeepsTold (meets step)
 meets_keeps step t = by (is_reported step t)
   where
-    by : (b : Bool) → IsAlike (cond b (met step t) t) t
+    by : (b : Bool) → IsAlike (cond b (told_then step t) t) t
     by true = met_alike step t
     by false = record { taken = refl; written = refl; closed = refl }
 
@@ -36,53 +36,53 @@ failed_keeps way.In t = record { taken = refl; written = refl; closed = refl }
 failed_keeps way.Out t = record { taken = refl; written = refl; closed = refl }
 
 -- what is told of each connection behind a change of one
-pub changed_at : (conn : ℕ) (change : Told → Told) (old new : BTreeMap ℕ Far) → Changes conn change old new → (q : ℕ)
+pub changed_at : (conn : ℕ) (change : WireTold → WireTold) (old new : BTreeMap ℕ Far) → Changes conn change old new → (q : ℕ)
     → told_at new q ≡ cond (nat_eq conn q) (option_map change (told_at old q)) (told_at old q)
 changed_at conn change old new (at_far far now was set so) q = ap (option_map told_by_far) (set q) ∙ by (nat_eq conn q) refl
   where
     by : (b : Bool) → nat_eq conn q ≡ b
-        → option_map told_by_far (cond b (Some now) (far_of old q)) ≡ cond b (option_map change (told_at old q)) (told_at old q)
-    by true e = ap Some so ∙ ap (λ (f : Option Far). option_map change (option_map told_by_far f)) (sym was ∙ ap (far_of old) (eqb-true conn q e))
+        → option_map told_by_far (cond b (Some now) (far_at old q)) ≡ cond b (option_map change (told_at old q)) (told_at old q)
+    by true e = ap Some so ∙ ap (λ (f : Option Far). option_map change (option_map told_by_far f)) (sym was ∙ ap (far_at old) (eqb-true conn q e))
     by false e = refl
 changed_at conn change old new (no_far none same) q = ap (option_map told_by_far) (same q) ∙ by (nat_eq conn q) refl
   where
     by : (b : Bool) → nat_eq conn q ≡ b → told_at old q ≡ cond b (option_map change (told_at old q)) (told_at old q)
-    by true e = let nobody = sym (ap (far_of old) (eqb-true conn q e)) ∙ none in
+    by true e = let nobody = sym (ap (far_at old) (eqb-true conn q e)) ∙ none in
         ap (option_map told_by_far) nobody ∙ sym (ap (λ (f : Option Far). option_map change (option_map told_by_far f)) nobody)
     by false e = refl
 
-unmet : (step : WireStep) (t : Option Told) → is_reported_at step t ≡ false → option_map (meets step) t ≡ t
+unmet : (step : WireStep) (t : Option WireTold) → is_reported_at step t ≡ false → option_map (meets step) t ≡ t
 unmet step None e = refl
-unmet step (Some t) e = ap (λ b. Some (cond b (met step t) t)) e
+unmet step (Some t) e = ap (λ b. Some (cond b (told_then step t) t)) e
 
-was_met : (step : WireStep) (t : Option Told) → is_reported_at step t ≡ true → option_map (meets step) t ≡ option_map (met step) t
+was_met : (step : WireStep) (t : Option WireTold) → is_reported_at step t ≡ true → option_map (meets step) t ≡ option_map (told_then step) t
 was_met step None e = refl
-was_met step (Some t) e = ap (λ b. Some (cond b (met step t) t)) e
+was_met step (Some t) e = ap (λ b. Some (cond b (told_then step t) t)) e
 
 -- a step that is not reported changes nothing
-pub passed_over : (step : WireStep) (old new : BTreeMap ℕ Far) → Changes (conn_of step) (meets step) old new → is_served old step ≡ false → (q : ℕ)
+pub passed_over : (step : WireStep) (old new : BTreeMap ℕ Far) → Changes (step_conn step) (meets step) old new → is_served old step ≡ false → (q : ℕ)
     → told_at new q ≡ told_at old q
-passed_over step old new changes unserved q = changed_at (conn_of step) (meets step) old new changes q ∙ by (nat_eq (conn_of step) q) refl
+passed_over step old new changes unserved q = changed_at (step_conn step) (meets step) old new changes q ∙ by (nat_eq (step_conn step) q) refl
   where
-    by : (b : Bool) → nat_eq (conn_of step) q ≡ b → cond b (option_map (meets step) (told_at old q)) (told_at old q) ≡ told_at old q
-    by true e = unmet step (told_at old q) (ap (λ n. is_reported_at step (told_at old n)) (sym (eqb-true (conn_of step) q e)) ∙ unserved)
+    by : (b : Bool) → nat_eq (step_conn step) q ≡ b → cond b (option_map (meets step) (told_at old q)) (told_at old q) ≡ told_at old q
+    by true e = unmet step (told_at old q) (ap (λ n. is_reported_at step (told_at old n)) (sym (eqb-true (step_conn step) q e)) ∙ unserved)
     by false e = refl
 
 -- one that is reported changes how its connection stands
-pub stood : (step : WireStep) (old mid new : BTreeMap ℕ Far) → ((q : ℕ) → told_at mid q ≡ told_at old q) → Changes (conn_of step) (meets step) mid new
-    → is_served mid step ≡ true → (q : ℕ) → told_at new q ≡ cond (nat_eq (conn_of step) q) (option_map (met step) (told_at old q)) (told_at old q)
+pub stood : (step : WireStep) (old mid new : BTreeMap ℕ Far) → ((q : ℕ) → told_at mid q ≡ told_at old q) → Changes (step_conn step) (meets step) mid new
+    → is_served mid step ≡ true → (q : ℕ) → told_at new q ≡ cond (nat_eq (step_conn step) q) (option_map (told_then step) (told_at old q)) (told_at old q)
 stood step old mid new same changes served q =
-    changed_at (conn_of step) (meets step) mid new changes q ∙ by (nat_eq (conn_of step) q) refl
-    ∙ ap (λ (t : Option Told). cond (nat_eq (conn_of step) q) (option_map (met step) t) t) (same q)
+    changed_at (step_conn step) (meets step) mid new changes q ∙ by (nat_eq (step_conn step) q) refl
+    ∙ ap (λ (t : Option WireTold). cond (nat_eq (step_conn step) q) (option_map (told_then step) t) t) (same q)
   where
-    by : (b : Bool) → nat_eq (conn_of step) q ≡ b
-        → cond b (option_map (meets step) (told_at mid q)) (told_at mid q) ≡ cond b (option_map (met step) (told_at mid q)) (told_at mid q)
-    by true e = was_met step (told_at mid q) (ap (λ n. is_reported_at step (told_at mid n)) (sym (eqb-true (conn_of step) q e)) ∙ served)
+    by : (b : Bool) → nat_eq (step_conn step) q ≡ b
+        → cond b (option_map (meets step) (told_at mid q)) (told_at mid q) ≡ cond b (option_map (told_then step) (told_at mid q)) (told_at mid q)
+    by true e = was_met step (told_at mid q) (ap (λ n. is_reported_at step (told_at mid n)) (sym (eqb-true (step_conn step) q e)) ∙ served)
     by false e = refl
 
 -- whether a step is served is told by how the connections stand
 pub served_alike : (step : WireStep) (old mid : BTreeMap ℕ Far) → ((q : ℕ) → told_at mid q ≡ told_at old q) → is_served old step ≡ is_served mid step
-served_alike step old mid same = ap (is_reported_at step) (sym (same (conn_of step)))
+served_alike step old mid same = ap (is_reported_at step) (sym (same (step_conn step)))
 
 -- none of some steps is served, and the next one is not
 pub none_more : (p : WireStep → Bool) (passed : List WireStep) (step : WireStep) → list_any p passed ≡ false → p step ≡ false
@@ -92,12 +92,12 @@ none_more p passed step none unserved =
 
 -- one step more, and the longest of them
 pub longest_more : (steps : List WireStep) (i : ℕ) (step : WireStep) → i < length steps → step ≡ get_or steps i step
-    → longest_of (take (i + 1) steps) ≡ max (longest_of (take i steps)) (length (bytes_of step))
+    → longest_of (take (i + 1) steps) ≡ max (longest_of (take i steps)) (length (step_bytes step))
 longest_more steps i step within is =
-    fold_more (λ n s. max n (length (bytes_of s))) 0 steps i step within ∙ ap (λ s. max (longest_of (take i steps)) (length (bytes_of s))) (sym is)
+    fold_more (λ n s. max n (length (step_bytes s))) 0 steps i step within ∙ ap (λ s. max (longest_of (take i steps)) (length (step_bytes s))) (sym is)
 
 -- a number that was reported before stays one that was
-pub known_so : (t : Told) → record t { known = true } ≡ cond (not t.known) (record t { known = true }) t
+pub known_so : (t : WireTold) → record t { known = true } ≡ cond (not t.known) (record t { known = true }) t
 known_so t = by t.known refl
   where
     by : (b : Bool) → t.known ≡ b → record t { known = true } ≡ cond (not b) (record t { known = true }) t

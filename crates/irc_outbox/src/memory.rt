@@ -1,7 +1,7 @@
 //! A wire in memory: it serves a list of steps, and keeps what each connection gave and took.
 ghost use Rattle.std.specs.Prelude.{◌≡◌, ◌≤◌, ◌++◌, [], length, false, take, IfOk, OnOk};
-ghost use Rattle.irc_outbox.specs.Memory.{fresh_told, same_told, told_by_far, told_at, told_or_none, with_close, with_taken, with_written, AllFresh, AllTold, Changes, Gives, IsAdded, StillTold};
-ghost use Rattle.irc_outbox.specs.Steps.{bytes_of, conn_of, failed_once, fails, fails_at, giver_of, again_of, is_at_hand, is_reported, is_reported_at, left_of, longest_of, meets, report_of, GivesFirst, Reports, ServesNext};
+ghost use Rattle.irc_outbox.specs.Memory.{fresh_told, same_told, told_by_far, told_at, told_or_none, with_close, with_taken, with_written, AllFresh, AllWiresTold, Changes, Gives, IsFarAdded, StillTold};
+ghost use Rattle.irc_outbox.specs.Steps.{step_bytes, step_conn, failed_once, fails, fails_at, giver_of, again_of, is_at_hand, is_reported, is_reported_at, left_of, longest_of, meets, step_report, GivesFirst, Reports, ServesNext};
 
 use crate::wire::{Got, IoFault, Ready, Wire};
 use circular_buffer::HeapCircularBuffer;
@@ -67,7 +67,7 @@ pub struct MemoryWire {
 impl WireStep {
     /// The connection that it is about.
     fn conn(&self) -> u64
-        ensures { result ≡ conn_of self.now }
+        ensures { result ≡ step_conn self.now }
     {
         match self {
             WireStep::Client(conn, _)
@@ -82,7 +82,7 @@ impl WireStep {
 
     /// The bytes that it gives.
     fn bytes(&self) -> &[u8]
-        ensures { result.now ≡ bytes_of self.now }
+        ensures { result.now ≡ step_bytes self.now }
     {
         match self {
             WireStep::Bytes(_, bytes) => bytes,
@@ -102,7 +102,7 @@ impl WireStep {
 
     /// What it is reported as.
     fn report(&self) -> Ready
-        ensures { result ≡ report_of self.now }
+        ensures { result ≡ step_report self.now }
     {
         match self {
             WireStep::Client(conn, host) => Ready::Client(*conn, host.copy()),
@@ -220,7 +220,7 @@ impl MemoryWire {
     /// # Errors
     /// Where memory runs out.
     pub fn new(alloc: Global, steps: Vec<WireStep, Global>) -> Result<Self, AllocError>
-        ensures told { IfOk result (λ wire. AllTold wire.fars []) }
+        ensures told { IfOk result (λ wire. AllWiresTold wire.fars []) }
         ensures fresh { IfOk result (λ wire. AllFresh wire.fars) }
         ensures left { IfOk result (λ wire. left_of wire ≡ steps.items) }
         ensures room { IfOk result (λ wire. wire.pending.capacity ≡ longest_of wire.steps.items) }
@@ -394,7 +394,7 @@ fn reserve(
 
 /// A connection is there from now on.
 fn add(fars: &mut BTreeMap<u64, Far, Global>, conn: u64, far: Far) -> Result<(), AllocError>
-    ensures { OnOk result (IsAdded fars.old conn far fars.new) }
+    ensures { OnOk result (IsFarAdded fars.old conn far fars.new) }
 {
     match fars.insert(conn, far) {
         Ok(_) => Ok(()),
@@ -467,9 +467,9 @@ fn has_ended(fars: &BTreeMap<u64, Far, Global>, conn: u64) -> bool
 }
 
 impl Wire for MemoryWire {
-    ghost use Rattle.irc_outbox.specs.Memory.{AllTold};
+    ghost use Rattle.irc_outbox.specs.Memory.{AllWiresTold};
 
-    ghost is_after = { λ wire calls. AllTold wire.fars calls };
+    ghost is_after = { λ wire calls. AllWiresTold wire.fars calls };
 
     fn ready(&mut self) -> Result<Ready, IoFault> {
         Ok(self.report())

@@ -10,14 +10,14 @@ use Rattle.irc_numerics.specs.declared.replies.Reply.TheVariants.{List as ListRo
 use Rattle.irc_room.specs.Room.{Room}
 use Rattle.irc_acts.specs.declared.act.Act.{Act}
 use Rattle.irc_acts.specs.declared.act.Act.TheVariants.{Answer}
-use Rattle.irc_acts.specs.Acts.{kept}
+use Rattle.irc_acts.specs.Acts.{bytes_kept}
 use Rattle.irc_acts.specs.CommaLists.{entries}
 use Rattle.irc_acts.specs.Standing.{is_listed, is_known}
 use Rattle.irc_answers.specs.Names.{named_members}
 
 -- a channel, how many of its members NAMES would name to this user, and its topic
 abbrev pub channel_entry : Table User → User → Channel → Act
-channel_entry users me channel = Answer (ListRow channel.name (length (named_members users me channel)) (kept channel.topic))
+channel_entry users me channel = Answer (ListRow channel.name (length (named_members users me channel)) (bytes_kept channel.topic))
 
 -- of each of these channels that is listed
 abbrev pub listed_entries : Table User → User → List Channel → List Act

@@ -12,13 +12,13 @@ use Rattle.irc_queries.specs.declared.query.Query.{Query}
 use Rattle.irc_queries.specs.Query.{query_steps}
 
 -- a reply is sent to this name, from the server (RFC 2812 section 5); an effect is shown, and says nothing here
-abbrev pub said : Place → Option (List ℕ) → ℕ → Act → List Sent
-said place name conn (Answer reply) = line_to conn (reply_text place.name name reply) ∷ []
-said place name conn (Raw line) = line_to conn line.items ∷ []
-said place name conn (Do effect) = []
+abbrev pub step_said : Place → Option (List ℕ) → ℕ → Act → List Sent
+step_said place name conn (Answer reply) = line_to conn (reply_text place.name name reply) ∷ []
+step_said place name conn (Raw line) = line_to conn line.items ∷ []
+step_said place name conn (Do effect) = []
 
 abbrev pub all_said : Place → Option (List ℕ) → ℕ → List Act → List Sent
-all_said place name conn acts = flat_map (said place name conn) acts
+all_said place name conn acts = flat_map (step_said place name conn) acts
 
 -- From what was put out before to what is put out now, these steps say something more to the user that asks, on its connection.
 abbrev pub SaysSteps : Context → List Act → ℕ → Batch → Batch → Type 0

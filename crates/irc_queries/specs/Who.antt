@@ -39,25 +39,25 @@ abbrev pub member_line : Room → Place → (User → Bool) → Channel → List
 member_line room place seen channel member = option_and_then (member_if_seen place seen channel member.1) (row room.users member.0)
 
 -- the members of a channel that is there and known, in folded order
-abbrev pub members_told : Room → Place → (User → Bool) → User → Option Channel → List Act
-members_told room place seen me None = []
-members_told room place seen me (Some channel) = if is_known me channel then filter_map (member_line room place seen channel) (entries channel.members) else []
+abbrev pub replies_of_members : Room → Place → (User → Bool) → User → Option Channel → List Act
+replies_of_members room place seen me None = []
+replies_of_members room place seen me (Some channel) = if is_known me channel then filter_map (member_line room place seen channel) (entries channel.members) else []
 
 -- all users, or those whose nickname, host, server or real name a mask matches
 abbrev pub is_asked_for : List ℕ → User → Bool
 is_asked_for mask user = pointwise nat_eq mask (codes "0") || is_found_by mask user
 
 -- those of some users that are asked for and seen
-abbrev pub users_told : Place → (User → Bool) → List ℕ → List User → List Act
-users_told place seen mask users = map (user_line place None Plain) (filter (λ user. is_asked_for mask user && seen user) users)
+abbrev pub replies_of_users : Place → (User → Bool) → List ℕ → List User → List Act
+replies_of_users place seen mask users = map (user_line place None Plain) (filter (λ user. is_asked_for mask user && seen user) users)
 
 -- what is told to one who sees these users
-abbrev pub told_of_seen : Room → Place → (User → Bool) → User → List ℕ → List Act
-told_of_seen room place seen me asked =
-    if names_channel asked then members_told room place seen me (row room.channels (key asked)) else users_told place seen asked (values room.users)
+abbrev pub replies_of_seen : Room → Place → (User → Bool) → User → List ℕ → List Act
+replies_of_seen room place seen me asked =
+    if names_channel asked then replies_of_members room place seen me (row room.channels (key asked)) else replies_of_users place seen asked (values room.users)
 
-abbrev pub told : Room → Place → User → List ℕ → List Act
-told room place me asked = told_of_seen room place (λ user. is_seen room me user) me asked
+abbrev pub who_replies : Room → Place → User → List ℕ → List Act
+who_replies room place me asked = replies_of_seen room place (λ user. is_seen room me user) me asked
 
 -- whether operators of the network alone are asked for; there are none
 abbrev pub asks_for_operators : List (List ℕ) → Bool
@@ -69,5 +69,5 @@ end_of_who asked = Answer (EndOfWho (client_words asked))
 
 -- What a WHO does (RFC 2812 section 3.6.1): a 0, or no parameter, asks for all users.
 unfoldable pub who_steps : Room → Place → User → List (List ℕ) → List Act
-who_steps room place me [] = told room place me (codes "0") ++ end_of_who (asterisk ∷ []) ∷ []
-who_steps room place me (asked ∷ more) = (if asks_for_operators more then [] else told room place me asked) ++ end_of_who asked ∷ []
+who_steps room place me [] = who_replies room place me (codes "0") ++ end_of_who (asterisk ∷ []) ∷ []
+who_steps room place me (asked ∷ more) = (if asks_for_operators more then [] else who_replies room place me asked) ++ end_of_who asked ∷ []

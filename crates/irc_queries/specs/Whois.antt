@@ -14,7 +14,7 @@ use Rattle.irc_room.specs.Room.{Room}
 use Rattle.irc_routes.specs.Place.{Place, server_named}
 use Rattle.irc_acts.specs.declared.act.Act.{Act}
 use Rattle.irc_acts.specs.declared.act.Act.TheVariants.{Answer}
-use Rattle.irc_acts.specs.Acts.{kept, client_words}
+use Rattle.irc_acts.specs.Acts.{bytes_kept, client_words}
 use Rattle.irc_acts.specs.CommaLists.{entries}
 use Rattle.irc_acts.specs.Moves.{own_channels}
 use Rattle.irc_acts.specs.Standing.{is_listed, mark_of}
@@ -40,15 +40,15 @@ abbrev pub channels_line : User → List OnChannel → Act
 channels_line user channels = Answer (WhoisChannels user.nick (record { items = channels }))
 
 -- what a user says of itself, its server, and its channels; where none is listed there is no line of them
-abbrev pub told_of : Room → Place → User → User → List Act
-told_of room place me user =
+abbrev pub whois_replies : Room → Place → User → User → List Act
+whois_replies room place me user =
     Answer (WhoisUser user.nick user.user user.host user.real)
-    ∷ Answer (WhoisServer user.nick user.home (kept (info_of place user.home)))
+    ∷ Answer (WhoisServer user.nick user.home (bytes_kept (info_of place user.home)))
     ∷ map (channels_line user) (in_lines max_whois_channels (places room me user))
 
 abbrev pub told_if_there : Room → Place → User → List ℕ → Option User → List Act
 told_if_there room place me name None = Answer (NoSuchNick (client_words name)) ∷ []
-told_if_there room place me name (Some user) = told_of room place me user
+told_if_there room place me name (Some user) = whois_replies room place me user
 
 abbrev pub told_of_one : Room → Place → User → List ℕ → List Act
 told_of_one room place me name = told_if_there room place me name (row room.users (key name))

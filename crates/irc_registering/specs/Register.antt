@@ -14,7 +14,7 @@ use Rattle.irc_acts.specs.declared.act.Act.TheVariants.{Answer, Raw, Do}
 use Rattle.irc_registering.specs.declared.pending.Pending.{Pending}
 use Rattle.irc_registering.specs.declared.command_names.Command.{Command}
 use Rattle.irc_registering.specs.declared.command_names.Command.TheVariants as command
-use Rattle.irc_acts.specs.Acts.{kept, client_words}
+use Rattle.irc_acts.specs.Acts.{bytes_kept, client_words}
 use Rattle.irc_acts.specs.Marks.{asterisk}
 use Rattle.irc_registering.specs.Ping.{ping_steps}
 use Rattle.irc_acts.specs.Words.{reason_given}
@@ -49,7 +49,7 @@ user_of place pending nickname username = record {
 
 -- what a new user is told of the server
 abbrev pub server_told : Place → List Act
-server_told place = Answer (YourHost place.name) ∷ Answer (Created (kept place.created)) ∷ Answer (MyInfo place.name) ∷ Answer NoMotd ∷ []
+server_told place = Answer (YourHost place.name) ∷ Answer (Created (bytes_kept place.created)) ∷ Answer (MyInfo place.name) ∷ Answer NoMotd ∷ []
 
 -- the user is added, and welcomed (RFC 2812 section 5.1)
 abbrev pub welcomed : Place → User → List Act
@@ -85,7 +85,7 @@ user_row room place pending fewer = replies pending (Answer (NeedMoreParams (cli
 
 abbrev pub quit_row : Pending → List (List ℕ) → Registered
 quit_row pending params =
-    record { pending = pending; steps = Raw (kept (error_line (reason_given params (reply_name pending)))) ∷ []; registered = false; close = true }
+    record { pending = pending; steps = Raw (bytes_kept (error_line (reason_given params (reply_name pending)))) ∷ []; registered = false; close = true }
 
 abbrev pub pending_row_of : Room → Place → Pending → List (List ℕ) → Option Command → Registered
 pending_row_of room place pending params (Some command.Pass) = replies pending []

@@ -15,7 +15,7 @@ use Rattle.irc_room.specs.declared.effect.Target.TheVariants as target
 use Rattle.irc_room.specs.declared.fault.RoomFault.TheVariants.{NoSuchUser, NoSuchChannel}
 use Rattle.irc_room.specs.Room.{Room}
 use Rattle.irc_room.specs.Effects.{has_user, has_channel, is_member, is_idle, needs_users, needs_channel, brings_free}
-use Rattle.irc_room.specs.Seen.{seen, sees, share_channel, shown_line, stored_nick, stored_channel, from_nick, from_by, line_of, changes_words}
+use Rattle.irc_room.specs.Seen.{seen, sees, share_channel, shown_line, stored_nick, stored_channel, from_nick, from_by, line_from, changes_words}
 use Rattle.irc_room.specs.Applying.{missing_fault, does}
 use Rattle.irc_room.specs.Invitations.{inviting_only, with_invited}
 use Rattle.irc_room.specs.Viewers.{shows_to}
@@ -108,19 +108,19 @@ module _ (stays : List ℕ → Bool) (room : Room) where
   line_same (AddUser user) viewer = refl
   line_same (Rename nick new) viewer = refl
   line_same (Quit nick text) viewer = refl
-  line_same (Join nick name op) viewer = ap (λ c. line_of (codes "JOIN") (c ∷ []) None (from_nick room nick)) (stored_same name)
-  line_same (Part nick name text) viewer = ap (λ c. line_of (codes "PART") (c ∷ []) (Some text) (from_nick room nick)) (stored_same name)
+  line_same (Join nick name op) viewer = ap (λ c. line_from (codes "JOIN") (c ∷ []) None (from_nick room nick)) (stored_same name)
+  line_same (Part nick name text) viewer = ap (λ c. line_from (codes "PART") (c ∷ []) (Some text) (from_nick room nick)) (stored_same name)
   line_same (Kick by name nick text) viewer =
-      ap (λ c. line_of (codes "KICK") (c ∷ stored_nick room nick ∷ []) (Some text) (from_nick room by)) (stored_same name)
+      ap (λ c. line_from (codes "KICK") (c ∷ stored_nick room nick ∷ []) (Some text) (from_nick room by)) (stored_same name)
   line_same (ChangeModes by name changes) viewer =
-      ap (λ c. line_of (codes "MODE") (c ∷ changes_words room changes) None (from_by room by viewer)) (stored_same name)
+      ap (λ c. line_from (codes "MODE") (c ∷ changes_words room changes) None (from_by room by viewer)) (stored_same name)
   line_same (SetTopic by name text) viewer =
-      ap (λ c. line_of (codes "TOPIC") (c ∷ []) (Some text) (from_by room by viewer)) (stored_same name)
+      ap (λ c. line_from (codes "TOPIC") (c ∷ []) (Some text) (from_by room by viewer)) (stored_same name)
   line_same (Say by notice (target.User nick) text) viewer = refl
   line_same (Say by notice (target.Channel name) text) viewer =
-      ap (λ c. line_of (if notice then codes "NOTICE" else codes "PRIVMSG") (c ∷ []) (Some text.items) (from_nick room by)) (stored_same name)
+      ap (λ c. line_from (if notice then codes "NOTICE" else codes "PRIVMSG") (c ∷ []) (Some text.items) (from_nick room by)) (stored_same name)
   line_same (Invite by nick name) viewer =
-      ap (λ c. line_of (codes "INVITE") (stored_nick room nick ∷ c ∷ []) None (from_nick room by)) (stored_same name)
+      ap (λ c. line_from (codes "INVITE") (stored_nick room nick ∷ c ∷ []) None (from_nick room by)) (stored_same name)
   line_same (UserMode nick invisible) viewer = refl
 
   pub seen_same : (effect : Effect) → seen now effect ≡ seen room effect

@@ -11,7 +11,7 @@ use Rattle.irc_channels.specs.Channels.{has_member}
 use Rattle.irc_room.specs.declared.effect.Effect.{Effect}
 use Rattle.irc_room.specs.declared.effect.Effect.TheVariants.{Quit}
 use Rattle.irc_room.specs.Room.{Room, IsWellFormed}
-use Rattle.irc_room.specs.Seen.{Showing, seen, shown_to, sees, share_channel, full_sender, line_of}
+use Rattle.irc_room.specs.Seen.{Showing, seen, shown_to, sees, share_channel, full_sender, line_from}
 use Rattle.irc_room.specs.Laws.{quit_line, QuitSeenOnce}
 use Rattle.irc_room.specs.Lemmas.Rows.{if_true}
 use Rattle.irc_room.proofs.OneViewer.{shown_to_one}
@@ -41,7 +41,7 @@ unfolding quit_seen_by
 quit_shown room nick reason viewer user other at named apart share =
     if_true (sees room (Quit nick reason) other.nick) _ _
     (ap (quit_seen_by room nick) named ∙ both (same nick viewer) (share_channel room nick viewer) apart share)
-    ∙ ap (λ o. option_map (λ l. record { viewer = other.nick; line = l }) (line_of (codes "QUIT") [] (Some reason) (option_map full_sender o))) at
+    ∙ ap (λ o. option_map (λ l. record { viewer = other.nick; line = l }) (line_from (codes "QUIT") [] (Some reason) (option_map full_sender o))) at
 
 pub quit_seen_once : QuitSeenOnce
 unfolding seen

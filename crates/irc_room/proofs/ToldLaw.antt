@@ -18,7 +18,7 @@ use Rattle.irc_room.specs.Seen.{Showing, seen, shown_to, shown_line, sees}
 use Rattle.irc_room.specs.Applying.{Kept, is_own, handed}
 use Rattle.irc_room.specs.Loops.Tables.{ShowsAt}
 use Rattle.irc_room.specs.Loops.Telling.{shown_at, AreNamed}
-use Rattle.irc_room.specs.Loops.Viewing.{own_nick, told, viewers}
+use Rattle.irc_room.specs.Loops.Viewing.{own_nick, line_for_own, viewers}
 
 true_is : (b : Bool) → T b → b ≡ true
 true_is true h = refl
@@ -133,26 +133,26 @@ abbrev who_see : Room → Effect → List User → List User
 who_see room effect users = filter (λ (user : User). sees room effect user.nick) users
 
 viewers_told : (own : List ℕ) (room : Room) (effect : Effect) (line : List ℕ) (users : List User)
-    → each_told own room effect line users ≡ flat_map (told own line) (who_see room effect users)
+    → each_told own room effect line users ≡ flat_map (line_for_own own line) (who_see room effect users)
 viewers_told own room effect line [] = refl
 viewers_told own room effect line (user ∷ users) = by_sight (viewers_told own room effect line users) (sees room effect user.nick) refl
   where
-    by_sight : each_told own room effect line users ≡ flat_map (told own line) (who_see room effect users) → (b : Bool) → sees room effect user.nick ≡ b
-        → each_told own room effect line (user ∷ users) ≡ flat_map (told own line) (who_see room effect (user ∷ users))
+    by_sight : each_told own room effect line users ≡ flat_map (line_for_own own line) (who_see room effect users) → (b : Bool) → sees room effect user.nick ≡ b
+        → each_told own room effect line (user ∷ users) ≡ flat_map (line_for_own own line) (who_see room effect (user ∷ users))
     by_sight rest true seen =
         ap (λ b. (if is_home own user && b then (user.nick, record { items = line }) ∷ [] else []) ++ each_told own room effect line users) seen
         ∙ told_alike (is_home own user) user line (each_told own room effect line users)
-        ∙ ap (λ lines. told own line user ++ lines) rest
-        ∙ ap (λ b. flat_map (told own line) (cond b (user ∷ who_see room effect users) (who_see room effect users))) (sym seen)
+        ∙ ap (λ lines. line_for_own own line user ++ lines) rest
+        ∙ ap (λ b. flat_map (line_for_own own line) (cond b (user ∷ who_see room effect users) (who_see room effect users))) (sym seen)
     by_sight rest false unseen =
         ap (λ b. (if is_home own user && b then (user.nick, record { items = line }) ∷ [] else []) ++ each_told own room effect line users) unseen
         ∙ told_not (is_home own user) user line (each_told own room effect line users)
         ∙ rest
-        ∙ ap (λ b. flat_map (told own line) (cond b (user ∷ who_see room effect users) (who_see room effect users))) (sym unseen)
+        ∙ ap (λ b. flat_map (line_for_own own line) (cond b (user ∷ who_see room effect users) (who_see room effect users))) (sym unseen)
 
 -- what is told to those who see an effect is all that it shows
 pub all_is_told : (own : List ℕ) (room : Room) (effect : Effect) (line : List ℕ) → ShowsAt room effect own (Some line) → AreNamed room.users → is_idle room effect ≡ false
-    → shown_at own room effect ≡ flat_map (told own line) (viewers room effect)
+    → shown_at own room effect ≡ flat_map (line_for_own own line) (viewers room effect)
 all_is_told own room effect line shows named busy =
     shown_is_told own room effect (Some line) shows named busy ∙ viewers_told own room effect line (values room.users)
 
@@ -173,12 +173,12 @@ no_line_tells_nothing own room effect shows named busy = shown_is_told own room 
 
 -- the line, to each of these users that is one of the server
 pub told_each : (own line : List ℕ) (users : List User)
-    → map (λ viewer. (viewer, record { items = line })) (flat_map (own_nick own) users) ≡ flat_map (told own line) users
+    → map (λ viewer. (viewer, record { items = line })) (flat_map (own_nick own) users) ≡ flat_map (line_for_own own line) users
 told_each own line [] = refl
 told_each own line (user ∷ users) =
     map-append pair (own_nick own user) (flat_map (own_nick own) users)
     ∙ ap (λ l. l ++ map pair (flat_map (own_nick own) users)) (told_one (pointwise nat_eq user.home own))
-    ∙ ap (λ l. told own line user ++ l) (told_each own line users)
+    ∙ ap (λ l. line_for_own own line user ++ l) (told_each own line users)
   where
     pair : List ℕ → List ℕ × ArrayVec ℕ
     pair viewer = (viewer, record { items = line })

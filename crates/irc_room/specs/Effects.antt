@@ -14,15 +14,15 @@ use Rattle.irc_room.specs.declared.effect.Effect.TheVariants.{AddUser, Rename, Q
 use Rattle.irc_room.specs.Room.{Room}
 
 -- whether a table has a row under a name, as spelled
-abbrev pub is_named : {V : Type 0} → Table V → List ℕ → Bool
-is_named table name = is_some (row table (key name))
+abbrev pub has_row : {V : Type 0} → Table V → List ℕ → Bool
+has_row table name = is_some (row table (key name))
 
 -- the user of a nickname, and the channel of a name, as spelled
 abbrev pub has_user : Room → List ℕ → Bool
-has_user room nick = is_named room.users nick
+has_user room nick = has_row room.users nick
 
 abbrev pub has_channel : Room → List ℕ → Bool
-has_channel room channel = is_named room.channels channel
+has_channel room channel = has_row room.channels channel
 
 -- whether the user of a nickname is a member of the channel of a name
 abbrev pub is_member : Room → List ℕ → List ℕ → Bool

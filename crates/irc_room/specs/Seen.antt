@@ -79,8 +79,8 @@ from_by room by.Home viewer = Some (named viewer.home)
 abbrev pub parts_of : List ℕ → List (List ℕ) → Option (List ℕ) → Option Sender → Option Written
 parts_of command middle last sender = option_map (λ s. record { sender = s; command = command; middle = middle; last = last }) sender
 
-abbrev pub line_of : List ℕ → List (List ℕ) → Option (List ℕ) → Option Sender → Option (List ℕ)
-line_of command middle last sender = option_map text (parts_of command middle last sender)
+abbrev pub line_from : List ℕ → List (List ℕ) → Option (List ℕ) → Option Sender → Option (List ℕ)
+line_from command middle last sender = option_map text (parts_of command middle last sender)
 
 abbrev pub target_name : Room → Target → List ℕ
 target_name room (target.User nick) = stored_nick room nick

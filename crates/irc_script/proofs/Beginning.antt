@@ -11,7 +11,7 @@ use Rattle.std.specs.declared.cmp.Ordering.{Ordering}
 use Rattle.std.specs.declared.cmp.Ordering.TheVariants.{Less, Equal, Greater}
 use Rattle.irc_byte_network.specs.ByteNetwork.{ByteNetwork}
 use Rattle.irc_byte_network.specs.Whole.{no_wires}
-use Rattle.irc_net.specs.Making.{IsMadeOf, name_of, new_site}
+use Rattle.irc_net.specs.Making.{IsMadeOf, config_name, new_site}
 use Rattle.irc_network.specs.Network.{Network, Site}
 use Rattle.irc_relay.specs.Links.{Name}
 use Rattle.irc_routes.specs.Known.{Known, alone_known}
@@ -19,7 +19,7 @@ use Rattle.irc_room.specs.Laws.{no_room}
 use Rattle.irc_server.specs.declared.config.Config.{Config}
 use Rattle.irc_stage.specs.View.{KnownPeer, known_peer}
 use Rattle.irc_script.specs.Loops.Configs.{AreConfigured, IsOwnConfig}
-use Rattle.irc_script.specs.Networks.{exceeds, first_net, first_site, in_order, is_greater}
+use Rattle.irc_script.specs.Networks.{exceeds, first_net, first_site, in_name_order, is_greater}
 use Rattle.irc_script.specs.RunLaws.{are_ordered}
 use Rattle.irc_script.proofs.InOrder.{both_so, exceeds_one, is_in_order, neither, none_less, none_less_too, one_order, order_moves, turned}
 
@@ -31,10 +31,10 @@ not_exceeds x y is = by (slice_cmp nat_cmp y x) refl is
     by Equal same less = ap is_greater (turned y x Equal same)
     by Greater same less = ap is_greater (turned y x Greater same)
 
-shifted : (config : Config) (configs : List Config) → IsSortedByKey name_of (slice_cmp nat_cmp) (config ∷ configs)
-    → IsSortedByKey name_of (slice_cmp nat_cmp) configs
+shifted : (config : Config) (configs : List Config) → IsSortedByKey config_name (slice_cmp nat_cmp) (config ∷ configs)
+    → IsSortedByKey config_name (slice_cmp nat_cmp) configs
 shifted config configs sorted k d low high =
-    subst (λ n. is_lt (slice_cmp nat_cmp (name_of (slice_index_or (config ∷ configs) n d)) (name_of (slice_index_or configs k d))) ≡ false) (moved k)
+    subst (λ n. is_lt (slice_cmp nat_cmp (config_name (slice_index_or (config ∷ configs) n d)) (config_name (slice_index_or configs k d))) ≡ false) (moved k)
     (sorted (suc k) d (omega arith) (further k (length configs) high))
   where
     moved : (n : ℕ) → suc n + 1 ≡ suc (n + 1)
@@ -46,31 +46,31 @@ shifted config configs sorted k d low high =
 two : (n : ℕ) → 0 + 1 < suc (suc n)
 two n = omega arith
 
-names_in_order : (configs : List Config) → IsSortedByKey name_of (slice_cmp nat_cmp) configs → are_ordered (map name_of configs) ≡ true
+names_in_order : (configs : List Config) → IsSortedByKey config_name (slice_cmp nat_cmp) configs → are_ordered (map config_name configs) ≡ true
 names_in_order [] sorted = refl
 names_in_order (config ∷ []) sorted = refl
 names_in_order (config ∷ next ∷ configs) sorted =
     let rest = names_in_order (next ∷ configs) (shifted config (next ∷ configs) sorted) in
-    let first = not_exceeds (name_of config) (name_of next) (sorted 0 config (omega arith) (two (length configs))) in
-    both_so (not (exceeds_one (name_of config) (map name_of (next ∷ configs)))) (are_ordered (map name_of (next ∷ configs)))
-    (ap not (neither (exceeds (name_of config) (name_of next)) (exceeds_one (name_of config) (map name_of configs)) first
-    (none_less_too (name_of config) (name_of next) (map name_of configs) first (none_less (name_of next) (map name_of configs) rest)))) rest
+    let first = not_exceeds (config_name config) (config_name next) (sorted 0 config (omega arith) (two (length configs))) in
+    both_so (not (exceeds_one (config_name config) (map config_name (next ∷ configs)))) (are_ordered (map config_name (next ∷ configs)))
+    (ap not (neither (exceeds (config_name config) (config_name next)) (exceeds_one (config_name config) (map config_name configs)) first
+    (none_less_too (config_name config) (config_name next) (map config_name configs) first (none_less (config_name next) (map config_name configs) rest)))) rest
 
 abbrev site_of : Known → List KnownPeer → Site
 site_of routes peers = record { server = Some (record { routes = routes; peers = peers; ends = empty; clients = empty; room = no_room }); queues = empty }
 
-site_is : (names : List Name) (config : Config) → IsOwnConfig names config → new_site config ≡ first_site names (name_of config)
+site_is : (names : List Name) (config : Config) → IsOwnConfig names config → new_site config ≡ first_site names (config_name config)
 site_is names config own =
-    ap (λ info. site_of (alone_known (name_of config) info config.own.created.items) (map known_peer config.peers.items)) own.info
-    ∙ ap (λ created. site_of (alone_known (name_of config) (codes "Test server") created) (map known_peer config.peers.items)) own.created
-    ∙ ap (site_of (alone_known (name_of config) (codes "Test server") (codes "2024-01-01"))) own.peers
+    ap (λ info. site_of (alone_known (config_name config) info config.own.created.items) (map known_peer config.peers.items)) own.info
+    ∙ ap (λ created. site_of (alone_known (config_name config) (codes "Test server") created) (map known_peer config.peers.items)) own.created
+    ∙ ap (site_of (alone_known (config_name config) (codes "Test server") (codes "2024-01-01"))) own.peers
 
 sites_are : (names : List Name) (configs : List Config) → AllByRecursion (IsOwnConfig names) configs
-    → map new_site configs ≡ map (first_site names) (map name_of configs)
+    → map new_site configs ≡ map (first_site names) (map config_name configs)
 sites_are names [] all = refl
 sites_are names (config ∷ configs) all =
     ap (λ site. site ∷ map new_site configs) (site_is names config all.0)
-    ∙ ap (λ sites. first_site names (name_of config) ∷ sites) (sites_are names configs all.1)
+    ∙ ap (λ sites. first_site names (config_name config) ∷ sites) (sites_are names configs all.1)
 
 abbrev with_names : List Name → List Site → Network
 with_names names sites = record { names = names; sites = sites; links = []; homes = []; received = []; items = []; taken = 0 }
@@ -78,14 +78,14 @@ with_names names sites = record { names = names; sites = sites; links = []; home
 pub made_first : (names : List Name) (configs : List Config) (net : ByteNetwork) → AreConfigured names names configs → IsMadeOf configs net
     → net ≡ first_net names
 made_first names configs net are made =
-    let named : IsPermutation names (map name_of made.ordered) =
-    subst (λ ns. IsPermutation ns (map name_of made.ordered)) are.named (IsPermutation-map name_of configs made.ordered made.same_ones) in
-    let ordered : map name_of made.ordered ≡ in_order names =
-    one_order (map name_of made.ordered) (in_order names)
-    (IsPermutation-trans (map name_of made.ordered) names (in_order names) (IsPermutation-sym names (map name_of made.ordered) named) (order_moves names))
+    let named : IsPermutation names (map config_name made.ordered) =
+    subst (λ ns. IsPermutation ns (map config_name made.ordered)) are.named (IsPermutation-map config_name configs made.ordered made.same_ones) in
+    let ordered : map config_name made.ordered ≡ in_name_order names =
+    one_order (map config_name made.ordered) (in_name_order names)
+    (IsPermutation-trans (map config_name made.ordered) names (in_name_order names) (IsPermutation-sym names (map config_name made.ordered) named) (order_moves names))
     (names_in_order made.ordered made.in_order) (is_in_order names) in
     let all : AllByRecursion (IsOwnConfig names) made.ordered =
     recursion_from_All (IsOwnConfig names) made.ordered
     (All-permutation (IsOwnConfig names) configs made.ordered made.same_ones (All-from_recursion (IsOwnConfig names) configs are.each)) in
-    made.network_is ∙ ap (λ sites. no_wires (with_names (map name_of made.ordered) sites)) (sites_are names made.ordered all)
+    made.network_is ∙ ap (λ sites. no_wires (with_names (map config_name made.ordered) sites)) (sites_are names made.ordered all)
     ∙ ap (λ ns. no_wires (with_names ns (map (first_site names) ns))) ordered

@@ -4,7 +4,7 @@ use Rattle.irc_script.specs.Loops.Steps.{RunInto, ScriptsRunOn}
 use Rattle.irc_script.specs.RunLaws.{PrintsOneRoom}
 use Rattle.irc_script.specs.Runs.{IsTextOf, CutShort, EndsEarly, OutOfMemory, Ran, RunsOut, StopsIn}
 use Rattle.irc_script.specs.Networks.{first_net}
-use Rattle.irc_script.specs.Scripts.{Asked, script_read}
+use Rattle.irc_script.specs.Scripts.{ScriptAsked, script_read}
 use Rattle.irc_script.specs.Sinks.{sink}
 use Rattle.irc_script.specs.Faults.{fault_of as fault_by}
 use Rattle.irc_script.specs.declared.fault.SimFault.{SimFault}
@@ -12,7 +12,7 @@ use Rattle.irc_script.specs.declared.fault.Trouble.{Trouble}
 use Rattle.irc_script.specs.declared.fault.Trouble.TheVariants.{Memory, Device as NoDevice}
 
 -- a run that was broken off
-pub cut_short : {trouble : Trouble} → PrintsOneRoom → ScriptsRunOn → (remaining old new : Option (List ℕ)) (text : List ℕ) (asked : Asked) → IsTextOf text remaining
+pub cut_short : {trouble : Trouble} → PrintsOneRoom → ScriptsRunOn → (remaining old new : Option (List ℕ)) (text : List ℕ) (asked : ScriptAsked) → IsTextOf text remaining
     → script_read text ≡ Ok asked
     → RunInto trouble (first_net asked.servers) asked.requests (sink old []) (sink new []) → CutShort remaining old new
 cut_short law on remaining old new text asked is_text read p = let run = on text asked p.text read p.begins in record {
@@ -33,7 +33,7 @@ cut_short law on remaining old new text asked is_text read p = let run = on text
 }
 
 -- nothing of what came before is lost where memory was wanting
-pub out_of_memory : PrintsOneRoom → ScriptsRunOn → (remaining old new : Option (List ℕ)) (text : List ℕ) (asked : Asked) → IsTextOf text remaining
+pub out_of_memory : PrintsOneRoom → ScriptsRunOn → (remaining old new : Option (List ℕ)) (text : List ℕ) (asked : ScriptAsked) → IsTextOf text remaining
     → script_read text ≡ Ok asked
     → RunInto Memory (first_net asked.servers) asked.requests (sink old []) (sink new []) → OutOfMemory remaining old new
 unfolding cut_short
@@ -49,7 +49,7 @@ abbrev pub EndsBy : Trouble → Option (List ℕ) → Option (List ℕ) → Opti
 EndsBy Memory remaining old new = RunsOut remaining old new
 EndsBy NoDevice remaining old new = EndsEarly remaining old new
 
-pub ends_by : (trouble : Trouble) → PrintsOneRoom → ScriptsRunOn → (remaining old new : Option (List ℕ)) (text : List ℕ) (asked : Asked) → IsTextOf text remaining
+pub ends_by : (trouble : Trouble) → PrintsOneRoom → ScriptsRunOn → (remaining old new : Option (List ℕ)) (text : List ℕ) (asked : ScriptAsked) → IsTextOf text remaining
     → script_read text ≡ Ok asked
     → RunInto trouble (first_net asked.servers) asked.requests (sink old []) (sink new []) → EndsBy trouble remaining old new
 ends_by Memory law on remaining old new text asked is_text read p = inr (out_of_memory law on remaining old new text asked is_text read p)

@@ -10,19 +10,19 @@ use Rattle.irc_net.specs.Calls.{Delivers, delivers_it, delivery, piece, piece_co
 use Rattle.irc_net.specs.Faults.{deliver_fault, item_fault}
 use Rattle.irc_net.specs.Laws.{AnswersAreReceived, HasReceived}
 use Rattle.irc_network.specs.Laws.{ReceiptsAreReceived}
-use Rattle.irc_network.specs.Network.{Receipt, lines_for, received_by}
+use Rattle.irc_network.specs.Network.{Receipt, lines_of_client, received_by}
 use Rattle.irc_world.specs.Stepping.{Item}
 use Rattle.irc_script.specs.Moves.{Move, gives, delivers_line, takes_bytes, settles_all}
-use Rattle.irc_script.specs.OneRoom.{Entry, counts, entry_text, line_to, lines_to, receives, refuses}
+use Rattle.irc_script.specs.OneRoom.{Entry, counts, entry_text, line_to, lines_shown_to, receives, refuses}
 use Rattle.irc_script.specs.Printing.{count_line, fault_number, printed, refusal_line, taken_text}
-use Rattle.irc_script.specs.Runs.{Comes, Outcome, Plays, Runs, delivered_by, delivered_or, end, given_or, move, nothing, request, taken_or}
+use Rattle.irc_script.specs.Runs.{Comes, MoveOutcome, Plays, Runs, delivered_by, delivered_or, end, given_or, move, nothing, request, taken_or}
 use Rattle.irc_script.specs.Scripts.{Request}
 
 -- what was printed between two moments, and what clients received by it
 pub record Shows (first last : ByteNetwork) (text : List ℕ) : Type 0 where
   pub entries : List Entry
   pub text_is : text ≡ flat_map entry_text entries
-  pub received : (client : ℕ) → received_by last.network client ≡ received_by first.network client ++ lines_to client entries
+  pub received : (client : ℕ) → received_by last.network client ≡ received_by first.network client ++ lines_shown_to client entries
 
 shows_nothing : (net : ByteNetwork) → Shows net net []
 shows_nothing net = record { entries = []; text_is = refl; received = λ client. sym (append-nil (received_by net.network client)) }
@@ -31,8 +31,8 @@ shows_both : {a b c : ByteNetwork} {s t : List ℕ} → Shows a b s → Shows b 
 shows_both {a = a} {t = t} p q = record {
   entries = p.entries ++ q.entries;
   text_is = ap (λ x. x ++ t) p.text_is ∙ ap (λ x. flat_map entry_text p.entries ++ x) q.text_is ∙ sym (flat_map-append entry_text p.entries q.entries);
-  received = λ client. q.received client ∙ ap (λ ls. ls ++ lines_to client q.entries) (p.received client)
-      ∙ append_assoc (received_by a.network client) (lines_to client p.entries) (lines_to client q.entries)
+  received = λ client. q.received client ∙ ap (λ ls. ls ++ lines_shown_to client q.entries) (p.received client)
+      ∙ append_assoc (received_by a.network client) (lines_shown_to client p.entries) (lines_shown_to client q.entries)
       ∙ ap (λ ls. received_by a.network client ++ ls) (sym (filter_map-append (line_to client) p.entries q.entries));
 }
 
@@ -51,7 +51,7 @@ refusal_shown net fault = record {
 }
 
 -- what a client receives of these
-receipts_shown : (client : ℕ) (receipts : List Receipt) → lines_to client (map receives receipts) ≡ lines_for client receipts
+receipts_shown : (client : ℕ) (receipts : List Receipt) → lines_shown_to client (map receives receipts) ≡ lines_of_client client receipts
 receipts_shown client [] = refl
 receipts_shown client (receipt ∷ receipts) = ap (cons_option (line_to client (receives receipt))) (receipts_shown client receipts)
 
@@ -75,11 +75,11 @@ given_received : ReceiptsAreReceived → (item : Item) (net : ByteNetwork) → H
 unfolding item_given
 given_received law item net = law.given item net.network
 
-abbrev ShowsOutcome : ByteNetwork → Outcome → Type 0
+abbrev ShowsOutcome : ByteNetwork → MoveOutcome → Type 0
 ShowsOutcome first outcome = Shows first outcome.network outcome.text
 
 module _ (law : ReceiptsAreReceived) (answers : AnswersAreReceived) where
-  comes_shown : (first : ByteNetwork) (m : Move) (outcome : Outcome) → Comes first m outcome → ShowsOutcome first outcome
+  comes_shown : (first : ByteNetwork) (m : Move) (outcome : MoveOutcome) → Comes first m outcome → ShowsOutcome first outcome
   comes_shown first (gives item) outcome is = by (item_fault first item) is
     where
       by : (o : Option NetFault) → outcome ≡ given_or o item first → ShowsOutcome first outcome

@@ -15,14 +15,14 @@ use Rattle.std.specs.Str.{bytes_eq}
 use Rattle.irc_items.specs.SetUp.{named_at, no_view, view_at, HasPassword, IsConfigured, IsNew, IsNewServer}
 use Rattle.irc_items.proofs.SetUpFacts.{placed_if}
 use Rattle.irc_names.specs.Names.{IsServer, is_server}
-use Rattle.irc_network.specs.Network.{Site, place_of, site_at}
+use Rattle.irc_network.specs.Network.{Site, server_place, site_at}
 use Rattle.irc_relay.specs.Distances.{IsAmong}
 use Rattle.irc_relay.specs.Links.{Name, same}
 use Rattle.irc_relay.specs.Lemmas.TellingNames.{Telling, alike, unlike, tell}
 use Rattle.irc_stage.specs.View.{View}
-use Rattle.irc_script.specs.Limits.{max_servers}
-use Rattle.irc_script.specs.Networks.{first_network, first_site, first_view, in_order, peers_of, script_password}
-use Rattle.irc_script.specs.Scripts.{Cut, another_server, cut_at_space, if_another, is_word, named_in, server_named, servers_behind, servers_of}
+use Rattle.irc_script.specs.Limits.{max_script_servers}
+use Rattle.irc_script.specs.Networks.{first_network, first_site, first_view, in_name_order, peers_for, script_password}
+use Rattle.irc_script.specs.Scripts.{Cut, another_server, cut_at_space, if_another, is_word, named_in, server_declared, servers_behind, servers_of}
 use Rattle.irc_script.proofs.InOrder.{order_moves}
 
 -- ---- the servers that a script names
@@ -31,7 +31,7 @@ use Rattle.irc_script.proofs.InOrder.{order_moves}
 pub record AreServers (names : List Name) : Type 0 where
   pub each : AllByRecursion IsServer names
   pub once : (server : Name) → IsAmong names server → count_by (same server) names ≡ 1
-  pub few : length names ≤ max_servers
+  pub few : length names ≤ max_script_servers
 
 none_named : AreServers []
 none_named = record { each = tt; once = λ server among. absurd (true≢false (sym among)); few = omega arith }
@@ -67,13 +67,13 @@ all_behind (first ∷ names) name all is = (all.0, all_behind names name all.1 i
 record IsNext (names : List Name) (name : Name) : Type 0 where
   server : IsServer name
   another : list_any (same name) names ≡ false
-  room : length names < max_servers
+  room : length names < max_script_servers
 
 one_named : (names : List Name) (name : Name) → AreServers names → IsNext names name → AreServers (names ++ name ∷ [])
 one_named names name are next = record {
   each = all_behind names name are.each next.server;
   once = λ server among. by server among (tell server name);
-  few = subst (λ n. n ≤ max_servers) (sym (length-append names (name ∷ []))) (one_more (length names) max_servers next.room);
+  few = subst (λ n. n ≤ max_script_servers) (sym (length-append names (name ∷ []))) (one_more (length names) max_script_servers next.room);
 }
   where
     one_more : (n m : ℕ) → n < m → n + 1 ≤ m
@@ -111,16 +111,16 @@ named_server name (Some line) is = by (is_word line.before (codes "server")) (is
 next_named : (names : List Name) (name : Name) (found : Option Name) → option_and_then (if_another names) found ≡ Some name
     → (found ≡ Some name → IsServer name) → IsNext names name
 next_named names name None is server = absurd (cc is)
-next_named names name (Some other) is server = by (nat_lt (length names) max_servers) refl (list_any (bytes_eq other) names) refl is
+next_named names name (Some other) is server = by (nat_lt (length names) max_script_servers) refl (list_any (bytes_eq other) names) refl is
   where
-    by : (room : Bool) → nat_lt (length names) max_servers ≡ room → (there : Bool) → list_any (bytes_eq other) names ≡ there
+    by : (room : Bool) → nat_lt (length names) max_script_servers ≡ room → (there : Bool) → list_any (bytes_eq other) names ≡ there
         → (if room && not there then Some other else None) ≡ Some name → IsNext names name
     by true room false there is =
         let same_one : other ≡ name = cc is in
         record {
           server = server (ap Some same_one);
           another = ap (λ n. list_any (bytes_eq n) names) (sym same_one) ∙ there;
-          room = ltb-true (length names) max_servers room;
+          room = ltb-true (length names) max_script_servers room;
         }
     by true room true there is = absurd (cc is)
     by false room there_so there is = absurd (cc is)
@@ -134,32 +134,32 @@ named_behind (line ∷ lines) names are = by (another_server names line) refl (n
         → AreServers (if is_some (another_server names line) then servers_behind (names ++ option_to_list (another_server names line)) lines else names)
     by None is rest = subst (λ o. AreServers (if is_some o then servers_behind (names ++ option_to_list o) lines else names)) (sym is) are
     by (Some name) is rest = subst (λ o. AreServers (if is_some o then servers_behind (names ++ option_to_list o) lines else names)) (sym is)
-        (rest (names ++ name ∷ []) (one_named names name are (next_named names name (server_named line) is (named_server name (cut_at_space line)))))
+        (rest (names ++ name ∷ []) (one_named names name are (next_named names name (server_declared line) is (named_server name (cut_at_space line)))))
 
 pub servers_named : (lines : List (List ℕ)) → AreServers (servers_of lines)
 servers_named lines = named_behind lines [] none_named
 
 -- ---- in their order
 
-in_order_too : (names : List Name) → AreServers names → AreServers (in_order names)
+in_order_too : (names : List Name) → AreServers names → AreServers (in_name_order names)
 in_order_too names are = record {
-  each = recursion_from_All IsServer (in_order names) (All-permutation IsServer names (in_order names) moves (All-from_recursion IsServer names are.each));
-  once = λ server among. sum_by-IsPermutation (λ x. cond (same server x) 1 0) names (in_order names) moves
-      ∙ are.once server (list_any-IsPermutation (same server) names (in_order names) moves ∙ among);
-  few = subst (λ n. n ≤ max_servers) (sym (length_permutation names (in_order names) moves)) are.few;
+  each = recursion_from_All IsServer (in_name_order names) (All-permutation IsServer names (in_name_order names) moves (All-from_recursion IsServer names are.each));
+  once = λ server among. sum_by-IsPermutation (λ x. cond (same server x) 1 0) names (in_name_order names) moves
+      ∙ are.once server (list_any-IsPermutation (same server) names (in_name_order names) moves ∙ among);
+  few = subst (λ n. n ≤ max_script_servers) (sym (length_permutation names (in_name_order names) moves)) are.few;
 }
   where
-    moves : IsPermutation names (in_order names)
+    moves : IsPermutation names (in_name_order names)
     moves = order_moves names
 
 -- ---- each of them
 
-all_passwords : (server : Name) (names : List Name) → AllByRecursion HasPassword (peers_of server names)
+all_passwords : (server : Name) (names : List Name) → AllByRecursion HasPassword (peers_for server names)
 all_passwords server [] = tt
 all_passwords server (other ∷ names) = by (same other server) (all_passwords server names)
   where
-    by : (b : Bool) → AllByRecursion HasPassword (peers_of server names)
-        → AllByRecursion HasPassword (cons_option (if b then None else Some (record { name = other; password = script_password })) (peers_of server names))
+    by : (b : Bool) → AllByRecursion HasPassword (peers_for server names)
+        → AllByRecursion HasPassword (cons_option (if b then None else Some (record { name = other; password = script_password })) (peers_for server names))
     by true rest = rest
     by false rest = (refl, rest)
 
@@ -194,29 +194,29 @@ at_place P names (server ∷ ordered) (suc place) all within = at_place P names 
 abbrev seen : List Name → Option ℕ → View
 seen names o = unwrap_or (option_and_then (λ (site : Site). site.server) (option_and_then (site_at (first_network names)) o)) no_view
 
-at_name : (P : View → Type 0) (names : List Name) (server : Name) → AllByRecursion (λ (server : Name). P (first_view names server)) (in_order names)
-    → IsAmong (in_order names) server → P (view_at (first_network names) server)
-at_name P names server all among = by (place_of (first_network names) server) refl
+at_name : (P : View → Type 0) (names : List Name) (server : Name) → AllByRecursion (λ (server : Name). P (first_view names server)) (in_name_order names)
+    → IsAmong (in_name_order names) server → P (view_at (first_network names) server)
+at_name P names server all among = by (server_place (first_network names) server) refl
   where
-    by : (o : Option ℕ) → place_of (first_network names) server ≡ o → P (seen names (place_of (first_network names) server))
-    by None is = absurd (true≢false (sym (sym (ap is_some is) ∙ placed_if (in_order names) server ∙ among)))
+    by : (o : Option ℕ) → server_place (first_network names) server ≡ o → P (seen names (server_place (first_network names) server))
+    by None is = absurd (true≢false (sym (sym (ap is_some is) ∙ placed_if (in_name_order names) server ∙ among)))
     by (Some place) is = subst (λ o. P (seen names o)) (sym is)
-        (at_place P names (in_order names) place all (position-Some (λ (known : Name). same known server) (in_order names) place [] is).0)
+        (at_place P names (in_name_order names) place all (position-Some (λ (known : Name). same known server) (in_name_order names) place [] is).0)
 
-few_servers : (n : ℕ) → n ≤ max_servers → n ≤ 256
-unfolding max_servers
+few_servers : (n : ℕ) → n ≤ max_script_servers → n ≤ 256
+unfolding max_script_servers
 few_servers n few = few
 
 pub first_is_new : (names : List Name) → AreServers names → IsNew (first_network names)
 first_is_new names are = record {
   set_up = record {
-    named = sites_named names (in_order names);
+    named = sites_named names (in_name_order names);
     once = ordered.once;
-    few = few_servers (length (in_order names)) ordered.few;
-    configured = λ server among. at_name IsConfigured names server (all_configured names (in_order names) ordered.each) among;
+    few = few_servers (length (in_name_order names)) ordered.few;
+    configured = λ server among. at_name IsConfigured names server (all_configured names (in_name_order names) ordered.each) among;
   };
-  servers = λ server among. at_name IsNewServer names server (all_new names (in_order names)) among;
-  queues = none_queued names (in_order names);
+  servers = λ server among. at_name IsNewServer names server (all_new names (in_name_order names)) among;
+  queues = none_queued names (in_name_order names);
   links = refl;
   homes = refl;
   received = refl;
@@ -224,5 +224,5 @@ first_is_new names are = record {
   taken = refl;
 }
   where
-    ordered : AreServers (in_order names)
+    ordered : AreServers (in_name_order names)
     ordered = in_order_too names are

@@ -11,7 +11,7 @@ use Rattle.std.proofs.lemmas.Cmp.{nat_list_cmp_total, tied_itself}
 use Rattle.std.proofs.lemmas.List.Sorted.{IsPermutation-cons, IsPermutation-refl, IsPermutation-swap, IsPermutation-trans, sum_by-IsPermutation}
 use Rattle.std.proofs.lemmas.List.Sums.{sum_by-cons}
 use Rattle.irc_relay.specs.Links.{Name}
-use Rattle.irc_script.specs.Networks.{exceeds, in_order, is_greater, put_in}
+use Rattle.irc_script.specs.Networks.{exceeds, in_name_order, is_greater, name_put_in}
 use Rattle.irc_script.specs.RunLaws.{OrderIsSo, are_ordered}
 
 -- ---- how often a name is there
@@ -117,24 +117,24 @@ one_order a b moved o p = counted_same a b o p (λ z. sym (sum_by-IsPermutation 
 
 -- ---- a name is put where it belongs
 
-put_moves : (x : Name) (ys : List Name) → IsPermutation (x ∷ ys) (put_in x ys)
+put_moves : (x : Name) (ys : List Name) → IsPermutation (x ∷ ys) (name_put_in x ys)
 put_moves x [] = IsPermutation-refl (x ∷ [])
 put_moves x (y ∷ ys) = by (put_moves x ys) (is_greater (slice_cmp nat_cmp x y))
   where
     swapped : IsPermutation (x ∷ y ∷ ys) (y ∷ x ∷ ys)
     swapped = IsPermutation-swap (x ∷ y ∷ ys) (y ∷ x ∷ ys) 0 1 (search (rules)) (search (rules)) refl
 
-    by : IsPermutation (x ∷ ys) (put_in x ys) → (b : Bool) → IsPermutation (x ∷ y ∷ ys) (cond b (y ∷ put_in x ys) (x ∷ y ∷ ys))
-    by rest true = IsPermutation-trans (x ∷ y ∷ ys) (y ∷ x ∷ ys) (y ∷ put_in x ys) swapped (IsPermutation-cons y (x ∷ ys) (put_in x ys) rest)
+    by : IsPermutation (x ∷ ys) (name_put_in x ys) → (b : Bool) → IsPermutation (x ∷ y ∷ ys) (cond b (y ∷ name_put_in x ys) (x ∷ y ∷ ys))
+    by rest true = IsPermutation-trans (x ∷ y ∷ ys) (y ∷ x ∷ ys) (y ∷ name_put_in x ys) swapped (IsPermutation-cons y (x ∷ ys) (name_put_in x ys) rest)
     by rest false = IsPermutation-refl (x ∷ y ∷ ys)
 
 -- what no name is less than, is it also once a name that is not less is put to them
-none_less_put : (y x : Name) (ys : List Name) → exceeds y x ≡ false → exceeds_one y ys ≡ false → exceeds_one y (put_in x ys) ≡ false
+none_less_put : (y x : Name) (ys : List Name) → exceeds y x ≡ false → exceeds_one y ys ≡ false → exceeds_one y (name_put_in x ys) ≡ false
 none_less_put y x [] first rest = neither (exceeds y x) false first refl
 none_less_put y x (z ∷ ys) first rest = by (none_less_put y x ys first (either (exceeds y z) (exceeds_one y ys) rest).1) (is_greater (slice_cmp nat_cmp x z))
   where
-    by : exceeds_one y (put_in x ys) ≡ false → (b : Bool) → exceeds_one y (cond b (z ∷ put_in x ys) (x ∷ z ∷ ys)) ≡ false
-    by more true = neither (exceeds y z) (exceeds_one y (put_in x ys)) (either (exceeds y z) (exceeds_one y ys) rest).0 more
+    by : exceeds_one y (name_put_in x ys) ≡ false → (b : Bool) → exceeds_one y (cond b (z ∷ name_put_in x ys) (x ∷ z ∷ ys)) ≡ false
+    by more true = neither (exceeds y z) (exceeds_one y (name_put_in x ys)) (either (exceeds y z) (exceeds_one y ys) rest).0 more
     by more false = neither (exceeds y x) (exceeds_one y (z ∷ ys)) first rest
 
 -- what is not greater than a name is not greater than those behind it
@@ -153,13 +153,13 @@ none_less_too x y (z ∷ ys) not_greater rest =
     by Less is ok Equal is' ok' = ap is_greater (ap (λ w. slice_cmp nat_cmp x w) (sym (antisymmetric y z is')) ∙ is)
     by Less is ok Greater is' ok' = cc ok'
 
-put_ordered : (x : Name) (ys : List Name) → are_ordered ys ≡ true → are_ordered (put_in x ys) ≡ true
+put_ordered : (x : Name) (ys : List Name) → are_ordered ys ≡ true → are_ordered (name_put_in x ys) ≡ true
 put_ordered x [] o = refl
 put_ordered x (y ∷ ys) o = by (put_ordered x ys (rest_ordered y ys o)) (slice_cmp nat_cmp x y) refl
   where
-    by : are_ordered (put_in x ys) ≡ true → (c : Ordering) → slice_cmp nat_cmp x y ≡ c → are_ordered (cond (is_greater c) (y ∷ put_in x ys) (x ∷ y ∷ ys)) ≡ true
+    by : are_ordered (name_put_in x ys) ≡ true → (c : Ordering) → slice_cmp nat_cmp x y ≡ c → are_ordered (cond (is_greater c) (y ∷ name_put_in x ys) (x ∷ y ∷ ys)) ≡ true
     by more Greater is =
-        both_so (not (exceeds_one y (put_in x ys))) (are_ordered (put_in x ys))
+        both_so (not (exceeds_one y (name_put_in x ys))) (are_ordered (name_put_in x ys))
         (ap not (none_less_put y x ys (ap is_greater (turned x y Greater is)) (none_less y ys o))) more
     by more Less is =
         let not_greater = ap is_greater is in
@@ -170,15 +170,15 @@ put_ordered x (y ∷ ys) o = by (put_ordered x ys (rest_ordered y ys o)) (slice_
         both_so (not (exceeds_one x (y ∷ ys))) (are_ordered (y ∷ ys))
         (ap not (neither (exceeds x y) (exceeds_one x ys) not_greater (none_less_too x y ys not_greater (none_less y ys o)))) o
 
-pub order_moves : (names : List Name) → IsPermutation names (in_order names)
+pub order_moves : (names : List Name) → IsPermutation names (in_name_order names)
 order_moves [] = IsPermutation-refl []
 order_moves (name ∷ names) =
-    IsPermutation-trans (name ∷ names) (name ∷ in_order names) (put_in name (in_order names))
-    (IsPermutation-cons name names (in_order names) (order_moves names)) (put_moves name (in_order names))
+    IsPermutation-trans (name ∷ names) (name ∷ in_name_order names) (name_put_in name (in_name_order names))
+    (IsPermutation-cons name names (in_name_order names) (order_moves names)) (put_moves name (in_name_order names))
 
-pub is_in_order : (names : List Name) → are_ordered (in_order names) ≡ true
+pub is_in_order : (names : List Name) → are_ordered (in_name_order names) ≡ true
 is_in_order [] = refl
-is_in_order (name ∷ names) = put_ordered name (in_order names) (is_in_order names)
+is_in_order (name ∷ names) = put_ordered name (in_name_order names) (is_in_order names)
 
 pub order_is_so : OrderIsSo
 order_is_so names = record { same_ones = order_moves names; ordered = is_in_order names }

@@ -5,7 +5,7 @@ use Rattle.irc_byte_network.specs.ByteNetwork.{ByteCourse, ByteNetwork, item_giv
 use Rattle.irc_net.specs.declared.answer.Answer.{Answer}
 use Rattle.irc_network.specs.declared.receipt.Receipt.{Receipt as KeptReceipt}
 use Rattle.irc_net.specs.declared.fault.NetFault.{NetFault}
-use Rattle.irc_net.specs.Calls.{NetView, AreTaken, IsGiven, IsDelivered, Delivers, IsSettled, delivery, piece, piece_count, takes_them, taking_refused, taking_wants_memory, taking_by_failed, given_it, given_refused, given_wants_memory, given_to_failed, delivers_it, delivery_refused, delivery_wants_memory, delivery_by_failed, settles_it}
+use Rattle.irc_net.specs.Calls.{NetView, BytesTaken, IsGiven, IsDelivered, Delivers, IsSettled, delivery, piece, piece_count, takes_them, taking_refused, taking_wants_memory, taking_by_failed, given_it, given_refused, given_wants_memory, given_to_failed, delivers_it, delivery_refused, delivery_wants_memory, delivery_by_failed, settles_it}
 use Rattle.irc_net.specs.Faults.{deliver_fault, is_refusal}
 use Rattle.irc_network.specs.Network.{Receipt}
 use Rattle.irc_network.specs.Views.{receipts_of}
@@ -16,12 +16,12 @@ use Rattle.irc_script.specs.declared.fault.Trouble.TheVariants.{Memory}
 use Rattle.irc_script.specs.Loops.Steps.{Breaks, IsFaultPrinted, IsPlayed, IsPut, taken_count}
 use Rattle.irc_script.specs.Moves.{Move, gives, delivers_line, takes_bytes, settles_all}
 use Rattle.irc_script.specs.Printing.{fault_number, printed, refusal_number, taken_text}
-use Rattle.irc_script.specs.Runs.{Comes, Outcome, delivered_by, delivered_or, given_or, lines_received, refused, taken_or}
+use Rattle.irc_script.specs.Runs.{Comes, MoveOutcome, delivered_by, delivered_or, given_or, lines_received, move_refused, taken_or}
 use Rattle.irc_script.specs.Sinks.{Sink}
 use Rattle.irc_script.proofs.Playing.{breaks_first, played_one}
 
 -- a move by what it comes to, in other words
-played_as : (r : Result (Unit {0}) Trouble) (first : ByteNetwork) (m : Move) (outcome : Outcome) (text : List ℕ) (last : ByteNetwork) (old new : Sink)
+played_as : (r : Result (Unit {0}) Trouble) (first : ByteNetwork) (m : Move) (outcome : MoveOutcome) (text : List ℕ) (last : ByteNetwork) (old new : Sink)
     → Comes first m outcome
     → text ≡ outcome.text → last ≡ outcome.network → IsPut r old new text → IsPlayed r first (m ∷ []) last old new
 played_as r first m outcome text last old new comes text_is last_is p =
@@ -34,12 +34,12 @@ none_played r first last moves old new failed same =
     subst (λ x. IsPlayed x first moves last old new) (sym failed) (subst (λ s. Breaks Memory first moves old s) (sym same) (breaks_first Memory first moves old))
 
 -- the number of a refusal is printed
-fault_played : (r : Result (Unit {0}) Trouble) (first : ByteNetwork) (m : Move) (fault : NetFault) (old new : Sink) → Comes first m (refused fault first)
+fault_played : (r : Result (Unit {0}) Trouble) (first : ByteNetwork) (m : Move) (fault : NetFault) (old new : Sink) → Comes first m (move_refused fault first)
     → IsFaultPrinted (refusal_number fault) r old new → IsPlayed r first (m ∷ []) first old new
 fault_played r first m fault old new comes p = by (is_refusal fault) p
   where
     by : (b : Bool) → IsFaultPrinted (cond b (Some (fault_number fault)) None) r old new → IsPlayed r first (m ∷ []) first old new
-    by true printed = played_one r first m (refused fault first) old new comes printed
+    by true printed = played_one r first m (move_refused fault first) old new comes printed
     by false none = none_played r first first (m ∷ []) old new none.0 none.1
 
 -- ---- an item
@@ -104,12 +104,12 @@ undelivered_played r first last from to fault old new (delivery_by_failed failed
 
 -- ---- bytes
 
-abbrev taken_as : ℕ → ByteNetwork → Name → Name → Outcome
+abbrev taken_as : ℕ → ByteNetwork → Name → Name → MoveOutcome
 taken_as count net from to =
     record { text = taken_text (piece_count count net from to) (piece count net from to).receipts; network = (piece count net from to).net }
 
 pub bytes_played : (r : Result (Unit {0}) Trouble) (first last : NetView) (from to : Name) (count came : ℕ) (kept lines : List KeptReceipt) (old new : Sink)
-    → AreTaken first from to count (Ok (came, receipts_of kept)) last → lines ≡ kept → IsPut r old new (taken_text came (receipts_of lines))
+    → BytesTaken first from to count (Ok (came, receipts_of kept)) last → lines ≡ kept → IsPut r old new (taken_text came (receipts_of lines))
     → IsPlayed r first.network (takes_bytes from to count ∷ []) last.network old new
 bytes_played r first last from to count came kept lines old new (takes_them alive t) same p =
     played_as r first.network (takes_bytes from to count) (taken_as count first.network from to) (taken_text came (receipts_of lines)) last.network old new
@@ -119,7 +119,7 @@ bytes_played r first last from to count came kept lines old new (takes_them aliv
     (ap (λ (v : NetView). v.network) t.after) p
 
 pub no_bytes_played : (r : Result (Unit {0}) Trouble) (first last : NetView) (from to : Name) (count : ℕ) (fault : NetFault) (old new : Sink)
-    → AreTaken first from to count (Err fault) last
+    → BytesTaken first from to count (Err fault) last
     → IsFaultPrinted (refusal_number fault) r old new → IsPlayed r first.network (takes_bytes from to count ∷ []) last.network old new
 no_bytes_played r first last from to count fault old new (taking_refused alive is) p =
     fault_played r first.network (takes_bytes from to count) fault old new (sym (ap (λ (f : Option NetFault). taken_or f from to count first.network) is)) p
@@ -130,7 +130,7 @@ no_bytes_played r first last from to count fault old new (taking_by_failed faile
 
 -- ---- settling
 
-abbrev settled_as : ℕ → List Receipt → ByteNetwork → Outcome
+abbrev settled_as : ℕ → List Receipt → ByteNetwork → MoveOutcome
 settled_as count receipts last = record { text = taken_text count receipts; network = last }
 
 pub settled_played : (r : Result (Unit {0}) Trouble) (first last : NetView) (count : ℕ) (kept lines : List KeptReceipt) (old new : Sink)

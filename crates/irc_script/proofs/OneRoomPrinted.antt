@@ -4,17 +4,17 @@ use Rattle.std.specs.List.{AllByRecursion}
 use Rattle.irc_relay.specs.Relay.{IsFront}
 use Rattle.irc_items.specs.Laws.{ReceivedIsFront, RestIsOneRoom}
 use Rattle.irc_items.specs.Sound.{owed_now}
-use Rattle.irc_byte_network.specs.ByteNetwork.{ByteNetwork, in_lines}
+use Rattle.irc_byte_network.specs.ByteNetwork.{ByteNetwork, net_in_lines}
 use Rattle.irc_byte_network.specs.Whole.{RestAsLines}
 use Rattle.irc_net.specs.Laws.{AnswersAreReceived, StaysKept}
 use Rattle.irc_net.specs.OneRoom.{IsKeptSound}
 use Rattle.irc_network.specs.Laws.{ReceiptsAreReceived}
 use Rattle.irc_network.specs.Network.{received_by}
 use Rattle.irc_script.specs.Networks.{first_net, first_network}
-use Rattle.irc_script.specs.OneRoom.{lines_to, IsPrintedOf}
+use Rattle.irc_script.specs.OneRoom.{lines_shown_to, IsPrintedOf}
 use Rattle.irc_script.specs.RunLaws.{PrintsOneRoom}
 use Rattle.irc_script.specs.Runs.{Runs}
-use Rattle.irc_script.specs.Scripts.{Asked, Request, script_lines, script_read}
+use Rattle.irc_script.specs.Scripts.{ScriptAsked, Request, script_lines, script_read}
 use Rattle.irc_script.proofs.EntriesPrinted.{Shows, runs_shown}
 use Rattle.irc_script.proofs.FirstIsNew.{AreServers, first_is_new, servers_named}
 use Rattle.irc_script.proofs.ReadWithin.{front_within, read_within, servers_read}
@@ -36,22 +36,22 @@ printed_of laws names net text kept shown = record {
   entries = shown.entries;
   text_is = shown.text_is;
   received = received;
-  front = λ client. subst (λ lines. IsFront lines (owed_now (in_lines net) client)) (sym (received client)) (laws.front (in_lines net) client kept.sound);
-  at_rest = λ rest client. received client ∙ (laws.room (in_lines net) kept.sound (laws.rest net kept.whole rest).at_rest).received client;
+  front = λ client. subst (λ lines. IsFront lines (owed_now (net_in_lines net) client)) (sym (received client)) (laws.front (net_in_lines net) client kept.sound);
+  at_rest = λ rest client. received client ∙ (laws.room (net_in_lines net) kept.sound (laws.rest net kept.whole rest).at_rest).received client;
   sound = kept.sound;
 }
   where
-    received : (client : ℕ) → lines_to client shown.entries ≡ received_by net.network client
-    received client = sym (shown.received client ∙ ap (λ ls. ls ++ lines_to client shown.entries) (nothing_received names client))
+    received : (client : ℕ) → lines_shown_to client shown.entries ≡ received_by net.network client
+    received client = sym (shown.received client ∙ ap (λ ls. ls ++ lines_shown_to client shown.entries) (nothing_received names client))
 
 -- the network with which a script that is read begins is sound,
-pub first_kept : StaysKept → (text : List ℕ) (asked : Asked) → script_read text ≡ Ok asked → IsKeptSound (first_net asked.servers)
+pub first_kept : StaysKept → (text : List ℕ) (asked : ScriptAsked) → script_read text ≡ Ok asked → IsKeptSound (first_net asked.servers)
 first_kept keeping text asked read =
     keeping.new (first_network asked.servers)
     (first_is_new asked.servers (subst AreServers (sym (servers_read text asked read)) (servers_named (script_lines text))))
 
 -- and so it is behind each of the requests
-sound_behind : StaysKept → (text : List ℕ) (asked : Asked) (requests left : List Request) (net : ByteNetwork) (printed : List ℕ)
+sound_behind : StaysKept → (text : List ℕ) (asked : ScriptAsked) (requests left : List Request) (net : ByteNetwork) (printed : List ℕ)
     → script_read text ≡ Ok asked → asked.requests ≡ requests ++ left → Runs (first_net asked.servers) requests net printed → IsKeptSound net
 sound_behind keeping text asked requests left net printed read parts runs = runs_kept keeping within runs (first_kept keeping text asked read)
   where

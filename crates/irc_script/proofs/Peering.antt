@@ -4,7 +4,7 @@ use Rattle.std.specs.List.{AllByRecursion, cons_option, filter_map}
 use Rattle.std.specs.Option.{option_to_list}
 use Rattle.std.proofs.lemmas.List.{map-append, take_more}
 use Rattle.std.proofs.lemmas.List.Elements.{filter_map-append}
-use Rattle.irc_net.specs.Making.{name_of}
+use Rattle.irc_net.specs.Making.{config_name}
 use Rattle.irc_relay.specs.Links.{Name}
 use Rattle.irc_server.specs.declared.config.Config.{Config}
 use Rattle.irc_script.specs.Loops.Configs.{AreConfigured, IsConfigured, IsOwnConfig}
@@ -34,7 +34,7 @@ own_config names server config is = subst (λ n. IsConfigured names n config) (s
 pub one_configured : (names : List Name) (configs : List Config) (config : Config) (i : ℕ) (d : Name) → i < length names → d ≡ get_or names i d
     → AreConfigured names (take i names) configs → IsConfigured names d config → AreConfigured names (take (i + 1) names) (configs ++ config ∷ [])
 one_configured names configs config i d within is are one = record {
-  named = map-append name_of configs (config ∷ []) ∙ ap (λ ns. ns ++ name_of config ∷ []) are.named ∙ ap (λ n. take i names ++ n ∷ []) (one.name ∙ is)
+  named = map-append config_name configs (config ∷ []) ∙ ap (λ ns. ns ++ config_name config ∷ []) are.named ∙ ap (λ n. take i names ++ n ∷ []) (one.name ∙ is)
       ∙ sym (take_more names i d within);
   each = all_and (IsOwnConfig names) configs config are.each (own_config names d config one);
 }

@@ -13,7 +13,7 @@ use Rattle.irc_script.specs.declared.fault.Unwritten.{Unwritten}
 use Rattle.irc_script.specs.Faults.{of_writing}
 use Rattle.irc_script.specs.Loops.Steps.{Played, Breaks, IsPlayed, IsPut, RunWhole, RunInto, HasRun, Begins, to_the_end, partly, further}
 use Rattle.irc_script.specs.Moves.{Move, gives_line, moves_of}
-use Rattle.irc_script.specs.Runs.{Comes, Outcome, Plays, nothing, move, Runs, end, request, StopsIn, in_first, in_later}
+use Rattle.irc_script.specs.Runs.{Comes, MoveOutcome, Plays, nothing, move, Runs, end, request, StopsIn, in_first, in_later}
 use Rattle.irc_script.specs.Scripts.{Request}
 use Rattle.irc_script.specs.ScriptViews.{requests, request as request_now}
 use Rattle.irc_script.specs.declared.commands.Command.{Command}
@@ -47,7 +47,7 @@ put_as r (Ok done) old new text is p = subst (λ x. IsPut x old new text) (sym i
 put_as r (Err fault) old new text is p = subst (λ x. IsPut x old new text) (sym is) p
 
 -- one move, by what comes of it
-pub played_one : (r : Result (Unit {0}) Trouble) (first : ByteNetwork) (m : Move) (outcome : Outcome) (old new : Sink) → Comes first m outcome
+pub played_one : (r : Result (Unit {0}) Trouble) (first : ByteNetwork) (m : Move) (outcome : MoveOutcome) (old new : Sink) → Comes first m outcome
     → IsPut r old new outcome.text → IsPlayed r first (m ∷ []) outcome.network old new
 played_one (Ok _) first m outcome old new comes p =
     record { text = outcome.text; plays = move outcome comes (sym (append-nil outcome.text)) nothing; prints = p }

@@ -5,8 +5,8 @@ use Rattle.std.specs.Option.{option_and_then, option_map}
 use Rattle.irc_line.specs.Lines.{IsLine, lines}
 use Rattle.irc_names.specs.Names.{is_host, is_server}
 use Rattle.irc_script.specs.Moves.{gives_line}
-use Rattle.irc_script.specs.Numbers.{number_of}
-use Rattle.irc_script.specs.Scripts.{Request, connects, says, goes, links, cuts, delivers, takes, settles, Asked, Cut, Pair, bytes_from, bytes_in, connect_in, cut_at_space, is_bad, is_word, judged, pair_of, request_in, request_of, say_in, script_lines, script_read, servers_of}
+use Rattle.irc_script.specs.Numbers.{script_number}
+use Rattle.irc_script.specs.Scripts.{Request, connects, says, goes, links, cuts, delivers, takes, settles, ScriptAsked, Cut, Pair, bytes_from, bytes_in, connect_in, cut_at_space, is_bad_line, is_word, judged, pair_of, request_in, request_of, say_in, script_lines, script_read, servers_of}
 use Rattle.irc_script.proofs.LinesSaid.{each_is_line, line_is_carried}
 use Rattle.irc_script.proofs.StaysSound.{IsMoveWithin, IsRequestWithin}
 
@@ -50,13 +50,13 @@ pair_hosted make so (Some pair) = so pair
 
 say_hosted : (cut : Option Cut) → IsHosted (option_and_then say_in cut)
 say_hosted None = none_hosted
-say_hosted (Some words) = number_hosted (λ client. says client words.behind) (λ n server host is. cc is) (number_of words.before)
+say_hosted (Some words) = number_hosted (λ client. says client words.behind) (λ n server host is. cc is) (script_number words.before)
 
 counted_hosted : (from : List ℕ) (cut : Option Cut) → IsHosted (option_and_then (bytes_from from) cut)
 counted_hosted from None = none_hosted
 counted_hosted from (Some words) =
     if_hosted (is_server from && is_server words.before) _ _
-    (number_hosted (λ count. takes from words.before count) (λ n server host is. cc is) (number_of words.behind)) none_hosted
+    (number_hosted (λ count. takes from words.before count) (λ n server host is. cc is) (script_number words.behind)) none_hosted
 
 bytes_hosted : (cut : Option Cut) → IsHosted (option_and_then bytes_in cut)
 bytes_hosted None = none_hosted
@@ -66,7 +66,7 @@ request_hosted : (line : Cut) → IsHosted (request_in line)
 request_hosted line =
     if_hosted (is_word line.before (codes "connect")) _ _ (found_hosted (cut_at_space line.behind))
     (if_hosted (is_word line.before (codes "say")) _ _ (say_hosted (cut_at_space line.behind))
-    (if_hosted (is_word line.before (codes "gone")) _ _ (number_hosted goes (λ n server host is. cc is) (number_of line.behind))
+    (if_hosted (is_word line.before (codes "gone")) _ _ (number_hosted goes (λ n server host is. cc is) (script_number line.behind))
     (if_hosted (is_word line.before (codes "link")) _ _ (pair_hosted (λ pair. links pair.near pair.far) (λ pair server host is. cc is) (pair_of line.behind))
     (if_hosted (is_word line.before (codes "cut")) _ _ (pair_hosted (λ pair. cuts pair.near pair.far) (λ pair server host is. cc is) (pair_of line.behind))
     (if_hosted (is_word line.before (codes "deliver")) _ _
@@ -107,33 +107,33 @@ requests_within (line ∷ rest) = by (request_of line) refl (requests_within res
 
 -- ---- a script that was read
 
-pub record IsReadOf (script : List (List ℕ)) (asked : Asked) : Type 0 where
+pub record IsReadOf (script : List (List ℕ)) (asked : ScriptAsked) : Type 0 where
   pub rest : List (List ℕ)
   pub servers : asked.servers ≡ servers_of script
   pub requests : asked.requests ≡ filter_map request_of rest
 
-read_of : (text : List ℕ) (asked : Asked) → script_read text ≡ Ok asked → IsReadOf (script_lines text) asked
+read_of : (text : List ℕ) (asked : ScriptAsked) → script_read text ≡ Ok asked → IsReadOf (script_lines text) asked
 unfolding script_read
-read_of text asked is = by (position is_bad rest) is
+read_of text asked is = by (position is_bad_line rest) is
   where
     rest : List (List ℕ)
     rest = drop (length (servers_of (script_lines text))) (script_lines text)
 
-    one_result : (a b : Asked) → ◌≡◌ {A = Result Asked ℕ} (Ok a) (Ok b) → a ≡ b
+    one_result : (a b : ScriptAsked) → ◌≡◌ {A = Result ScriptAsked ℕ} (Ok a) (Ok b) → a ≡ b
     one_result a b e = cc e
 
     by : (bad : Option ℕ) → judged (servers_of (script_lines text)) rest bad ≡ Ok asked → IsReadOf (script_lines text) asked
     by (Some bad) e = absurd (cc e)
     by None e =
         let same = one_result (record { servers = servers_of (script_lines text); requests = filter_map request_of rest }) asked e in
-        record { rest = rest; servers = sym (ap (λ (a : Asked). a.servers) same); requests = sym (ap (λ (a : Asked). a.requests) same) }
+        record { rest = rest; servers = sym (ap (λ (a : ScriptAsked). a.servers) same); requests = sym (ap (λ (a : ScriptAsked). a.requests) same) }
 
-pub read_within : (text : List ℕ) (asked : Asked) → script_read text ≡ Ok asked → AllByRecursion IsRequestWithin asked.requests
+pub read_within : (text : List ℕ) (asked : ScriptAsked) → script_read text ≡ Ok asked → AllByRecursion IsRequestWithin asked.requests
 read_within text asked is =
     let read = read_of text asked is in
     subst (AllByRecursion IsRequestWithin) (sym read.requests) (requests_within read.rest)
 
-pub servers_read : (text : List ℕ) (asked : Asked) → script_read text ≡ Ok asked → asked.servers ≡ servers_of (script_lines text)
+pub servers_read : (text : List ℕ) (asked : ScriptAsked) → script_read text ≡ Ok asked → asked.servers ≡ servers_of (script_lines text)
 servers_read text asked is = (read_of text asked is).servers
 
 -- ---- those in front, and those behind

@@ -9,7 +9,7 @@ use Rattle.irc_script.specs.Loops.Steps.{Begins, to_the_end, partly, further, Ru
 use Rattle.irc_script.specs.Moves.{Move, gives, delivers_line, takes_bytes, settles_all, moves_of}
 use Rattle.irc_script.specs.Printing.{taken_text}
 use Rattle.irc_script.specs.RunLaws.{EachRuns}
-use Rattle.irc_script.specs.Runs.{Comes, Outcome, Plays, nothing, move, end, request, given_or, delivered_or, taken_or}
+use Rattle.irc_script.specs.Runs.{Comes, MoveOutcome, Plays, nothing, move, end, request, given_or, delivered_or, taken_or}
 use Rattle.irc_script.specs.Scripts.{Request}
 use Rattle.irc_script.proofs.OneRoomPrinted.{first_kept}
 use Rattle.irc_script.proofs.Playing.{plays_both}
@@ -17,7 +17,7 @@ use Rattle.irc_script.proofs.ReadWithin.{front_within, left_within, read_within}
 use Rattle.irc_script.proofs.StaysSound.{IsMoveWithin, IsRequestWithin, comes_kept, plays_kept}
 
 record Answered (net : ByteNetwork) (m : Move) : Type 0 where
-  outcome : Outcome
+  outcome : MoveOutcome
   comes : Comes net m outcome
 
 -- something comes of each move of a sound network

@@ -5,7 +5,7 @@ use Rattle.std.specs.Option.{option_to_list}
 use Rattle.std.proofs.lemmas.List.{length-map, map-append, take_more, drop_more, drop-map, take_rest}
 use Rattle.std.proofs.Math.ListN.{drop_of_length-le}
 use Rattle.std.proofs.lemmas.List.Elements.{filter_map-append}
-use Rattle.irc_script.specs.Scripts.{Request, Asked, is_line_feed, ended, another_server, servers_behind, servers_of, behind_servers, judged, is_bad, request_of, script_read}
+use Rattle.irc_script.specs.Scripts.{Request, ScriptAsked, is_line_feed, ended, another_server, servers_behind, servers_of, behind_servers, judged, is_bad_line, request_of, script_read}
 use Rattle.irc_script.specs.ScriptViews.{lines_now}
 
 found_alone : (found : Option Request) → cons_option found [] ≡ option_to_list found
@@ -48,15 +48,15 @@ unfolding script_read
 read_behind text pieces lines rest servers e₁ e₂ e₃ e₄ = rw e₄ (rw e₃ (rw e₂ (rw e₁ refl)))
 
 -- some line is bad
-pub bad_behind : (servers rest : List (List ℕ)) (bad number : ℕ) → position is_bad rest ≡ Some bad → number ≡ length servers + bad + 1
+pub bad_behind : (servers rest : List (List ℕ)) (bad number : ℕ) → position is_bad_line rest ≡ Some bad → number ≡ length servers + bad + 1
     → behind_servers servers rest ≡ Err number
 bad_behind servers rest bad number found e = ap (judged servers rest) found ∙ ap (λ n. Err n) (sym e)
 
-abbrev pub with_requests : List (List ℕ) → List Request → Asked
+abbrev pub with_requests : List (List ℕ) → List Request → ScriptAsked
 with_requests servers requests = record { servers = servers; requests = requests }
 
 -- no line is bad
-pub good_behind : (servers rest : List (List ℕ)) (asked : Asked) → position is_bad rest ≡ None
+pub good_behind : (servers rest : List (List ℕ)) (asked : ScriptAsked) → position is_bad_line rest ≡ None
     → asked ≡ with_requests servers (filter_map request_of rest) → behind_servers servers rest ≡ Ok asked
 good_behind servers rest asked found e = ap (judged servers rest) found ∙ ap (λ a. Ok a) (sym e)
 

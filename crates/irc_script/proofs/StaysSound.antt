@@ -9,12 +9,12 @@ use Rattle.irc_net.specs.Calls.{delivery, line_between, piece_between, wire_betw
 use Rattle.irc_net.specs.Faults.{deliver_fault, item_fault}
 use Rattle.irc_net.specs.Laws.{StaysKept}
 use Rattle.irc_net.specs.OneRoom.{IsKeptSound}
-use Rattle.irc_network.specs.Network.{Ends, ends_of}
+use Rattle.irc_network.specs.Network.{LinkPlaces, link_places}
 use Rattle.irc_room.specs.Lemmas.Rows.{same_some}
 use Rattle.irc_wires.specs.Wires.{has_byte, through_line_feed}
 use Rattle.irc_world.specs.WithinLimits.{IsItemWithin}
 use Rattle.irc_script.specs.Moves.{Move, gives, delivers_line, takes_bytes, settles_all, moves_of}
-use Rattle.irc_script.specs.Runs.{Comes, Outcome, Plays, Runs, delivered_by, delivered_or, end, given_or, move, nothing, request, taken_or}
+use Rattle.irc_script.specs.Runs.{Comes, MoveOutcome, Plays, Runs, delivered_by, delivered_or, end, given_or, move, nothing, request, taken_or}
 use Rattle.irc_script.specs.Scripts.{Request}
 
 -- what a move gives is within the limits
@@ -28,11 +28,11 @@ abbrev pub IsRequestWithin : Request → Type 0
 IsRequestWithin r = AllByRecursion IsMoveWithin (moves_of r)
 
 -- a network that comes of another one is sound, as the outcome of a move
-abbrev IsKeptIn : Outcome → Type 0
+abbrev IsKeptIn : MoveOutcome → Type 0
 IsKeptIn outcome = IsKeptSound outcome.network
 
 -- the line that comes between two servers, if one does
-line_kept : StaysKept → (first : ByteNetwork) (o : Option Ends) (course : ByteCourse) → option_and_then (line_between first) o ≡ Some course
+line_kept : StaysKept → (first : ByteNetwork) (o : Option LinkPlaces) (course : ByteCourse) → option_and_then (line_between first) o ≡ Some course
     → IsKeptSound first → IsKeptSound course.net
 line_kept laws first None course is kept = absurd (cc is)
 line_kept laws first (Some ends) course is kept = by (has_byte (wire_between first ends)) is
@@ -47,12 +47,12 @@ line_kept laws first (Some ends) course is kept = by (has_byte (wire_between fir
     by false e = absurd (cc e)
 
 -- the bytes that come between two servers, if there are such
-piece_kept : StaysKept → (first : ByteNetwork) (count : ℕ) (o : Option Ends) → IsKeptSound first
+piece_kept : StaysKept → (first : ByteNetwork) (count : ℕ) (o : Option LinkPlaces) → IsKeptSound first
     → IsKeptSound (option_map_or (piece_between count first) o (byte_begun first)).net
 piece_kept laws first count None kept = kept
 piece_kept laws first count (Some ends) kept = laws.come first ends.near ends.far count kept
 
-pub comes_kept : StaysKept → (first : ByteNetwork) (m : Move) (outcome : Outcome) → IsMoveWithin m → Comes first m outcome → IsKeptSound first
+pub comes_kept : StaysKept → (first : ByteNetwork) (m : Move) (outcome : MoveOutcome) → IsMoveWithin m → Comes first m outcome → IsKeptSound first
     → IsKeptSound outcome.network
 comes_kept laws first (gives item) outcome within is kept = by (item_fault first item) refl is
   where
@@ -63,7 +63,7 @@ comes_kept laws first (delivers_line from to) outcome within is kept = by (deliv
   where
     took : (o : Option ByteCourse) → delivery first from to ≡ o → outcome ≡ delivered_by o first → IsKeptSound outcome.network
     took None none e = subst IsKeptIn (sym e) kept
-    took (Some course) some e = subst IsKeptIn (sym e) (line_kept laws first (ends_of first.network from to) course some kept)
+    took (Some course) some e = subst IsKeptIn (sym e) (line_kept laws first (link_places first.network from to) course some kept)
 
     by : (o : Option NetFault) → outcome ≡ delivered_or o from to first → IsKeptSound outcome.network
     by None e = took (delivery first from to) refl e
@@ -71,7 +71,7 @@ comes_kept laws first (delivers_line from to) outcome within is kept = by (deliv
 comes_kept laws first (takes_bytes from to count) outcome within is kept = by (deliver_fault first from to) is
   where
     by : (o : Option NetFault) → outcome ≡ taken_or o from to count first → IsKeptSound outcome.network
-    by None e = subst IsKeptIn (sym e) (piece_kept laws first count (ends_of first.network from to) kept)
+    by None e = subst IsKeptIn (sym e) (piece_kept laws first count (link_places first.network from to) kept)
     by (Some fault) e = subst IsKeptIn (sym e) kept
 comes_kept laws first settles_all outcome within is kept = laws.settled first outcome.network is.count is.receipts kept is.settles
 

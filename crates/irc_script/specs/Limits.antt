@@ -2,12 +2,12 @@
 use Rattle.std.specs.Prelude.{ℕ}
 
 -- the greatest number that a script may have in it, and the last number of a client: 64 bits; our own choice
-unfoldable pub max_number : ℕ
-max_number = 18446744073709551615
+unfoldable pub max_script_number : ℕ
+max_script_number = 18446744073709551615
 
 -- how many servers a script may name; our own choice
-unfoldable pub max_servers : ℕ
-max_servers = 256
+unfoldable pub max_script_servers : ℕ
+max_script_servers = 256
 
 -- how many reads may be made of a script; our own choice
 unfoldable pub max_reads : ℕ

@@ -23,14 +23,14 @@ abbrev pub peer_of : Name → Name → Option KnownPeer
 peer_of server other = if same other server then None else Some (record { name = other; password = script_password })
 
 -- the peers of one of these servers: all others
-abbrev pub peers_of : Name → List Name → List KnownPeer
-peers_of server names = filter_map (peer_of server) names
+abbrev pub peers_for : Name → List Name → List KnownPeer
+peers_for server names = filter_map (peer_of server) names
 
 -- one of these servers: no link, and nobody connected
 abbrev pub first_view : List Name → Name → View
 first_view names server = record {
   routes = alone_known server (codes "Test server") (codes "2024-01-01");
-  peers = peers_of server names;
+  peers = peers_for server names;
   ends = empty;
   clients = empty;
   room = no_room;
@@ -48,20 +48,20 @@ abbrev pub exceeds : Name → Name → Bool
 exceeds name other = is_greater (slice_cmp nat_cmp name other)
 
 -- a name goes in front of the first that is not less
-abbrev pub put_in : Name → List Name → List Name
-put_in name [] = name ∷ []
-put_in name (first ∷ names) = if exceeds name first then first ∷ put_in name names else name ∷ first ∷ names
+abbrev pub name_put_in : Name → List Name → List Name
+name_put_in name [] = name ∷ []
+name_put_in name (first ∷ names) = if exceeds name first then first ∷ name_put_in name names else name ∷ first ∷ names
 
 -- names in order
-abbrev pub in_order : List Name → List Name
-in_order [] = []
-in_order (name ∷ names) = put_in name (in_order names)
+abbrev pub in_name_order : List Name → List Name
+in_name_order [] = []
+in_name_order (name ∷ names) = name_put_in name (in_name_order names)
 
 -- the servers with which a script begins, in the order of their names
 abbrev pub first_network : List Name → Network
 first_network names = record {
-  names = in_order names;
-  sites = map (first_site names) (in_order names);
+  names = in_name_order names;
+  sites = map (first_site names) (in_name_order names);
   links = [];
   homes = [];
   received = [];

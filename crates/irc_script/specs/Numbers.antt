@@ -2,12 +2,12 @@
 use Rattle.std.specs.Prelude.{ℕ, ◌&&◌, not, Bool, Option, Some, None, List, nat_lt, decimal, if◌then◌else◌}
 use Rattle.std.specs.Str.{bytes_eq}
 use Rattle.std.specs.Str.Parse.{digits_value}
-use Rattle.irc_script.specs.Limits.{max_number}
+use Rattle.irc_script.specs.Limits.{max_script_number}
 
 -- whether a word is how the number is written: digits, and no zero in front of others
 abbrev pub writes : ℕ → List ℕ → Bool
 writes number word = bytes_eq word (decimal number)
 
 -- the number that is written so, if it is not too great
-abbrev pub number_of : List ℕ → Option ℕ
-number_of word = let number = digits_value 10 word in if not (nat_lt max_number number) && writes number word then Some number else None
+abbrev pub script_number : List ℕ → Option ℕ
+script_number word = let number = digits_value 10 word in if not (nat_lt max_script_number number) && writes number word then Some number else None

@@ -2,7 +2,7 @@
 use Rattle.std.specs.Prelude.{◌≡◌, ℕ, true, nat_eq, Option, Some, None, List, if◌then◌else◌}
 use Rattle.std.specs.List.{filter_map, flat_map}
 use Rattle.irc_relay.specs.Relay.{IsFront}
-use Rattle.irc_byte_network.specs.ByteNetwork.{ByteNetwork, in_lines, is_byte_rest}
+use Rattle.irc_byte_network.specs.ByteNetwork.{ByteNetwork, net_in_lines, is_byte_rest}
 use Rattle.irc_network.specs.Network.{Receipt, received_by}
 use Rattle.irc_items.specs.Sound.{owed_now, IsSound}
 use Rattle.irc_net.specs.declared.fault.NetFault.{NetFault}
@@ -26,15 +26,15 @@ line_to client (counts count) = None
 line_to client (refuses fault) = None
 
 -- all that a client receives among these, in turn
-abbrev pub lines_to : ℕ → List Entry → List (List ℕ)
-lines_to client entries = filter_map (line_to client) entries
+abbrev pub lines_shown_to : ℕ → List Entry → List (List ℕ)
+lines_shown_to client entries = filter_map (line_to client) entries
 
 -- What is printed by the time the network is this: each client has received a front of what it is owed there, line by line, and at rest all of it. What is on
 -- its way as bytes is the lines that these will complete (in_lines).
 pub record IsPrintedOf (net : ByteNetwork) (text : List ℕ) : Type 0 where
   pub entries : List Entry
   pub text_is : text ≡ flat_map entry_text entries
-  pub received : (client : ℕ) → lines_to client entries ≡ received_by net.network client
-  pub front : (client : ℕ) → IsFront (lines_to client entries) (owed_now (in_lines net) client)
-  pub at_rest : is_byte_rest net ≡ true → (client : ℕ) → lines_to client entries ≡ owed_now (in_lines net) client
-  pub sound : IsSound (in_lines net)
+  pub received : (client : ℕ) → lines_shown_to client entries ≡ received_by net.network client
+  pub front : (client : ℕ) → IsFront (lines_shown_to client entries) (owed_now (net_in_lines net) client)
+  pub at_rest : is_byte_rest net ≡ true → (client : ℕ) → lines_shown_to client entries ≡ owed_now (net_in_lines net) client
+  pub sound : IsSound (net_in_lines net)

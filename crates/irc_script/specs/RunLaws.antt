@@ -4,10 +4,10 @@ use Rattle.std.specs.List.{list_any}
 use Rattle.std.specs.List.Sorted.{IsPermutation}
 use Rattle.irc_byte_network.specs.ByteNetwork.{ByteNetwork, is_byte_rest}
 use Rattle.irc_relay.specs.Links.{Name}
-use Rattle.irc_script.specs.Networks.{exceeds, first_net, in_order}
+use Rattle.irc_script.specs.Networks.{exceeds, first_net, in_name_order}
 use Rattle.irc_script.specs.OneRoom.{IsPrintedOf}
 use Rattle.irc_script.specs.Runs.{Runs}
-use Rattle.irc_script.specs.Scripts.{Asked, Request, settles, script_read}
+use Rattle.irc_script.specs.Scripts.{ScriptAsked, Request, settles, script_read}
 
 -- what is asked for is run to its end
 pub record RunsToItsEnd (first : ByteNetwork) (requests : List Request) : Type 0 where
@@ -17,7 +17,7 @@ pub record RunsToItsEnd (first : ByteNetwork) (requests : List Request) : Type 0
 
 -- Each script that is read can be run to its end.
 abbrev pub EachRuns : Type 0
-EachRuns = (text : List ℕ) (asked : Asked) → script_read text ≡ Ok asked → RunsToItsEnd (first_net asked.servers) asked.requests
+EachRuns = (text : List ℕ) (asked : ScriptAsked) → script_read text ≡ Ok asked → RunsToItsEnd (first_net asked.servers) asked.requests
 
 -- two runs come to the same network, and print the same
 pub record SameRun (last other : ByteNetwork) (text more : List ℕ) : Type 0 where
@@ -40,11 +40,11 @@ pub record IsInOrder (names sorted : List Name) : Type 0 where
 
 -- Names in order are the same names, and none is behind a greater one.
 abbrev pub OrderIsSo : Type 0
-OrderIsSo = (names : List Name) → IsInOrder names (in_order names)
+OrderIsSo = (names : List Name) → IsInOrder names (in_name_order names)
 
 -- What a script prints is what its clients receive of one room, at its end and behind each of its requests.
 abbrev pub PrintsOneRoom : Type 0
-PrintsOneRoom = (text : List ℕ) (asked : Asked) (requests left : List Request) (net : ByteNetwork) (printed : List ℕ)
+PrintsOneRoom = (text : List ℕ) (asked : ScriptAsked) (requests left : List Request) (net : ByteNetwork) (printed : List ℕ)
     → script_read text ≡ Ok asked → asked.requests ≡ requests ++ left → Runs (first_net asked.servers) requests net printed → IsPrintedOf net printed
 
 -- Behind a `settle` nothing is on its way.

@@ -15,47 +15,47 @@ use Rattle.irc_script.specs.Moves.{Move, gives, delivers_line, takes_bytes, sett
 use Rattle.irc_script.specs.Networks.{first_net}
 use Rattle.irc_script.specs.OneRoom.{IsPrintedOf}
 use Rattle.irc_script.specs.Printing.{fault_number, printed, refusal_line, taken_text}
-use Rattle.irc_script.specs.Scripts.{Request, Asked, script_read}
+use Rattle.irc_script.specs.Scripts.{Request, ScriptAsked, script_read}
 
 -- what comes of a move: what is printed, and the network then
-pub record Outcome : Type 0 where
+pub record MoveOutcome : Type 0 where
   pub text : List ℕ
   pub network : ByteNetwork
 
 -- what is refused changes nothing
-abbrev pub refused : NetFault → ByteNetwork → Outcome
-refused fault net = record { text = refusal_line (fault_number fault); network = net }
+abbrev pub move_refused : NetFault → ByteNetwork → MoveOutcome
+move_refused fault net = record { text = refusal_line (fault_number fault); network = net }
 
-abbrev pub lines_received : ByteCourse → Outcome
+abbrev pub lines_received : ByteCourse → MoveOutcome
 lines_received course = record { text = flat_map printed course.receipts; network = course.net }
 
-abbrev pub given_or : Option NetFault → Item → ByteNetwork → Outcome
+abbrev pub given_or : Option NetFault → Item → ByteNetwork → MoveOutcome
 given_or None item net = lines_received (item_given item net)
-given_or (Some fault) item net = refused fault net
+given_or (Some fault) item net = move_refused fault net
 
 -- bytes came, or none is on its way
-abbrev pub delivered_by : Option ByteCourse → ByteNetwork → Outcome
+abbrev pub delivered_by : Option ByteCourse → ByteNetwork → MoveOutcome
 delivered_by None net = record { text = taken_text 0 []; network = net }
 delivered_by (Some course) net = record { text = taken_text 1 course.receipts; network = course.net }
 
-abbrev pub delivered_or : Option NetFault → Name → Name → ByteNetwork → Outcome
+abbrev pub delivered_or : Option NetFault → Name → Name → ByteNetwork → MoveOutcome
 delivered_or None from to net = delivered_by (delivery net from to) net
-delivered_or (Some fault) from to net = refused fault net
+delivered_or (Some fault) from to net = move_refused fault net
 
-abbrev pub taken_or : Option NetFault → Name → Name → ℕ → ByteNetwork → Outcome
+abbrev pub taken_or : Option NetFault → Name → Name → ℕ → ByteNetwork → MoveOutcome
 taken_or None from to count net =
     record { text = taken_text (piece_count count net from to) (piece count net from to).receipts; network = (piece count net from to).net }
-taken_or (Some fault) from to count net = refused fault net
+taken_or (Some fault) from to count net = move_refused fault net
 
 -- Bytes come in turn until nothing is on its way.
-pub record IsSettling (net : ByteNetwork) (outcome : Outcome) : Type 0 where
+pub record IsSettling (net : ByteNetwork) (outcome : MoveOutcome) : Type 0 where
   pub count : ℕ
   pub receipts : List Receipt
   pub settles : Settles net count receipts (standing outcome.network)
   pub text_is : outcome.text ≡ taken_text count receipts
 
 -- what comes of a move, as the network's definitions say
-abbrev pub Comes : ByteNetwork → Move → Outcome → Type 0
+abbrev pub Comes : ByteNetwork → Move → MoveOutcome → Type 0
 Comes net (gives item) outcome = outcome ≡ given_or (item_fault net item) item net
 Comes net (delivers_line from to) outcome = outcome ≡ delivered_or (deliver_fault net from to) from to net
 Comes net (takes_bytes from to count) outcome = outcome ≡ taken_or (deliver_fault net from to) from to count net
@@ -64,7 +64,7 @@ Comes net settles_all outcome = IsSettling net outcome
 -- Moves are made one after another, and what comes of each is printed.
 pub data Plays : ByteNetwork → List Move → ByteNetwork → List ℕ → Type 0 where
   nothing : {first : ByteNetwork} → Plays first [] first []
-  move : {first last : ByteNetwork} {m : Move} {moves : List Move} {more text : List ℕ} (outcome : Outcome)
+  move : {first last : ByteNetwork} {m : Move} {moves : List Move} {more text : List ℕ} (outcome : MoveOutcome)
       → Comes first m outcome → text ≡ outcome.text ++ more → Plays outcome.network moves last more → Plays first (m ∷ moves) last text
 
 -- The same of what a script asks for.
@@ -81,7 +81,7 @@ IsTextOf text remaining = IfSome remaining (λ bytes. text ≡ bytes)
 pub record Finished (remaining old new : Option (List ℕ)) : Type 0 where
   pub text : List ℕ
   pub is_text : IsTextOf text remaining
-  pub asked : Asked
+  pub asked : ScriptAsked
   pub read : script_read text ≡ Ok asked
   pub last : ByteNetwork
   pub printed : List ℕ
@@ -105,7 +105,7 @@ pub record IsFront (front whole : List ℕ) : Type 0 where
 pub record CutShort (remaining old new : Option (List ℕ)) : Type 0 where
   pub text : List ℕ
   pub is_text : IsTextOf text remaining
-  pub asked : Asked
+  pub asked : ScriptAsked
   pub read : script_read text ≡ Ok asked
   pub last : ByteNetwork
   pub whole : List ℕ

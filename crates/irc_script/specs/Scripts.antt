@@ -6,8 +6,8 @@ use Rattle.std.specs.Str.{bytes_eq}
 use Rattle.irc_line.specs.Bytes.{line_feed, is_space}
 use Rattle.irc_line.specs.Lines.{is_empty, last_piece, earlier_pieces}
 use Rattle.irc_names.specs.Names.{is_server, is_host}
-use Rattle.irc_script.specs.Limits.{max_servers}
-use Rattle.irc_script.specs.Numbers.{number_of}
+use Rattle.irc_script.specs.Limits.{max_script_servers}
+use Rattle.irc_script.specs.Numbers.{script_number}
 
 -- what one line asks for
 pub data Request : Type 0 where
@@ -51,8 +51,8 @@ is_word text word = bytes_eq text word
 abbrev pub named_in : Cut → Option (List ℕ)
 named_in line = if is_word line.before (codes "server") && is_server line.behind then Some line.behind else None
 
-abbrev pub server_named : List ℕ → Option (List ℕ)
-server_named line = option_and_then named_in (cut_at_space line)
+abbrev pub server_declared : List ℕ → Option (List ℕ)
+server_declared line = option_and_then named_in (cut_at_space line)
 
 -- `NAME HOST`
 abbrev pub connect_in : Cut → Option Request
@@ -63,14 +63,14 @@ connect_of words = option_and_then connect_in (cut_at_space words)
 
 -- `N REST`
 abbrev pub say_in : Cut → Option Request
-say_in words = option_map (λ client. says client words.behind) (number_of words.before)
+say_in words = option_map (λ client. says client words.behind) (script_number words.before)
 
 abbrev pub say_of : List ℕ → Option Request
 say_of words = option_and_then say_in (cut_at_space words)
 
 -- `N`
 abbrev pub gone_of : List ℕ → Option Request
-gone_of word = option_map goes (number_of word)
+gone_of word = option_map goes (script_number word)
 
 -- the names of two servers
 pub record Pair : Type 0 where
@@ -84,8 +84,8 @@ pair_in words = if is_server words.before && is_server words.behind then Some (r
 abbrev pub pair_of : List ℕ → Option Pair
 pair_of words = option_and_then pair_in (cut_at_space words)
 
-abbrev pub link_of : List ℕ → Option Request
-link_of words = option_map (λ pair. links pair.near pair.far) (pair_of words)
+abbrev pub link_request : List ℕ → Option Request
+link_request words = option_map (λ pair. links pair.near pair.far) (pair_of words)
 
 abbrev pub cut_of : List ℕ → Option Request
 cut_of words = option_map (λ pair. cuts pair.near pair.far) (pair_of words)
@@ -96,7 +96,7 @@ deliver_of words = option_map (λ pair. delivers pair.near pair.far) (pair_of wo
 -- `NAME N`, behind a name
 abbrev pub bytes_from : List ℕ → Cut → Option Request
 bytes_from from words =
-    if is_server from && is_server words.before then option_map (λ count. takes from words.before count) (number_of words.behind) else None
+    if is_server from && is_server words.before then option_map (λ count. takes from words.before count) (script_number words.behind) else None
 
 abbrev pub bytes_in : Cut → Option Request
 bytes_in words = option_and_then (bytes_from words.before) (cut_at_space words.behind)
@@ -111,7 +111,7 @@ request_in line =
     if is_word line.before (codes "connect") then connect_of line.behind
     else if is_word line.before (codes "say") then say_of line.behind
     else if is_word line.before (codes "gone") then gone_of line.behind
-    else if is_word line.before (codes "link") then link_of line.behind
+    else if is_word line.before (codes "link") then link_request line.behind
     else if is_word line.before (codes "cut") then cut_of line.behind
     else if is_word line.before (codes "deliver") then deliver_of line.behind
     else if is_word line.before (codes "bytes") then bytes_asked line.behind
@@ -123,14 +123,14 @@ request_of line = if is_word line (codes "settle") then Some settles else option
 
 -- whether a server of this name may be named behind these: none has the name, and there is room for one more
 abbrev pub may_be_named : List (List ℕ) → List ℕ → Bool
-may_be_named named name = nat_lt (length named) max_servers && not (list_any (bytes_eq name) named)
+may_be_named named name = nat_lt (length named) max_script_servers && not (list_any (bytes_eq name) named)
 
 abbrev pub if_another : List (List ℕ) → List ℕ → Option (List ℕ)
 if_another named name = if may_be_named named name then Some name else None
 
 -- the server that a line names behind these, if it names another
 abbrev pub another_server : List (List ℕ) → List ℕ → Option (List ℕ)
-another_server named line = option_and_then (if_another named) (server_named line)
+another_server named line = option_and_then (if_another named) (server_declared line)
 
 -- these, and those that the lines name behind them: the first line that names no other is the end
 unfoldable pub servers_behind : List (List ℕ) → List (List ℕ) → List (List ℕ)
@@ -142,26 +142,26 @@ servers_behind named (line ∷ lines) =
 abbrev pub servers_of : List (List ℕ) → List (List ℕ)
 servers_of lines = servers_behind [] lines
 
-pub record Asked : Type 0 where
+pub record ScriptAsked : Type 0 where
   pub servers : List (List ℕ)
   pub requests : List Request
 
 -- the first of these lines that asks for nothing is bad; lines are counted from 1
-abbrev pub judged : List (List ℕ) → List (List ℕ) → Option ℕ → Result Asked ℕ
+abbrev pub judged : List (List ℕ) → List (List ℕ) → Option ℕ → Result ScriptAsked ℕ
 judged servers lines (Some bad) = Err (length servers + bad + 1)
 judged servers lines None = Ok (record { servers = servers; requests = filter_map request_of lines })
 
 -- whether a line asks for nothing
-abbrev pub is_bad : List ℕ → Bool
-is_bad line = is_none (request_of line)
+abbrev pub is_bad_line : List ℕ → Bool
+is_bad_line line = is_none (request_of line)
 
-abbrev pub behind_servers : List (List ℕ) → List (List ℕ) → Result Asked ℕ
-behind_servers servers lines = judged servers lines (position is_bad lines)
+abbrev pub behind_servers : List (List ℕ) → List (List ℕ) → Result ScriptAsked ℕ
+behind_servers servers lines = judged servers lines (position is_bad_line lines)
 
 -- each server stands in a line of its own, ahead of all that is asked for
-abbrev pub lines_read : List (List ℕ) → Result Asked ℕ
+abbrev pub lines_read : List (List ℕ) → Result ScriptAsked ℕ
 lines_read lines = behind_servers (servers_of lines) (drop (length (servers_of lines)) lines)
 
 -- what a script asks for, or the number of its first bad line
-unfoldable pub script_read : List ℕ → Result Asked ℕ
+unfoldable pub script_read : List ℕ → Result ScriptAsked ℕ
 script_read text = lines_read (script_lines text)

@@ -32,5 +32,5 @@ IsPrinted (Ok _) old new text = Prints old new text
 IsPrinted (Err fault) old new text = Loses old new text
 
 -- A text is written: all of it, or a front of it where the writer fails.
-abbrev pub Tells : Option (List ℕ) → Option (List ℕ) → List ℕ → Type 0
-Tells old new text = Loses (sink old []) (sink new []) text
+abbrev pub Wrote : Option (List ℕ) → Option (List ℕ) → List ℕ → Type 0
+Wrote old new text = Loses (sink old []) (sink new []) text

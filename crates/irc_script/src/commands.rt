@@ -2,7 +2,7 @@
 ghost use Rattle.std.specs.Prelude.{◌≡◌, position};
 ghost use Rattle.std.specs.Option.{option_map};
 ghost use Rattle.irc_line.specs.Bytes.{is_space};
-ghost use Rattle.irc_script.specs.Scripts.{is_word, cut_at_space, request_of, connect_of, say_of, gone_of, pair_of, link_of, cut_of, deliver_of, bytes_asked};
+ghost use Rattle.irc_script.specs.Scripts.{is_word, cut_at_space, request_of, connect_of, say_of, gone_of, pair_of, link_request, cut_of, deliver_of, bytes_asked};
 ghost use Rattle.irc_script.specs.ScriptViews.{cut_now, pair_now, request};
 ghost use Rattle.irc_script.specs.Loops.Commands.{request_by};
 
@@ -78,7 +78,7 @@ fn read_connect(words: &[u8]) -> Option<Command<'_>>
 
 /// What follows `link`: the names of two servers.
 fn read_link(words: &[u8]) -> Option<Command<'_>>
-    ensures { option_map request result ≡ link_of words.now }
+    ensures { option_map request result ≡ link_request words.now }
 {
     let (near, far) = read_pair(words)?;
     Some(Command::Link(near, far))

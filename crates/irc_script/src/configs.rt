@@ -1,7 +1,7 @@
 //! How the servers of a script are configured.
 ghost use Rattle.std.specs.Prelude.{◌≡◌, map, IfOk, OnOk};
 ghost use Rattle.irc_stage.specs.View.{known_peer};
-ghost use Rattle.irc_script.specs.Networks.{peers_of};
+ghost use Rattle.irc_script.specs.Networks.{peers_for};
 ghost use Rattle.irc_script.specs.Loops.Configs.{AddsOther, AreConfigured, IsConfigured};
 
 use irc_names::ServerName;
@@ -53,7 +53,7 @@ fn peers_of(
     servers: &[ServerName],
     server: &ServerName,
 ) -> Result<Vec<Peer, Global>, AllocError>
-    ensures { IfOk result (λ peers. map known_peer peers.items ≡ peers_of server.now servers.now) }
+    ensures { IfOk result (λ peers. map known_peer peers.items ≡ peers_for server.now servers.now) }
 {
     let mut peers = Vec::new(alloc);
     for other in servers {

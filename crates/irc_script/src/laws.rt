@@ -1,6 +1,6 @@
 //! What holds of scripts, and of the constants. Each law is a function that does nothing, and its contract is the law.
 ghost use Rattle.std.specs.Prelude.{◌≡◌};
-ghost use Rattle.irc_script.specs.Limits.{max_reads, max_servers, max_writes, read_size, waiting_room};
+ghost use Rattle.irc_script.specs.Limits.{max_reads, max_script_servers, max_writes, read_size, waiting_room};
 ghost use Rattle.irc_script.specs.Loops.Steps.{ScriptsRunOn};
 ghost use Rattle.irc_script.specs.RunLaws.{EachRuns, OrderIsSo, PrintsOneRoom, RunsOneWay, SettlesToRest};
 
@@ -9,9 +9,9 @@ use crate::sim::{MAX_READS, READ_SIZE};
 use crate::sink::{MAX_WRITES, WAITING_ROOM};
 
 /// The constants of the code are the numbers that the definitions name.
-#[tactic(auto, unfolding(crate::specs::Limits::max_reads, crate::specs::Limits::max_servers, crate::specs::Limits::max_writes))]
+#[tactic(auto, unfolding(crate::specs::Limits::max_reads, crate::specs::Limits::max_script_servers, crate::specs::Limits::max_writes))]
 pub fn limits_are_so()
-    ensures servers { MAX_SERVERS ≡ max_servers }
+    ensures servers { MAX_SERVERS ≡ max_script_servers }
     ensures reads { MAX_READS ≡ max_reads }
     ensures read { READ_SIZE ≡ read_size }
     ensures writes { MAX_WRITES ≡ max_writes }

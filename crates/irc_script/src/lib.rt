@@ -9,9 +9,9 @@ mod lines;
 mod number;
 mod printing;
 mod script;
+mod script_run;
 mod sim;
 mod sink;
-mod stage;
 #[cfg(test)]
 mod tests;
 

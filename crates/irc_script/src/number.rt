@@ -1,13 +1,13 @@
 //! Numbers in a script.
 ghost use Rattle.std.specs.Prelude.{◌≡◌};
-ghost use Rattle.irc_script.specs.Numbers.{number_of, writes};
+ghost use Rattle.irc_script.specs.Numbers.{script_number, writes};
 
 use itoa::Buffer;
 use std::str::from_utf8;
 
 /// The number that a word is, of at most 64 bits, as the program itself writes it: no sign, and no zero in front of other digits.
 pub fn read_number(word: &[u8]) -> Option<u64>
-    ensures { result ≡ number_of word.now }
+    ensures { result ≡ script_number word.now }
 {
     let Ok(text) = from_utf8(word) else {
         return None;

@@ -3,9 +3,9 @@ ghost use Rattle.std.specs.Prelude.{◌≡◌, ◌≤◌, IfOk, length, option_t
 ghost use Rattle.std.specs.List.{filter_map, list_any, slice_split};
 ghost use Rattle.std.specs.Option.{option_map};
 ghost use Rattle.std.specs.Str.{bytes_eq};
-ghost use Rattle.irc_script.specs.Scripts.{is_line_feed, ended, is_bad, server_named, may_be_named, another_server, servers_of, request_of};
+ghost use Rattle.irc_script.specs.Scripts.{is_line_feed, ended, is_bad_line, server_declared, may_be_named, another_server, servers_of, request_of};
 ghost use Rattle.irc_script.specs.Loops.Commands.{AddsCommand, requests_in};
-ghost use Rattle.irc_script.specs.ScriptViews.{lines_now, requests, IsReadAs};
+ghost use Rattle.irc_script.specs.ScriptViews.{lines_now, requests, IsScriptRead};
 
 use crate::commands::{Command, cut_at_space, is_word, read_command};
 use crate::fault::SimFault;
@@ -32,7 +32,7 @@ pub struct Script<'a> {
 /// # Errors
 /// The first line that is none of these; else where memory runs out.
 pub fn read_script(alloc: Global, text: &[u8]) -> Result<Script<'_>, SimFault>
-    ensures { IsReadAs result text.now }
+    ensures { IsScriptRead result text.now }
 {
     let pieces = pieces(alloc, text)?;
     let lines = whole_lines(&pieces);
@@ -92,7 +92,7 @@ fn another_server(servers: &[ServerName], line: &[u8]) -> Option<ServerName>
 }
 
 /// Whether a server of this name may be named behind these.
-#[tactic(auto, unfolding(crate::specs::Limits::max_servers))]
+#[tactic(auto, unfolding(crate::specs::Limits::max_script_servers))]
 fn may_be_named(servers: &[ServerName], name: &ServerName) -> bool
     ensures { result ≡ may_be_named servers.now name.now }
 {
@@ -108,7 +108,7 @@ fn is_named(servers: &[ServerName], name: &[u8]) -> bool
 
 /// The name in a line `server NAME`.
 fn read_server(line: &[u8]) -> Option<ServerName>
-    ensures { result ≡ server_named line.now }
+    ensures { result ≡ server_declared line.now }
 {
     let (word, rest) = cut_at_space(line)?;
     if is_word(word, b"server") {
@@ -120,14 +120,14 @@ fn read_server(line: &[u8]) -> Option<ServerName>
 
 /// Where the first line stands that is no command.
 fn first_bad(lines: &[&[u8]]) -> Option<usize>
-    ensures { result ≡ position (λ line. is_bad line.now) lines.now }
+    ensures { result ≡ position (λ line. is_bad_line line.now) lines.now }
 {
     lines.iter().position(|line| is_bad(line))
 }
 
 /// Whether a line is no command.
 fn is_bad(line: &[u8]) -> bool
-    ensures { result ≡ is_bad line.now }
+    ensures { result ≡ is_bad_line line.now }
 {
     read_command(line).is_none()
 }

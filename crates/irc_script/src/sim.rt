@@ -11,8 +11,8 @@ use crate::fault::{SimFault, Trouble};
 use crate::laws;
 use crate::printing::written;
 use crate::script::read_script;
+use crate::script_run::ScriptRun;
 use crate::sink::{Waiting, flush, write_waiting};
-use crate::stage::Stage;
 use std::alloc::Global;
 use std::io::{Read, Write};
 
@@ -44,8 +44,8 @@ pub fn run_sim<R: Read, W: Write>(
     laws::scripts_run_on();
     let text = read_text(alloc, input)?;
     let script = read_script(alloc, &text)?;
-    let mut stage = Stage::new(alloc, &script.servers)?;
-    run_all(&mut stage, &script.commands, output)?;
+    let mut run = ScriptRun::new(alloc, &script.servers)?;
+    run_all(&mut run, &script.commands, output)?;
     Ok(())
 }
 
@@ -89,30 +89,30 @@ fn read_some<R: Read>(input: &mut R, piece: &mut [u8]) -> Result<usize, Trouble>
 
 /// Runs commands, and writes all that they print; also where memory runs out, what was printed before that.
 fn run_all<W: Write>(
-    stage: &mut Stage,
+    run: &mut ScriptRun,
     commands: &[Command<'_>],
     output: &mut W,
 ) -> Result<(), Trouble>
-    ensures { RunsAll W.contents result commands.now stage.old output.old stage.new output.new }
+    ensures { RunsAll W.contents result commands.now run.old output.old run.new output.new }
 {
     let mut waiting = Waiting::new();
-    let performed = perform_all(stage, commands, &mut waiting, output);
+    let performed = perform_all(run, commands, &mut waiting, output);
     write_waiting(&mut waiting, output)?;
     performed?;
     written(flush(output))
 }
 
 fn perform_all<W: Write>(
-    stage: &mut Stage,
+    run: &mut ScriptRun,
     commands: &[Command<'_>],
     waiting: &mut Waiting,
     output: &mut W,
 ) -> Result<(), Trouble>
     ensures { PerformsAll W.contents result commands.now
-        stage.old output.old waiting.old stage.new output.new waiting.new }
+        run.old output.old waiting.old run.new output.new waiting.new }
 {
     for command in commands {
-        stage.perform(command, waiting, output)?;
+        run.perform(command, waiting, output)?;
     }
     Ok(())
 }

@@ -3,7 +3,7 @@ ghost use Rattle.std.specs.Prelude.{◌≡◌, [], IfOk, OnOk, OnErr};
 ghost use Rattle.std.specs.Io.KnownBytes.{Appends, Keeps};
 ghost use Rattle.arrayvec.specs.ArrayVec.{array_vec_len};
 ghost use Rattle.irc_script.specs.Loops.Steps.{IsRest, PrintsText, pieces_text};
-ghost use Rattle.irc_script.specs.Sinks.{Tells};
+ghost use Rattle.irc_script.specs.Sinks.{Wrote};
 
 use crate::fault::Unwritten;
 use arrayvec::ArrayVec;
@@ -73,7 +73,7 @@ pub fn write_waiting<W: Write>(waiting: &mut Waiting, output: &mut W) -> Result<
 /// Where a write fails, or [`MAX_WRITES`] do not end it. What was written then is a front of the text.
 pub fn write_whole<W: Write>(text: &[u8], output: &mut W) -> Result<(), Unwritten>
     ensures whole { OnOk result (Appends (W.contents output.old) (W.contents output.new) text.now) }
-    ensures front { Tells (W.contents output.old) (W.contents output.new) text.now }
+    ensures front { Wrote (W.contents output.old) (W.contents output.new) text.now }
 {
     let mut rest = text;
     for _ in 0..MAX_WRITES {

@@ -1,9 +1,9 @@
 //! Scripts that are bad, and devices that fail.
 use crate::fault::SimFault;
 use crate::script::read_script;
+use crate::script_run::ScriptRun;
 use crate::sim::run_sim;
 use crate::sink::Waiting;
-use crate::stage::Stage;
 use irc_names::ServerName;
 use itoa::Buffer;
 use std::alloc::{AllocError, Global};
@@ -276,26 +276,25 @@ say 1 MODE #m +bbb a!*@* b!*@* c!*@*\nsay 1 MODE #m +b d!*@*\nsay 1 TOPIC #m :he
 connect b.net h\nsay 2 NICK bo\nsay 2 USER u 0 * :Bo\n";
 
 /// The network behind a script, of two parts.
-fn network_behind(alloc: Global, front: &[u8], behind: &[u8]) -> Result<Stage, SimFault> {
+fn network_behind(alloc: Global, front: &[u8], behind: &[u8]) -> Result<ScriptRun, SimFault> {
     let mut text = Vec::new(alloc);
     text.extend_from_slice(front)?;
     text.extend_from_slice(behind)?;
     let script = read_script(alloc, &text)?;
-    let mut stage = Stage::new(alloc, &script.servers)?;
+    let mut run = ScriptRun::new(alloc, &script.servers)?;
     let mut waiting = Waiting::new();
     let mut output = Vec::new(alloc);
     for command in &script.commands {
-        stage.perform(command, &mut waiting, &mut output)?;
+        run.perform(command, &mut waiting, &mut output)?;
     }
-    Ok(stage)
+    Ok(run)
 }
 
 /// Whether a.net and a server agree then.
 fn agree(alloc: Global, front: &[u8], behind: &[u8], other: &[u8]) -> Option<bool> {
-    let stage = network_behind(alloc, front, behind).ok()?;
+    let run = network_behind(alloc, front, behind).ok()?;
     Some(
-        stage
-            .net
+        run.net
             .agrees(&ServerName::read(b"a.net")?, &ServerName::read(other)?),
     )
 }

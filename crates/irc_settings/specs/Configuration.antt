@@ -60,7 +60,7 @@ abbrev pub is_configuration : List ℕ → Bool
 is_configuration text = option_map_or (is_in_form server_keys) (parse_document text) false
 
 -- what comes of reading a text
-abbrev pub IsReadAs : List ℕ → Result Settings SettingsFault → Type 0
-IsReadAs text (Ok settings) = (document : Members) × (parse_document text ≡ Some document) × (is_in_form server_keys document ≡ true) × Tells document settings
-IsReadAs text (Err BadConfiguration) = is_configuration text ≡ false
-IsReadAs text (Err Memory) = Unit {0}
+abbrev pub AreSettingsOf : List ℕ → Result Settings SettingsFault → Type 0
+AreSettingsOf text (Ok settings) = (document : Members) × (parse_document text ≡ Some document) × (is_in_form server_keys document ≡ true) × Tells document settings
+AreSettingsOf text (Err BadConfiguration) = is_configuration text ≡ false
+AreSettingsOf text (Err Memory) = Unit {0}

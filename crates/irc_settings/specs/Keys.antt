@@ -25,9 +25,9 @@ needed name kind = record { name = name; kind = kind; is_needed = true }
 abbrev pub optional : List ℕ → Kind → Key
 optional name kind = record { name = name; kind = kind; is_needed = false }
 
-abbrev pub is_between : ℕ → ℕ → ℤ → Bool
-is_between least most (pos number) = nat_le least number && nat_le number most
-is_between least most (negsuc number) = false
+abbrev pub is_number_between : ℕ → ℕ → ℤ → Bool
+is_number_between least most (pos number) = nat_le least number && nat_le number most
+is_number_between least most (negsuc number) = false
 
 -- the values of an array, and the keys of a table
 abbrev pub values_in : Items → List Data
@@ -46,22 +46,22 @@ abbrev pub are_tables : (Members → Bool) → Items → Bool
 are_tables test items = list_all (is_table test) (values_in items)
 
 -- whether a value may stand at a key of this kind
-abbrev pub is_of : Kind → Data → Bool
-is_of text value = is_some (as_str value)
-is_of (integer least most) value = option_map_or (is_between least most) (as_integer value) false
-is_of (tables test) value = option_map_or (are_tables test) (as_array value) false
+abbrev pub is_of_kind : Kind → Data → Bool
+is_of_kind text value = is_some (as_str value)
+is_of_kind (integer least most) value = option_map_or (is_number_between least most) (as_integer value) false
+is_of_kind (tables test) value = option_map_or (are_tables test) (as_array value) false
 
 -- whether what a table has at a key may stand there: where it has nothing, whether the key may be left out
 abbrev pub is_kept : Members → Key → Bool
-is_kept table key = option_map_or (is_of key.kind) (get_member key.name table) (not key.is_needed)
+is_kept table key = option_map_or (is_of_kind key.kind) (get_member key.name table) (not key.is_needed)
 
 -- whether a name is one of these keys
-abbrev pub is_key : List Key → List ℕ → Bool
-is_key keys name = list_any (λ key. bytes_eq name key.name) keys
+abbrev pub is_known_key : List Key → List ℕ → Bool
+is_known_key keys name = list_any (λ key. bytes_eq name key.name) keys
 
 -- whether a table has these keys, each with what may stand there, and no others
 abbrev pub is_in_form : List Key → Members → Bool
-is_in_form keys table = list_all (is_key keys) (keys_in table) && list_all (is_kept table) keys
+is_in_form keys table = list_all (is_known_key keys) (keys_in table) && list_all (is_kept table) keys
 
 -- the keys of a table `peer`: a server that may be linked to
 abbrev pub peer_keys : List Key

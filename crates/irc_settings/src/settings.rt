@@ -1,6 +1,6 @@
 //! What stands in the configuration file of the daemon.
 ghost use Rattle.toml.specs.View.{table_view};
-ghost use Rattle.irc_settings.specs.Configuration.{IsReadAs};
+ghost use Rattle.irc_settings.specs.Configuration.{AreSettingsOf};
 ghost use Rattle.irc_settings.specs.Loops.Finding.{IsParsedAs, ReadsSettings};
 
 use crate::finding::{has_only, optional_text, room, text};
@@ -59,7 +59,7 @@ pub struct PeerSettings {
 /// # Errors
 /// Where the text is no such document; where memory runs out, which may come first.
 pub fn read_settings(alloc: Global, text: &str) -> Result<Settings, SettingsFault>
-    ensures { IsReadAs text.now result }
+    ensures { AreSettingsOf text.now result }
 {
     let document = document(alloc, text)?;
     settings_in(alloc, &document)

@@ -9,7 +9,7 @@ use Rattle.irc_server.specs.declared.event.Event.TheVariants.{Connect, Line, Gon
 use Rattle.irc_server.specs.declared.event.ServerFault.{ServerFault}
 use Rattle.irc_stage.specs.declared.clients.Client.{Client}
 use Rattle.irc_stage.specs.View.{End, View}
-use Rattle.irc_sites.specs.Site.{Replies, Reply, Site, is_taken, reply}
+use Rattle.irc_sites.specs.Site.{Replies, Reply, Site, serves_occurrence, reply}
 use Rattle.irc_sites.specs.Loops.Sites.{is_want}
 
 -- ---- what is refused is not taken, and what is not refused is
@@ -35,7 +35,7 @@ end_some : (o : Option End) → no_link o ≡ None → is_some o ≡ true
 end_some None e = cc e
 end_some (Some c) e = refl
 
-pub taken_then : (view : View) (event : Event) → fault_of view event ≡ None → is_taken view (occurrence_of event) ≡ true
+pub taken_then : (view : View) (event : Event) → fault_of view event ≡ None → serves_occurrence view (occurrence_of event) ≡ true
 taken_then view (Connect conn host) e = at_none (get view.clients conn) e
 taken_then view (Line conn line) e = at_some (get view.clients conn) e
 taken_then view (Gone conn) e = at_some (get view.clients conn) e
@@ -59,7 +59,7 @@ end_not_some : (o : Option End) (f : ServerFault) → no_link o ≡ Some f → i
 end_not_some None f e = refl
 end_not_some (Some c) f e = cc e
 
-pub refused_then : (view : View) (event : Event) (f : ServerFault) → fault_of view event ≡ Some f → is_taken view (occurrence_of event) ≡ false
+pub refused_then : (view : View) (event : Event) (f : ServerFault) → fault_of view event ≡ Some f → serves_occurrence view (occurrence_of event) ≡ false
 refused_then view (Connect conn host) f e = not_none (get view.clients conn) f e
 refused_then view (Line conn line) f e = not_some (get view.clients conn) f e
 refused_then view (Gone conn) f e = not_some (get view.clients conn) f e

@@ -13,13 +13,13 @@ use Rattle.std.specs.Option.{option_map_or}
 use Rattle.arrayvec.specs.ArrayVec.{ArrayVec}
 use Rattle.irc_links.specs.Lemmas.Listed.{listed}
 use Rattle.irc_routes.specs.Lemmas.TableRows.{held}
-use Rattle.irc_sites.specs.Loops.Queues.{bytes_of}
+use Rattle.irc_sites.specs.Loops.Queues.{line_bytes}
 use Rattle.irc_sites.specs.Loops.Sites.{IsTaken, IsTakenFrom}
 use Rattle.std.specs.BTreeMap.{BTreeMap, get as number_in}
 use Rattle.irc_links.specs.Loops.Numbered.{numbered}
 use Rattle.irc_stage.specs.Lemmas.Numbers.{get-numbered, get-with, one_number, same_number}
 use Rattle.irc_stage.specs.View.{View}
-use Rattle.irc_sites.specs.Site.{Site, body, left, queued, waiting}
+use Rattle.irc_sites.specs.Site.{Site, line_body, left, line_queued, waiting}
 
 abbrev pub Queues : Type 0
 Queues = FinMap nat_cmp (List (List ℕ))
@@ -30,14 +30,14 @@ with_queues site queues = record site { queues = queues }
 -- a line behind the others
 
 abbrev pub behind : Site → ℕ → List ℕ → List (List ℕ) → Site
-behind site to text lines = with_queues site (insert site.queues to (lines ++ body text ∷ []))
+behind site to text lines = with_queues site (insert site.queues to (lines ++ line_body text ∷ []))
 
 pub put_behind : (site : Site) (to : ℕ) (text : List ℕ) (lines : List (List ℕ)) (queues : Queues) → get site.queues to ≡ Some lines
-    → queues ≡ insert site.queues to (lines ++ body text ∷ []) → with_queues site queues ≡ queued to text site
+    → queues ≡ insert site.queues to (lines ++ line_body text ∷ []) → with_queues site queues ≡ line_queued to text site
 put_behind site to text lines queues is put =
     ap (with_queues site) put ∙ sym (ap (λ o. option_map_or (behind site to text) o site) is)
 
-pub nowhere : (site : Site) (to : ℕ) (text : List ℕ) → get site.queues to ≡ None → site ≡ queued to text site
+pub nowhere : (site : Site) (to : ℕ) (text : List ℕ) → get site.queues to ≡ None → site ≡ line_queued to text site
 nowhere site to text is = sym (ap (λ o. option_map_or (behind site to text) o site) is)
 
 -- the lines on a way
@@ -91,7 +91,7 @@ first_taken queues server to line lines rest after is parts put = record {
 }
 
 pub taken : (queues : Queues) (server : Option View) (to : ℕ) (result : Option (ArrayVec ℕ)) (lines new : List (List ℕ)) (after : Queues) → get queues to ≡ Some lines
-    → option_map bytes_of result ≡ slice_get lines 0 → lines ≡ option_to_list (option_map bytes_of result) ++ new → after ≡ insert queues to new
+    → option_map line_bytes result ≡ slice_get lines 0 → lines ≡ option_to_list (option_map line_bytes result) ++ new → after ≡ insert queues to new
     → IsTaken to result (record { server = server; queues = queues }) (record { server = server; queues = after })
 taken queues server to None lines new after is first left put =
     let none : lines ≡ [] = empty_then lines first in (

@@ -45,13 +45,13 @@ abbrev pub first_way : Site → Option ℕ
 first_way site = find (waits site) (keys site.queues)
 
 -- a line without its CR LF
-abbrev pub body : List ℕ → List ℕ
-body text = take (length text - 2) text
+abbrev pub line_body : List ℕ → List ℕ
+line_body text = take (length text - 2) text
 
 -- a line waits behind the others, if there is a way
-abbrev pub queued : ℕ → List ℕ → Site → Site
-queued to text site =
-    option_map_or (λ lines. record site { queues = insert site.queues to (lines ++ body text ∷ []) }) (get site.queues to) site
+abbrev pub line_queued : ℕ → List ℕ → Site → Site
+line_queued to text site =
+    option_map_or (λ lines. record site { queues = insert site.queues to (lines ++ line_body text ∷ []) }) (get site.queues to) site
 
 abbrev pub left : ℕ → List (List ℕ) → Site → Site
 left to lines site = record site { queues = insert site.queues to lines }
@@ -66,13 +66,13 @@ without_way to site = record site { queues = remove site.queues to }
 -- ---- what a server puts out
 
 -- whether a server serves what happens, rather than refusing it: the client or the link is there, or is not there yet
-abbrev pub is_taken : View → Occurrence → Bool
-is_taken view (of_client (connects conn host)) = is_none (get view.clients conn)
-is_taken view (of_client (says conn read)) = is_some (get view.clients conn)
-is_taken view (of_client (goes conn)) = is_some (get view.clients conn)
-is_taken view (link_up number starts) = is_none (get view.ends number)
-is_taken view (link_says number read) = is_some (get view.ends number)
-is_taken view (link_down number) = is_some (get view.ends number)
+abbrev pub serves_occurrence : View → Occurrence → Bool
+serves_occurrence view (of_client (connects conn host)) = is_none (get view.clients conn)
+serves_occurrence view (of_client (says conn read)) = is_some (get view.clients conn)
+serves_occurrence view (of_client (goes conn)) = is_some (get view.clients conn)
+serves_occurrence view (link_up number starts) = is_none (get view.ends number)
+serves_occurrence view (link_says number read) = is_some (get view.ends number)
+serves_occurrence view (link_down number) = is_some (get view.ends number)
 
 -- a server after something that happens, and what it puts out; what it refuses changes nothing
 pub record Reply : Type 0 where
@@ -81,7 +81,7 @@ pub record Reply : Type 0 where
 
 abbrev pub reply : View → Occurrence → Reply
 reply view occurrence =
-    if is_taken view occurrence then record { view = (served view occurrence).view; out = (served view occurrence).out }
+    if serves_occurrence view occurrence then record { view = (served view occurrence).view; out = (served view occurrence).out }
     else record { view = view; out = [] }
 
 -- the server was there, and replied

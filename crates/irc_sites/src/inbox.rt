@@ -1,7 +1,7 @@
 //! What a client has received.
 ghost use Rattle.std.specs.Prelude.{◌≡◌, ◌≤◌, [], ◌∷◌, ◌++◌, length, map, OnOk};
 ghost use Rattle.irc_line.specs.Limits.{max_text};
-ghost use Rattle.irc_sites.specs.Loops.Queues.{bytes_of};
+ghost use Rattle.irc_sites.specs.Loops.Queues.{line_bytes};
 
 use irc_line::Text;
 use irc_names::copied;
@@ -17,11 +17,11 @@ pub struct Inbox {
 /// In a clause it is the bytes of its lines, the oldest first.
 impl Model for Inbox {
     ghost use Rattle.std.specs.Prelude.{ℕ, List, map};
-    ghost use Rattle.irc_sites.specs.Loops.Queues.{bytes_of};
+    ghost use Rattle.irc_sites.specs.Loops.Queues.{line_bytes};
 
     ghost Value = { List (List ℕ) };
 
-    ghost view = { λ inbox. map bytes_of inbox.texts.items };
+    ghost view = { λ inbox. map line_bytes inbox.texts.items };
 }
 
 impl Inbox {
@@ -50,7 +50,7 @@ impl Inbox {
 
     /// The lines, the oldest first.
     pub fn as_slice(&self) -> &[Text]
-        ensures { map bytes_of result.now ≡ self.now }
+        ensures { map line_bytes result.now ≡ self.now }
     {
         self.texts.as_slice()
     }

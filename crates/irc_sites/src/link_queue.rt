@@ -3,7 +3,7 @@ ghost use Rattle.std.specs.Prelude.{◌≡◌, [], ◌∷◌, ◌++◌, option_t
 ghost use Rattle.std.specs.List.{slice_get};
 ghost use Rattle.std.specs.Option.{option_copied, option_map};
 ghost use Rattle.irc_sites.specs.Site.{is_nothing};
-ghost use Rattle.irc_sites.specs.Loops.Queues.{bytes_of};
+ghost use Rattle.irc_sites.specs.Loops.Queues.{line_bytes};
 
 use irc_line::Line;
 use std::alloc::{AllocError, Global};
@@ -19,11 +19,11 @@ pub struct LinkQueue {
 /// In a clause it is the bytes of its lines, the oldest first.
 impl Model for LinkQueue {
     ghost use Rattle.std.specs.Prelude.{ℕ, List, map};
-    ghost use Rattle.irc_sites.specs.Loops.Queues.{bytes_of};
+    ghost use Rattle.irc_sites.specs.Loops.Queues.{line_bytes};
 
     ghost Value = { List (List ℕ) };
 
-    ghost view = { λ queue. map bytes_of queue.lines };
+    ghost view = { λ queue. map line_bytes queue.lines };
 }
 
 impl LinkQueue {
@@ -41,7 +41,7 @@ impl LinkQueue {
     /// # Errors
     /// Where memory runs out; nothing has changed then.
     pub fn push(&mut self, line: Line) -> Result<(), AllocError>
-        ensures ok { OnOk result (self.new ≡ self.old ++ bytes_of line ∷ []) }
+        ensures ok { OnOk result (self.new ≡ self.old ++ line_bytes line ∷ []) }
         ensures refused { OnErr result (self.new ≡ self.old) }
     {
         match self.lines.push_back(line) {
@@ -52,15 +52,15 @@ impl LinkQueue {
 
     /// The oldest line, if one waits.
     pub fn first(&self) -> Option<&Line>
-        ensures { option_map bytes_of (option_copied result) ≡ slice_get self.now 0 }
+        ensures { option_map line_bytes (option_copied result) ≡ slice_get self.now 0 }
     {
         self.lines.front()
     }
 
     /// Takes the oldest line, if one waits.
     pub fn take_first(&mut self) -> Option<Line>
-        ensures taken { option_map bytes_of result ≡ slice_get self.old 0 }
-        ensures left { self.old ≡ option_to_list (option_map bytes_of result) ++ self.new }
+        ensures taken { option_map line_bytes result ≡ slice_get self.old 0 }
+        ensures left { self.old ≡ option_to_list (option_map line_bytes result) ++ self.new }
     {
         self.lines.pop_front()
     }

@@ -5,8 +5,8 @@ ghost use Rattle.std.specs.Option.{option_copied, option_map};
 ghost use Rattle.irc_line.specs.Limits.{max_text};
 ghost use Rattle.irc_server.specs.Happening.{occurrence_of};
 ghost use Rattle.irc_server.specs.Loops.Acting.{room_kept, room_of};
-ghost use Rattle.irc_sites.specs.Site.{body, first_way, is_connected, kept_for, queued, waits, with_way, without_way, Replies};
-ghost use Rattle.irc_sites.specs.Loops.Queues.{bytes_of};
+ghost use Rattle.irc_sites.specs.Site.{first_way, is_connected, kept_for, line_body, line_queued, waits, with_way, without_way, Replies};
+ghost use Rattle.irc_sites.specs.Loops.Queues.{line_bytes};
 ghost use Rattle.irc_sites.specs.Loops.Sites.{is_want, IsTaken};
 
 use crate::link_queue::LinkQueue;
@@ -138,7 +138,7 @@ impl Site {
     /// Where memory runs out.
     pub fn queue(&mut self, to: u64, text: &[u8]) -> Result<(), AllocError>
         requires fits { length text.now ≤ max_text }
-        ensures { OnOk result (self.new ≡ queued to text.now self.old) }
+        ensures { OnOk result (self.new ≡ line_queued to text.now self.old) }
     {
         let Some(queue) = self.queues.get_mut(&to) else {
             return Ok(());
@@ -167,7 +167,7 @@ fn is_want_of_memory(handled: Result<(), ServerFault>) -> bool
 /// A line of at most 512 bytes without its CR LF.
 fn line_of(text: &[u8]) -> Line
     requires fits { length text.now ≤ max_text }
-    ensures { bytes_of result ≡ body text.now }
+    ensures { line_bytes result ≡ line_body text.now }
 {
     copied(&text[..text.len().saturating_sub(LINE_END)])
 }

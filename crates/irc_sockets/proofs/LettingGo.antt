@@ -11,7 +11,7 @@ use Rattle.irc_turns.specs.HeldBack.{HeldBack, held_still, held_at}
 use Rattle.irc_turns.specs.declared.holding.Held.{Held}
 use Rattle.irc_sockets.specs.declared.socket.Socket.{Socket}
 use Rattle.irc_sockets.specs.declared.sockets.Sockets.{Sockets}
-use Rattle.irc_sockets.specs.Numbered.{socket_at, changed_if, changed_at, only, tried_again, asked_again, is_new_again, is_full_one, is_due, ComesLast, QueuesUp, SameButQueue, LetsOneGo}
+use Rattle.irc_sockets.specs.Numbered.{socket_at, socket_changed_if, socket_changed_at, only, tried_again, asked_again, is_new_again, is_full_one, is_due, ComesLast, QueuesUp, SameButQueue, LetsOneGo}
 
 -- ---- those before the place from which one was taken stay
 
@@ -84,13 +84,13 @@ written slab number n old new there keeps full =
     ] refl
 
 full_in : (change : Socket → Socket) (number n : ℕ) (slab : Slab Socket) (slot : Option Socket) → get slab number ≡ slot
-    → ((s : Socket) → (change s).is_full ≡ true → s.is_full ≡ true) → is_full_one (get (changed_if change number slab slot) n) ≡ true
+    → ((s : Socket) → (change s).is_full ≡ true → s.is_full ≡ true) → is_full_one (get (socket_changed_if change number slab slot) n) ≡ true
     → is_full_one (get slab n) ≡ true
 full_in change number n slab None there keeps full = full
 full_in change number n slab (Some socket) there keeps full = written slab number n socket (change socket) there (keeps socket) full
 
-pub fuller : (between after new : Sockets) (by who : ℕ) → after.by_number ≡ changed_at tried_again by between.by_number
-    → new.by_number ≡ changed_at asked_again who after.by_number → (n : ℕ) → is_full_one (socket_at new n) ≡ true → is_full_one (socket_at between n) ≡ true
+pub fuller : (between after new : Sockets) (by who : ℕ) → after.by_number ≡ socket_changed_at tried_again by between.by_number
+    → new.by_number ≡ socket_changed_at asked_again who after.by_number → (n : ℕ) → is_full_one (socket_at new n) ≡ true → is_full_one (socket_at between n) ≡ true
 fuller between after new by who tried asked n full =
     full_in tried_again by n between.by_number _ refl (λ s e. cc e)
     (ap (λ slab. is_full_one (get slab n)) (sym tried)

@@ -14,30 +14,30 @@ use Rattle.irc_sockets.specs.declared.socket.Socket.{Socket}
 use Rattle.irc_sockets.specs.declared.sockets.Sockets.{Sockets}
 use Rattle.irc_turns.specs.HeldBack.{HeldBack, held_too}
 use Rattle.irc_turns.specs.declared.holding.Held.{Held}
-use Rattle.irc_sockets.specs.SocketTurns.{new_socket, is_asked, takes_again, told, turn_over, held_back, held_no_more}
+use Rattle.irc_sockets.specs.SocketTurns.{new_socket, is_asked, takes_again, told_event, turn_over, held_back, held_no_more}
 
 -- the socket under a number, if there is one
 abbrev pub socket_at : Sockets → ℕ → Option Socket
 socket_at sockets number = get sockets.by_number number
 
 -- the numbers of those that are to be reported, in turn
-abbrev pub queue_of : Sockets → List ℕ
-queue_of sockets = sockets.queue.items
+abbrev pub socket_queue : Sockets → List ℕ
+socket_queue sockets = sockets.queue.items
 
 -- those who are first in a queue stand behind the others
-abbrev pub turned : ℕ → List ℕ → List ℕ
-turned count queue = drop count queue ++ take count queue
+abbrev pub turned_queue : ℕ → List ℕ → List ℕ
+turned_queue count queue = drop count queue ++ take count queue
 
 abbrev pub is_queued_one : Option Socket → Bool
 is_queued_one None = false
 is_queued_one (Some socket) = socket.is_queued
 
-abbrev pub taken_out : Bool → ℕ → List ℕ → List ℕ
-taken_out is_queued number queue = if is_queued then filter (λ queued. not (nat_eq queued number)) queue else queue
+abbrev pub queue_taken_from : Bool → ℕ → List ℕ → List ℕ
+queue_taken_from is_queued number queue = if is_queued then filter (λ other. not (nat_eq other number)) queue else queue
 
 -- without a number whose socket was among them
 abbrev pub queue_without : ℕ → Sockets → List ℕ
-queue_without number sockets = taken_out (is_queued_one (socket_at sockets number)) number (queue_of sockets)
+queue_without number sockets = queue_taken_from (is_queued_one (socket_at sockets number)) number (socket_queue sockets)
 
 -- whoever is new in the queue stands behind the others; or there is no room, and nothing has changed
 abbrev pub QueuesUp : {Z : Type 0} → Bool → ℕ → VecDeque ℕ Z → VecDeque ℕ Z → Type 0
@@ -52,25 +52,25 @@ ComesLast is_new number old new = QueuesUp is_new number old.queue new.queue
 abbrev pub SameButQueue : Sockets → Sockets → Type 0
 SameButQueue old new = new ≡ record old { queue = new.queue }
 
-abbrev pub queued : Socket → Socket
-queued socket = record socket { is_queued = true }
+abbrev pub socket_queued : Socket → Socket
+socket_queued socket = record socket { is_queued = true }
 
 -- ---- one socket comes, or changes
 
 -- a number has a new socket, with the count of all for its serial; the others stay
-abbrev pub IsAdded : TcpStream → Bool → Sockets → Sockets → ℕ → Type 0
-IsAdded stream is_client old new number = Updates old.by_number new.by_number number (Some (new_socket stream is_client new.count))
+abbrev pub IsSocketAdded : TcpStream → Bool → Sockets → Sockets → ℕ → Type 0
+IsSocketAdded stream is_client old new number = Updates old.by_number new.by_number number (Some (new_socket stream is_client new.count))
 
-abbrev pub changed_if : (Socket → Socket) → ℕ → Slab Socket → Option Socket → Slab Socket
-changed_if change number slab None = slab
-changed_if change number slab (Some socket) = with_value slab number (change socket)
+abbrev pub socket_changed_if : (Socket → Socket) → ℕ → Slab Socket → Option Socket → Slab Socket
+socket_changed_if change number slab None = slab
+socket_changed_if change number slab (Some socket) = with_value slab number (change socket)
 
 -- the socket under a number, if there is one, is changed; the others stay
-abbrev pub changed_at : (Socket → Socket) → ℕ → Slab Socket → Slab Socket
-changed_at change number slab = changed_if change number slab (get slab number)
+abbrev pub socket_changed_at : (Socket → Socket) → ℕ → Slab Socket → Slab Socket
+socket_changed_at change number slab = socket_changed_if change number slab (get slab number)
 
 abbrev pub only : (Socket → Socket) → ℕ → Sockets → Sockets
-only change number sockets = record sockets { by_number = changed_at change number sockets.by_number }
+only change number sockets = record sockets { by_number = socket_changed_at change number sockets.by_number }
 
 -- one that was full is tried again
 abbrev pub tried_again : Socket → Socket
@@ -78,17 +78,17 @@ tried_again socket = record socket { is_full = false }
 
 -- what the system tells has it stand in the queue, where it takes bytes again, or has something to say
 abbrev pub noted : Event → Socket → Socket
-noted event socket = record (told socket event) { is_queued = socket.is_queued || (takes_again socket event || is_asked (told socket event)) }
+noted event socket = record (told_event socket event) { is_queued = socket.is_queued || (takes_again socket event || is_asked (told_event socket event)) }
 
 -- somebody has come by it who was not waiting
 abbrev pub has_come : Event → Option Socket → Bool
 has_come event None = false
-has_come event (Some socket) = is_asked (told socket event) && not socket.is_queued
+has_come event (Some socket) = is_asked (told_event socket event) && not socket.is_queued
 
 -- it is new in the queue
 abbrev pub is_new : Event → Option Socket → Bool
 is_new event None = false
-is_new event (Some socket) = (takes_again socket event || is_asked (told socket event)) && not socket.is_queued
+is_new event (Some socket) = (takes_again socket event || is_asked (told_event socket event)) && not socket.is_queued
 
 abbrev pub is_new_at : Event → ℕ → Sockets → Bool
 is_new_at event number sockets = is_new event (socket_at sockets number)
@@ -111,12 +111,12 @@ mark_if number None = None
 mark_if number (Some socket) = Some (record { number = number; serial = socket.serial })
 
 -- what tells a socket from each other that there is or was
-abbrev pub mark_of : Sockets → ℕ → Option Mark
-mark_of sockets number = mark_if number (socket_at sockets number)
+abbrev pub socket_mark : Sockets → ℕ → Option Mark
+socket_mark sockets number = mark_if number (socket_at sockets number)
 
 abbrev pub mark_of_one : Sockets → Option ℕ → Option Mark
 mark_of_one sockets None = None
-mark_of_one sockets (Some number) = mark_of sockets number
+mark_of_one sockets (Some number) = socket_mark sockets number
 
 abbrev pub is_full_one : Option Socket → Bool
 is_full_one None = false
@@ -159,27 +159,27 @@ IsHeldBy (Some by) number old new = (new ≡ held_by by number old) ⊎ (new ≡
 -- ---- the report of one
 
 -- one that is not asked may take bytes, since it stood in the queue
-abbrev pub report_of : ℕ → Option Socket → Option Ready
-report_of number None = None
-report_of number (Some socket) = Some (if is_asked socket then ready.Readable number else ready.Writable number)
+abbrev pub socket_report : ℕ → Option Socket → Option Ready
+socket_report number None = None
+socket_report number (Some socket) = Some (if is_asked socket then ready.Readable number else ready.Writable number)
 
 -- it has left the queue, and what it has to say is heard
-abbrev pub heard : Socket → Socket
-heard socket =
+abbrev pub socket_heard : Socket → Socket
+socket_heard socket =
     if is_asked socket then record socket { is_queued = false; is_readable = false; was_held = false } else record socket { is_queued = false }
 
 -- the client that is read in the turn
-abbrev pub reader_of : ℕ → Option Socket → Option ℕ → Option ℕ
-reader_of number None reader = reader
-reader_of number (Some socket) reader = if is_asked socket && socket.is_client then Some number else reader
+abbrev pub turn_reader : ℕ → Option Socket → Option ℕ → Option ℕ
+turn_reader number None reader = reader
+turn_reader number (Some socket) reader = if is_asked socket && socket.is_client then Some number else reader
 
 -- it has left the queue, is held back if it is to be, and is reported as it stands then
 pub record IsReported (number : ℕ) (old new : Sockets) (round : Round) (result : Option Ready) (round_after : Round) : Type 0 where
   pub held : Sockets
   pub is_held : IsHeldBy (filled_by old number) number (record old { queue = new.queue }) held
-  pub result_is : result ≡ report_of number (socket_at held number)
-  pub left : new ≡ only heard number held
-  pub reader_is : round_after ≡ record round { reader = reader_of number (socket_at held number) round.reader }
+  pub result_is : result ≡ socket_report number (socket_at held number)
+  pub left : new ≡ only socket_heard number held
+  pub reader_is : round_after ≡ record round { reader = turn_reader number (socket_at held number) round.reader }
 
 abbrev pub ReportsOf : List ℕ → Sockets → Sockets → Round → Option Ready → Round → Type 0
 ReportsOf [] old new round result round_after = (result ≡ None) × (SameButQueue old new × (round_after ≡ round))
@@ -187,7 +187,7 @@ ReportsOf (number ∷ behind) old new round result round_after = IsReported numb
 
 -- the first of the queue is reported; where none is queued, nothing is
 abbrev pub ReportsFirst : Sockets → Sockets → Round → Option Ready → Round → Type 0
-ReportsFirst old new round result round_after = ReportsOf (queue_of old) old new round result round_after
+ReportsFirst old new round result round_after = ReportsOf (socket_queue old) old new round result round_after
 
 -- ---- who is let go
 

@@ -64,8 +64,8 @@ takes_again socket event = socket.is_full && (is_writable event || is_error even
 abbrev pub may_have_more : Socket → Event → Bool
 may_have_more socket event = socket.may_have_more || (is_readable event || is_over event)
 
-abbrev pub told : Socket → Event → Socket
-told socket event = record socket {
+abbrev pub told_event : Socket → Event → Socket
+told_event socket event = record socket {
   is_ending = socket.is_ending || is_over event;
   may_have_more = may_have_more socket event;
   is_readable = socket.is_readable || may_have_more socket event;

@@ -51,7 +51,7 @@ pub(crate) struct Socket {
 }
 
 impl Socket {
-    ghost use Rattle.irc_sockets.specs.SocketTurns.{new_socket, told, takes_again, is_asked, may_take_more, is_stuck, turn_over, held_back, held_no_more, unread_as, unread, unwritten_as, unwritten};
+    ghost use Rattle.irc_sockets.specs.SocketTurns.{new_socket, told_event, takes_again, is_asked, may_take_more, is_stuck, turn_over, held_back, held_no_more, unread_as, unread, unwritten_as, unwritten};
 
     pub fn new(alloc: Global, stream: TcpStream, is_client: bool, serial: u64) -> Self
         ensures { result ≡ new_socket stream is_client serial }
@@ -79,7 +79,7 @@ impl Socket {
     /// Takes in what the system tells, and whether the socket takes bytes again.
     pub fn note(&mut self, event: &Event) -> bool
         ensures again { result ≡ takes_again self.old event.now }
-        ensures told { self.new ≡ told self.old event.now }
+        ensures told { self.new ≡ told_event self.old event.now }
     {
         let is_over = event.is_read_closed() || event.is_error();
         let has_room = self.is_full && (event.is_writable() || event.is_error());

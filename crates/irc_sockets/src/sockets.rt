@@ -3,9 +3,9 @@ ghost use Rattle.std.specs.Prelude.{◌≡◌, ◌≤◌, ℕ, not, false, lengt
 ghost use Rattle.std.specs.List.{All};
 ghost use Rattle.slab.specs.Slab.{Updates, SameValues};
 ghost use Rattle.irc_turns.specs.HeldBack.{nobody_held};
-ghost use Rattle.irc_turns.specs.Rounds.{once_more};
+ghost use Rattle.irc_turns.specs.Rounds.{arrivals_after};
 ghost use Rattle.irc_outbox.specs.Calls.{FitsIn};
-ghost use Rattle.irc_sockets.specs.Numbered.{QueuesUp, queued};
+ghost use Rattle.irc_sockets.specs.Numbered.{QueuesUp, socket_queued};
 
 use crate::socket::{Mark, Socket};
 use irc_outbox::{Got, IoFault, Ready};
@@ -31,12 +31,12 @@ pub(crate) struct Sockets {
 }
 
 impl Sockets {
-    ghost use Rattle.irc_sockets.specs.Numbered.{socket_at, queue_of, turned, queue_without, ComesLast, SameButQueue, IsAdded, only, tried_again, noted, has_come, is_new_at, asked_again, is_new_again_at, mark_of, mark_of_one, is_full_one, turn_ended, filled_by, IsHeldBy, ReportsFirst, LetsGo, is_due};
+    ghost use Rattle.irc_sockets.specs.Numbered.{socket_at, socket_queue, turned_queue, queue_without, ComesLast, SameButQueue, IsSocketAdded, only, tried_again, noted, has_come, is_new_at, asked_again, is_new_again_at, socket_mark, mark_of_one, is_full_one, turn_ended, filled_by, IsHeldBy, ReportsFirst, LetsGo, is_due};
 
     /// No sockets.
     pub fn new(alloc: Global) -> Self
         ensures sockets { (number : ℕ) → socket_at result number ≡ None }
-        ensures queue { queue_of result ≡ [] }
+        ensures queue { socket_queue result ≡ [] }
         ensures held { result.holding ≡ nobody_held }
         ensures count { result.count ≡ 0 }
     {
@@ -51,7 +51,7 @@ impl Sockets {
 
     /// How many are to be reported.
     pub fn waiting(&self) -> usize
-        ensures { result ≡ length (queue_of self.now) }
+        ensures { result ≡ length (socket_queue self.now) }
     {
         self.queue.len()
     }
@@ -59,10 +59,10 @@ impl Sockets {
     /// Takes the socket of a client or of a link in, and gives it a number. Where memory runs out it is closed.
     pub fn add(&mut self, stream: TcpStream, is_client: bool) -> Option<usize>
         ensures free { IfSome result (λ number. socket_at self.old number ≡ None) }
-        ensures serial { IfSome result (λ number. self.new.count ≡ once_more self.old.count) }
-        ensures added { IfSome result (IsAdded stream is_client self.old self.new) }
+        ensures serial { IfSome result (λ number. self.new.count ≡ arrivals_after self.old.count) }
+        ensures added { IfSome result (IsSocketAdded stream is_client self.old self.new) }
         ensures none { IfNone result (SameValues self.old.by_number self.new.by_number) }
-        ensures queue { queue_of self.new ≡ queue_of self.old }
+        ensures queue { socket_queue self.new ≡ socket_queue self.old }
         ensures held { self.new.holding ≡ self.old.holding }
     {
         self.queue
@@ -81,7 +81,7 @@ impl Sockets {
     /// Closes a socket. Its number is free again.
     pub fn remove(&mut self, number: usize)
         ensures removed { Updates self.old.by_number self.new.by_number number None }
-        ensures queue { queue_of self.new ≡ queue_without number self.old }
+        ensures queue { socket_queue self.new ≡ queue_without number self.old }
         ensures held { self.new.holding ≡ self.old.holding }
         ensures count { self.new.count ≡ self.old.count }
     {
@@ -113,7 +113,7 @@ impl Sockets {
 
     /// Puts so many who are first in the queue behind those who came after them: who has just come does not wait for those who have more to say.
     pub fn put_behind(&mut self, count: usize)
-        ensures queue { queue_of self.new ≡ turned count (queue_of self.old) }
+        ensures queue { socket_queue self.new ≡ turned_queue count (socket_queue self.old) }
         ensures others { SameButQueue self.old self.new }
     {
         if count < self.queue.len() {
@@ -125,7 +125,7 @@ impl Sockets {
     /// behind the others, so that nobody who sends without end keeps them waiting. Of one that is not to be asked now nothing is told but that it
     /// may take bytes.
     pub fn report(&mut self, round: &mut Round) -> Option<Ready>
-        ensures queue { queue_of self.new ≡ drop 1 (queue_of self.old) }
+        ensures queue { socket_queue self.new ≡ drop 1 (socket_queue self.old) }
         ensures first { ReportsFirst self.old self.new round.old result round.new }
     {
         let number = self.queue.pop_front()?;
@@ -213,7 +213,7 @@ impl Sockets {
 
     /// What tells a socket from each other, also from one that gets its number later.
     fn mark(&self, number: usize) -> Option<Mark>
-        ensures { result ≡ mark_of self.now number }
+        ensures { result ≡ socket_mark self.now number }
     {
         let serial = self.by_number.get(number)?.serial;
         Some(Mark { number, serial })
@@ -294,7 +294,7 @@ impl Sockets {
 
 /// Has a socket reported, if it is not to be already. There is room: it was made as the socket came.
 fn queue_up(socket: &mut Socket, number: usize, queue: &mut VecDeque<usize, Global>)
-    ensures socket { socket.new ≡ queued socket.old }
+    ensures socket { socket.new ≡ socket_queued socket.old }
     ensures queue { QueuesUp (not socket.old.is_queued) number queue.old queue.new }
 {
     if !socket.is_queued {

@@ -12,16 +12,16 @@ abbrev pub nobody_held : HeldBack
 nobody_held = record { held = []; passed = 0 }
 
 -- so many milliseconds more, of which no more is told than that they are as many as a number can be
-abbrev pub later : ℕ → ℕ → ℕ
-later passed waited = min (passed + waited) 18446744073709551615
+abbrev pub waited_longer : ℕ → ℕ → ℕ
+waited_longer passed waited = min (passed + waited) 18446744073709551615
 
 -- a round in which so long was waited counts as one millisecond at least
 abbrev pub round_passed : HeldBack → ℕ → HeldBack
-round_passed holding waited = record holding { passed = later holding.passed (max waited 1) }
+round_passed holding waited = record holding { passed = waited_longer holding.passed (max waited 1) }
 
 -- a client behind the others, by a socket that is full, for 250 milliseconds
 abbrev pub held_too : HeldBack → ℕ → ℕ → HeldBack
-held_too holding who by = record holding { held = holding.held ++ record { who = who; by = by; until = later holding.passed 250 } ∷ [] }
+held_too holding who by = record holding { held = holding.held ++ record { who = who; by = by; until = waited_longer holding.passed 250 } ∷ [] }
 
 -- by whom somebody is held whose time is not over
 abbrev pub held_still : ℕ → Option Held → Option ℕ

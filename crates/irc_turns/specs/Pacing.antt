@@ -26,15 +26,15 @@ slowed pace = record pace { lines = 1; turns = 0 }
 -- ---- the turn at hand, where somebody has come so often
 
 -- two of one of whom nothing was left, one where somebody has come since its last turn, and otherwise as many as before
-abbrev pub lines_for : Paced → ℕ → ℕ
-lines_for pace arrivals = if pace.is_idle then 2 else (if nat_eq pace.arrivals arrivals then pace.lines else 1)
+abbrev pub paced_lines : Paced → ℕ → ℕ
+paced_lines pace arrivals = if pace.is_idle then 2 else (if nat_eq pace.arrivals arrivals then pace.lines else 1)
 
 -- turns are counted from here on where it begins, or somebody has come
 abbrev pub turns_for : Paced → ℕ → ℕ
 turns_for pace arrivals = if pace.is_idle || not (nat_eq pace.arrivals arrivals) then 0 else pace.turns
 
 abbrev pub at_turn : Paced → ℕ → Paced
-at_turn pace arrivals = paced (lines_for pace arrivals) (turns_for pace arrivals) arrivals false
+at_turn pace arrivals = paced (paced_lines pace arrivals) (turns_for pace arrivals) arrivals false
 
 -- ---- behind a turn in which the client was answered so many bytes, and so many were put out to others
 

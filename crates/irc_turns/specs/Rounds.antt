@@ -18,13 +18,13 @@ no_round = record {
 }
 
 -- how often somebody has come, once somebody has: a count that begins anew behind 2 ^ 64 - 1
-abbrev pub once_more : ℕ → ℕ
-once_more arrivals = (arrivals + 1) % 18446744073709551616
+abbrev pub arrivals_after : ℕ → ℕ
+arrivals_after arrivals = (arrivals + 1) % 18446744073709551616
 
 -- a round begins, with so many sockets: it is quiet where nobody has come
 abbrev pub round_begun : Round → ℕ → Bool → Round
 round_begun round left has_come =
-    record round { left = left; is_quiet = not has_come; arrivals = if has_come then once_more round.arrivals else round.arrivals }
+    record round { left = left; is_quiet = not has_come; arrivals = if has_come then arrivals_after round.arrivals else round.arrivals }
 
 -- a sum of which no more is told than that it is as large as a number can be
 abbrev pub at_most_word : ℕ → ℕ

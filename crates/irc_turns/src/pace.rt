@@ -4,7 +4,7 @@
 //! So a client gets few lines a turn, and more of them only while nobody comes: who comes then waits for a small part of the time in which
 //! nobody did.
 ghost use Rattle.std.specs.Prelude.{◌≡◌};
-ghost use Rattle.irc_turns.specs.Pacing.{at_first, at_rest, slowed, lines_for, at_turn, behind_turn};
+ghost use Rattle.irc_turns.specs.Pacing.{at_first, at_rest, slowed, paced_lines, at_turn, behind_turn};
 
 use std::marker::Model;
 
@@ -65,7 +65,7 @@ impl Pace {
 
     /// How many lines the turn at hand takes, where somebody has come so often so far: just one, where somebody has come since the last.
     pub fn lines(&mut self, arrivals: u64) -> usize
-        ensures lines { result ≡ lines_for self.old arrivals }
+        ensures lines { result ≡ paced_lines self.old arrivals }
         ensures turn { self.new ≡ at_turn self.old arrivals }
     {
         if self.is_idle {

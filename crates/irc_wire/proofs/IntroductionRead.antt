@@ -14,7 +14,7 @@ use Rattle.irc_room.specs.declared.effect.Effect.TheVariants.{AddUser}
 use Rattle.irc_room.specs.Limits.{IsUserWithin}
 use Rattle.irc_routes.specs.Known.{Known, distance_of}
 use Rattle.irc_wire.specs.Introductions.{IntroducedIsRead}
-use Rattle.irc_link_reader.specs.Means.{Checked, first_fault, home_of, introduction_line, is_distance_of}
+use Rattle.irc_link_reader.specs.Means.{Checked, first_fault, home_of_token, introduction_line, is_distance_of}
 use Rattle.irc_link_words.specs.Numbers.{is_number}
 use Rattle.irc_link_reader.specs.Reader.{Reader}
 use Rattle.irc_link_words.specs.Words.{is_come_mode, is_user_name, no_mode, with_i}
@@ -53,7 +53,7 @@ distance_so (Some there) links is = eq-eqb links there (sym is)
 
 -- what the reader takes the user's server for, by the text of its number
 home_found : (reader : Reader) (number : ℕ) (home : List ℕ) → number ≤ 4294967295 → reader.server number ≡ Some home
-    → home_of reader (decimal number) ≡ Some home
+    → home_of_token reader (decimal number) ≡ Some home
 home_found reader number home most is = ap reader.server (number_read number most) ∙ is
 
 distance_taken : (reader : Reader) (found : Option (List ℕ)) (home : List ℕ) (links : ℕ) → links ≤ 4294967295 → found ≡ Some home
@@ -90,9 +90,9 @@ introduced known reader user links number within links_some links_most number_so
     no_fault checked
     (parameters_so (is_number (decimal links)) (is_user_name user.user) (is_number (decimal number)) _ _ _ (number_taken links links_some links_most)
     (named_so user.user within.name within.name_some) (number_taken number number_some number_most) (mode_so user.invisible)
-    (real_so user.real within.real_fits) (distance_taken reader (home_of reader (decimal number)) user.home links links_most home far))
+    (real_so user.real within.real_fits) (distance_taken reader (home_of_token reader (decimal number)) user.home links links_most home far))
     (ap is_some home) refl (and_from (is_nick user.nick) (is_host user.host) within.nick within.host)
-    ∙ ap Ok (user_made user (home_of reader (decimal number)) _ home (mode_read user.invisible))
+    ∙ ap Ok (user_made user (home_of_token reader (decimal number)) _ home (mode_read user.invisible))
 
 next_some : (links : Option ℕ) → 1 ≤ suc (unwrap_or links 0)
 next_some links = omega arith

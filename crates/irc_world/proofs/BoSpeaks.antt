@@ -28,14 +28,14 @@ use Rattle.irc_room.specs.Lemmas.ListedRooms.{ListedChannel, channel_of, room_of
 use Rattle.irc_room.specs.Lemmas.ListedSeen.{user_listed, channel_listed}
 use Rattle.irc_relay.specs.Links.{part}
 use Rattle.irc_acts.specs.declared.act.Act.TheVariants.{Answer, Do}
-use Rattle.irc_acts.specs.Acts.{kept}
+use Rattle.irc_acts.specs.Acts.{bytes_kept}
 use Rattle.irc_acts.specs.CommaLists.{entries as pieces}
 use Rattle.irc_acts.specs.Standing.{is_banned}
 use Rattle.irc_commands.specs.declared.say.Verb.TheVariants as verb
 use Rattle.irc_commands.specs.Decide.{decide, decide_for}
 use Rattle.irc_commands.specs.Decisions.{Decided, does}
-use Rattle.irc_commands.specs.Say.{say_steps, is_raised, says, to_channel}
-use Rattle.irc_commands.specs.Table.{row_of}
+use Rattle.irc_commands.specs.Say.{say_steps, is_raised, say_text, to_channel}
+use Rattle.irc_commands.specs.Table.{command_row}
 use Rattle.irc_routes.specs.Place.{Place}
 use Rattle.irc_stage.specs.declared.clients.Client.{Client}
 use Rattle.irc_batch.specs.Batches.{Sent, line_to}
@@ -88,7 +88,7 @@ unfolding read_of
 is_read = refl
 
 abbrev pub spoken : Effect
-spoken = Say (codes "bo") false (target.Channel (codes "#c")) (kept (codes "hi"))
+spoken = Say (codes "bo") false (target.Channel (codes "#c")) (bytes_kept (codes "hi"))
 
 abbrev in_channel : Option Channel → Decided
 in_channel found = does ((to_channel bo verb.Privmsg (codes "#c") (codes "hi") found ++ []) ++ [])
@@ -97,10 +97,10 @@ abbrev with_flags : Option Flags → Decided
 with_flags flags =
     does ((cond ((not the_channel.modes.no_outside || is_some flags) && (not the_channel.modes.moderated || is_raised flags)
     && (is_raised flags || not (is_banned bo (channel_of the_channel))))
-    (says bo verb.Privmsg (target.Channel (codes "#c")) (codes "#c") (codes "hi")) (Answer (CannotSendToChan (codes "#c")) ∷ []) ++ []) ++ [])
+    (say_text bo verb.Privmsg (target.Channel (codes "#c")) (codes "#c") (codes "hi")) (Answer (CannotSendToChan (codes "#c")) ∷ []) ++ []) ++ [])
 
 pub decides : (place : Place) → decide three_people.room place (codes "bo") message ≡ does (Do spoken ∷ [])
-unfolding decide row_of say_steps pieces
+unfolding decide command_row say_steps pieces
 decides place =
     ap (decide_for three_people.room place message) bo_there
     ∙ ap in_channel (ap (λ (r : Room). row r.channels (key (codes "#c"))) three_made ∙ channel_there)

@@ -12,22 +12,22 @@ use Rattle.ircd.specs.Loops.Turns.{IsOfFile, TakesTurns}
 use Rattle.ircd.specs.Serving.{IsCutShort, IsOpened, IsReadSetup, IsTextOf, Serves, ServesFile, ServesText}
 use Rattle.ircd.specs.Serving.IsCutShort.{printing, unprinted}
 use Rattle.irc_endings.specs.Ready.{ready_text}
-use Rattle.irc_script.specs.Sinks.{Tells, sink}
+use Rattle.irc_script.specs.Sinks.{Wrote, sink}
 use Rattle.irc_script.specs.Lemmas.Sinking.{all_lost}
 
 -- nothing written is a front
-pub tells_nothing : (held : Option (List ℕ)) (text : List ℕ) → Tells held held text
+pub tells_nothing : (held : Option (List ℕ)) (text : List ℕ) → Wrote held held text
 tells_nothing held text = all_lost (sink held []) text
 
 -- `ready` is cut short
 pub ready_cut : {W : Type 0} (is_after : W → List Call → Type 0) (turns : ℕ) (old new : EngineView W) (held after : Option (List ℕ)) (r : Result (Unit {0}) Stop)
-    → Tells held after ready_text → IsErrAnd r (λ stop. stop ≡ Failed) → Serves is_after turns old new held after r
+    → Wrote held after ready_text → IsErrAnd r (λ stop. stop ≡ Failed) → Serves is_after turns old new held after r
 ready_cut is_after turns old new held after (Ok _) tells failed = absurd failed
 ready_cut is_after turns old new held after (Err stop) tells failed = subst (λ s. Serves is_after turns old new held after (Err s)) (sym failed) tells
 
 -- it was printed, and turns were taken
 pub ready_said : {W : Type 0} (is_after : W → List Call → Type 0) (turns : ℕ) (old new : EngineView W) (held after : Option (List ℕ)) (r : Result (Unit {0}) Stop)
-    → Appends held after ready_text → Tells held after ready_text → TakesTurns is_after old turns new r → Serves is_after turns old new held after r
+    → Appends held after ready_text → Wrote held after ready_text → TakesTurns is_after old turns new r → Serves is_after turns old new held after r
 ready_said is_after turns old new held after (Ok _) appended tells gone = (appended, gone)
 ready_said is_after turns old new held after (Err stop) appended tells gone = ready_cut is_after turns old new held after (Err stop) tells gone
 
@@ -76,8 +76,8 @@ file_refused turns (Err e) stop held (inl is) failed = subst (λ s. ServesFile t
 file_refused turns (Err e) stop held (inr is) failed = subst (λ s. ServesFile turns (Err s) held held) (sym (failed ∙ is)) (tells_nothing held ready_text)
 
 -- what was printed where it is cut short is a front of `ready`
-cut_short : (text : List ℕ) (held after : Option (List ℕ)) → IsCutShort text held after → Tells held after ready_text
-cut_short text held after (unprinted is) = subst (λ a. Tells held a ready_text) (sym is) (tells_nothing held ready_text)
+cut_short : (text : List ℕ) (held after : Option (List ℕ)) → IsCutShort text held after → Wrote held after ready_text
+cut_short text held after (unprinted is) = subst (λ a. Wrote held a ready_text) (sym is) (tells_nothing held ready_text)
 cut_short text held after (printing setup is tells) = tells
 
 -- a file is served by the text that it holds

@@ -10,7 +10,7 @@ use Rattle.irc_server.specs.declared.config.ConfigFault.TheVariants.{BadName, Do
 use Rattle.irc_server.specs.Configuring.{IsMade}
 use Rattle.irc_settings.specs.declared.settings.Settings.{Settings}
 use Rattle.irc_settings.specs.declared.settings.PeerSettings.{PeerSettings}
-use Rattle.irc_settings.specs.Configuration.{IsReadAs}
+use Rattle.irc_settings.specs.Configuration.{AreSettingsOf}
 use Rattle.irc_sockets.specs.declared.calls.Callee.{Callee}
 use Rattle.irc_endings.specs.declared.fault.Stop.{Stop}
 use Rattle.irc_endings.specs.declared.fault.Stop.TheVariants.{Usage, BadScript, BadConfiguration, Failed}
@@ -138,7 +138,7 @@ server_refused settings config r DoubleName configures made failed =
 server_refused settings config r Memory configures made failed = memory_out settings r failed
 
 -- what the settings of a text set up, the text does
-pub read_up : (text : List ℕ) (settings : Settings) (r : Result Setup Stop) → IsReadAs text (Ok settings) → SetsUp settings r → IsReadSetup text r
+pub read_up : (text : List ℕ) (settings : Settings) (r : Result Setup Stop) → AreSettingsOf text (Ok settings) → SetsUp settings r → IsReadSetup text r
 read_up text settings (Ok setup) read sets = record { settings = settings; read = read; is_set_up = sets }
 read_up text settings (Err BadConfiguration) read sets = refused settings read sets
 read_up text settings (Err Failed) read sets = tt

@@ -3,10 +3,10 @@ use Rattle.std.specs.Prelude.{◌≡◌, ℕ, Option, Some, None, Result, List, 
 use Rattle.std.specs.declared.alloc.Global.{Global}
 use Rattle.irc_script.specs.declared.fault.SimFault.{SimFault}
 use Rattle.irc_script.specs.Runs.{Ran}
-use Rattle.irc_script.specs.Sinks.{Tells}
+use Rattle.irc_script.specs.Sinks.{Wrote}
 use Rattle.irc_endings.specs.declared.fault.Stop.{Stop}
 use Rattle.irc_endings.specs.declared.fault.Stop.TheVariants.{Usage}
-use Rattle.irc_endings.specs.Statuses.{ending_of, exit_status, told, told_of}
+use Rattle.irc_endings.specs.Statuses.{ending_of, ending_text, exit_status, stop_line}
 use Rattle.irc_endings.specs.Words.{runs_script, serves, task_of, texts_of}
 use Rattle.ircd.specs.Serving.{EndsServing}
 
@@ -19,7 +19,7 @@ pub record EndsRun (status : ℕ) (remaining old new errors errors_after : Optio
   pub ending : Result (Unit {0}) SimFault
   pub ran : Ran remaining ending old new
   pub status_is : status ≡ exit_status (ending_of ending)
-  pub tells : Tells errors errors_after (told_of (ending_of ending))
+  pub tells : Wrote errors errors_after (ending_text (ending_of ending))
 
 -- ---- what the words behind the program's name ask for
 
@@ -36,7 +36,7 @@ WhereServing words Is = (file : List ℕ) (turns : ℕ) → task_of (texts_of wo
 -- ---- readers and writers, by what they have and what they hold
 
 abbrev pub TellsUsage : {E : Type 0} → (E → Option (List ℕ)) → E → E → Type 0
-TellsUsage told_to errors errors_after = Tells (told_to errors) (told_to errors_after) (told Usage)
+TellsUsage told_to errors errors_after = Wrote (told_to errors) (told_to errors_after) (stop_line Usage)
 
 abbrev pub EndsRunOn : {R W E : Type 0} → (R → Option (List ℕ)) → (W → Option (List ℕ)) → (E → Option (List ℕ))
     → ℕ → R → W → W → E → E → Type 0

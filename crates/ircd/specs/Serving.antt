@@ -7,7 +7,7 @@ use Rattle.irc_outbox.specs.Calls.{Call}
 use Rattle.irc_names.specs.Names.{IsServer}
 use Rattle.irc_settings.specs.declared.settings.Settings.{Settings}
 use Rattle.irc_settings.specs.declared.settings.PeerSettings.{PeerSettings}
-use Rattle.irc_settings.specs.Configuration.{IsReadAs, is_configuration}
+use Rattle.irc_settings.specs.Configuration.{AreSettingsOf, is_configuration}
 use Rattle.irc_server.specs.declared.config.Config.{Config}
 use Rattle.irc_server.specs.Configuring.{config_fault, made_view}
 use Rattle.irc_stage.specs.View.{KnownPeer, known_peer}
@@ -18,9 +18,9 @@ use Rattle.irc_sockets.specs.Listening.{ListensAt}
 use Rattle.irc_endings.specs.declared.fault.Stop.{Stop}
 use Rattle.irc_endings.specs.declared.fault.Stop.TheVariants.{Usage, BadScript, BadConfiguration, Failed}
 use Rattle.ircd.specs.declared.setup.Setup.{Setup}
-use Rattle.irc_script.specs.Sinks.{Tells}
+use Rattle.irc_script.specs.Sinks.{Wrote}
 use Rattle.irc_endings.specs.Ready.{ready_text}
-use Rattle.irc_endings.specs.Statuses.{exit_status, told_of}
+use Rattle.irc_endings.specs.Statuses.{ending_text, exit_status}
 
 -- no address is written so
 abbrev pub IsNoAddress : List ℕ → Type 0
@@ -97,12 +97,12 @@ SetsUp settings (Err (BadScript line)) = ⊥
 -- what comes of a text: it is a configuration whose settings set this up; or it is none, or one whose settings are refused
 pub record IsTextOf (text : List ℕ) (setup : Setup) : Type 0 where
   pub settings : Settings
-  pub read : IsReadAs text (Ok settings)
+  pub read : AreSettingsOf text (Ok settings)
   pub is_set_up : IsSetUp settings setup
 
 pub data IsBadText (text : List ℕ) : Type 0 where
   unreadable : is_configuration text ≡ false → IsBadText text
-  refused : (settings : Settings) → IsReadAs text (Ok settings) → IsRefused settings → IsBadText text
+  refused : (settings : Settings) → AreSettingsOf text (Ok settings) → IsRefused settings → IsBadText text
 
 abbrev pub IsReadSetup : List ℕ → Result Setup Stop → Type 0
 IsReadSetup text (Ok setup) = IsTextOf text setup
@@ -122,7 +122,7 @@ pub record IsOpened (setup : Setup) (engine : EngineView MioWire) : Type 0 where
 -- `ready` was printed, and all turns were taken; else a front of it was, and the program failed
 abbrev pub Serves : {W : Type 0} → (W → List Call → Type 0) → ℕ → EngineView W → EngineView W → Option (List ℕ) → Option (List ℕ) → Result (Unit {0}) Stop → Type 0
 Serves is_after turns old new printed printed_after (Ok _) = Appends printed printed_after ready_text × Turns is_after old turns new
-Serves is_after turns old new printed printed_after (Err Failed) = Tells printed printed_after ready_text
+Serves is_after turns old new printed printed_after (Err Failed) = Wrote printed printed_after ready_text
 Serves is_after turns old new printed printed_after (Err BadConfiguration) = ⊥
 Serves is_after turns old new printed printed_after (Err Usage) = ⊥
 Serves is_after turns old new printed printed_after (Err (BadScript line)) = ⊥
@@ -130,7 +130,7 @@ Serves is_after turns old new printed printed_after (Err (BadScript line)) = ⊥
 -- where the program failed: nothing was printed; or the text sets up a server, and a front of `ready` was
 pub data IsCutShort (text : List ℕ) (printed printed_after : Option (List ℕ)) : Type 0 where
   unprinted : printed_after ≡ printed → IsCutShort text printed printed_after
-  printing : (setup : Setup) → IsTextOf text setup → Tells printed printed_after ready_text → IsCutShort text printed printed_after
+  printing : (setup : Setup) → IsTextOf text setup → Wrote printed printed_after ready_text → IsCutShort text printed printed_after
 
 -- A text was served: it sets up a server; once this was open, `ready` was printed, and all of so many turns were taken. Sockets keep no account of their calls.
 pub record IsServed (text : List ℕ) (turns : ℕ) (printed printed_after : Option (List ℕ)) : Type 0 where
@@ -153,7 +153,7 @@ ServesText text turns (Err (BadScript line)) printed printed_after = ⊥
 -- How serving by a file ends. What the file holds no clause can tell: some text, or none where it cannot be read.
 abbrev pub ServesFile : ℕ → Result (Unit {0}) Stop → Option (List ℕ) → Option (List ℕ) → Type 0
 ServesFile turns (Err BadConfiguration) printed printed_after = printed_after ≡ printed
-ServesFile turns (Err Failed) printed printed_after = Tells printed printed_after ready_text
+ServesFile turns (Err Failed) printed printed_after = Wrote printed printed_after ready_text
 ServesFile turns (Err Usage) printed printed_after = ⊥
 ServesFile turns (Err (BadScript line)) printed printed_after = ⊥
 ServesFile turns (Ok _) printed printed_after = (text : List ℕ) × IsServed text turns printed printed_after
@@ -163,4 +163,4 @@ pub record EndsServing (turns status : ℕ) (printed printed_after errors errors
   pub ending : Result (Unit {0}) Stop
   pub served : ServesFile turns ending printed printed_after
   pub status_is : status ≡ exit_status ending
-  pub tells : Tells errors errors_after (told_of ending)
+  pub tells : Wrote errors errors_after (ending_text ending)

@@ -27,7 +27,7 @@ use Rattle.irc_room.specs.Seen.{stored_nick}
 use Rattle.irc_room.specs.declared.effect.Effect.{Effect}
 use Rattle.irc_users.specs.declared.user.User.{User}
 use Rattle.irc_room.specs.Room.{Room}
-use Rattle.irc_burst.specs.DeedsMeant.{Told, a_deed, a_server, Judged, first_reason, later_server, server_line, squit_line, kill_line, killed, njoin_line, as_stored, collided, deeds_meant, effects_told, is_next_distance, member_of, members_of, renamed}
+use Rattle.irc_burst.specs.DeedsMeant.{Told, a_deed, a_server, Judged, first_reason, later_server, server_line, squit_line, kill_line, killed, njoin_line, as_stored, collided, deeds_meant, effects_told, is_next_distance, member_of, members_of, renamed_or_killed}
 use Rattle.irc_link_reader.specs.Reader.{Reader}
 use Rattle.irc_link_reader.specs.declared.arrival.Arrival.{Arrival}
 use Rattle.irc_link_reader.specs.Loops.Readings.{reader}
@@ -66,7 +66,7 @@ abbrev pub introduced_at : Arrival → User → List Told
 introduced_at at user = map a_deed (introduced at.routes.now.name at.room.now.room user)
 
 abbrev pub renamed_at : Arrival → List ℕ → List ℕ → List Told
-renamed_at at nick new = map a_deed (renamed at.routes.now.name at.room.now.room nick new)
+renamed_at at nick new = map a_deed (renamed_or_killed at.routes.now.name at.room.now.room nick new)
 
 abbrev pub kills_at : Arrival → List ℕ → Told
 kills_at at nick = a_deed (kills at.routes.now.name nick)
@@ -84,9 +84,9 @@ effects_at at message =
 -- ---- what is read
 
 -- what is read, as a list
-abbrev pub found : Result (Option BurstAct) BurstFault → Result (List Told) BurstFault
-found (Ok read) = Ok (map act_told (option_to_list read))
-found (Err given) = Err given
+abbrev pub told_found : Result (Option BurstAct) BurstFault → Result (List Told) BurstFault
+told_found (Ok read) = Ok (map act_told (option_to_list read))
+told_found (Err given) = Err given
 
 -- what a line means, where its reading takes no memory
 abbrev pub closes : Result (List Told) CloseReason → Result (List Told) BurstFault
@@ -94,13 +94,13 @@ closes (Ok told) = Ok told
 closes (Err reason) = Err (Closes reason)
 
 -- a word of a line that is refused
-abbrev pub fault_of : WireFault → BurstFault
-fault_of fault.UnknownCommand = Closes reason.UnknownCommand
-fault_of fault.Parameters = Closes reason.Parameters
-fault_of fault.BadToken = Closes reason.BadToken
-fault_of fault.WrongDirection = Closes reason.WrongDirection
-fault_of fault.BadName = Closes reason.BadName
-fault_of fault.Memory = Memory
+abbrev pub burst_fault : WireFault → BurstFault
+burst_fault fault.UnknownCommand = Closes reason.UnknownCommand
+burst_fault fault.Parameters = Closes reason.Parameters
+burst_fault fault.BadToken = Closes reason.BadToken
+burst_fault fault.WrongDirection = Closes reason.WrongDirection
+burst_fault fault.BadName = Closes reason.BadName
+burst_fault fault.Memory = Memory
 
 -- what is looked at in lines that came so: a SERVER, a SQUIT and an NJOIN of these words
 abbrev pub server_line_at : Arrival → Option (List ℕ) → List (List ℕ) → Judged
@@ -119,8 +119,8 @@ abbrev pub killed_at : Arrival → List ℕ → List ℕ → List Told
 killed_at at server nick = map a_deed (killed server at.room.now.room nick)
 
 -- what is read is what such a line comes to
-abbrev pub Comes : Judged → Result (Option BurstAct) BurstFault → Type 0
-Comes judged result = found result ≡ closes (first_reason judged)
+abbrev pub GivesTold : Judged → Result (Option BurstAct) BurstFault → Type 0
+GivesTold judged result = told_found result ≡ closes (first_reason judged)
 
 -- what is looked at in the words of a later SERVER
 abbrev pub server_judged : Reader → Known → List ℕ → ServerWords → Judged
@@ -142,15 +142,15 @@ may_be_lost at name = not (is_known at.routes.now name) || (reader at).is_far na
 -- ---- NJOIN
 
 -- whether a nickname is one of those of some members
-abbrev pub is_among : List (List ℕ × Flags) → List ℕ → Bool
-is_among members nick = list_any (λ (member : List ℕ × Flags). same member.0 nick) members
+abbrev pub is_member_among : List (List ℕ × Flags) → List ℕ → Bool
+is_member_among members nick = list_any (λ (member : List ℕ × Flags). same member.0 nick) members
 
 -- whether a text names no more members than one line may bring, and each by a nickname
 abbrev pub are_few : List ℕ → Bool
 are_few text = nat_le (length (members_of text)) members_a_line
 
-abbrev pub has_nick : List ℕ → Bool
-has_nick word = is_nick (member_of word).0
+abbrev pub has_member_nick : List ℕ → Bool
+has_member_nick word = is_nick (member_of word).0
 
 abbrev pub are_named : List ℕ → Bool
 are_named text = list_all (λ member. is_nick member.0) (members_of text)
@@ -167,7 +167,7 @@ new_nick at nick channel =
 -- one more becomes a member, if it is a new one and none of those before
 abbrev pub taken_as_stored : (List ℕ → Bool) → Room → List ℕ → List (List ℕ × Flags) → List ℕ × Flags → List (List ℕ × Flags)
 taken_as_stored far room channel members member =
-    if is_new_member far room channel member && not (is_among members member.0) then members ++ as_stored room member ∷ [] else members
+    if is_new_member far room channel member && not (is_member_among members member.0) then members ++ as_stored room member ∷ [] else members
 
 abbrev pub brought_of : Reader → Room → MemberWords → List Told
 brought_of reader room words =
@@ -178,17 +178,17 @@ members_found reader room (Ok words) = Ok (brought_of reader room words)
 members_found reader room (Err given) = Err given
 
 -- what is read is what the line means, or why it closes the link; memory may run out where it means something
-abbrev pub IsRead : Result (List Told) CloseReason → Result (Option BurstAct) BurstFault → Type 0
-IsRead meant (Ok read) = meant ≡ Ok (map act_told (option_to_list read))
-IsRead meant (Err Memory) = IsOk meant
-IsRead meant (Err (Closes reason)) = meant ≡ Err reason
+abbrev pub IsActRead : Result (List Told) CloseReason → Result (Option BurstAct) BurstFault → Type 0
+IsActRead meant (Ok read) = meant ≡ Ok (map act_told (option_to_list read))
+IsActRead meant (Err Memory) = IsOk meant
+IsActRead meant (Err (Closes reason)) = meant ≡ Err reason
 
 -- the list of what is read, for which memory may run out
-abbrev pub IsListed : Result (Option BurstAct) BurstFault → Result (Vec BurstAct) BurstFault → Type 0
-IsListed (Ok read) (Ok acts) = acts.items ≡ option_to_list read
-IsListed (Ok read) (Err Memory) = ⊤
-IsListed (Ok read) (Err (Closes reason)) = ⊥
-IsListed (Err given) result = result ≡ Err given
+abbrev pub AreActsListed : Result (Option BurstAct) BurstFault → Result (Vec BurstAct) BurstFault → Type 0
+AreActsListed (Ok read) (Ok acts) = acts.items ≡ option_to_list read
+AreActsListed (Ok read) (Err Memory) = ⊤
+AreActsListed (Ok read) (Err (Closes reason)) = ⊥
+AreActsListed (Err given) result = result ≡ Err given
 
 -- ---- a whole line
 

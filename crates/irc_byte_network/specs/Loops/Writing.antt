@@ -3,11 +3,11 @@ use Rattle.std.specs.Prelude.{◌≡◌, ℕ, length}
 use Rattle.irc_network.specs.Network.{Network}
 use Rattle.irc_wires.specs.Wires.{AreLean, Wires, wire_at}
 use Rattle.irc_byte_network.specs.Behind.{emptied}
-use Rattle.irc_byte_network.specs.ByteNetwork.{ByteNetwork, HasRows, all_written, waiting_at, written_out}
+use Rattle.irc_byte_network.specs.ByteNetwork.{ByteNetwork, HasRows, all_written, waiting_at, queues_written}
 
 -- all that waited in a network is written along its wires
 abbrev pub IsWrittenOut : Network → Wires → Network → Wires → Type 0
-IsWrittenOut old before new after = record { network = new; wires = after } ≡ written_out old before
+IsWrittenOut old before new after = record { network = new; wires = after } ≡ queues_written old before
 
 -- some lines are written, and those that wait still will make of each wire the same
 pub record IsWriting (old : Network) (before : Wires) (new : Network) (wires : Wires) : Type 0 where

@@ -20,7 +20,7 @@ use Rattle.irc_link_reader.specs.declared.commands.Command.TheVariants as comman
 use Rattle.irc_link_words.specs.declared.fault.WireFault.{WireFault}
 use Rattle.irc_link_words.specs.declared.fault.WireFault.TheVariants.{BadName, BadToken, Memory, Parameters}
 use Rattle.irc_link_reader.specs.Reader.{Reader, reader_of}
-use Rattle.irc_link_reader.specs.Means.{Checked, Row, first_fault, line, if_there, home_of, introduction_line, nick_line, of_either, quit_line, join_line, part_line, kick_line, mode_line, topic_line, say_line, invite_line, user_mode_line}
+use Rattle.irc_link_reader.specs.Means.{Checked, Row, first_fault, line, if_there, home_of_token, introduction_line, nick_line, of_either, quit_line, join_line, part_line, kick_line, mode_line, topic_line, say_line, invite_line, user_mode_line}
 use Rattle.irc_link_words.specs.Words.{are_members_named, is_come_mode, is_command, is_user_name}
 
 -- what is looked at where a line came
@@ -33,9 +33,9 @@ found (Ok effect) = Ok (option_to_list effect)
 found (Err fault) = Err fault
 
 -- what is found is the effect of a line of these words, or the first fault of it
-abbrev pub Reads : (Reader → Option (List ℕ) → List (List ℕ) → Checked) → Arrival → Option (List ℕ) → List (List ℕ) → Result (Option Effect) WireFault
+abbrev pub ReadsEffect : (Reader → Option (List ℕ) → List (List ℕ) → Checked) → Arrival → Option (List ℕ) → List (List ℕ) → Result (Option Effect) WireFault
     → Type 0
-Reads line at name words result = found result ≡ first_fault (line (reader at) name words)
+ReadsEffect line at name words result = found result ≡ first_fault (line (reader at) name words)
 
 -- whether the user of a nickname is there, and whether those of all these are
 abbrev pub has_home : Arrival → List ℕ → Bool
@@ -91,8 +91,8 @@ abbrev pub is_left_alone : Reader → Effect → Bool
 is_left_alone reader effect = not (option_map_or reader.is_far_channel (home_channel effect) true)
 
 -- the effect, where it counts
-abbrev pub counted : Reader → Effect → List Effect
-counted reader effect = if option_map_or reader.is_far_channel (home_channel effect) true then if_there reader effect else []
+abbrev pub effects_counted : Reader → Effect → List Effect
+effects_counted reader effect = if option_map_or reader.is_far_channel (home_channel effect) true then if_there reader effect else []
 
 -- whether the user of this nickname is behind the link
 abbrev pub is_far_user : Reader → List ℕ → Bool
@@ -115,7 +115,7 @@ home_or_bad None = Err BadToken
 abbrev pub home_or_fault : Reader → Newcomer → Result (List ℕ) WireFault
 home_or_fault reader words =
     if not (introduction_of reader words).parameters then Err Parameters
-    else home_or_bad (home_of reader words.token.now)
+    else home_or_bad (home_of_token reader words.token.now)
 
 abbrev pub home_now : Result (Bor (List ℕ)) WireFault → Result (List ℕ) WireFault
 home_now (Ok home) = Ok (home.now)

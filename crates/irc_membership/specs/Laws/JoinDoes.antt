@@ -28,7 +28,7 @@ use Rattle.irc_acts.specs.Own.{AreOwn}
 use Rattle.irc_acts.specs.Standing.{is_banned}
 use Rattle.irc_answers.specs.Names.{names_of, end_of_names}
 use Rattle.irc_membership.specs.Limits.{max_joined}
-use Rattle.irc_membership.specs.Join.{Asked, asked_for, opens, is_full, is_zero, kept_out, topic_for_joiner, joins, admitted, joins_found, joins_asked, join_one, join_steps, leaves}
+use Rattle.irc_membership.specs.Join.{JoinEntry, asked_for, opens, is_full, is_zero, kept_out, topic_for_joiner, joins, admitted, joins_found, joins_asked, join_one, join_steps, leaves}
 use Rattle.irc_membership.specs.Laws.JoinLaw.{join_is_own_or_leaves, leaving_all_is_own}
 use Rattle.irc_membership.specs.Laws.JoinWalk.{found_by_users, one_so}
 
@@ -85,7 +85,7 @@ kept_out_aside me given channel =
     (cond (not (opens channel.modes.key given)) (Some (Answer (BadChannelKey channel.name)))
     (cond full (Some (Answer (ChannelIsFull channel.name))) None)))) (full_aside channel.modes.limit channel)
 
-found_alike : (room : Room) (me : User) (asked : Asked) (one two : Option Channel) → option_map uninviting one ≡ option_map uninviting two
+found_alike : (room : Room) (me : User) (asked : JoinEntry) (one two : Option Channel) → option_map uninviting one ≡ option_map uninviting two
     → option_map_or (is_invited (key me.nick)) one false ≡ option_map_or (is_invited (key me.nick)) two false
     → joins_found room me asked one ≡ joins_found room me asked two
 found_alike room me asked None None same invited = refl
@@ -100,7 +100,7 @@ found_alike room me asked (Some one) (Some two) same invited =
     ∙ sym (ap (admitted room me asked.channel (uninviting two)) (kept_out_aside me asked.key two))
     ∙ sym (admitted_aside room me asked.channel two (kept_out me asked.key two))
 
-asked_alike : (room other : Room) (me : User) (asked : Asked) → AreAlikeFor me.nick room other → joins_asked room me asked ≡ joins_asked other me asked
+asked_alike : (room other : Room) (me : User) (asked : JoinEntry) → AreAlikeFor me.nick room other → joins_asked room me asked ≡ joins_asked other me asked
 asked_alike room other me asked so =
     found_alike room me asked (row room.channels (key asked.channel)) (row other.channels (key asked.channel)) (so.alike.channels (key asked.channel))
     (so.invited (key asked.channel))
@@ -114,7 +114,7 @@ one_by name member count found =
     else (if nat_le max_joined count then Answer (TooManyChannels name) ∷ []
     else found))
 
-one_alike : (me : User) (room other : Room) (asked : Asked) → AreAlikeFor me.nick room other → join_one me room asked ≡ join_one me other asked
+one_alike : (me : User) (room other : Room) (asked : JoinEntry) → AreAlikeFor me.nick room other → join_one me room asked ≡ join_one me other asked
 one_alike me room other asked so =
     ap (λ b. one_by asked.channel b (length (own_channels room me)) (joins_asked room me asked))
     (member_alike room other so.alike (key me.nick) (key asked.channel))
@@ -122,7 +122,7 @@ one_alike me room other asked so =
     (own_alike length (λ channels. length-map channels uninviting) room other so.alike me)
     ∙ ap (one_by asked.channel (is_member other me.nick asked.channel) (length (own_channels other me))) (asked_alike room other me asked so)
 
-one_keeps : (me : User) (room : Room) (asked : Asked) → EachInTurn (IsKeeping (AreAlikeFor me.nick)) room (effects_among (join_one me room asked))
+one_keeps : (me : User) (room : Room) (asked : JoinEntry) → EachInTurn (IsKeeping (AreAlikeFor me.nick)) room (effects_among (join_one me room asked))
 one_keeps me room asked = one_so (IsKeeping (AreAlikeFor me.nick)) me room asked (record {
   makes = λ outside named none. join_keeps_alike me.nick asked.channel true;
   enters = λ outside channel is. join_keeps_alike me.nick channel.name false;

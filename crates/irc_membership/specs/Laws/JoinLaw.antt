@@ -11,7 +11,7 @@ use Rattle.irc_acts.specs.AheadLaws.{each-in_turn}
 use Rattle.irc_acts.specs.Moves.{own_channels}
 use Rattle.irc_acts.specs.Own as own
 use Rattle.irc_acts.specs.Own.{IsOwn, AreOwn}
-use Rattle.irc_membership.specs.Join.{Asked, asked_for, is_zero, join_one, join_steps, leaves}
+use Rattle.irc_membership.specs.Join.{JoinEntry, asked_for, is_zero, join_one, join_steps, leaves}
 use Rattle.irc_membership.specs.Laws.JoinWalk.{one_so}
 use Rattle.irc_membership.specs.Laws.JoinZero.{leaving_own}
 
@@ -24,7 +24,7 @@ JoinIsOwnOrLeaves = (me : User) (room : Room) (list keys : List ℕ)
 abbrev pub LeavingAllIsOwn : Type 0
 LeavingAllIsOwn = (me : User) (room : Room) → IsWellFormed room → AreOwn me room (map (leaves me) (own_channels room me))
 
-one_own : (me : User) (room : Room) (asked : Asked) → AreOwn me room (join_one me room asked)
+one_own : (me : User) (room : Room) (asked : JoinEntry) → AreOwn me room (join_one me room asked)
 one_own me room asked =
     one_so (IsOwn me) me room asked (record {
       makes = λ outside named none. own.makes asked.channel named none;
@@ -32,7 +32,7 @@ one_own me room asked =
           own.enters asked.channel channel is (sym (ap (λ found. option_map_or (has_member (key me.nick)) found false) is) ∙ outside);
     })
 
-own_or_leaves : (me : User) (room : Room) (asked : List Asked) (zero : Bool)
+own_or_leaves : (me : User) (room : Room) (asked : List JoinEntry) (zero : Bool)
     → let acts : List Act = if zero then map (leaves me) (own_channels room me) else in_turn (join_one me) room asked in
     AreOwn me room acts ⊎ (acts ≡ map (leaves me) (own_channels room me))
 own_or_leaves me room asked true = inr refl

@@ -24,7 +24,7 @@ use Rattle.irc_acts.specs.Moves.{own_channels}
 use Rattle.irc_acts.specs.Standing.{is_banned}
 use Rattle.irc_answers.specs.Names.{in_lines, name_line, named_members, names_of, end_of_names}
 use Rattle.irc_membership.specs.Limits.{max_joined}
-use Rattle.irc_membership.specs.Join.{Asked, opens, is_full, kept_out, topic_for_joiner, joins, admitted, joins_found, join_one}
+use Rattle.irc_membership.specs.Join.{JoinEntry, opens, is_full, kept_out, topic_for_joiner, joins, admitted, joins_found, join_one}
 
 lines_answer : (channel : Channel) (lines : List (List Listed)) → effects_among (map (name_line channel) lines) ≡ []
 lines_answer channel [] = refl
@@ -62,7 +62,7 @@ admitted_by_users : (room now : Room) (me : User) (name : List ℕ) (channel : C
 admitted_by_users room now me name channel None same = joins_by_users room now me name false channel same
 admitted_by_users room now me name channel (Some refusal) same = refl
 
-pub found_by_users : (room now : Room) (me : User) (asked : Asked) (found : Option Channel) → now.users ≡ room.users
+pub found_by_users : (room now : Room) (me : User) (asked : JoinEntry) (found : Option Channel) → now.users ≡ room.users
     → joins_found now me asked found ≡ joins_found room me asked found
 found_by_users room now me asked None same = joins_by_users room now me asked.channel true (new_channel asked.channel) same
 found_by_users room now me asked (Some channel) same = admitted_by_users room now me asked.channel channel (kept_out me asked.key channel) same
@@ -93,12 +93,12 @@ module _ (Q : Room → Effect → Type 0) (me : User) (room : Room) where
       (λ right. by_test R (is_full channel.modes.limit channel) (Some (Answer (ChannelIsFull channel.name))) None (λ no_room. tt)
       (λ some_room. joins_so name false channel first))))
 
-  found_so : (asked : Asked) → IsSoOfJoins Q me room asked.channel → is_member room me.nick asked.channel ≡ false → is_channel asked.channel ≡ true
+  found_so : (asked : JoinEntry) → IsSoOfJoins Q me room asked.channel → is_member room me.nick asked.channel ≡ false → is_channel asked.channel ≡ true
       → (found : Option Channel) → row room.channels (key asked.channel) ≡ found → EachInTurn Q room (effects_among (joins_found room me asked found))
   found_so asked so outside named None is = joins_so asked.channel true (new_channel asked.channel) (so.makes outside named is)
   found_so asked so outside named (Some channel) is = admitted_so asked.channel asked.key channel (so.enters outside channel is)
 
-  pub one_so : (asked : Asked) → IsSoOfJoins Q me room asked.channel → EachInTurn Q room (effects_among (join_one me room asked))
+  pub one_so : (asked : JoinEntry) → IsSoOfJoins Q me room asked.channel → EachInTurn Q room (effects_among (join_one me room asked))
   one_so asked so =
       let S = λ (acts : List Act). EachInTurn Q room (effects_among acts) in
       let found = joins_found room me asked (row room.channels (key asked.channel)) in

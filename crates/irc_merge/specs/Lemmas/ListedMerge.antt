@@ -16,7 +16,7 @@ use Rattle.irc_room.specs.declared.effect.Effect.TheVariants.{AddUser, Quit}
 use Rattle.irc_room.specs.Room.{Room}
 use Rattle.irc_room.specs.After.{after}
 use Rattle.irc_room.specs.InTurn.{after_all}
-use Rattle.irc_room.specs.Seen.{full_sender, line_of}
+use Rattle.irc_room.specs.Seen.{full_sender, line_from}
 use Rattle.irc_room.specs.Lemmas.Listed.{map_itself, table_of, row_listed, entries_listed}
 use Rattle.irc_room.specs.Lemmas.ListedRooms.{ListedChannel, ListedRoom, channel_of, room_of, lists_member, member_listed, list_after, after_listed, all_listed}
 use Rattle.irc_room.specs.Lemmas.ListedSeen.{user_listed, channel_listed}
@@ -151,7 +151,7 @@ abbrev list_quit : List ℕ → ListedRoom → List ℕ → List ℕ → Option 
 list_quit viewer room nick text =
     option_and_then (λ (user : User).
     if not (same nick user.nick) && list_any (λ c. lists_member (key nick) c && lists_member (key user.nick) c) (map (λ e. e.1) room.channels)
-    then line_of (codes "QUIT") [] (Some text) (option_map full_sender (find fold_cmp (key nick) room.users)) else None)
+    then line_from (codes "QUIT") [] (Some text) (option_map full_sender (find fold_cmp (key nick) room.users)) else None)
     (find fold_cmp (key viewer) room.users)
 
 shares : (one other : List ℕ) (es : List (List ℕ × ListedChannel))
@@ -172,7 +172,7 @@ quit_listed viewer room order nick text =
     quit_shows (room_of room) nick text viewer
     ∙ (λ i. option_and_then (λ (user : User).
     if not (same nick user.nick) && share_listed room order (key nick) (key user.nick) i
-    then line_of (codes "QUIT") [] (Some text) (option_map full_sender (user_listed room (key nick) i)) else None) (user_listed room (key viewer) i))
+    then line_from (codes "QUIT") [] (Some text) (option_map full_sender (user_listed room (key nick) i)) else None) (user_listed room (key viewer) i))
 
 abbrev list_quits : List ℕ → ListedRoom → List User → List (List ℕ)
 list_quits viewer room [] = []

@@ -15,7 +15,7 @@ use Rattle.irc_channels.specs.Channels.{has_member, without_user}
 use Rattle.irc_room.specs.declared.effect.Effect.TheVariants.{AddUser, Quit}
 use Rattle.irc_room.specs.Room.{Room, IsWellFormed}
 use Rattle.irc_room.specs.After.{after}
-use Rattle.irc_room.specs.Seen.{full_sender, line_of}
+use Rattle.irc_room.specs.Seen.{full_sender, line_from}
 use Rattle.irc_room.specs.Loops.Viewing.{users_under}
 use Rattle.irc_room.specs.Lemmas.Rows.{not_true}
 use Rattle.irc_room.specs.Lemmas.ViewerLaws.{IsNamed, table_named}
@@ -35,7 +35,7 @@ abbrev pub quit_to : List ℕ → List ℕ → Table Channel → Option User →
 quit_to nick text channels doer viewer =
     option_and_then (λ (user : User).
     if not (same nick user.nick) && list_any (λ channel. has_member (key nick) channel && has_member (key user.nick) channel) (values channels)
-    then line_of (codes "QUIT") [] (Some text) (option_map full_sender doer) else None) viewer
+    then line_from (codes "QUIT") [] (Some text) (option_map full_sender doer) else None) viewer
 
 pub quit_shows : (room : Room) (nick text viewer : List ℕ)
     → shows_to room (Quit nick text) viewer ≡ quit_to nick text room.channels (row room.users (key nick)) (row room.users (key viewer))

@@ -163,10 +163,10 @@ flag_apart members nick word flags f flag named at other e =
 
 -- ---- each change that is made
 
-abbrev IsNamed : Table User → Type 0
-IsNamed users = (nick : List ℕ) (user : User) → row users nick ≡ Some user → key user.nick ≡ nick
+abbrev AreNamed : Table User → Type 0
+AreNamed users = (nick : List ℕ) (user : User) → row users nick ≡ Some user → key user.nick ≡ nick
 
-made_changes : (users : Table User) (now : Channel) → IsNamed users → (plus : Bool) (which : ModeLetter) (word : Option (List ℕ))
+made_changes : (users : Table User) (now : Channel) → AreNamed users → (plus : Bool) (which : ModeLetter) (word : Option (List ℕ))
     → IsSo (λ made. changed made now ≢ now) (judge users now plus which word)
 made_changes users now named plus which word = judged_so (λ made. changed made now ≢ now) users now plus which word (record {
   invite_only = λ sign other e. apart sign now.modes.invite_only other (ap (λ (c : Channel). c.modes.invite_only) e);
@@ -192,7 +192,7 @@ verdict_changes now (Says reply) so = tt
 verdict_changes now (Keeps made) so = record { now = so; later = tt }
 verdict_changes now Nothing so = tt
 
-one_changes : (users : Table User) (start now : Channel) → IsNamed users → (item : Asked) → EachChanges now (one_served users start now item).changes
+one_changes : (users : Table User) (start now : Channel) → AreNamed users → (item : Asked) → EachChanges now (one_served users start now item).changes
 one_changes users start now named (change plus which word) = verdict_changes now (judge users now plus which word) (made_changes users now named plus which word)
 one_changes users start now named list = tt
 one_changes users start now named no_word = tt
@@ -202,7 +202,7 @@ both_change : (now : Channel) (a b : List ModeChange) → EachChanges now a → 
 both_change now [] b one other = other
 both_change now (first ∷ a) b one other = record { now = one.now; later = both_change (changed first now) a b one.later other }
 
-served_changes : (users : Table User) (start now : Channel) → IsNamed users → (items : List Asked) → EachChanges now (served users start now items).changes
+served_changes : (users : Table User) (start now : Channel) → AreNamed users → (items : List Asked) → EachChanges now (served users start now items).changes
 served_changes users start now named [] = tt
 served_changes users start now named (item ∷ items) =
     let first = one_served users start now item in

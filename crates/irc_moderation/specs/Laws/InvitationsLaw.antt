@@ -17,7 +17,7 @@ use Rattle.irc_acts.specs.OtherInvitations.{uninviting, AreAlike}
 use Rattle.irc_acts.specs.Standing.{is_operator}
 use Rattle.irc_judging.specs.Judging.{judge}
 use Rattle.irc_moderation.specs.UserMode.{user_mode}
-use Rattle.irc_moderation.specs.ChannelMode.{Outcome, outcome_of, told, one_served, served, denied, in_one, asked_of, channel_mode}
+use Rattle.irc_moderation.specs.ChannelMode.{Outcome, outcome_of, letter_replies, one_served, served, denied, in_one, asked_of, channel_mode}
 use Rattle.irc_acts.specs.Words.{names_channel}
 use Rattle.irc_moderation.specs.Mode.{mode_steps}
 
@@ -62,7 +62,7 @@ judged_aside users now plus letter.Operator (Some word) = refl
 judged_aside users now plus letter.Voice None = refl
 judged_aside users now plus letter.Voice (Some word) = refl
 
-told_aside : (start : Channel) (item : Asked) → told (uninviting start) item ≡ told start item
+told_aside : (start : Channel) (item : Asked) → letter_replies (uninviting start) item ≡ letter_replies start item
 told_aside start list = refl
 told_aside start no_word = refl
 told_aside start (unknown byte) = refl
@@ -74,28 +74,28 @@ one_aside users start now list = refl
 one_aside users start now no_word = refl
 one_aside users start now (unknown byte) = refl
 
-abbrev both : Outcome → Outcome → Outcome
-both first rest = record { replies = first.replies ++ rest.replies; changes = first.changes ++ rest.changes }
+abbrev both_outcomes : Outcome → Outcome → Outcome
+both_outcomes first rest = record { replies = first.replies ++ rest.replies; changes = first.changes ++ rest.changes }
 
 served_aside : (users : Table User) (start now : Channel) (items : List Asked) → served users (uninviting start) (uninviting now) items ≡ served users start now items
 served_aside users start now [] = refl
 served_aside users start now (item ∷ items) =
     let first = one_served users start now item in
-    ap (λ (o : Outcome). both o (served users (uninviting start) (all_changed o.changes (uninviting now)) items)) (one_aside users start now item)
-    ∙ ap (λ (c : Channel). both first (served users (uninviting start) c items)) (changed_aside first.changes now)
-    ∙ ap (both first) (served_aside users start (all_changed first.changes now) items)
+    ap (λ (o : Outcome). both_outcomes o (served users (uninviting start) (all_changed o.changes (uninviting now)) items)) (one_aside users start now item)
+    ∙ ap (λ (c : Channel). both_outcomes first (served users (uninviting start) c items)) (changed_aside first.changes now)
+    ∙ ap (both_outcomes first) (served_aside users start (all_changed first.changes now) items)
 
-flat_aside : (start : Channel) (items : List Asked) → flat_map (told (uninviting start)) items ≡ flat_map (told start) items
+flat_aside : (start : Channel) (items : List Asked) → flat_map (letter_replies (uninviting start)) items ≡ flat_map (letter_replies start) items
 flat_aside start [] = refl
 flat_aside start (item ∷ items) =
-    ap (λ acts. acts ++ flat_map (told (uninviting start)) items) (told_aside start item) ∙ ap (λ acts. told start item ++ acts) (flat_aside start items)
+    ap (λ acts. acts ++ flat_map (letter_replies (uninviting start)) items) (told_aside start item) ∙ ap (λ acts. letter_replies start item ++ acts) (flat_aside start items)
 
 denied_aside : (start : Channel) (items : List Asked) → denied (uninviting start) items ≡ denied start items
 denied_aside start [] = refl
 denied_aside start (change plus which word ∷ items) = ap (λ acts. Answer (ChanOPrivsNeeded start.name) ∷ acts) (flat_aside start items)
-denied_aside start (list ∷ items) = ap (λ acts. told start list ++ acts) (denied_aside start items)
-denied_aside start (no_word ∷ items) = ap (λ acts. told start no_word ++ acts) (denied_aside start items)
-denied_aside start (unknown byte ∷ items) = ap (λ acts. told start (unknown byte) ++ acts) (denied_aside start items)
+denied_aside start (list ∷ items) = ap (λ acts. letter_replies start list ++ acts) (denied_aside start items)
+denied_aside start (no_word ∷ items) = ap (λ acts. letter_replies start no_word ++ acts) (denied_aside start items)
+denied_aside start (unknown byte ∷ items) = ap (λ acts. letter_replies start (unknown byte) ++ acts) (denied_aside start items)
 
 asked_aside : (users : Table User) (me : User) (channel : Channel) (items : List Asked) → asked_of users me (uninviting channel) items ≡ asked_of users me channel items
 asked_aside users me channel items =

@@ -28,7 +28,7 @@ use Rattle.irc_moderation.specs.ModesShown.{ban_shown}
 use Rattle.irc_moderation.specs.UserMode.{is_unknown_flag, invisible_after, unknown_told, made_invisible, own_mode, user_mode}
 use Rattle.irc_acts.specs.Standing.{is_operator}
 use Rattle.irc_acts.specs.Words.{names_channel}
-use Rattle.irc_moderation.specs.ChannelMode.{outcome_of, told, one_served, served, denied, changing, in_one, asked_of, channel_mode}
+use Rattle.irc_moderation.specs.ChannelMode.{outcome_of, letter_replies, one_served, served, denied, changing, in_one, asked_of, channel_mode}
 use Rattle.irc_moderation.specs.Mode.{mode_steps}
 use Rattle.std.specs.List.{list_any}
 
@@ -41,7 +41,7 @@ bans_quiet : (name : List ℕ) (bans : List (List ℕ)) (behind : List Act) → 
 bans_quiet name [] behind = refl
 bans_quiet name (ban ∷ bans) behind = bans_quiet name bans behind
 
-told_quiet : (start : Channel) (item : Asked) → effects_among (told start item) ≡ []
+told_quiet : (start : Channel) (item : Asked) → effects_among (letter_replies start item) ≡ []
 told_quiet start list = bans_quiet start.name start.modes.bans (Answer (EndOfBanList start.name) ∷ [])
 told_quiet start no_word = refl
 told_quiet start (unknown byte) = refl
@@ -67,8 +67,8 @@ served_quiet users start now (item ∷ items) =
 
 denied_quiet : (start : Channel) (items : List Asked) → effects_among (denied start items) ≡ []
 denied_quiet start [] = refl
-denied_quiet start (change plus which word ∷ items) = none-flat (told start) (told_quiet start) items
-denied_quiet start (list ∷ items) = none-both (told start list) (denied start items) (told_quiet start list) (denied_quiet start items)
+denied_quiet start (change plus which word ∷ items) = none-flat (letter_replies start) (told_quiet start) items
+denied_quiet start (list ∷ items) = none-both (letter_replies start list) (denied start items) (told_quiet start list) (denied_quiet start items)
 denied_quiet start (no_word ∷ items) = denied_quiet start items
 denied_quiet start (unknown byte ∷ items) = denied_quiet start items
 

@@ -7,7 +7,7 @@ use Rattle.irc_net.specs.Calls.{NetView, count_between, piece_between, standing}
 use Rattle.irc_net.specs.Faults.{deliver_fault}
 use Rattle.irc_network.specs.declared.network.Ends.{Ends as KeptEnds}
 use Rattle.irc_network.specs.Loops.Courses.{ends_now}
-use Rattle.irc_network.specs.Network.{Receipt, ends_of}
+use Rattle.irc_network.specs.Network.{Receipt, link_places}
 
 -- why there are none
 abbrev pub IsNoWay : NetView → Name → Name → NetFault → Type 0
@@ -16,7 +16,7 @@ IsNoWay net from to fault = ((net.failed ≡ true) × (fault ≡ Failed)) ⊎ ((
 pub record AreEnds (net : NetView) (from to : Name) (ends : KeptEnds) : Type 0 where
   pub stands : net.failed ≡ false
   pub none : deliver_fault net.network from to ≡ None
-  pub ends_are : ends_of net.network.network from to ≡ Some (ends_now ends)
+  pub ends_are : link_places net.network.network from to ≡ Some (ends_now ends)
 
 -- the ends of two linked servers
 abbrev pub AreLinkedEnds : NetView → Name → Name → Result KeptEnds NetFault → Type 0

@@ -14,7 +14,7 @@ use Rattle.irc_network.specs.declared.network.Ends.{Ends as KeptEnds}
 use Rattle.irc_network.specs.declared.put_out.PutOut.{PutOut}
 use Rattle.irc_network.specs.declared.desk.Desk.{Desk}
 use Rattle.irc_network.specs.Calls.{course_at}
-use Rattle.irc_network.specs.Network.{Course, Direction, Ends, Network, Site, all_sent_out, asked, asked_of, done_by, has_received, home_place, is_at_rest, left, sent_out, waiting, with_site}
+use Rattle.irc_network.specs.Network.{Course, Direction, LinkPlaces, Network, Site, all_sent_out, site_asked, site_asked_if, done_by, has_received, home_place, is_at_rest, left, sent_out, waiting, with_site}
 use Rattle.irc_network.specs.Views.{receipts_of}
 
 abbrev pub course : Network → List KeptReceipt → Course
@@ -22,7 +22,7 @@ course net lines = record { net = net; receipts = receipts_of lines }
 
 -- ---- places
 
-abbrev pub ends_now : KeptEnds → Ends
+abbrev pub ends_now : KeptEnds → LinkPlaces
 ends_now kept = record { near = kept.near; far = kept.far }
 
 pub record AreWithin (net : Network) (ends : KeptEnds) : Type 0 where
@@ -51,11 +51,11 @@ sent_at place (Some sent) course = sent_out place sent course
 
 -- a server was asked for an event, and so was the one that a client has connected to
 abbrev pub IsAsked : ℕ → Event → Network → Desk → Network → Desk → Type 0
-IsAsked place event old before new after = course_at new after ≡ asked place (occurrence_of event) (course_at old before)
+IsAsked place event old before new after = course_at new after ≡ site_asked place (occurrence_of event) (course_at old before)
 
 abbrev pub IsHomeAsked : ℕ → Event → Network → Desk → Network → Desk → Type 0
 IsHomeAsked client event old before new after =
-    course_at new after ≡ asked_of (home_place old client) (occurrence_of event) (course_at old before)
+    course_at new after ≡ site_asked_if (home_place old client) (occurrence_of event) (course_at old before)
 
 -- all that was put out on the desk went its way
 abbrev pub AreSentOut : ℕ → Network → Desk → Network → Desk → Type 0

@@ -8,7 +8,7 @@ use Rattle.irc_stage.specs.View.{View}
 use Rattle.irc_network.specs.declared.refusing.Party.{Party}
 use Rattle.irc_world.specs.Refused.{Refusal, are_equal}
 use Rattle.irc_world.specs.World.{home_in}
-use Rattle.irc_network.specs.Network.{Network, Site, site_of, view_of}
+use Rattle.irc_network.specs.Network.{Network, Site, site_of, site_view}
 use Rattle.irc_network.specs.Refusing.{link_fault}
 
 -- the server that a client has connected to
@@ -17,7 +17,7 @@ home_site net client = option_and_then (site_of net) (home_in net.homes client)
 
 -- why the servers of two names are not linked
 abbrev pub linking_fault : Network → Name → Name → Option Refusal
-linking_fault net near far = link_fault net near far (view_of net near) (view_of net far)
+linking_fault net near far = link_fault net near far (site_view net near) (site_view net far)
 
 abbrev pub parties_fault : Network → Party → Party → Option Refusal
 parties_fault net one other = linking_fault net one.name.now other.name.now
@@ -29,7 +29,7 @@ have_one_password one other = are_equal (kept_for one.site.now other.name.now) (
 -- it is the server of this name, and this is its room
 pub record IsPartyOf (net : Network) (name : Name) (party : Party) : Type 0 where
   pub view : View
-  pub is_view : view_of net name ≡ Some view
+  pub is_view : site_view net name ≡ Some view
   pub named : party.name.now ≡ name
   pub within : party.place < length net.names
   pub place : name_at net.names party.place ≡ name
@@ -37,5 +37,5 @@ pub record IsPartyOf (net : Network) (name : Name) (party : Party) : Type 0 wher
   pub room : party.room.now.room ≡ view.room
 
 abbrev pub IsParty : Network → Name → Option Party → Type 0
-IsParty net name None = view_of net name ≡ None
+IsParty net name None = site_view net name ≡ None
 IsParty net name (Some party) = IsPartyOf net name party

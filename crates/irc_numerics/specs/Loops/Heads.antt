@@ -4,5 +4,5 @@ use Rattle.irc_numerics.specs.declared.writing.Head.{Head}
 use Rattle.irc_numerics.specs.Replies.{ReplyWords, numbered}
 
 -- a number and words, written as a line behind that head
-abbrev pub line_of : Head → List ℕ → ReplyWords → List ℕ
-line_of head number words = numbered head.server.now head.name.now number words
+abbrev pub line_behind : Head → List ℕ → ReplyWords → List ℕ
+line_behind head number words = numbered head.server.now head.name.now number words

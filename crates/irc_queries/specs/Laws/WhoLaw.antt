@@ -17,7 +17,7 @@ use Rattle.irc_acts.specs.AheadLaws.{none-both}
 use Rattle.irc_acts.specs.Marks.{asterisk}
 use Rattle.irc_acts.specs.Standing.{is_known, is_seen, mark_of}
 use Rattle.irc_acts.specs.Words.{names_channel}
-use Rattle.irc_queries.specs.Who.{user_line, member_if_seen, member_line, members_told, users_told, is_asked_for, told, asks_for_operators, end_of_who, who_steps}
+use Rattle.irc_queries.specs.Who.{user_line, member_if_seen, member_line, replies_of_members, replies_of_users, is_asked_for, who_replies, asks_for_operators, end_of_who, who_steps}
 
 -- a WHO changes nothing and says nothing to others
 abbrev pub WhoOnlyAnswers : Type 0
@@ -28,9 +28,9 @@ either : (b : Bool) (a c : List Act) → effects_among a ≡ [] → effects_amon
 either true a c one other = one
 either false a c one other = other
 
-lines_answer : (place : Place) (users : List User) → effects_among (map (user_line place None Plain) users) ≡ []
-lines_answer place [] = refl
-lines_answer place (user ∷ users) = lines_answer place users
+users_answer : (place : Place) (users : List User) → effects_among (map (user_line place None Plain) users) ≡ []
+users_answer place [] = refl
+users_answer place (user ∷ users) = users_answer place users
 
 first_answers : (room : Room) (place : Place) (seen : User → Bool) (channel : Channel) (flags : Flags) (found : Option User) (acts : List Act)
     → effects_among acts ≡ [] → effects_among (cons_option (option_and_then (member_if_seen place seen channel flags) found) acts) ≡ []
@@ -51,21 +51,21 @@ members_answer room place seen channel (member ∷ members) =
     first_answers room place seen channel member.1 (row room.users member.0) (filter_map (member_line room place seen channel) members)
     (members_answer room place seen channel members)
 
-channel_answers : (room : Room) (place : Place) (seen : User → Bool) (me : User) (found : Option Channel) → effects_among (members_told room place seen me found) ≡ []
+channel_answers : (room : Room) (place : Place) (seen : User → Bool) (me : User) (found : Option Channel) → effects_among (replies_of_members room place seen me found) ≡ []
 channel_answers room place seen me None = refl
 channel_answers room place seen me (Some channel) =
     either (is_known me channel) (filter_map (member_line room place seen channel) (entries channel.members)) [] (members_answer room place seen channel (entries channel.members)) refl
 
-told_answers : (room : Room) (place : Place) (me : User) (asked : List ℕ) → effects_among (told room place me asked) ≡ []
+told_answers : (room : Room) (place : Place) (me : User) (asked : List ℕ) → effects_among (who_replies room place me asked) ≡ []
 told_answers room place me asked =
     let seen = λ (user : User). is_seen room me user in
-    either (names_channel asked) (members_told room place seen me (row room.channels (key asked))) (users_told place seen asked (values room.users))
+    either (names_channel asked) (replies_of_members room place seen me (row room.channels (key asked))) (replies_of_users place seen asked (values room.users))
     (channel_answers room place seen me (row room.channels (key asked)))
-    (lines_answer place (filter (λ user. is_asked_for asked user && seen user) (values room.users)))
+    (users_answer place (filter (λ user. is_asked_for asked user && seen user) (values room.users)))
 
 pub who_only_answers : WhoOnlyAnswers
 unfolding who_steps
-who_only_answers room place me [] = none-both (told room place me (codes "0")) (end_of_who (asterisk ∷ []) ∷ []) (told_answers room place me (codes "0")) refl
+who_only_answers room place me [] = none-both (who_replies room place me (codes "0")) (end_of_who (asterisk ∷ []) ∷ []) (told_answers room place me (codes "0")) refl
 who_only_answers room place me (asked ∷ more) =
-    none-both (cond (asks_for_operators more) [] (told room place me asked)) (end_of_who asked ∷ [])
-    (either (asks_for_operators more) [] (told room place me asked) refl (told_answers room place me asked)) refl
+    none-both (cond (asks_for_operators more) [] (who_replies room place me asked)) (end_of_who asked ∷ [])
+    (either (asks_for_operators more) [] (who_replies room place me asked) refl (told_answers room place me asked)) refl

@@ -20,13 +20,13 @@ use Rattle.irc_queries.specs.Whois.{channels_line, places, told_if_there, told_o
 abbrev pub WhoisOnlyAnswers : Type 0
 WhoisOnlyAnswers = (room : Room) (place : Place) (me : User) (params : List (List ℕ)) → effects_among (whois_steps room place me params) ≡ []
 
-lines_answer : (user : User) (lines : List (List OnChannel)) → effects_among (map (channels_line user) lines) ≡ []
-lines_answer user [] = refl
-lines_answer user (line ∷ lines) = lines_answer user lines
+channels_answer : (user : User) (lines : List (List OnChannel)) → effects_among (map (channels_line user) lines) ≡ []
+channels_answer user [] = refl
+channels_answer user (line ∷ lines) = channels_answer user lines
 
 there_answers : (room : Room) (place : Place) (me : User) (name : List ℕ) (found : Option User) → effects_among (told_if_there room place me name found) ≡ []
 there_answers room place me name None = refl
-there_answers room place me name (Some user) = lines_answer user (in_lines max_whois_channels (places room me user))
+there_answers room place me name (Some user) = channels_answer user (in_lines max_whois_channels (places room me user))
 
 one_answers : (room : Room) (place : Place) (me : User) (name : List ℕ) → effects_among (told_of_one room place me name) ≡ []
 one_answers room place me name = there_answers room place me name (row room.users (key name))

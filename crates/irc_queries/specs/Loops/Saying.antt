@@ -19,7 +19,7 @@ use Rattle.irc_answers.specs.Loops.NameLines.{is_shown}
 use Rattle.irc_answers.specs.Names.{listed, named_members}
 use Rattle.irc_queries.specs.List.{asked_entry, list_steps, listed_entries}
 use Rattle.irc_queries.specs.Said.{SaysSteps}
-use Rattle.irc_queries.specs.Who.{end_of_who, member_line, members_told, told, told_of_seen, users_told, who_steps}
+use Rattle.irc_queries.specs.Who.{end_of_who, member_line, replies_of_members, who_replies, replies_of_seen, replies_of_users, who_steps}
 
 -- a LIST with these parameters is answered
 abbrev pub AnswersList : Context → List (List ℕ) → ℕ → Batch → Batch → Type 0
@@ -52,11 +52,11 @@ AnswersWho context params = SaysSteps context (who_steps context.room.now.room (
 
 -- what is told of whom a word asks for, alone and with the end behind it
 abbrev pub SaysTold : Context → List ℕ → ℕ → Batch → Batch → Type 0
-SaysTold context asked = SaysSteps context (told context.room.now.room (place_of context.routes.now) context.me.now asked)
+SaysTold context asked = SaysSteps context (who_replies context.room.now.room (place_of context.routes.now) context.me.now asked)
 
 abbrev pub SaysAll : Context → List ℕ → List ℕ → ℕ → Batch → Batch → Type 0
 SaysAll context asked given =
-    SaysSteps context (told context.room.now.room (place_of context.routes.now) context.me.now asked ++ end_of_who given ∷ [])
+    SaysSteps context (who_replies context.room.now.room (place_of context.routes.now) context.me.now asked ++ end_of_who given ∷ [])
 
 -- whether the asker, whose own channels stand in these rows, sees a user
 abbrev pub asker_sees : Context → List (Bor (Row Channel)) → User → Bool
@@ -65,13 +65,13 @@ asker_sees context own user = is_seen_from (map (λ (row : Bor (Row Channel)). r
 -- what is told of whom a word asks for, of those who are seen so
 abbrev pub SaysSeen : Context → List (Bor (Row Channel)) → List ℕ → ℕ → Batch → Batch → Type 0
 SaysSeen context own asked =
-    SaysSteps context (told_of_seen context.room.now.room (place_of context.routes.now) (λ user. asker_sees context own user) context.me.now asked)
+    SaysSteps context (replies_of_seen context.room.now.room (place_of context.routes.now) (λ user. asker_sees context own user) context.me.now asked)
 
 -- of the members of the channel of a name, where it is there and known
 abbrev pub SaysFound : Context → List (Bor (Row Channel)) → List ℕ → ℕ → Batch → Batch → Type 0
 SaysFound context own name =
     let room = context.room.now.room in
-    SaysSteps context (members_told room (place_of context.routes.now) (λ user. asker_sees context own user) context.me.now (row room.channels (key name)))
+    SaysSteps context (replies_of_members room (place_of context.routes.now) (λ user. asker_sees context own user) context.me.now (row room.channels (key name)))
 
 -- of these members of a channel
 abbrev pub SaysMembers : Context → List (Bor (Row Channel)) → Channel → List (List ℕ × Flags) → ℕ → Batch → Batch → Type 0
@@ -84,7 +84,7 @@ SaysAllMembers context own channel = SaysMembers context own channel (entries ch
 -- of these users, where a mask asks for them
 abbrev pub SaysUsers : Context → List (Bor (Row Channel)) → List ℕ → List User → ℕ → Batch → Batch → Type 0
 SaysUsers context own mask users =
-    SaysSteps context (users_told (place_of context.routes.now) (λ user. asker_sees context own user) mask users)
+    SaysSteps context (replies_of_users (place_of context.routes.now) (λ user. asker_sees context own user) mask users)
 
 abbrev pub SaysAllUsers : Context → List (Bor (Row Channel)) → List ℕ → ℕ → Batch → Batch → Type 0
 SaysAllUsers context own mask = SaysUsers context own mask (values context.room.now.room.users)

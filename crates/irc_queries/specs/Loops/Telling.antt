@@ -14,13 +14,13 @@ use Rattle.irc_routes.specs.Known.{place_of}
 use Rattle.irc_routes.specs.Place.{Place}
 use Rattle.irc_acts.specs.declared.act.Act.{Act}
 use Rattle.irc_acts.specs.declared.act.Act.TheVariants.{Answer}
-use Rattle.irc_acts.specs.Acts.{kept}
+use Rattle.irc_acts.specs.Acts.{bytes_kept}
 use Rattle.irc_acts.specs.declared.context.Context.{Context}
 use Rattle.irc_answers.specs.Loops.FilledLines.{Came}
 use Rattle.irc_answers.specs.Names.{in_lines}
 use Rattle.irc_queries.specs.Ison.{ison_steps, users_named}
 use Rattle.irc_queries.specs.Lusers.{lusers_steps}
-use Rattle.irc_queries.specs.Whois.{channels_line, info_of, place_in, places, told_of, told_of_list, told_of_one, whois_steps}
+use Rattle.irc_queries.specs.Whois.{channels_line, info_of, place_in, places, whois_replies, told_of_list, told_of_one, whois_steps}
 
 -- the values of these
 abbrev pub users_now : List (Bor User) → List User
@@ -61,11 +61,11 @@ abbrev pub one_here : Context → List ℕ → List Act
 one_here context nick = told_of_one context.room.now.room (place_of context.routes.now) context.me.now nick
 
 abbrev pub user_here : Context → User → List Act
-user_here context user = told_of context.room.now.room (place_of context.routes.now) context.me.now user
+user_here context user = whois_replies context.room.now.room (place_of context.routes.now) context.me.now user
 
 -- the server of a user, and how it describes itself
 abbrev pub home_told : Place → User → Act
-home_told place user = Answer (WhoisServer user.nick user.home (kept (info_of place user.home)))
+home_told place user = Answer (WhoisServer user.nick user.home (bytes_kept (info_of place user.home)))
 
 -- the lines of these channels of a user, and of those that are listed for the asker
 abbrev pub lines_of : User → List OnChannel → List Act

@@ -20,13 +20,13 @@ use Rattle.irc_room.specs.declared.effect.Effect.{Effect}
 use Rattle.irc_room.specs.declared.effect.Effect.TheVariants.{AddUser, Rename, Quit, Join, Part, Kick, ChangeModes, SetTopic, Say, Invite, UserMode}
 use Rattle.irc_room.specs.Room.{Room}
 use Rattle.irc_room.specs.Effects.{is_idle, is_member, has_channel}
-use Rattle.irc_room.specs.Seen.{Showing, seen, shown_to, share_channel, stored_nick, stored_channel, from_nick, full_sender, line_of, names_member}
+use Rattle.irc_room.specs.Seen.{Showing, seen, shown_to, share_channel, stored_nick, stored_channel, from_nick, full_sender, line_from, names_member}
 use Rattle.irc_room.specs.Lemmas.Rows.{is_some_map}
 use Rattle.irc_room.specs.Lemmas.Listed.{map_itself, row_listed, entries_listed}
 use Rattle.irc_room.specs.Lemmas.ListedRooms.{ListedChannel, ListedRoom, channel_of, room_of, lists_member, member_listed}
 
 -- all that is asked of a room to tell what an effect shows
-pub record Asked : Type 0 where
+pub record RoomAnswers : Type 0 where
   pub channel_there : List ℕ → Bool
   pub member : List ℕ → List ℕ → Bool
   pub share : List ℕ → List ℕ → Bool
@@ -34,7 +34,7 @@ pub record Asked : Type 0 where
   pub channel : List ℕ → List ℕ
   pub sender : List ℕ → Option Sender
 
-abbrev asked_of : Room → Asked
+abbrev asked_of : Room → RoomAnswers
 asked_of room = record {
   channel_there = has_channel room;
   member = is_member room;
@@ -44,13 +44,13 @@ asked_of room = record {
   sender = from_nick room;
 }
 
-abbrev pub idle_by : Asked → Effect → Bool
+abbrev pub idle_by : RoomAnswers → Effect → Bool
 idle_by asked (Join nick channel op) = asked.member nick channel
 idle_by asked (Part nick channel text) = asked.channel_there channel && not (asked.member nick channel)
 idle_by asked (Kick by channel nick text) = asked.channel_there channel && not (asked.member nick channel)
 idle_by asked other = false
 
-abbrev pub sees_by : Asked → Effect → List ℕ → Bool
+abbrev pub sees_by : RoomAnswers → Effect → List ℕ → Bool
 sees_by asked (AddUser user) viewer = false
 sees_by asked (Rename nick new) viewer = same nick viewer || asked.share nick viewer
 sees_by asked (Quit nick text) viewer = not (same nick viewer) && asked.share nick viewer
@@ -64,38 +64,38 @@ sees_by asked (Say by notice (target.Channel channel) text) viewer = not (same b
 sees_by asked (Invite by nick channel) viewer = same nick viewer
 sees_by asked (UserMode nick invisible) viewer = same nick viewer
 
-abbrev sender_by : Asked → By → User → Option Sender
+abbrev sender_by : RoomAnswers → By → User → Option Sender
 sender_by asked (by.User nick) viewer = asked.sender nick
 sender_by asked by.Home viewer = Some (named viewer.home)
 
-abbrev target_by : Asked → Target → List ℕ
+abbrev target_by : RoomAnswers → Target → List ℕ
 target_by asked (target.User nick) = asked.nick nick
 target_by asked (target.Channel channel) = asked.channel channel
 
-abbrev word_by : Asked → ModeChange → Option (List ℕ)
+abbrev word_by : RoomAnswers → ModeChange → Option (List ℕ)
 word_by asked c = if names_member c.letter then option_map asked.nick c.word else c.word
 
-abbrev pub line_by : Asked → Effect → User → Option (List ℕ)
+abbrev pub line_by : RoomAnswers → Effect → User → Option (List ℕ)
 line_by asked (AddUser user) viewer = None
-line_by asked (Rename nick new) viewer = line_of (codes "NICK") (new ∷ []) None (asked.sender nick)
-line_by asked (Quit nick reason) viewer = line_of (codes "QUIT") [] (Some reason) (asked.sender nick)
-line_by asked (Join nick channel op) viewer = line_of (codes "JOIN") (asked.channel channel ∷ []) None (asked.sender nick)
-line_by asked (Part nick channel reason) viewer = line_of (codes "PART") (asked.channel channel ∷ []) (Some reason) (asked.sender nick)
-line_by asked (Kick by channel nick reason) viewer = line_of (codes "KICK") (asked.channel channel ∷ asked.nick nick ∷ []) (Some reason) (asked.sender by)
+line_by asked (Rename nick new) viewer = line_from (codes "NICK") (new ∷ []) None (asked.sender nick)
+line_by asked (Quit nick reason) viewer = line_from (codes "QUIT") [] (Some reason) (asked.sender nick)
+line_by asked (Join nick channel op) viewer = line_from (codes "JOIN") (asked.channel channel ∷ []) None (asked.sender nick)
+line_by asked (Part nick channel reason) viewer = line_from (codes "PART") (asked.channel channel ∷ []) (Some reason) (asked.sender nick)
+line_by asked (Kick by channel nick reason) viewer = line_from (codes "KICK") (asked.channel channel ∷ asked.nick nick ∷ []) (Some reason) (asked.sender by)
 line_by asked (ChangeModes by channel changes) viewer =
-    line_of (codes "MODE") (asked.channel channel ∷ letters_text changes ∷ filter_map (word_by asked) changes) None (sender_by asked by viewer)
-line_by asked (SetTopic by channel topic) viewer = line_of (codes "TOPIC") (asked.channel channel ∷ []) (Some topic) (sender_by asked by viewer)
+    line_from (codes "MODE") (asked.channel channel ∷ letters_text changes ∷ filter_map (word_by asked) changes) None (sender_by asked by viewer)
+line_by asked (SetTopic by channel topic) viewer = line_from (codes "TOPIC") (asked.channel channel ∷ []) (Some topic) (sender_by asked by viewer)
 line_by asked (Say by notice to words) viewer =
-    line_of (if notice then codes "NOTICE" else codes "PRIVMSG") (target_by asked to ∷ []) (Some (words.items)) (asked.sender by)
-line_by asked (Invite by nick channel) viewer = line_of (codes "INVITE") (asked.nick nick ∷ asked.channel channel ∷ []) None (asked.sender by)
+    line_from (if notice then codes "NOTICE" else codes "PRIVMSG") (target_by asked to ∷ []) (Some (words.items)) (asked.sender by)
+line_by asked (Invite by nick channel) viewer = line_from (codes "INVITE") (asked.nick nick ∷ asked.channel channel ∷ []) None (asked.sender by)
 line_by asked (UserMode nick invisible) viewer =
-    line_of (codes "MODE") (asked.nick nick ∷ (if invisible then codes "+i" else codes "-i") ∷ []) None (asked.sender nick)
+    line_from (codes "MODE") (asked.nick nick ∷ (if invisible then codes "+i" else codes "-i") ∷ []) None (asked.sender nick)
 
-abbrev pub shown_by : Asked → Effect → User → Option Showing
+abbrev pub shown_by : RoomAnswers → Effect → User → Option Showing
 shown_by asked effect viewer =
     if sees_by asked effect viewer.nick then option_map (λ line. record { viewer = viewer.nick; line = line }) (line_by asked effect viewer) else None
 
-abbrev pub seen_by : Asked → List User → Effect → List Showing
+abbrev pub seen_by : RoomAnswers → List User → Effect → List Showing
 seen_by asked users effect = if idle_by asked effect then [] else filter_map (shown_by asked effect) users
 
 idle_asked : (room : Room) (effect : Effect) → is_idle room effect ≡ idle_by (asked_of room) effect
@@ -133,7 +133,7 @@ seen_asked room effect = λ i. if idle_asked room effect i then [] else filter_m
 
 -- The answers of a room that is made of lists.
 
-abbrev pub list_asked : ListedRoom → Asked
+abbrev pub list_asked : ListedRoom → RoomAnswers
 list_asked room = record {
   channel_there = λ channel. is_some (find fold_cmp (key channel) room.channels);
   member = λ nick channel. option_map_or (lists_member (key nick)) (find fold_cmp (key channel) room.channels) false;

@@ -7,7 +7,7 @@ use Rattle.irc_line.specs.declared.writing.Prefix.{Prefix}
 use Rattle.irc_line.specs.PartViews.{sender}
 use Rattle.irc_modes.specs.declared.modes.ModeChange.{ModeChange}
 use Rattle.irc_room.specs.Room.{Room}
-use Rattle.irc_room.specs.Seen.{changes_words, line_of}
+use Rattle.irc_room.specs.Seen.{changes_words, line_from}
 
 -- the bytes of a line, if it was written
 abbrev pub line_if : Bool → ArrayVec ℕ → Option (List ℕ)
@@ -24,7 +24,7 @@ mode_parts room sender channel changes = record { sender = sender; command = cod
 
 -- the line with these parts is written, where there is somebody who sends it
 abbrev pub Writes : Bool → ArrayVec ℕ → Option Prefix → List ℕ → List (List ℕ) → Option (List ℕ) → Type 0
-Writes there line doer command middle last = line_if there line ≡ line_of command middle last (option_map sender doer)
+Writes there line doer command middle last = line_if there line ≡ line_from command middle last (option_map sender doer)
 
 -- the command of a text that is said, and the word of a change of mode i
 abbrev pub say_command : Bool → List ℕ

@@ -52,8 +52,8 @@ hears_text room by (target.User nick) viewer = same nick viewer
 hears_text room by (target.Channel channel) viewer = hears room by channel viewer
 
 -- the line, for a user of the server of this name
-abbrev pub told : List ℕ → List ℕ → User → List (List ℕ × ArrayVec ℕ)
-told own line user = if pointwise nat_eq user.home own then (user.nick, record { items = line }) ∷ [] else []
+abbrev pub line_for_own : List ℕ → List ℕ → User → List (List ℕ × ArrayVec ℕ)
+line_for_own own line user = if pointwise nat_eq user.home own then (user.nick, record { items = line }) ∷ [] else []
 
 -- the nickname of a user, where it is one of the server of this name
 abbrev pub own_nick : List ℕ → User → List (List ℕ)

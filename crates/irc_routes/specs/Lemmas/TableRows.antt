@@ -11,7 +11,7 @@ use Rattle.std.specs.FinMap.{entries, entries_sorted, values, len, find, from_so
 use Rattle.irc_names.specs.Tables.{Table, row, each, fold_cmp}
 use Rattle.irc_names.specs.TableLaws.{same_fold, same_table, row-each}
 use Rattle.irc_tables.specs.FoldedRows.{table_of, IsInFoldedOrder}
-use Rattle.irc_tables.specs.Lemmas.ChangedRows.{kept, sorted_kept, find_kept, Changes, retained, retained-sorted, retained-table}
+use Rattle.irc_tables.specs.Lemmas.ChangedRows.{kept_rows, sorted_kept, find_kept, Changes, retained, retained-sorted, retained-table}
 use Rattle.irc_tables.specs.Lemmas.OrderedEntries.{find-there, sorted-below}
 use Rattle.irc_tables.specs.Lemmas.RowsAsTable.{entries-table_of}
 
@@ -109,7 +109,7 @@ module _ {X V : Type 0} (entry : X → List ℕ × V) (p : X → Bool) (g : V �
   in_turn [] = refl
   in_turn (x ∷ xs) = (p x, tt, x, (refl, refl), filter p xs, in_turn xs, refl)
 
-  pub filtered : (rows : List X) → map entry (filter p rows) ≡ kept g (map entry rows)
+  pub filtered : (rows : List X) → map entry (filter p rows) ≡ kept_rows g (map entry rows)
   filtered rows = retained entry g (λ _. Unit {0}) Tests tests_change rows (filter p rows) tt tt (in_turn rows)
 
   pub filtered-sorted : (rows : List X) → IsInFoldedOrder entry rows → IsInFoldedOrder entry (filter p rows)
@@ -127,21 +127,21 @@ module _ {X : Type 0} (p : X → Bool) (g : X → Option X) (is : (x : X) → g 
   all_entries [] = refl
   all_entries (e ∷ es) = ap (λ more. e ∷ more) (all_entries es)
 
-  kept_stay : filter stays (entries table) ≡ kept g (entries table)
+  kept_stay : filter stays (entries table) ≡ kept_rows g (entries table)
   kept_stay =
       sym (all_entries (filter stays (entries table)))
       ∙ filtered (λ (e : List ℕ × X). e) stays g (λ e. is e.1) (entries table)
-      ∙ ap (kept g) (all_entries (entries table))
+      ∙ ap (kept_rows g) (all_entries (entries table))
 
   entries_each : entries (each g table) ≡ filter stays (entries table)
   entries_each =
       let in_order = sorted_kept g (entries table) (told _ (entries_sorted table)) in
-      ap entries (same_table (each g table) (from_sorted (kept g (entries table))) (λ q.
+      ap entries (same_table (each g table) (from_sorted (kept_rows g (entries table))) (λ q.
       row-each g table q
       ∙ ap (option_and_then g) (get-entries table q)
       ∙ sym (find_kept g q (entries table) (told _ (entries_sorted table)))
-      ∙ sym (get-from_sorted fold_cmp (kept g (entries table)) q (held _ in_order))))
-      ∙ entries-from_sorted fold_cmp (kept g (entries table)) (held _ in_order)
+      ∙ sym (get-from_sorted fold_cmp (kept_rows g (entries table)) q (held _ in_order))))
+      ∙ entries-from_sorted fold_cmp (kept_rows g (entries table)) (held _ in_order)
       ∙ sym kept_stay
 
   values_filtered : (es : List (List ℕ × X)) → map (λ e. e.1) (filter stays es) ≡ filter p (map (λ e. e.1) es)

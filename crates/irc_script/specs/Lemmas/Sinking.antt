@@ -2,7 +2,7 @@
 use Rattle.std.proofs.Common.{◌≡◌, ℕ, true, false, Option, Result, Ok, Err, IsErr, OnOk, List, [], ◌++◌, ap, sym, subst, refl, ◌∙◌, append_assoc, append-nil}
 use Rattle.std.specs.Io.KnownBytes.{Appends, Keeps}
 use Rattle.irc_script.specs.declared.fault.Unwritten.{Unwritten}
-use Rattle.irc_script.specs.Sinks.{Sink, sink, Prints, Loses, IsPrinted, Tells}
+use Rattle.irc_script.specs.Sinks.{Sink, sink, Prints, Loses, IsPrinted, Wrote}
 use Rattle.irc_script.specs.Lemmas.Printed.{appends_nothing, appends_both, keeps_appended}
 
 pub prints_nothing : (s : Sink) → Prints s s []
@@ -88,7 +88,7 @@ whole_appended old new text p = subst (λ bytes. Appends old new bytes) (sym (p.
 -- all that waited was written, or is lost
 pub written_off : (r : Result (Unit {0}) Unwritten) (old new : Option (List ℕ)) (text waiting after : List ℕ) → text ≡ waiting → after ≡ []
     → OnOk r (Appends old new text)
-    → Tells old new text → IsPrinted r (sink old waiting) (sink new after) []
+    → Wrote old new text → IsPrinted r (sink old waiting) (sink new after) []
 written_off (Ok _) old new text waiting after e f p q =
     record { written = text; appended = p; whole = append-nil waiting ∙ sym e ∙ sym (append-nil text) ∙ ap (λ a. text ++ a) (sym f) }
 written_off (Err fault) old new text waiting after e f p q = record {
@@ -107,7 +107,7 @@ printed_behind (Err fault) a b c s t p q = prints_loses p q
 
 -- bytes that are written where nothing waits
 pub written_out : (r : Result (Unit {0}) Unwritten) (old new : Option (List ℕ)) (bytes after : List ℕ) → after ≡ [] → OnOk r (Appends old new bytes)
-    → Tells old new bytes → IsPrinted r (sink old []) (sink new after) bytes
+    → Wrote old new bytes → IsPrinted r (sink old []) (sink new after) bytes
 written_out (Ok _) old new bytes after none whole front =
     record { written = bytes; appended = whole; whole = sym (append-nil bytes) ∙ ap (λ a. bytes ++ a) (sym none) }
 written_out (Err fault) old new bytes after none whole front = subst (λ a. Loses (sink old []) (sink new a) bytes) (sym none) front

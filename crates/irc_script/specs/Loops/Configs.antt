@@ -2,28 +2,28 @@
 use Rattle.std.specs.Prelude.{◌≡◌, List, ◌++◌, codes, map, option_to_list, Vec}
 use Rattle.std.specs.List.{AllByRecursion}
 use Rattle.std.specs.declared.alloc.Global.{Global}
-use Rattle.irc_net.specs.Making.{name_of}
+use Rattle.irc_net.specs.Making.{config_name}
 use Rattle.irc_relay.specs.Links.{Name}
 use Rattle.irc_server.specs.declared.config.Config.{Config}
 use Rattle.irc_stage.specs.declared.peer.Peer.{Peer}
 use Rattle.irc_stage.specs.View.{known_peer}
-use Rattle.irc_script.specs.Networks.{peer_of, peers_of}
+use Rattle.irc_script.specs.Networks.{peer_of, peers_for}
 
 -- a configuration is that of one of these servers
 pub record IsConfigured (names : List Name) (server : Name) (config : Config) : Type 0 where
   pub name : config.own.name.items ≡ server
   pub info : config.own.info.items ≡ codes "Test server"
   pub created : config.own.created.items ≡ codes "2024-01-01"
-  pub peers : map known_peer config.peers.items ≡ peers_of server names
+  pub peers : map known_peer config.peers.items ≡ peers_for server names
 
 -- a server is among the peers of another one, behind those that were, if the two are not the same
 abbrev pub AddsOther : Name → Name → Vec Peer Global → Vec Peer Global → Type 0
 AddsOther server other old new = map known_peer new.items ≡ map known_peer old.items ++ option_to_list (peer_of server other)
 
 abbrev pub IsOwnConfig : List Name → Config → Type 0
-IsOwnConfig names config = IsConfigured names (name_of config) config
+IsOwnConfig names config = IsConfigured names (config_name config) config
 
 -- these are the configurations of some of them, in turn
 pub record AreConfigured (names servers : List Name) (configs : List Config) : Type 0 where
-  pub named : map name_of configs ≡ servers
+  pub named : map config_name configs ≡ servers
   pub each : AllByRecursion (IsOwnConfig names) configs

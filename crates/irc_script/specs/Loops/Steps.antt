@@ -8,7 +8,7 @@ use Rattle.irc_net.specs.declared.fault.NetFault.{NetFault}
 use Rattle.irc_network.specs.declared.receipt.Receipt.{Receipt}
 use Rattle.irc_network.specs.Views.{receipt_of, receipts_of}
 use Rattle.irc_script.specs.declared.commands.Command.{Command}
-use Rattle.irc_script.specs.declared.stage.Stage.{Stage}
+use Rattle.irc_script.specs.declared.script_run.ScriptRun.{ScriptRun}
 use Rattle.irc_script.specs.declared.fault.Trouble.{Trouble}
 use Rattle.irc_script.specs.declared.fault.Trouble.TheVariants.{Memory, Device}
 use Rattle.irc_script.specs.declared.fault.Unwritten.{Unwritten}
@@ -17,7 +17,7 @@ use Rattle.irc_script.specs.Networks.{first_net}
 use Rattle.irc_script.specs.Printing.{printed, refusal_line, refusal_number, taken_text}
 use Rattle.irc_script.specs.ScriptViews.{requests}
 use Rattle.irc_script.specs.Runs.{Plays, Runs, IsFront, StopsIn}
-use Rattle.irc_script.specs.Scripts.{Asked, Request, script_read}
+use Rattle.irc_script.specs.Scripts.{ScriptAsked, Request, script_read}
 use Rattle.irc_script.specs.Sinks.{IsPrinted, Sink, Prints, Loses, sink, sink_of}
 
 -- whether bytes came by a delivery, as a number
@@ -107,7 +107,7 @@ pub record RunOn (first : ByteNetwork) (requests : List Request) (text : List �
 
 -- Of a script that is read, whatever of it was begun can be run to its end.
 abbrev pub ScriptsRunOn : Type 0
-ScriptsRunOn = (text : List ℕ) (asked : Asked) (printed : List ℕ) → script_read text ≡ Ok asked → Begins (first_net asked.servers) asked.requests printed
+ScriptsRunOn = (text : List ℕ) (asked : ScriptAsked) (printed : List ℕ) → script_read text ≡ Ok asked → Begins (first_net asked.servers) asked.requests printed
     → RunOn (first_net asked.servers) asked.requests printed
 
 -- requests were run, and what came of them is printed
@@ -135,18 +135,18 @@ HasRun (Err trouble) first requests last old new = RunInto trouble first request
 
 -- these moves are made
 abbrev pub PlaysMoves : {W : Type 0} → (W → Option (List ℕ)) → Result (Unit {0}) Trouble → List Move
-    → Stage → W → ArrayVec ℕ → Stage → W → ArrayVec ℕ → Type 0
+    → ScriptRun → W → ArrayVec ℕ → ScriptRun → W → ArrayVec ℕ → Type 0
 PlaysMoves held result moves first old before last new after =
     IsPlayed result first.net.network moves last.net.network (sink_of held old before) (sink_of held new after)
 
 -- these commands are run
 abbrev pub PerformsAll : {W : Type 0} → (W → Option (List ℕ)) → Result (Unit {0}) Trouble → List Command
-    → Stage → W → ArrayVec ℕ → Stage → W → ArrayVec ℕ → Type 0
+    → ScriptRun → W → ArrayVec ℕ → ScriptRun → W → ArrayVec ℕ → Type 0
 PerformsAll held result commands first old before last new after =
     HasRun result first.net.network (requests commands) last.net.network (sink_of held old before) (sink_of held new after)
 
 -- and nothing waits before and after
 abbrev pub RunsAll : {W : Type 0} → (W → Option (List ℕ)) → Result (Unit {0}) Trouble → List Command
-    → Stage → W → Stage → W → Type 0
+    → ScriptRun → W → ScriptRun → W → Type 0
 RunsAll held result commands first old last new =
     HasRun result first.net.network (requests commands) last.net.network (sink (held old) []) (sink (held new) [])

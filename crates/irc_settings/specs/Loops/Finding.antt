@@ -9,7 +9,7 @@ use Rattle.toml.specs.declared.value.Value.{Value}
 use Rattle.std.specs.BTreeMap.{BTreeMap}
 use Rattle.std.specs.declared.alloc.Global.{Global}
 use Rattle.irc_settings.specs.Configuration.{Tells, integer_at, peer_at, peer_told, tables_at, tables_in, text_at}
-use Rattle.irc_settings.specs.Keys.{integer, is_in_form, is_kept, is_of, is_table, needed, optional, peer_keys, server_keys, tables, text}
+use Rattle.irc_settings.specs.Keys.{integer, is_in_form, is_kept, is_of_kind, is_table, needed, optional, peer_keys, server_keys, tables, text}
 use Rattle.irc_settings.specs.declared.settings.PeerSettings.{PeerSettings}
 use Rattle.irc_settings.specs.declared.settings.Settings.{Settings}
 use denote.Ref.{Bor}
@@ -17,10 +17,10 @@ use Rattle.irc_settings.specs.declared.fault.SettingsFault.{SettingsFault}
 use Rattle.irc_settings.specs.declared.fault.SettingsFault.TheVariants.{BadConfiguration, Memory}
 
 -- where a test is passed, what is found is so; where it is not, that is the fault
-abbrev pub Finds : {X : Type 0} → Bool → (X → Type 0) → Result X SettingsFault → Type 0
-Finds passes Is (Ok found) = (passes ≡ true) × Is found
-Finds passes Is (Err BadConfiguration) = passes ≡ false
-Finds passes Is (Err Memory) = Unit {0}
+abbrev pub FindsValue : {X : Type 0} → Bool → (X → Type 0) → Result X SettingsFault → Type 0
+FindsValue passes Is (Ok found) = (passes ≡ true) × Is found
+FindsValue passes Is (Err BadConfiguration) = passes ≡ false
+FindsValue passes Is (Err Memory) = Unit {0}
 
 -- the document that a text is
 abbrev pub IsParsedAs : List ℕ → Result (BTreeMap (String Global) Value) SettingsFault → Type 0
@@ -40,52 +40,52 @@ is_allowed names key = list_any (λ name. bytes_eq (string_bytes key) name.now) 
 
 -- a text
 abbrev pub ReadsAsText : Data → Result (String Global) SettingsFault → Type 0
-ReadsAsText value = Finds (is_some (as_str value)) (λ found. as_str value ≡ Some (string_bytes found))
+ReadsAsText value = FindsValue (is_some (as_str value)) (λ found. as_str value ≡ Some (string_bytes found))
 
 -- a number of bytes, of so many at most
 abbrev pub ReadsAsRoom : ℕ → Data → Result ℕ SettingsFault → Type 0
-ReadsAsRoom most value = Finds (is_of (integer 512 most) value) (λ found. as_integer value ≡ Some (pos found))
+ReadsAsRoom most value = FindsValue (is_of_kind (integer 512 most) value) (λ found. as_integer value ≡ Some (pos found))
 
 -- ---- what stands at a key
 
 -- a text that has to be there
 abbrev pub FindsText : List ℕ → Members → Result (String Global) SettingsFault → Type 0
-FindsText key table = Finds (is_kept table (needed key text)) (λ found. text_at key table ≡ Some (string_bytes found))
+FindsText key table = FindsValue (is_kept table (needed key text)) (λ found. text_at key table ≡ Some (string_bytes found))
 
 -- a text that may be left out
 abbrev pub FindsOptionalText : List ℕ → Members → Result (Option (String Global)) SettingsFault → Type 0
-FindsOptionalText key table = Finds (is_kept table (optional key text)) (λ found. text_at key table ≡ option_map string_bytes found)
+FindsOptionalText key table = FindsValue (is_kept table (optional key text)) (λ found. text_at key table ≡ option_map string_bytes found)
 
 -- a number of bytes that has to be there, of so many at most
 abbrev pub FindsRoom : List ℕ → ℕ → Members → Result ℕ SettingsFault → Type 0
-FindsRoom key most table = Finds (is_kept table (needed key (integer 512 most))) (λ found. integer_at key table ≡ Some (pos found))
+FindsRoom key most table = FindsValue (is_kept table (needed key (integer 512 most))) (λ found. integer_at key table ≡ Some (pos found))
 
 -- ---- peers
 
 -- a table tells of a peer, and so does a value that is such a table
 abbrev pub ReadsPeer : Members → Result PeerSettings SettingsFault → Type 0
-ReadsPeer table = Finds (is_in_form peer_keys table) (λ found. peer_at table ≡ peer_told found)
+ReadsPeer table = FindsValue (is_in_form peer_keys table) (λ found. peer_at table ≡ peer_told found)
 
 abbrev pub ReadsAsPeer : Data → Result PeerSettings SettingsFault → Type 0
-ReadsAsPeer value = Finds (is_table (is_in_form peer_keys) value) (λ found. option_map peer_at (as_table value) ≡ Some (peer_told found))
+ReadsAsPeer value = FindsValue (is_table (is_in_form peer_keys) value) (λ found. option_map peer_at (as_table value) ≡ Some (peer_told found))
 
 -- each of these values is such a table
 abbrev pub ReadsEachPeer : List Data → Result (Vec PeerSettings Global) SettingsFault → Type 0
 ReadsEachPeer values =
-    Finds (list_all (is_table (is_in_form peer_keys)) values) (λ found. map peer_at (filter_map as_table values) ≡ map peer_told found.items)
+    FindsValue (list_all (is_table (is_in_form peer_keys)) values) (λ found. map peer_at (filter_map as_table values) ≡ map peer_told found.items)
 
 -- a value is an array of such tables
 abbrev pub ReadsAsPeers : Data → Result (Vec PeerSettings Global) SettingsFault → Type 0
-ReadsAsPeers value = Finds (is_of (tables (is_in_form peer_keys)) value) (λ found. map peer_at (tables_in value) ≡ map peer_told found.items)
+ReadsAsPeers value = FindsValue (is_of_kind (tables (is_in_form peer_keys)) value) (λ found. map peer_at (tables_in value) ≡ map peer_told found.items)
 
 -- the array of such tables at the key `peer`, which may be left out
 abbrev pub FindsPeers : Members → Result (Vec PeerSettings Global) SettingsFault → Type 0
 FindsPeers table =
-    Finds (is_kept table (optional (codes "peer") (tables (is_in_form peer_keys))))
+    FindsValue (is_kept table (optional (codes "peer") (tables (is_in_form peer_keys))))
     (λ found. map peer_at (tables_at (codes "peer") table) ≡ map peer_told found.items)
 
 -- ---- the document
 
 -- what a document tells, where it is in form
 abbrev pub ReadsSettings : Members → Result Settings SettingsFault → Type 0
-ReadsSettings document = Finds (is_in_form server_keys document) (Tells document)
+ReadsSettings document = FindsValue (is_in_form server_keys document) (Tells document)

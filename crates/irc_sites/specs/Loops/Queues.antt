@@ -2,5 +2,5 @@
 use Rattle.std.specs.Prelude.{ℕ, List}
 use Rattle.arrayvec.specs.ArrayVec.{ArrayVec}
 
-abbrev pub bytes_of : ArrayVec ℕ → List ℕ
-bytes_of line = line.items
+abbrev pub line_bytes : ArrayVec ℕ → List ℕ
+line_bytes line = line.items

@@ -19,33 +19,33 @@ cons_row fold None es = es
 cons_row fold (Some v) es = (fold, v) ∷ es
 
 -- the entries with their values changed, without those that go
-pub kept : {V W : Type 0} → (V → Option W) → List (List ℕ × V) → List (List ℕ × W)
-kept g [] = []
-kept g (e ∷ es) = cons_row e.0 (g e.1) (kept g es)
+pub kept_rows : {V W : Type 0} → (V → Option W) → List (List ℕ × V) → List (List ℕ × W)
+kept_rows g [] = []
+kept_rows g (e ∷ es) = cons_row e.0 (g e.1) (kept_rows g es)
 
 below_cons : {V : Type 0} (k fold : List ℕ) (o : Option V) (es : List (List ℕ × V)) → is_lt (fold_cmp k fold) ≡ true → below_all fold_cmp k es ≡ true
     → below_all fold_cmp k (cons_row fold o es) ≡ true
 below_cons k fold None es lt below = below
 below_cons k fold (Some v) es lt below = and_from _ _ lt below
 
-below_kept : {V W : Type 0} (g : V → Option W) (k : List ℕ) (es : List (List ℕ × V)) → below_all fold_cmp k es ≡ true → below_all fold_cmp k (kept g es) ≡ true
-unfolding kept
+below_kept : {V W : Type 0} (g : V → Option W) (k : List ℕ) (es : List (List ℕ × V)) → below_all fold_cmp k es ≡ true → below_all fold_cmp k (kept_rows g es) ≡ true
+unfolding kept_rows
 below_kept g k [] below = refl
 below_kept g k (e ∷ es) below =
     let parts = and_parts _ _ below in
-    below_cons k e.0 (g e.1) (kept g es) parts.0 (below_kept g k es parts.1)
+    below_cons k e.0 (g e.1) (kept_rows g es) parts.0 (below_kept g k es parts.1)
 
 sorted_cons : {V : Type 0} (fold : List ℕ) (o : Option V) (es : List (List ℕ × V)) → below_all fold_cmp fold es ≡ true → is_sorted fold_cmp es ≡ true
     → is_sorted fold_cmp (cons_row fold o es) ≡ true
 sorted_cons fold None es below sorted = sorted
 sorted_cons fold (Some v) es below sorted = and_from _ _ below sorted
 
-pub sorted_kept : {V W : Type 0} (g : V → Option W) (es : List (List ℕ × V)) → is_sorted fold_cmp es ≡ true → is_sorted fold_cmp (kept g es) ≡ true
-unfolding kept
+pub sorted_kept : {V W : Type 0} (g : V → Option W) (es : List (List ℕ × V)) → is_sorted fold_cmp es ≡ true → is_sorted fold_cmp (kept_rows g es) ≡ true
+unfolding kept_rows
 sorted_kept g [] sorted = refl
 sorted_kept g (e ∷ es) sorted =
     let parts = and_parts _ _ sorted in
-    sorted_cons e.0 (g e.1) (kept g es) (below_kept g e.0 es parts.0) (sorted_kept g es parts.1)
+    sorted_cons e.0 (g e.1) (kept_rows g es) (below_kept g e.0 es parts.0) (sorted_kept g es parts.1)
 
 -- one entry more, whether it stays or goes
 find_cons : {V W : Type 0} (g : V → Option W) (q fold : List ℕ) (v : V) (rest : Option V) (es : List (List ℕ × W)) → find fold_cmp q es ≡ option_and_then g rest
@@ -63,12 +63,12 @@ find_cons g q fold v rest es found alone (Some w) stays = by (same_fold q fold)
     by false = found
 
 pub find_kept : {V W : Type 0} (g : V → Option W) (q : List ℕ) (es : List (List ℕ × V)) → is_sorted fold_cmp es ≡ true
-    → find fold_cmp q (kept g es) ≡ option_and_then g (find fold_cmp q es)
-unfolding kept
+    → find fold_cmp q (kept_rows g es) ≡ option_and_then g (find fold_cmp q es)
+unfolding kept_rows
 find_kept g q [] sorted = refl
 find_kept g q (e ∷ es) sorted =
     let parts = and_parts _ _ sorted in
-    find_cons g q e.0 e.1 (find fold_cmp q es) (kept g es) (find_kept g q es parts.1)
+    find_cons g q e.0 e.1 (find fold_cmp q es) (kept_rows g es) (find_kept g q es parts.1)
     (λ one. ap (λ k. find fold_cmp k es) (one_fold q e.0 one)
     ∙ find-above nat_list_cmp_total e.0 es (sym (above-is nat_list_cmp_total e.0 es) ∙ parts.0))
     (g e.1) refl
@@ -89,13 +89,13 @@ module _ {X V S : Type 0} (entry : X → List ℕ × V) (g : V → Option V) (I 
       ∙ ap (λ o. cons_row (entry x).0 o es) (sym value)
   stays_or_goes x y false zs es named value rest = rest ∙ ap (λ o. cons_row (entry x).0 o es) (sym value)
 
-  pub retained : (xs ys : List X) (s : S) → I s → RetainsInTurn R s xs ys → map entry ys ≡ kept g (map entry xs)
-  unfolding kept
+  pub retained : (xs ys : List X) (s : S) → I s → RetainsInTurn R s xs ys → map entry ys ≡ kept_rows g (map entry xs)
+  unfolding kept_rows
   retained [] ys s held done = ap (map entry) done
   retained (x ∷ xs) ys s held done =
       let change = step s x done.0 done.1 done.2 held done.3 in
       ap (map entry) done.6
-      ∙ stays_or_goes x done.2 done.0 done.4 (kept g (map entry xs)) change.named change.value (retained xs done.4 done.1 change.still done.5)
+      ∙ stays_or_goes x done.2 done.0 done.4 (kept_rows g (map entry xs)) change.named change.value (retained xs done.4 done.1 change.still done.5)
 
   pub retained-sorted : (xs ys : List X) (s : S) → I s → RetainsInTurn R s xs ys → IsInFoldedOrder entry xs → IsInFoldedOrder entry ys
   unfolding IsInFoldedOrder

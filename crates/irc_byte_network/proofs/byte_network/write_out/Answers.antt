@@ -1,6 +1,6 @@
 use Rattle.std.proofs.Common.{◌∙◌, ap}
 use Rattle.irc_wires.specs.Wires.{wire_at, with_wire, written}
-use Rattle.irc_byte_network.specs.ByteNetwork.{written_out}
+use Rattle.irc_byte_network.specs.ByteNetwork.{queues_written}
 use Rattle.irc_byte_network.proofs.RowsWritten.{is_written, same_written}
 use Rattle.irc_byte_network.proofs.WritingOut.{last_written, one_written}
 use Rattle.irc_byte_network.proofs.byte_network.write_out.Goals as goal
@@ -17,7 +17,7 @@ pub returns : goal.returns
 returns c =
     let old = c.args.network.now in
     let before = c.args.wires.now in
-    same_written c.same_wires.ensures old before (record { network = c.take_put_out.new.self; wires = c.loop-put.wires }) (written_out old before)
+    same_written c.same_wires.ensures old before (record { network = c.take_put_out.new.self; wires = c.loop-put.wires }) (queues_written old before)
     (last_written c.rest_stays.ensures old c.loop-put.network c.take_put_out.new.self before c.loop-put.wires c.loop-put.invariant
     c.in_default.ensures.taken.0 c.in_default.ensures.taken.1 c.are_lean-2.ensures)
     (is_written old before c.are_lean.ensures c.requires.rows)

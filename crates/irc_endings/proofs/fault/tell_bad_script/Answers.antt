@@ -1,6 +1,6 @@
 use Rattle.std.proofs.Common.{◌∙◌, subst, OnOk}
 use Rattle.std.specs.Io.KnownBytes.{Appends}
-use Rattle.irc_script.specs.Sinks.{Tells}
+use Rattle.irc_script.specs.Sinks.{Wrote}
 use Rattle.irc_endings.proofs.fault.tell_bad_script.Goals as goal
 
 pub returns-clause-whole : goal.returns-clause-whole
@@ -12,4 +12,4 @@ returns-clause-whole g c =
 pub returns-clause-front : goal.returns-clause-front
 returns-clause-front g c =
     let held = g.E.Write.contents in
-    subst (λ text. Tells (held c.args.errors.now) (held c.write_whole.new.output) text) (c.as_slice.ensures.value ∙ c.bad_script-text.ensures) c.write_whole.ensures.front
+    subst (λ text. Wrote (held c.args.errors.now) (held c.write_whole.new.output) text) (c.as_slice.ensures.value ∙ c.bad_script-text.ensures) c.write_whole.ensures.front

@@ -1,5 +1,5 @@
 use Rattle.irc_items.specs.Sound.{most_now}
-use Rattle.irc_byte_network.specs.ByteNetwork.{course_in_lines, in_lines}
+use Rattle.irc_byte_network.specs.ByteNetwork.{course_in_lines, net_in_lines}
 use Rattle.irc_byte_network.specs.Loops.Coming.{byte_course}
 use Rattle.irc_net.specs.Loops.Settling.{GoesCounted}
 use Rattle.irc_network.specs.Network.{lines_left}
@@ -10,4 +10,4 @@ abbrev pub invariant-loop-lines : goal.invariant-loop-lines
 invariant-loop-lines l = GoesCounted l.count (byte_course l.fn.network l.fn.desk.lines.items) (byte_course l.network l.desk.lines.items)
 
 abbrev pub decreases-loop-lines : goal.decreases-loop-lines
-decreases-loop-lines l = lines_left (most_now (in_lines l.fn.network)) (course_in_lines (byte_course l.network l.desk.lines.items))
+decreases-loop-lines l = lines_left (most_now (net_in_lines l.fn.network)) (course_in_lines (byte_course l.network l.desk.lines.items))

@@ -1,6 +1,6 @@
 use Rattle.std.proofs.Common.{◌≡◌, ◌≤◌, ◌∙◌, None, ap, arith, length, subst, sym, vec_len}
 use Rattle.std.specs.List.{AllByRecursion}
-use Rattle.irc_net.specs.Loops.Ordering.{IsNamed}
+use Rattle.irc_net.specs.Loops.Ordering.{IsServerConfig}
 use Rattle.irc_net.specs.Making.{configs_fault, made_of}
 use Rattle.irc_net.specs.OneRoom.{IsKeptSound}
 use Rattle.irc_network.specs.Network.{Network}
@@ -11,7 +11,7 @@ use Rattle.irc_net.proofs.net.Net.new.Goals as goal
 pub forest_of-requires-clause-named : goal.forest_of-requires-clause-named
 forest_of-requires-clause-named c =
     let none : configs_fault c.args.configs.items ≡ None = sym (c.configs_fault.ensures ∙ ap configs_fault c.deref.ensures.value) ∙ c.in_default.is in
-    subst (AllByRecursion IsNamed) (sym c.deref-2.ensures.value)
+    subst (AllByRecursion IsServerConfig) (sym c.deref-2.ensures.value)
     (ordered_named c.args.configs.items c.in_order-ordered.result.items none c.in_order-ordered.ensures.ones)
 
 pub forest_of-requires-clause-few : goal.forest_of-requires-clause-few

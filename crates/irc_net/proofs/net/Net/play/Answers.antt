@@ -1,5 +1,5 @@
 use Rattle.std.proofs.Common.{◌+◌, arith, subst, sym, take}
-use Rattle.irc_net.specs.Calls.{Plays}
+use Rattle.irc_net.specs.Calls.{PlaysSteps}
 use Rattle.irc_net.proofs.Calling.{all_played, none_played, play_stops, play_wants, plays_on, stops}
 use Rattle.irc_network.proofs.Places.{found_at}
 use Rattle.irc_net.proofs.net.Net.play.Goals as goal
@@ -20,7 +20,7 @@ returns-in_err-keep_answer c =
 
 pub loop-step-preserved : goal.loop-step-preserved
 loop-step-preserved c =
-    subst (λ net. Plays c.args.self.now (take (c.loop-step.step-index + 1) c.args.steps.now) c.keep_answer.new.answers.items net)
+    subst (λ net. PlaysSteps c.args.self.now (take (c.loop-step.step-index + 1) c.args.steps.now) c.keep_answer.new.answers.items net)
     (sym c.in_ok-keep_answer.ensures.1)
     (plays_on c.args.steps.now c.loop-step.answers.items c.keep_answer.new.answers.items c.loop-step.step-index c.step-item.result c.in_ok-answer.answer c.loop-step.invariant
     c.in_ok-answer.ensures (found_at c.args.steps.now c.loop-step.step-index c.step-item.result c.loop-step-test.true c.step-item.is) c.in_ok-keep_answer.ensures.0)

@@ -1,7 +1,7 @@
 use Rattle.std.proofs.Common.{◌≡◌, ◌∙◌, ap, subst}
 use Rattle.irc_server.specs.Happening.{occurrence_of}
 use Rattle.irc_network.specs.Loops.Courses.{course}
-use Rattle.irc_network.specs.Network.{Network, asked}
+use Rattle.irc_network.specs.Network.{Network, site_asked}
 use Rattle.irc_sites.proofs.Outcomes.{on_ok}
 use Rattle.irc_network.proofs.Places.{found_at, none_here, seen}
 use Rattle.irc_network.proofs.Taking.{asked_nowhere, asked_there}
@@ -10,7 +10,7 @@ use Rattle.irc_network.proofs.network.Network.ask.Goals as goal
 pub returns-in_default : goal.returns-in_default
 returns-in_default c =
     let lines = c.args.desk.now.lines.items in
-    subst (λ (net : Network). course (seen c.self.inside) lines ≡ asked c.args.place (occurrence_of c.args.event.now) (course net lines)) c.self.view_is
+    subst (λ (net : Network). course (seen c.self.inside) lines ≡ site_asked c.args.place (occurrence_of c.args.event.now) (course net lines)) c.self.view_is
     (asked_nowhere c.args.place (occurrence_of c.args.event.now) (course (seen c.self.inside) lines)
     (none_here (seen c.self.inside).sites c.args.place c.in_default.ensures.item.3))
 
@@ -22,4 +22,4 @@ returns c =
     sent
     ∙ asked_there c.args.place (occurrence_of c.args.event.now) (course old lines) c.in-Some.site.now c.serve.new.self c.serve.new.out.outs
     (found_at old.sites c.args.place c.in-Some.site.now c.in-Some.ensures.item.3.0 c.in-Some.ensures.item.1) c.in_ok-serve.ensures
-    ∙ ap (λ (net : Network). asked c.args.place (occurrence_of c.args.event.now) (course net lines)) c.self.view_is)
+    ∙ ap (λ (net : Network). site_asked c.args.place (occurrence_of c.args.event.now) (course net lines)) c.self.view_is)

@@ -3,7 +3,7 @@ use Rattle.std.specs.BTreeMap.{BTreeMap}
 use Rattle.std.specs.FinMap.{insert}
 use Rattle.irc_links.specs.Loops.Numbered.{numbered}
 use Rattle.irc_stage.specs.Lemmas.Numbers.{put-numbered}
-use Rattle.irc_sites.specs.Site.{queued}
+use Rattle.irc_sites.specs.Site.{line_queued}
 use Rattle.irc_sites.proofs.Outcomes.{on_ok}
 use Rattle.irc_sites.proofs.Ways.{found_lines, missing_lines, nowhere, put_behind, site_inside}
 use Rattle.irc_sites.proofs.site.Site.queue.Goals as goal
@@ -13,7 +13,7 @@ returns-in_default c =
     ap (λ (queues : BTreeMap _ _). site_inside c.self.inside.server queues) c.get_mut.follows.holds-at-none
     ∙ nowhere (site_inside c.self.inside.server c.self.inside.queues) c.args.to c.args.text.now
     (missing_lines c.self.inside.queues c.args.to (sym c.in_default.ensures.value))
-    ∙ ap (queued c.args.to c.args.text.now) c.self.view_is
+    ∙ ap (line_queued c.args.to c.args.text.now) c.self.view_is
 
 pub returns : goal.returns
 returns c =
@@ -23,4 +23,4 @@ returns c =
     (put-numbered c.self.inside.queues (c.get_mut.follows.lender c.push.new.self) c.args.to c.push.new.self
     ((c.get_mut.follows.holds c.push.new.self).3 (ap is_some (sym c.in-Some.ensures.value)))
     ∙ ap (insert (numbered c.self.inside.queues) c.args.to) (pushed ∙ ap (λ line. c.in-Some.queue.now ++ line ∷ []) c.line_of.ensures))
-    ∙ ap (queued c.args.to c.args.text.now) c.self.view_is)
+    ∙ ap (line_queued c.args.to c.args.text.now) c.self.view_is)

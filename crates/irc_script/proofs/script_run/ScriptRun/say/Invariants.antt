@@ -1,7 +1,7 @@
 use Rattle.std.specs.Vec.Iter.{into_iter_items, into_iter_len}
 use Rattle.irc_script.specs.Sinks.{sink}
 use Rattle.irc_script.proofs.Playing.{Going}
-use Rattle.irc_script.proofs.stage.Stage.say.Given as goal
+use Rattle.irc_script.proofs.script_run.ScriptRun.say.Given as goal
 
 -- the lines so far were played
 abbrev pub invariant-loop-line : goal.invariant-loop-line

@@ -1,7 +1,7 @@
 use Rattle.irc_script.proofs.Moving.{settled_played}
 use Rattle.irc_script.specs.declared.fault.Trouble.TheVariants.{Memory}
 use Rattle.irc_script.proofs.Playing.{breaks_first, put_as}
-use Rattle.irc_script.proofs.stage.Stage.settle.Goals as goal
+use Rattle.irc_script.proofs.script_run.ScriptRun.settle.Goals as goal
 
 pub returns-in-Ok : goal.returns-in-Ok
 returns-in-Ok g c =

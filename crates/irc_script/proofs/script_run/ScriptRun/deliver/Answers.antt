@@ -1,6 +1,6 @@
 use Rattle.irc_script.proofs.Moving.{delivered_played, undelivered_played}
 use Rattle.irc_script.proofs.Playing.{put_as}
-use Rattle.irc_script.proofs.stage.Stage.deliver.Goals as goal
+use Rattle.irc_script.proofs.script_run.ScriptRun.deliver.Goals as goal
 
 pub returns-in-Ok : goal.returns-in-Ok
 returns-in-Ok g c =

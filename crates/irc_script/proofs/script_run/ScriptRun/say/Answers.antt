@@ -7,7 +7,7 @@ use Rattle.irc_script.specs.declared.fault.Trouble.TheVariants.{Memory}
 use Rattle.irc_script.specs.Moves.{gives_line, lines_said}
 use Rattle.irc_script.proofs.LinesSaid.{said_is_carried}
 use Rattle.irc_script.proofs.Playing.{breaks_first, gives_now, moves_of_lines, playing_failed, going_carried, going_first, going_on, going_breaks, going_end, IsCarriedLine}
-use Rattle.irc_script.proofs.stage.Stage.say.Goals as goal
+use Rattle.irc_script.proofs.script_run.ScriptRun.say.Goals as goal
 
 pub returns-in_err-lines : goal.returns-in_err-lines
 returns-in_err-lines g c = playing_failed _ Memory _ _ _ _ _ c.from_residual.ensures.1 (breaks_first Memory _ _ _)

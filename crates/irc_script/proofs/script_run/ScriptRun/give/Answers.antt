@@ -1,7 +1,7 @@
 use Rattle.irc_network.specs.Views.{item_of}
 use Rattle.irc_script.proofs.Moving.{given_played, refusal_played}
 use Rattle.irc_script.proofs.Playing.{put_as}
-use Rattle.irc_script.proofs.stage.Stage.give.Goals as goal
+use Rattle.irc_script.proofs.script_run.ScriptRun.give.Goals as goal
 
 pub returns-in-Ok : goal.returns-in-Ok
 returns-in-Ok g c =

@@ -1,4 +1,4 @@
-//! The network of a script, and what the script does to it.
+//! A script as it runs: the network that it is played on, and what it does to it.
 ghost use Rattle.std.specs.Prelude.{◌≡◌, [], ◌∷◌, IfOk};
 ghost use Rattle.irc_net.specs.Calls.{IsGivable};
 ghost use Rattle.irc_network.specs.Views.{item_of};
@@ -18,24 +18,24 @@ use irc_net::{Item, Net};
 use std::alloc::Global;
 use std::io::Write;
 
-/// The network of a script.
+/// A script as it runs: the network that it is played on.
 #[derive(Drop)]
-pub struct Stage {
+pub struct ScriptRun {
     alloc: Global,
     pub(crate) net: Net,
 }
 
-impl Stage {
+impl ScriptRun {
     /// A network of servers with these names: none is linked, and nobody is connected.
     ///
     /// # Errors
     /// Where memory runs out.
     pub fn new(alloc: Global, servers: &[ServerName]) -> Result<Self, Trouble>
-        ensures { IfOk result (λ stage. stage.net.network ≡ first_net servers.now) }
+        ensures { IfOk result (λ run. run.net.network ≡ first_net servers.now) }
     {
         let configs = configs_of(alloc, servers)?;
         match Net::new(alloc, configs) {
-            Ok(net) => Ok(Stage { alloc, net }),
+            Ok(net) => Ok(ScriptRun { alloc, net }),
             Err(_) => Err(Trouble::Memory),
         }
     }
