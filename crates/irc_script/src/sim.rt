@@ -44,8 +44,8 @@ pub fn run_sim<R: Read, W: Write>(
     laws::scripts_run_on();
     let text = read_text(alloc, input)?;
     let script = read_script(alloc, &text)?;
-    let mut run = ScriptRun::new(alloc, &script.servers)?;
-    run_all(&mut run, &script.commands, output)?;
+    let mut script_run = ScriptRun::new(alloc, &script.servers)?;
+    run_all(&mut script_run, &script.commands, output)?;
     Ok(())
 }
 

@@ -12,9 +12,9 @@ pub returns-in_err-run_all : goal.returns-in_err-run_all
 returns-in_err-run_all g c =
     let old = sink (g.W.Write.contents c.args.output.now) [] in
     let new = sink (g.W.Write.contents c.run_all.new.output) [] in
-    let some = subst (λ commands. RunInto c.in_err-run_all.field-0.0 c.in_ok-run.run.net.network (requests commands) old new) c.deref-3.ensures.value c.in_err-run_all.ensures in
+    let some = subst (λ commands. RunInto c.in_err-run_all.field-0.0 c.in_ok-script_run.script_run.net.network (requests commands) old new) c.deref-3.ensures.value c.in_err-run_all.ensures in
     let from_first = subst (λ first. RunInto c.in_err-run_all.field-0.0 first (requests c.in_ok-script.script.commands.items) old new)
-    (c.in_ok-run.ensures ∙ ap first_net c.deref-2.ensures.value) some in
+    (c.in_ok-script_run.ensures ∙ ap first_net c.deref-2.ensures.value) some in
     ran_early c.from_residual-in_err-run_all.result c.in_err-run_all.field-0.0 _ _ _ c.from_residual-in_err-run_all.ensures.1
     (ends_by c.in_err-run_all.field-0.0 c.scripts_print_one_room.ensures c.scripts_run_on.ensures _ _ _ c.deref.result.now (script_asked c.in_ok-script.script)
     (subst (λ text. IsTextOf text (g.R.Read.remaining c.args.input.now)) (sym c.deref.ensures.value) c.in_ok-text.ensures) c.in_ok-script.ensures from_first)
@@ -24,9 +24,9 @@ returns g c =
     let old = sink (g.W.Write.contents c.args.output.now) [] in
     let new = sink (g.W.Write.contents c.run_all.new.output) [] in
     let last = c.run_all.new.run.net.network in
-    let all = subst (λ commands. RunWhole c.in_ok-run.run.net.network (requests commands) last old new) c.deref-3.ensures.value c.in_ok-run_all.ensures in
+    let all = subst (λ commands. RunWhole c.in_ok-script_run.script_run.net.network (requests commands) last old new) c.deref-3.ensures.value c.in_ok-run_all.ensures in
     let from_first = subst (λ first. RunWhole first (requests c.in_ok-script.script.commands.items) last old new)
-    (c.in_ok-run.ensures ∙ ap first_net c.deref-2.ensures.value) all in
+    (c.in_ok-script_run.ensures ∙ ap first_net c.deref-2.ensures.value) all in
     record {
       text = c.deref.result.now;
       is_text = subst (λ text. IsTextOf text (g.R.Read.remaining c.args.input.now)) (sym c.deref.ensures.value) c.in_ok-text.ensures;
