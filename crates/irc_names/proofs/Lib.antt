@@ -1,4 +1,2 @@
-pub mod LengthsApart
-pub mod MaskSteps
-pub mod RuleFacts
-pub mod DigitSteps
+pub use Rattle.irc_rules.proofs.RuleFacts
+pub use Rattle.irc_rules.proofs.DigitSteps

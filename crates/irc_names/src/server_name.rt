@@ -1,11 +1,10 @@
 //! Names of servers.
 ghost use Rattle.std.specs.Prelude.{◌≡◌, ◌≤◌, length, ⊤};
 ghost use Rattle.std.specs.Option.{SomeIff};
-ghost use Rattle.irc_names.specs.Names.{IsServer};
+ghost use Rattle.irc_rules.specs.Names.{IsServer};
 
-use crate::copying::copied;
-use crate::{MAX_SERVER, is_server};
 use arrayvec::ArrayVec;
+use irc_rules::{MAX_SERVER, copied, is_server};
 use std::alloc::AllocError;
 use std::marker::Model;
 
@@ -16,7 +15,7 @@ pub struct ServerName(ArrayVec<u8, MAX_SERVER>);
 /// In a clause it is the list of its bytes, of which its rule holds always.
 impl Model for ServerName {
     ghost use Rattle.std.specs.Prelude.{ℕ, List};
-    ghost use Rattle.irc_names.specs.Names.{IsServer};
+    ghost use Rattle.irc_rules.specs.Names.{IsServer};
 
     ghost Value = { List ℕ };
 
@@ -29,7 +28,7 @@ impl Model for ServerName {
 
 impl ServerName {
     /// The server's name that these bytes are, where [`is_server`] takes them.
-    #[tactic(auto, using(crate::proofs::RuleFacts::lengths))]
+    #[tactic(auto, using(irc_rules::proofs::RuleFacts::lengths))]
     pub fn read(bytes: &[u8]) -> Option<Self>
         ensures { SomeIff result (IsServer bytes.now) bytes.now }
     {

@@ -1,10 +1,9 @@
 //! User names.
 ghost use Rattle.std.specs.Prelude.{◌≡◌, ◌≤◌, length};
-ghost use Rattle.irc_names.specs.UserTexts.{clean_user, clean_user_byte, is_user_byte, IsUserName};
+ghost use Rattle.irc_rules.specs.UserTexts.{clean_user, clean_user_byte, is_user_byte, IsUserName};
 
-use crate::MAX_USER_NAME;
-use crate::copying::{copied, cut_copy};
 use arrayvec::ArrayVec;
+use irc_rules::{MAX_USER_NAME, copied, cut_copy, is_user_byte};
 use std::marker::Model;
 
 /// A user name: at most [`MAX_USER_NAME`] bytes that are letters, digits, `-`, `.`, `_` or `~` (our own choice; RFC 2812
@@ -15,7 +14,7 @@ pub struct UserName(ArrayVec<u8, MAX_USER_NAME>);
 /// In a clause it is the list of its bytes.
 impl Model for UserName {
     ghost use Rattle.std.specs.Prelude.{ℕ, List};
-    ghost use Rattle.irc_names.specs.UserTexts.{IsUserName};
+    ghost use Rattle.irc_rules.specs.UserTexts.{IsUserName};
 
     ghost Value = { List ℕ };
 
@@ -60,11 +59,4 @@ fn clean_byte(byte: u8) -> u8
     ensures { result ≡ clean_user_byte byte }
 {
     if is_user_byte(byte) { byte } else { b'_' }
-}
-
-/// Whether a byte may stand in a user name.
-pub fn is_user_byte(byte: u8) -> bool
-    ensures { result ≡ is_user_byte byte }
-{
-    byte.is_ascii_alphanumeric() || matches!(byte, b'-' | b'.' | b'_' | b'~')
 }

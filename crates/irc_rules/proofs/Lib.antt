@@ -1,0 +1,4 @@
+pub mod LengthsApart
+pub mod MaskSteps
+pub mod RuleFacts
+pub mod DigitSteps

@@ -1,0 +1,10 @@
+pub mod Limits
+pub mod Fold
+pub mod FoldLaws
+pub mod MaskLaws
+pub mod Masks
+pub mod Names
+pub mod UserTexts
+pub mod Digits
+pub mod Loops
+pub mod Lemmas
