@@ -12,7 +12,7 @@ use Rattle.irc_line.specs.Laws.{WrittenIsRead, IsReadSoAlone}
 use Rattle.irc_line.specs.Messages.{IsPlain, Parsed, Written, joined_text, line_text, message_of, named, prefix_of, prefix_text}
 use Rattle.irc_line.specs.Reading.{read_of}
 use Rattle.irc_line.specs.Lemmas.Lengths.{length-joined_text, length-named, words_size}
-use Rattle.irc_names.proofs.RuleFacts.{channel-fits, server-fits}
+use Rattle.irc_names.specs.Lemmas.RuleFacts.{channel-fits, server-fits}
 use Rattle.irc_names.specs.Fold.{key}
 use Rattle.irc_names.specs.Limits.{max_words}
 use Rattle.irc_names.specs.Names.{IsChannel, IsServer, is_channel, is_nick, is_server}
@@ -22,9 +22,9 @@ use Rattle.irc_channels.specs.declared.channel.Channel.{Channel}
 use Rattle.irc_channels.specs.declared.flags.Flags.{Flags}
 use Rattle.irc_batch.specs.declared.close_reason.CloseReason.{CloseReason}
 use Rattle.irc_modes.specs.declared.modes.ModeChange.{ModeChange}
-use Rattle.irc_modes.specs.ModeWritten.{changes_written, letters_text}
-use Rattle.irc_modes.specs.Readable.{AreReadable, has_its_word, is_worded}
-use Rattle.irc_modes.proofs.WrittenRead.{written_is_read}
+use Rattle.irc_mode_words.specs.ModeWritten.{changes_written, letters_text}
+use Rattle.irc_mode_words.specs.Readable.{AreReadable, has_its_word, is_worded}
+use Rattle.irc_mode_words.proofs.WrittenRead.{written_is_read}
 use Rattle.irc_room.specs.declared.effect.By.{By}
 use Rattle.irc_room.specs.declared.effect.By.TheVariants as by
 use Rattle.irc_room.specs.declared.effect.Effect.{Effect}

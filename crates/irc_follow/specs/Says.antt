@@ -11,7 +11,7 @@ use Rattle.irc_names.specs.Tables.{row}
 use Rattle.irc_channels.specs.declared.channel.Channel.{Channel}
 use Rattle.irc_channels.specs.declared.flags.Flags.{Flags}
 use Rattle.irc_modes.specs.declared.modes.ModeChange.{ModeChange}
-use Rattle.irc_modes.specs.Readable.{AreReadable}
+use Rattle.irc_mode_words.specs.Readable.{AreReadable}
 use Rattle.irc_room.specs.declared.effect.Effect.{Effect}
 use Rattle.irc_room.specs.declared.effect.Effect.TheVariants.{AddUser}
 use Rattle.irc_room.specs.Effects.{is_idle, IsPossible}

@@ -37,7 +37,7 @@ fn server(name: &[u8]) -> ServerName
 }
 
 /// Four servers with no link.
-#[tactic(auto, unfolding(irc_names::specs::Names::is_server))]
+#[tactic(auto, unfolding(irc_rules::specs::Names::is_server))]
 fn apart(alloc: Global) -> Result<Forest, AllocError> {
     let names = vec![in alloc;
         server(b"a.net"),

@@ -5,7 +5,7 @@ use Rattle.irc_names.specs.Names.{IsChannel}
 use Rattle.irc_line.specs.Carried.{is_carried}
 use Rattle.irc_modes.specs.declared.modes.Modes.{Modes}
 use Rattle.irc_modes.specs.ModesSet.{AreWithinLimits}
-use Rattle.irc_modes.specs.Lemmas.SetAgain.{set_makes_the_modes}
+use Rattle.irc_mode_words.specs.Lemmas.SetAgain.{set_makes_the_modes}
 use Rattle.irc_channels.specs.declared.channel.Channel.{Channel}
 use Rattle.irc_room.specs.Room.{Room}
 use Rattle.irc_room.specs.Limits.{IsCarriedText, IsChannelWithin, IsWithinLimits}

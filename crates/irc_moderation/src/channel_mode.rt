@@ -3,7 +3,7 @@ ghost use Rattle.std.specs.Prelude.{◌≡◌, [], OnOk};
 ghost use Rattle.irc_names.specs.Fold.{key};
 ghost use Rattle.irc_names.specs.Tables.{row};
 ghost use Rattle.irc_line.specs.PartViews.{words_now};
-ghost use Rattle.irc_modes.specs.ModeViews.{all_asked, asked};
+ghost use Rattle.irc_mode_words.specs.ModeViews.{all_asked, asked};
 ghost use Rattle.irc_moderation.specs.ChannelMode.{
   asked_of,
   changing,
@@ -28,7 +28,7 @@ use irc_acts::standing::is_operator;
 use irc_acts::{Act, Context, only, put};
 use irc_channels::Channel;
 use irc_judging::{KeptChanges, Verdict, judge, know_bans_rise};
-use irc_modes::{ModeItem, read_modes};
+use irc_mode_words::{ModeItem, read_modes};
 use irc_numerics::Reply;
 use irc_room::{By, Effect, ModeChanges, Room};
 use irc_users::User;

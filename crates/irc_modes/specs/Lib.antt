@@ -3,11 +3,6 @@ pub mod Texts
 pub mod Limits
 pub mod Bans
 pub mod Letters
-pub mod ModeWords
-pub mod ModeViews
-pub mod ModeWritten
-pub mod Readable
 pub mod ModesSet
-pub mod ModeLaws
 pub mod Loops
 pub mod Lemmas

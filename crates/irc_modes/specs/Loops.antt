@@ -1,3 +1,1 @@
 pub mod ManyChanges
-pub mod ModeLimits
-pub mod WrittenLetters

@@ -2,6 +2,7 @@
 use Rattle.std.specs.Prelude.{ℕ, Bool, true, false, not, ◌&&◌, Option, Some, None, List, [], ◌∷◌, ◌++◌, fold, filter, nat_le, if◌then◌else◌}
 use Rattle.std.specs.List.{list_any, list_all}
 use Rattle.std.specs.Char.{is_ascii_digit}
+use Rattle.std.specs.Option.{option_copied}
 use Rattle.std.specs.Ordering.{is_lt}
 use Rattle.irc_names.specs.Fold.{same, name_cmp}
 use Rattle.irc_names.specs.Names.{fits, is_key, is_ban_mask}
@@ -11,6 +12,7 @@ use Rattle.irc_modes.specs.declared.modes.Privacy.{Privacy}
 use Rattle.irc_modes.specs.declared.modes.Privacy.TheVariants.{Public, Private, Secret}
 use Rattle.irc_modes.specs.declared.modes.Modes.{Modes}
 use Rattle.irc_modes.specs.declared.modes.ModeChange.{ModeChange}
+use Rattle.irc_modes.specs.declared.modes.AskedChange.{AskedChange}
 use Rattle.irc_modes.specs.declared.modes.ModeLetter.{ModeLetter}
 use Rattle.irc_modes.specs.declared.modes.ModeLetter.TheVariants as letter
 
@@ -116,3 +118,7 @@ mode_step modes change = mode_changed change.plus change.letter change.word mode
 -- the modes of a channel after changes, one after another
 abbrev pub modes_after : List ModeChange → Modes → Modes
 modes_after changes modes = fold mode_step modes changes
+
+-- the change that is asked for, with a parameter of its own
+abbrev pub kept_change : AskedChange → ModeChange
+kept_change asked = record { plus = asked.plus; letter = asked.letter; word = option_copied asked.word }

@@ -2,7 +2,7 @@
 ghost use Rattle.std.specs.Prelude.{◌≡◌};
 ghost use Rattle.std.specs.Option.{option_copied, SomeIff};
 ghost use Rattle.irc_modes.specs.Letters.{letter_byte, names_member, sign_byte};
-ghost use Rattle.irc_modes.specs.ModeViews.{kept_change};
+ghost use Rattle.irc_modes.specs.Modes.{kept_change};
 ghost use Rattle.irc_modes.specs.Texts.{IsKept};
 
 use crate::bans::BanList;

@@ -34,7 +34,7 @@ pub struct Registration {
 
 impl Pending {
     /// A connection from this host that has given nothing.
-    #[tactic(auto, unfolding(irc_names::specs::UserTexts::cut_real))]
+    #[tactic(auto, unfolding(irc_rules::specs::UserTexts::cut_real))]
     pub fn new(host: Host) -> Self
         ensures { result ≡ record { nick = None; user = None; real = []; host = host } }
     {

@@ -7,15 +7,15 @@ use Rattle.std.proofs.lemmas.List.Sums.{sum_by-cons}
 use Rattle.irc_line.specs.Lemmas.Lengths.{words_size}
 use Rattle.irc_names.specs.Fold.{key}
 use Rattle.irc_names.specs.Tables.{row}
-use Rattle.irc_names.proofs.RuleFacts.{nick-fits, key-fits, ban_mask-fits}
+use Rattle.irc_names.specs.Lemmas.RuleFacts.{nick-fits, key-fits, ban_mask-fits}
 use Rattle.irc_users.specs.declared.user.User.{User}
 use Rattle.irc_modes.specs.declared.modes.ModeChange.{ModeChange}
 use Rattle.irc_modes.specs.declared.modes.ModeLetter.{ModeLetter}
 use Rattle.irc_modes.specs.declared.modes.ModeLetter.TheVariants as letter
 use Rattle.irc_modes.specs.Modes.{is_limit}
 use Rattle.irc_modes.specs.Letters.{letter_byte, sign_byte}
-use Rattle.irc_modes.specs.ModeWritten.{letters_behind, letters_text}
-use Rattle.irc_modes.specs.Readable.{is_parameter, word_fits, has_its_word, is_worded, is_of, AreReadable}
+use Rattle.irc_mode_words.specs.ModeWritten.{letters_behind, letters_text}
+use Rattle.irc_mode_words.specs.Readable.{is_parameter, word_fits, has_its_word, is_worded, is_of, AreReadable}
 use Rattle.irc_modes.specs.Lemmas.LimitFacts.{limit-few}
 use Rattle.irc_room.specs.Room.{Room}
 use Rattle.irc_room.specs.Seen.{stored_nick, names_member, written_word, changes_words}

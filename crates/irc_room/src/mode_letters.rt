@@ -9,7 +9,8 @@ ghost use Rattle.irc_room.specs.Seen.{changes_text, written_word, written_words}
 
 use crate::tables::Tables;
 use irc_line::{Text, push_cut};
-use irc_modes::{ModeChange, push_letters, push_parameter};
+use irc_mode_words::{push_letters, push_parameter};
+use irc_modes::ModeChange;
 
 /// Appends the letters of changes, and then the parameter of each behind a space.
 pub(crate) fn push_changes(tables: &Tables, line: &mut Text, changes: &[ModeChange])

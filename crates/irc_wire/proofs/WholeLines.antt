@@ -10,8 +10,8 @@ use Rattle.irc_line.specs.Messages.{joined_text, last_text, line_text, middle_te
 use Rattle.irc_names.specs.Names.{fits, is_host, is_server}
 use Rattle.irc_users.specs.declared.user.User.{User}
 use Rattle.irc_modes.specs.declared.modes.ModeChange.{ModeChange}
-use Rattle.irc_modes.specs.ModeWritten.{changes_written, letters_text}
-use Rattle.irc_modes.specs.Readable.{AreReadable}
+use Rattle.irc_mode_words.specs.ModeWritten.{changes_written, letters_text}
+use Rattle.irc_mode_words.specs.Readable.{AreReadable}
 use Rattle.irc_room.specs.declared.effect.By.TheVariants as by
 use Rattle.irc_room.specs.declared.effect.Effect.TheVariants.{AddUser, Rename, Quit, Join, Part, Kick, ChangeModes, SetTopic, Say, Invite, UserMode}
 use Rattle.irc_room.specs.Laws.{IsWhole, NamedIsWholeToo, NamesAreLineWords, SentFitsItsLine}

@@ -7,8 +7,8 @@ use Rattle.std.specs.Option.{option_map}
 use Rattle.std.specs.Str.{bytes_eq}
 use Rattle.irc_line.specs.PartViews.{words_now}
 use Rattle.irc_modes.specs.declared.modes.ModeChange.{ModeChange}
-use Rattle.irc_modes.specs.ModeWords.{Asked, change}
-use Rattle.irc_modes.specs.ModeWritten.{changes_written}
+use Rattle.irc_mode_words.specs.ModeWords.{Asked, change}
+use Rattle.irc_mode_words.specs.ModeWritten.{changes_written}
 use Rattle.irc_modes.specs.Texts.{IsKept}
 use Rattle.irc_link_words.specs.Words.{keeps_word}
 

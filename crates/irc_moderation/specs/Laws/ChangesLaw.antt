@@ -21,7 +21,7 @@ use Rattle.irc_modes.specs.declared.modes.Privacy.TheVariants.{Public, Private, 
 use Rattle.irc_names.specs.Digits.{number_of}
 use Rattle.irc_modes.specs.Modes.{is_limit, private_changed, secret_changed, with_ban, without_ban}
 use Rattle.irc_channels.specs.Channels.{changed, all_changed}
-use Rattle.irc_modes.specs.ModeWords.{Asked, change, list, no_word, unknown, modes_read}
+use Rattle.irc_mode_words.specs.ModeWords.{Asked, change, list, no_word, unknown, modes_read}
 use Rattle.irc_room.specs.declared.effect.Effect.{Effect}
 use Rattle.irc_room.specs.declared.effect.Effect.TheVariants.{ChangeModes, UserMode}
 use Rattle.irc_room.specs.Room.{Room, IsWellFormed}

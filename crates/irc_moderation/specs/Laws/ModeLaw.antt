@@ -7,7 +7,7 @@ use Rattle.irc_channels.specs.declared.channel.Channel.{Channel}
 use Rattle.irc_modes.specs.declared.modes.ModeChange.{ModeChange}
 use Rattle.irc_channels.specs.Channels.{all_changed}
 use Rattle.irc_modes.specs.Modes.{is_nil}
-use Rattle.irc_modes.specs.ModeWords.{Asked, change, list, no_word, unknown, modes_read}
+use Rattle.irc_mode_words.specs.ModeWords.{Asked, change, list, no_word, unknown, modes_read}
 use Rattle.irc_numerics.specs.declared.replies.Reply.TheVariants.{UsersDontMatch, UModeUnknownFlag, EndOfBanList}
 use Rattle.irc_room.specs.declared.effect.By.TheVariants as by
 use Rattle.irc_room.specs.declared.effect.Effect.{Effect}

@@ -12,13 +12,13 @@ use Rattle.irc_modes.specs.declared.modes.ModeChange.{ModeChange}
 use Rattle.irc_modes.specs.declared.modes.ModeLetter.{ModeLetter}
 use Rattle.irc_modes.specs.Modes.{is_limit, is_nil}
 use Rattle.irc_channels.specs.Channels.{all_changed}
-use Rattle.irc_modes.specs.ModeWords.{Asked, change, list, no_word, unknown, modes_read}
-use Rattle.irc_modes.specs.Readable.{is_written_limit, has_its_word, AreSomeAsked}
-use Rattle.irc_modes.specs.Readable as some
+use Rattle.irc_mode_words.specs.ModeWords.{Asked, change, list, no_word, unknown, modes_read}
+use Rattle.irc_mode_words.specs.Readable.{is_written_limit, has_its_word, AreSomeAsked}
+use Rattle.irc_mode_words.specs.Readable as some
 use Rattle.irc_names.specs.Names.{IsKey}
 use Rattle.irc_modes.specs.Lemmas.LimitFacts.{limit-digits}
-use Rattle.irc_modes.specs.Lemmas.FewRead.{some_asked_are_readable}
-use Rattle.irc_modes.specs.Lemmas.LimitText.{plain_limit}
+use Rattle.irc_mode_words.specs.Lemmas.FewRead.{some_asked_are_readable}
+use Rattle.irc_mode_words.specs.Lemmas.WrittenLimit.{plain_limit}
 use Rattle.irc_room.specs.Limits.{IsChannelWithin, IsWithinLimits, IsBanCarried}
 use Rattle.irc_room.specs.Room.{Room, IsWellFormed}
 use Rattle.irc_room.specs.Sendable.{IsSentChange}

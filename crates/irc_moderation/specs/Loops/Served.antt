@@ -3,8 +3,8 @@ use Rattle.std.specs.Prelude.{◌≡◌, List, Result, OnOk}
 use Rattle.std.specs.Global.{Vec}
 use Rattle.std.specs.declared.alloc.AllocError.{AllocError}
 use Rattle.irc_channels.specs.declared.channel.Channel.{Channel}
-use Rattle.irc_modes.specs.declared.mode_words.ModeItem.{ModeItem}
-use Rattle.irc_modes.specs.ModeViews.{all_asked, asked}
+use Rattle.irc_mode_words.specs.declared.mode_words.ModeItem.{ModeItem}
+use Rattle.irc_mode_words.specs.ModeViews.{all_asked, asked}
 use Rattle.irc_room.specs.Applying.{Kept}
 use Rattle.irc_acts.specs.declared.act.Act.{Act}
 use Rattle.irc_acts.specs.Steps.{AddsTo}

@@ -13,13 +13,12 @@ use Rattle.irc_names.specs.Digits.{number_of}
 use Rattle.irc_modes.specs.Modes.{is_limit}
 use Rattle.irc_modes.specs.Limits.{max_limit, max_limit_digits}
 use Rattle.irc_modes.specs.ModesSet.{IsLimit}
-use Rattle.irc_modes.specs.Readable.{is_written_limit}
 use Rattle.irc_modes.specs.Lemmas.LimitFacts.{limit-digits, limit-most}
 
-abbrev number_on : ℕ → List ℕ → ℕ
+abbrev pub number_on : ℕ → List ℕ → ℕ
 number_on n digits = fold (λ m digit. 10 * m + (digit - 48)) n digits
 
-numerals : IsNumeralModel (λ ds. list_all is_ascii_digit ds ≡ true) (number_on 0)
+pub numerals : IsNumeralModel (λ ds. list_all is_ascii_digit ds ≡ true) (number_on 0)
 numerals = numerals_by_fold _ (search rules) number_on (search rules)
 
 -- a limit's number is one
@@ -46,23 +45,3 @@ limit_written limit in_range =
     and_from (list_all is_ascii_digit (decimal limit) && fits max_limit_digits (decimal limit)) _
     (and_from (list_all is_ascii_digit (decimal limit)) _ (digits_decimal numerals limit small) (grind (arith, nat_tests)))
     (and_from (nat_le 1 (number_of (decimal limit))) _ (grind (arith, nat_tests)) (grind (arith, nat_tests)))
-
--- the text of a limit is the one spelling that is written
-pub written_limit : (limit : ℕ) → IsLimit limit → is_written_limit (decimal limit) ≡ true
-written_limit limit in_range =
-    and_from (is_limit (decimal limit)) _ (limit_written limit in_range)
-    ((bytes_eq-Decides (decimal limit) (decimal (number_of (decimal limit)))).1 (ap decimal (sym (number_written limit in_range))))
-
--- a limit that does not begin with a zero is in that spelling
-pub plain_limit : (digits : List ℕ) → is_limit digits ≡ true → nat_eq (get_or digits 0 0) 48 ≡ false → is_written_limit digits ≡ true
-plain_limit digits h plain =
-    let number = limit_number digits h in
-    let other : get_or digits 0 0 ≡ 48 → length digits ≡ 1 = λ e. let clash = ap (λ b. nat_eq b 48) e in cc in
-    let some : 0 < length digits = by digits number.least in
-    and_from (is_limit digits) _ h
-    ((bytes_eq-Decides digits (decimal (number_of digits))).1
-    (sym (decimal-digits_value numerals digits (limit-digits digits h) some other (omega (arith, number.most)))))
-  where
-    by : (ds : List ℕ) → 1 ≤ number_of ds → 0 < length ds
-    by [] least = absurd (omega arith)
-    by (d ∷ ds) least = omega arith

@@ -4,7 +4,7 @@ use Rattle.irc_line.specs.Messages.{middle_text}
 use Rattle.irc_modes.specs.declared.modes.ModeChange.{ModeChange}
 use Rattle.irc_room.specs.Seen.{written_word}
 use Rattle.irc_line.specs.Lemmas.CutPieces.{piece_on}
-use Rattle.irc_modes.specs.Lemmas.ModePieces.{words_next, words_done}
+use Rattle.irc_mode_words.specs.Lemmas.ModePieces.{words_next, words_done}
 use Rattle.irc_room.proofs.mode_letters.push_words.Goals as goal
 
 pub loop-change-init : goal.loop-change-init

@@ -1,0 +1,4 @@
+pub mod ModeSteps
+pub mod WrittenRead
+pub mod SetReadable
+pub mod Reworded

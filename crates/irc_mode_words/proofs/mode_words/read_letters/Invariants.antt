@@ -1,0 +1,12 @@
+use Rattle.std.proofs.Common.{◌≤◌, [], true, length, drop, map}
+use Rattle.irc_mode_words.specs.ModeWords.{counted, letters_read}
+use Rattle.irc_mode_words.specs.ModeViews.{all_asked}
+use Rattle.irc_mode_words.proofs.ModeSteps.{Standing}
+use Rattle.irc_mode_words.proofs.mode_words.read_letters.Given as goal
+
+abbrev pub invariant-loop-byte : goal.invariant-loop-byte
+invariant-loop-byte l = record {
+  so_far : Standing l.plus (drop l.byte-index l.letters) (drop l.used (map (λ word. word.now) l.words)) l.limits (all_asked l.items.items)
+      (counted [] (letters_read true l.letters (map (λ word. word.now) l.words)));
+  within : l.used ≤ length l.words;
+}

@@ -1,0 +1,6 @@
+-- Lemmas, with their proofs, that the crates above cite too. No rule stands here.
+pub mod FewRead
+pub mod LetterReading
+pub mod ModePieces
+pub mod SetAgain
+pub mod WrittenLimit

@@ -1,0 +1,38 @@
+-- The text of a limit that is written: it is its one spelling.
+use Rattle.std.proofs.Common.{◌≡◌, ℕ, ◌+◌, ◌-◌, ◌*◌, ◌^◌, ◌<◌, ◌≤◌, true, false, ◌&&◌, List, [], ◌∷◌, length, get_or, nat_eq, nat_le, fold, decimal, sym, ap, arith, rules}
+use Rattle.std.proofs.lemmas.Bool.{and_from}
+use Rattle.std.proofs.lemmas.Bool.Decides.{nat_tests}
+use Rattle.std.proofs.lemmas.Fmt.{digits_decimal, digits_value-decimal, decimal-digits_value, length-decimal-le}
+use Rattle.std.proofs.lemmas.Slice.Eq.{bytes_eq-Decides}
+use Rattle.std.proofs.lemmas.Str.Parse.{IsNumeralModel, numerals_by_fold}
+use Rattle.std.specs.List.{list_all}
+use Rattle.std.specs.Char.{is_ascii_digit}
+use Rattle.std.specs.Cmp.{first_so, second_so}
+use Rattle.irc_names.specs.Names.{fits}
+use Rattle.irc_names.specs.Digits.{number_of}
+use Rattle.irc_modes.specs.Modes.{is_limit}
+use Rattle.irc_modes.specs.Limits.{max_limit, max_limit_digits}
+use Rattle.irc_modes.specs.ModesSet.{IsLimit}
+use Rattle.irc_mode_words.specs.Readable.{is_written_limit}
+use Rattle.irc_modes.specs.Lemmas.LimitFacts.{limit-digits}
+use Rattle.irc_modes.specs.Lemmas.LimitText.{numerals, limit_number, number_written, limit_written}
+
+-- the text of a limit is the one spelling that is written
+pub written_limit : (limit : ℕ) → IsLimit limit → is_written_limit (decimal limit) ≡ true
+written_limit limit in_range =
+    and_from (is_limit (decimal limit)) _ (limit_written limit in_range)
+    ((bytes_eq-Decides (decimal limit) (decimal (number_of (decimal limit)))).1 (ap decimal (sym (number_written limit in_range))))
+
+-- a limit that does not begin with a zero is in that spelling
+pub plain_limit : (digits : List ℕ) → is_limit digits ≡ true → nat_eq (get_or digits 0 0) 48 ≡ false → is_written_limit digits ≡ true
+plain_limit digits h plain =
+    let number = limit_number digits h in
+    let other : get_or digits 0 0 ≡ 48 → length digits ≡ 1 = λ e. let clash = ap (λ b. nat_eq b 48) e in cc in
+    let some : 0 < length digits = by digits number.least in
+    and_from (is_limit digits) _ h
+    ((bytes_eq-Decides digits (decimal (number_of digits))).1
+    (sym (decimal-digits_value numerals digits (limit-digits digits h) some other (omega (arith, number.most)))))
+  where
+    by : (ds : List ℕ) → 1 ≤ number_of ds → 0 < length ds
+    by [] least = absurd (omega arith)
+    by (d ∷ ds) least = omega arith

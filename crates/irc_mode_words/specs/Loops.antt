@@ -1,0 +1,2 @@
+pub mod ModeLimits
+pub mod WrittenLetters
