@@ -19,8 +19,8 @@ use Rattle.irc_channels.specs.Channels.{has_member, joined, left, while_members,
 use Rattle.irc_modes.specs.Modes.{is_nil}
 use Rattle.arrayvec.specs.ArrayVec.{ArrayVec}
 use Rattle.irc_numerics.specs.declared.replies.Reply.{Reply}
-use Rattle.irc_room.specs.declared.effect.Effect.{Effect}
-use Rattle.irc_room.specs.declared.effect.Effect.TheVariants.{AddUser, Rename, Quit, Join, Part, Kick, ChangeModes, SetTopic, Say, Invite, UserMode}
+use Rattle.irc_room.specs.effect.Effect.{Effect}
+use Rattle.irc_room.specs.effect.Effect.TheVariants.{AddUser, Rename, Quit, Join, Part, Kick, ChangeModes, SetTopic, Say, Invite, UserMode}
 use Rattle.irc_room.specs.Room.{Room, IsWellFormed}
 use Rattle.irc_room.specs.Effects.{is_member}
 use Rattle.irc_room.specs.Readers.{flags_at}

@@ -1,6 +1,6 @@
 -- What is decided does something: no effect is idle when its turn comes.
 use Rattle.std.specs.Prelude.{◌≡◌, false, List}
-use Rattle.irc_room.specs.declared.effect.Effect.{Effect}
+use Rattle.irc_room.specs.effect.Effect.{Effect}
 use Rattle.irc_room.specs.Room.{Room}
 use Rattle.irc_room.specs.Effects.{is_idle}
 use Rattle.irc_room.specs.InTurn.{EachInTurn}

@@ -7,8 +7,8 @@ use Rattle.irc_names.specs.Tables.{row}
 use Rattle.irc_users.specs.declared.user.User.{User}
 use Rattle.irc_channels.specs.declared.channel.Channel.{Channel}
 use Rattle.irc_channels.specs.Channels.{has_member}
-use Rattle.irc_room.specs.declared.effect.Effect.{Effect}
-use Rattle.irc_room.specs.declared.effect.Effect.TheVariants.{Join, Part, Kick}
+use Rattle.irc_room.specs.effect.Effect.{Effect}
+use Rattle.irc_room.specs.effect.Effect.TheVariants.{Join, Part, Kick}
 use Rattle.irc_room.specs.Room.{Room}
 use Rattle.irc_room.specs.Effects.{is_member}
 use Rattle.irc_room.specs.InTurn.{EachInTurn}

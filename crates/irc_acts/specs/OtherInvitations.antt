@@ -2,7 +2,7 @@
 -- is where they are the same.
 use Rattle.std.specs.Prelude.{◌≡◌, ℕ, List}
 use Rattle.irc_names.specs.Fold.{key}
-use Rattle.irc_room.specs.declared.effect.Effect.{Effect}
+use Rattle.irc_room.specs.effect.Effect.{Effect}
 use Rattle.irc_room.specs.Room.{Room}
 use Rattle.irc_room.specs.Readers.{is_invited_at}
 use Rattle.irc_room.specs.After.{after}

@@ -8,8 +8,8 @@ use Rattle.irc_names.specs.TableLaws.{same_fold, row-alter, row-alter_same}
 use Rattle.irc_channels.specs.declared.channel.Channel.{Channel}
 use Rattle.irc_channels.specs.Channels.{has_member, is_invited, joined, left, new_channel}
 use Rattle.irc_modes.specs.Modes.{is_nil}
-use Rattle.irc_room.specs.declared.effect.Effect.{Effect}
-use Rattle.irc_room.specs.declared.effect.Effect.TheVariants.{Join, Part, Kick}
+use Rattle.irc_room.specs.effect.Effect.{Effect}
+use Rattle.irc_room.specs.effect.Effect.TheVariants.{Join, Part, Kick}
 use Rattle.irc_room.specs.Room.{Room}
 use Rattle.irc_room.specs.Readers.{is_invited_at}
 use Rattle.irc_room.specs.After.{after, alter_channel}

@@ -8,10 +8,10 @@ use Rattle.irc_users.specs.declared.user.User.{User}
 use Rattle.irc_channels.specs.declared.channel.Channel.{Channel}
 use Rattle.irc_channels.specs.Channels.{has_member}
 use Rattle.irc_modes.specs.declared.modes.ModeChange.{ModeChange}
-use Rattle.irc_room.specs.declared.effect.By.TheVariants as by
-use Rattle.irc_room.specs.declared.effect.Target.TheVariants as target
-use Rattle.irc_room.specs.declared.effect.Effect.{Effect}
-use Rattle.irc_room.specs.declared.effect.Effect.TheVariants.{Join, Part, Kick, ChangeModes, SetTopic, Say, Invite, UserMode}
+use Rattle.irc_room.specs.effect.By.TheVariants as by
+use Rattle.irc_room.specs.effect.Target.TheVariants as target
+use Rattle.irc_room.specs.effect.Effect.{Effect}
+use Rattle.irc_room.specs.effect.Effect.TheVariants.{Join, Part, Kick, ChangeModes, SetTopic, Say, Invite, UserMode}
 use Rattle.irc_room.specs.Room.{Room}
 use Rattle.irc_room.specs.InTurn.{EachInTurn}
 use Rattle.irc_acts.specs.declared.act.Act.{Act}

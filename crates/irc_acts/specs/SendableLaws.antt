@@ -8,7 +8,7 @@ use Rattle.irc_names.specs.TableLaws.{same_fold, one_fold, row-alter}
 use Rattle.irc_users.specs.declared.user.User.{User}
 use Rattle.irc_users.specs.UserTable.{with_invisible}
 use Rattle.irc_channels.specs.declared.channel.Channel.{Channel}
-use Rattle.irc_room.specs.declared.effect.Effect.{Effect}
+use Rattle.irc_room.specs.effect.Effect.{Effect}
 use Rattle.irc_room.specs.Room.{Room, IsWellFormed}
 use Rattle.irc_room.specs.After.{after}
 use Rattle.irc_room.specs.InTurn.{EachInTurn}

@@ -10,10 +10,10 @@ use Rattle.irc_line.specs.Messages.{Parsed, message_of}
 use Rattle.irc_channels.specs.declared.flags.Flags.{Flags}
 use Rattle.irc_mode_words.specs.ModeWritten.{changes_written}
 use Rattle.irc_names.specs.Names.{is_channel, is_nick, is_server}
-use Rattle.irc_room.specs.declared.effect.By.{By}
-use Rattle.irc_room.specs.declared.effect.By.TheVariants as by
-use Rattle.irc_room.specs.declared.effect.Effect.{Effect}
-use Rattle.irc_room.specs.declared.effect.Effect.TheVariants.{ChangeModes, SetTopic}
+use Rattle.irc_room.specs.effect.By.{By}
+use Rattle.irc_room.specs.effect.By.TheVariants as by
+use Rattle.irc_room.specs.effect.Effect.{Effect}
+use Rattle.irc_room.specs.effect.Effect.TheVariants.{ChangeModes, SetTopic}
 use Rattle.irc_room.specs.Room.{Room}
 use Rattle.irc_routes.specs.Known.{Known}
 use Rattle.irc_link_reader.specs.Means.{Checked, first_fault, if_there, of_either, user_mode_line}

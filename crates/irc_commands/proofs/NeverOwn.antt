@@ -5,7 +5,7 @@ use Rattle.irc_users.specs.declared.user.User.{User}
 use Rattle.irc_channels.specs.declared.channel.Channel.{Channel}
 use Rattle.irc_numerics.specs.declared.replies.Reply.{Reply}
 use Rattle.arrayvec.specs.ArrayVec.{ArrayVec}
-use Rattle.irc_room.specs.declared.effect.Effect.{Effect}
+use Rattle.irc_room.specs.effect.Effect.{Effect}
 use Rattle.irc_room.specs.Room.{Room}
 use Rattle.irc_room.specs.After.{after}
 use Rattle.irc_acts.specs.declared.act.Act.{Act}

@@ -11,7 +11,7 @@ use Rattle.irc_names.specs.Names.{is_nick, is_channel}
 use Rattle.irc_names.specs.Tables.{row}
 use Rattle.irc_names.specs.Lemmas.RuleFacts.{nick-fits, channel-fits, host-fits}
 use Rattle.irc_users.specs.declared.user.User.{User}
-use Rattle.irc_room.specs.declared.effect.Target.{Target}
+use Rattle.irc_room.specs.effect.Target.{Target}
 use Rattle.irc_room.specs.Limits.{IsUserWithin}
 use Rattle.irc_room.specs.Room.{Room}
 use Rattle.irc_room.specs.Sendable.{target_word, said_parts}

@@ -7,8 +7,8 @@ use Rattle.irc_users.specs.declared.user.User.{User}
 use Rattle.irc_channels.specs.declared.channel.Channel.{Channel}
 use Rattle.irc_numerics.specs.declared.replies.Reply.{Reply}
 use Rattle.irc_numerics.specs.declared.replies.Reply.TheVariants.{CannotSendToChan}
-use Rattle.irc_room.specs.declared.effect.Target.TheVariants as target
-use Rattle.irc_room.specs.declared.effect.Effect.TheVariants.{Say}
+use Rattle.irc_room.specs.effect.Target.TheVariants as target
+use Rattle.irc_room.specs.effect.Effect.TheVariants.{Say}
 use Rattle.irc_room.specs.Room.{Room}
 use Rattle.irc_commands.specs.declared.TheConstants.{MAX_TARGETS}
 use Rattle.irc_acts.specs.declared.act.Act.{Act}

@@ -8,7 +8,7 @@ use Rattle.irc_names.specs.Tables.{row}
 use Rattle.irc_line.specs.Messages.{Parsed}
 use Rattle.irc_users.specs.declared.user.User.{User}
 use Rattle.irc_numerics.specs.declared.replies.Reply.TheVariants.{ErroneousNickname, NicknameInUse}
-use Rattle.irc_room.specs.declared.effect.Effect.TheVariants.{Rename, Quit}
+use Rattle.irc_room.specs.effect.Effect.TheVariants.{Rename, Quit}
 use Rattle.irc_room.specs.Room.{Room}
 use Rattle.irc_room.specs.InTurn.{EachInTurn}
 use Rattle.irc_routes.specs.Place.{Place}

@@ -1,7 +1,7 @@
 -- QUIT, and the line that a client is sent before it is closed.
 use Rattle.std.specs.Prelude.{ℕ, true, List, [], ◌∷◌}
 use Rattle.irc_users.specs.declared.user.User.{User}
-use Rattle.irc_room.specs.declared.effect.Effect.TheVariants.{Quit}
+use Rattle.irc_room.specs.effect.Effect.TheVariants.{Quit}
 use Rattle.irc_acts.specs.declared.act.Act.TheVariants.{Raw, Do}
 use Rattle.irc_acts.specs.Words.{reason_given}
 use Rattle.irc_acts.specs.Acts.{bytes_kept}

@@ -9,9 +9,9 @@ use Rattle.irc_users.specs.declared.user.User.{User}
 use Rattle.irc_channels.specs.declared.flags.Flags.{Flags}
 use Rattle.irc_channels.specs.declared.channel.Channel.{Channel}
 use Rattle.irc_numerics.specs.declared.replies.Reply.TheVariants.{NoRecipient, NoTextToSend, NoSuchNick, CannotSendToChan, TooManyTargets}
-use Rattle.irc_room.specs.declared.effect.Target.{Target}
-use Rattle.irc_room.specs.declared.effect.Target.TheVariants as target
-use Rattle.irc_room.specs.declared.effect.Effect.TheVariants.{Say}
+use Rattle.irc_room.specs.effect.Target.{Target}
+use Rattle.irc_room.specs.effect.Target.TheVariants as target
+use Rattle.irc_room.specs.effect.Effect.TheVariants.{Say}
 use Rattle.irc_room.specs.Room.{Room}
 use Rattle.irc_commands.specs.Limits.{max_targets}
 use Rattle.irc_commands.specs.declared.say.Verb.{Verb}

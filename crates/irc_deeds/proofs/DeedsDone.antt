@@ -5,9 +5,9 @@ use Rattle.irc_names.specs.Spellings.{exactly_same}
 use Rattle.irc_channels.specs.Texts.{cut_words}
 use Rattle.irc_channels.specs.declared.flags.Flags.{Flags}
 use Rattle.irc_modes.specs.declared.modes.ModeChange.{ModeChange}
-use Rattle.irc_room.specs.declared.effect.By.TheVariants as by
-use Rattle.irc_room.specs.declared.effect.Effect.{Effect}
-use Rattle.irc_room.specs.declared.effect.Effect.TheVariants.{ChangeModes, SetTopic}
+use Rattle.irc_room.specs.effect.By.TheVariants as by
+use Rattle.irc_room.specs.effect.Effect.{Effect}
+use Rattle.irc_room.specs.effect.Effect.TheVariants.{ChangeModes, SetTopic}
 use Rattle.std.specs.List.{flat_map}
 use Rattle.irc_merge.specs.Deeds.{does, loses, kills, brings, sets, tops, member_comes}
 use Rattle.irc_merge.specs.Quits.{collision_text, quits_of, users_at}

@@ -3,8 +3,8 @@ use Rattle.std.proofs.Common.{◌≡◌, ℕ, false, List, [], ◌∷◌, ◌++�
 use Rattle.irc_channels.specs.declared.flags.Flags.{Flags}
 use Rattle.irc_merge.specs.Deeds.{flag_given, member_comes}
 use Rattle.irc_modes.specs.declared.modes.ModeLetter.TheVariants as letter
-use Rattle.irc_room.specs.declared.effect.Effect.{Effect}
-use Rattle.irc_room.specs.declared.effect.Effect.TheVariants.{Join}
+use Rattle.irc_room.specs.effect.Effect.{Effect}
+use Rattle.irc_room.specs.effect.Effect.TheVariants.{Join}
 use Rattle.irc_stage.specs.EffectTold.{Served, all_changed, changed_if}
 
 pub all_changed_twice : (one other : List Effect) (s : Served) → all_changed other (all_changed one s) ≡ all_changed (one ++ other) s

@@ -5,8 +5,8 @@ use Rattle.std.specs.List.{cons_option, flat_map, list_any}
 use Rattle.std.specs.FinMap.{entries}
 use Rattle.irc_line.specs.Messages.{Written}
 use Rattle.irc_batch.specs.Batches.{Sent, end_of, line_to}
-use Rattle.irc_room.specs.declared.effect.Effect.{Effect}
-use Rattle.irc_room.specs.declared.effect.Effect.TheVariants.{Quit}
+use Rattle.irc_room.specs.effect.Effect.{Effect}
+use Rattle.irc_room.specs.effect.Effect.TheVariants.{Quit}
 use Rattle.irc_room.specs.Effects.{has_user}
 use Rattle.irc_room.specs.Seen.{Showing, seen}
 use Rattle.irc_merge.specs.Deeds.{Deed, does as done, gains, loses, kills, brings, sets, tops, effects_of}

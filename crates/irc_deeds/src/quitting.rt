@@ -2,7 +2,7 @@
 ghost use Rattle.std.specs.Prelude.{◌≡◌, [], ◌∷◌, map, IfOk, OnOk};
 ghost use Rattle.irc_batch.specs.Growing.{Grew};
 ghost use Rattle.irc_merge.specs.Quits.{quits_of, users_at};
-ghost use Rattle.irc_room.specs.declared.effect.Effect.TheVariants.{Quit};
+ghost use Rattle.irc_room.specs.effect.Effect.TheVariants.{Quit};
 ghost use Rattle.irc_stage.specs.Loops.Stage.{view_of, IsServing, Keeps};
 ghost use Rattle.irc_deeds.specs.Loops.Telling.{ChangesAll};
 

@@ -12,7 +12,7 @@ use Rattle.irc_users.specs.declared.user.User.{User}
 use Rattle.irc_channels.specs.declared.flags.Flags.{Flags}
 use Rattle.irc_channels.specs.declared.channel.Channel.{Channel}
 use Rattle.irc_channels.specs.Texts.{cut_words}
-use Rattle.irc_room.specs.declared.effect.Target.TheVariants as target
+use Rattle.irc_room.specs.effect.Target.TheVariants as target
 use Rattle.irc_numerics.specs.declared.replies.Reply.TheVariants.{NicknameInUse, CannotSendToChan, TooManyTargets}
 use Rattle.irc_acts.specs.declared.act.Act.{Act}
 use Rattle.irc_acts.specs.declared.act.Act.TheVariants.{Answer}

@@ -9,12 +9,12 @@ use Rattle.std.specs.List.{cons_option, flat_map}
 use Rattle.std.specs.Ordering.{nat_cmp}
 use Rattle.irc_names.specs.Fold.{key, same}
 use Rattle.irc_batch.specs.Batches.{Sent, line_to}
-use Rattle.irc_room.specs.declared.effect.Effect.{Effect}
+use Rattle.irc_room.specs.effect.Effect.{Effect}
 use Rattle.irc_room.specs.Room.{Room, IsWellFormed}
 use Rattle.irc_room.specs.Seen.{Showing, seen}
 use Rattle.irc_room.specs.Viewers.{shows_to}
 use Rattle.irc_room.specs.Lemmas.ViewerLaws.{both_true}
-use Rattle.irc_room.proofs.OneViewer.{one_viewers_lines}
+use Rattle.irc_room.specs.Lemmas.OneViewer.{one_viewers_lines}
 use Rattle.irc_stage.specs.declared.clients.Client.{Client}
 use Rattle.irc_stage.specs.declared.clients.Client.TheVariants.{Registering, Registered}
 use Rattle.irc_stage.specs.Handle.{is_client, to_viewer}

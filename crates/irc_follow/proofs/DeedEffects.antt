@@ -6,14 +6,14 @@ use Rattle.irc_channels.specs.declared.flags.Flags.{Flags}
 use Rattle.irc_modes.specs.declared.modes.ModeLetter.{ModeLetter}
 use Rattle.irc_modes.specs.declared.modes.ModeLetter.TheVariants as letter
 use Rattle.irc_batch.specs.Batches.{Sent}
-use Rattle.irc_room.specs.declared.effect.Effect.{Effect}
-use Rattle.irc_room.specs.declared.effect.Effect.TheVariants.{AddUser, Rename, Quit, Join, Part, Kick, ChangeModes, SetTopic, Say, Invite, UserMode}
+use Rattle.irc_room.specs.effect.Effect.{Effect}
+use Rattle.irc_room.specs.effect.Effect.TheVariants.{AddUser, Rename, Quit, Join, Part, Kick, ChangeModes, SetTopic, Say, Invite, UserMode}
 use Rattle.irc_room.specs.After.{after}
 use Rattle.irc_room.specs.Effects.{brings_free}
 use Rattle.irc_room.specs.InTurn.{after_all, EachInTurn}
 use Rattle.irc_room.specs.OtherInvitations.{AreAlike, IsTakenAlike}
 use Rattle.irc_room.specs.Room.{Room}
-use Rattle.irc_room.proofs.AlikeLaw.{alike_stay_alike, alike_take_alike}
+use Rattle.irc_room.specs.Lemmas.AlikeLaw.{alike_stay_alike, alike_take_alike}
 use Rattle.irc_merge.specs.CanBeDone.{DoesSomething}
 use Rattle.irc_merge.specs.Deeds.{flag_given, member_comes}
 use Rattle.irc_merge.specs.Quits.{quits_of}

@@ -10,7 +10,7 @@ use Rattle.std.specs.Option.{option_map_or}
 use Rattle.std.specs.Ordering.{nat_cmp}
 use Rattle.irc_batch.specs.Batches.{Sent, line_to}
 use Rattle.irc_line.specs.Messages.{Written, line_text, text}
-use Rattle.irc_room.specs.declared.effect.Effect.{Effect}
+use Rattle.irc_room.specs.effect.Effect.{Effect}
 use Rattle.irc_room.specs.Seen.{Showing, seen}
 use Rattle.irc_room.specs.Lemmas.ViewerLaws.{both_true}
 use Rattle.irc_tables.specs.Lemmas.OrderedEntries.{above-is, find-above}

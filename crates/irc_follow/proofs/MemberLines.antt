@@ -12,13 +12,13 @@ use Rattle.irc_names.specs.Names.{IsNick, is_nick, is_nick_byte, is_special}
 use Rattle.irc_names.specs.Tables.{Table}
 use Rattle.irc_users.specs.declared.user.User.{User}
 use Rattle.irc_channels.specs.declared.flags.Flags.{Flags}
-use Rattle.irc_room.specs.declared.effect.Effect.{Effect}
+use Rattle.irc_room.specs.effect.Effect.{Effect}
 use Rattle.irc_room.specs.After.{after}
 use Rattle.irc_room.specs.Effects.{is_member}
 use Rattle.irc_room.specs.InTurn.{after_all, EachInTurn}
 use Rattle.irc_room.specs.OtherInvitations.{AreAlike}
 use Rattle.irc_room.specs.Room.{Room}
-use Rattle.irc_room.proofs.AlikeLaw.{alike_have_alike, alike_stay_alike}
+use Rattle.irc_room.specs.Lemmas.AlikeLaw.{alike_have_alike, alike_stay_alike}
 use Rattle.irc_merge.specs.BurstRead.{is_new_member, new_members}
 use Rattle.irc_merge.specs.Bursts.{home_passes}
 use Rattle.irc_merge.specs.CanBeDone.{DoesSomething}

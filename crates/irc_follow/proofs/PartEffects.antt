@@ -5,15 +5,15 @@ use Rattle.std.specs.FinMap.{get, retain_keys}
 use Rattle.std.specs.Option.{option_and_then, option_map_or}
 use Rattle.irc_names.specs.Fold.{key, same}
 use Rattle.irc_names.specs.TableLaws.{same_fold, same_fold-refl, one_fold}
-use Rattle.irc_room.specs.declared.effect.Effect.{Effect}
-use Rattle.irc_room.specs.declared.effect.Effect.TheVariants.{AddUser, Rename, Quit, Join, Part, Kick, ChangeModes, SetTopic, Say, Invite, UserMode}
+use Rattle.irc_room.specs.effect.Effect.{Effect}
+use Rattle.irc_room.specs.effect.Effect.TheVariants.{AddUser, Rename, Quit, Join, Part, Kick, ChangeModes, SetTopic, Say, Invite, UserMode}
 use Rattle.irc_room.specs.After.{after}
 use Rattle.irc_room.specs.Effects.{IsPossible}
 use Rattle.irc_room.specs.Limits.{KeepsLimits}
 use Rattle.irc_room.specs.Readers.{home_under}
 use Rattle.irc_room.specs.Lemmas.Rows.{same_some}
 use Rattle.irc_room.specs.Lemmas.WellFormedLaw.{after_is_well_formed}
-use Rattle.irc_room.proofs.LimitsKept.{after_is_within_limits, sent_keeps_limits}
+use Rattle.irc_room.specs.Lemmas.LimitsKept.{after_is_within_limits, sent_keeps_limits}
 use Rattle.irc_stage.specs.declared.clients.Client.{Client}
 use Rattle.irc_stage.specs.declared.clients.Client.TheVariants.{Registering, Registered}
 use Rattle.irc_stage.specs.EffectTold.{is_another}

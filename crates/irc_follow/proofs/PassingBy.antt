@@ -11,9 +11,9 @@ use Rattle.irc_names.specs.Tables.{row}
 use Rattle.irc_users.specs.declared.user.User.{User}
 use Rattle.irc_users.specs.UserTable.{is_home}
 use Rattle.irc_channels.specs.Channels.{has_member}
-use Rattle.irc_room.specs.declared.effect.Effect.{Effect}
-use Rattle.irc_room.specs.declared.effect.Effect.TheVariants.{AddUser, Rename, Quit, Join, Part, Kick, ChangeModes, SetTopic, Say, Invite, UserMode}
-use Rattle.irc_room.specs.declared.effect.Target.TheVariants as target
+use Rattle.irc_room.specs.effect.Effect.{Effect}
+use Rattle.irc_room.specs.effect.Effect.TheVariants.{AddUser, Rename, Quit, Join, Part, Kick, ChangeModes, SetTopic, Say, Invite, UserMode}
+use Rattle.irc_room.specs.effect.Target.TheVariants as target
 use Rattle.irc_room.specs.After.{after}
 use Rattle.irc_room.specs.Effects.{has_user, is_idle, is_member, needs_users, target_users, doer_of}
 use Rattle.irc_room.specs.Invitations.{is_at, of_home}
@@ -22,7 +22,7 @@ use Rattle.irc_room.specs.Room.{Room}
 use Rattle.irc_room.specs.Seen.{sees, shown_line}
 use Rattle.irc_room.specs.Viewers.{line_for, shows_to}
 use Rattle.irc_room.specs.Lemmas.Rows.{same_some}
-use Rattle.irc_room.proofs.HomeLaw.{home_follows}
+use Rattle.irc_room.specs.Lemmas.HomeLaw.{home_follows}
 use Rattle.irc_links.specs.Ways.{homes_in, homes_of, told_homes}
 use Rattle.irc_merge.specs.Deeds.{does, gains, loses, kills, brings, sets, tops, shown_by}
 use Rattle.irc_relay.specs.Links.{Name, same, toward, distance, AreJoined, AreLinked, OneWay, forth, return}

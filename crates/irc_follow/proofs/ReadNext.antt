@@ -9,17 +9,17 @@ use Rattle.irc_line.specs.Messages.{message_of}
 use Rattle.irc_names.specs.Fold.{key}
 use Rattle.irc_names.specs.Tables.{row}
 use Rattle.irc_users.specs.declared.user.User.{User}
-use Rattle.irc_room.specs.declared.effect.By.TheVariants as by
-use Rattle.irc_room.specs.declared.effect.Effect.{Effect}
-use Rattle.irc_room.specs.declared.effect.Effect.TheVariants.{AddUser, Rename, Quit, Join, Part, Kick, ChangeModes, SetTopic, Say, Invite, UserMode}
+use Rattle.irc_room.specs.effect.By.TheVariants as by
+use Rattle.irc_room.specs.effect.Effect.{Effect}
+use Rattle.irc_room.specs.effect.Effect.TheVariants.{AddUser, Rename, Quit, Join, Part, Kick, ChangeModes, SetTopic, Say, Invite, UserMode}
 use Rattle.irc_room.specs.Effects.{has_user, needs_users, target_users, doer_of}
 use Rattle.irc_room.specs.OtherInvitations.{AreAlike}
 use Rattle.irc_room.specs.Readers.{home_under}
 use Rattle.irc_room.specs.Seen.{stored_nick}
 use Rattle.irc_room.specs.Sendable.{IsSendable}
 use Rattle.irc_room.specs.Lemmas.Rows.{is_some_map, same_some}
-use Rattle.irc_room.proofs.AlikeLaw.{home_is_alike}
-use Rattle.irc_room.proofs.SendingAlike.{alike_keep_limits, alike_send_alike}
+use Rattle.irc_room.specs.Lemmas.AlikeLaw.{home_is_alike}
+use Rattle.irc_room.specs.Lemmas.SendingAlike.{alike_keep_limits, alike_send_alike}
 use Rattle.irc_relay.specs.Distances.{IsAmong}
 use Rattle.irc_relay.specs.Links.{Name, same, toward, distance, AreLinked}
 use Rattle.irc_relay.specs.Relay.{TakesFrom}

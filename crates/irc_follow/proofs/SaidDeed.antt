@@ -5,15 +5,15 @@ use Rattle.std.specs.Option.{option_map_or}
 use Rattle.irc_line.specs.Reading.{read_of}
 use Rattle.irc_channels.specs.declared.flags.Flags.{Flags}
 use Rattle.irc_modes.specs.declared.modes.ModeChange.{ModeChange}
-use Rattle.irc_room.specs.declared.effect.Effect.{Effect}
-use Rattle.irc_room.specs.declared.effect.Effect.TheVariants.{Quit}
+use Rattle.irc_room.specs.effect.Effect.{Effect}
+use Rattle.irc_room.specs.effect.Effect.TheVariants.{Quit}
 use Rattle.irc_room.specs.Effects.{has_user, IsPossible}
 use Rattle.irc_room.specs.InTurn.{after_all, EachInTurn}
 use Rattle.irc_room.specs.InTurnLaws.{each-so}
 use Rattle.irc_room.specs.Invitations.{of_home}
 use Rattle.irc_room.specs.OtherInvitations.{AreAlike}
 use Rattle.irc_room.specs.Room.{Room}
-use Rattle.irc_room.proofs.HomeLaw.{home_follows}
+use Rattle.irc_room.specs.Lemmas.HomeLaw.{home_follows}
 use Rattle.irc_merge.specs.CanBeDone.{DoesSomething}
 use Rattle.irc_merge.specs.Deeds.{Deed, loses, kills, brings, sets, tops, after_deed, effects_of}
 use Rattle.irc_merge.specs.Quits.{collision_text, quits_of, users_at}

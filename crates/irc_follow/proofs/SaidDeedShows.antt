@@ -7,12 +7,12 @@ use Rattle.irc_names.specs.Fold.{same}
 use Rattle.irc_channels.specs.declared.flags.Flags.{Flags}
 use Rattle.irc_modes.specs.declared.modes.ModeChange.{ModeChange}
 use Rattle.irc_batch.specs.Batches.{Sent, end_of}
-use Rattle.irc_room.specs.declared.effect.Effect.{Effect}
-use Rattle.irc_room.specs.declared.effect.Effect.TheVariants.{Quit}
+use Rattle.irc_room.specs.effect.Effect.{Effect}
+use Rattle.irc_room.specs.effect.Effect.TheVariants.{Quit}
 use Rattle.irc_room.specs.InTurn.{EachInTurn}
 use Rattle.irc_room.specs.Seen.{Showing}
 use Rattle.irc_room.specs.Viewers.{shows_to}
-use Rattle.irc_room.proofs.AlikeLaw.{alike_have_alike, alike_stay_alike, alike_take_alike}
+use Rattle.irc_room.specs.Lemmas.AlikeLaw.{alike_have_alike, alike_stay_alike, alike_take_alike}
 use Rattle.irc_merge.specs.CanBeDone.{DoesSomething}
 use Rattle.irc_merge.specs.Deeds.{Deed, does, gains, loses, kills, brings, sets, tops, effects_of, shown_by}
 use Rattle.irc_merge.specs.Quits.{collision_text, quits_of, users_at}

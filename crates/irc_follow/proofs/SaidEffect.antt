@@ -10,9 +10,9 @@ use Rattle.irc_names.specs.Fold as folded
 use Rattle.irc_names.specs.Tables.{row}
 use Rattle.irc_users.specs.declared.user.User.{User}
 use Rattle.irc_users.specs.UserTable.{is_home}
-use Rattle.irc_room.specs.declared.effect.Effect.{Effect}
-use Rattle.irc_room.specs.declared.effect.Effect.TheVariants.{AddUser, Rename, Quit, Join, Part, Kick, ChangeModes, SetTopic, Say, Invite, UserMode}
-use Rattle.irc_room.specs.declared.fault.RoomFault.TheVariants.{NoSuchUser, NoSuchChannel}
+use Rattle.irc_room.specs.effect.Effect.{Effect}
+use Rattle.irc_room.specs.effect.Effect.TheVariants.{AddUser, Rename, Quit, Join, Part, Kick, ChangeModes, SetTopic, Say, Invite, UserMode}
+use Rattle.irc_room.specs.fault.RoomFault.TheVariants.{NoSuchUser, NoSuchChannel}
 use Rattle.irc_room.specs.After.{after}
 use Rattle.irc_room.specs.Applying.{does as does_in}
 use Rattle.irc_room.specs.Effects.{brings_free, has_channel, has_user, is_idle, needs_channel, needs_users, IsPossible, doer_of}
@@ -21,8 +21,8 @@ use Rattle.irc_room.specs.OtherInvitations.{AreAlike, IsTakenAlike}
 use Rattle.irc_room.specs.Readers.{home_under}
 use Rattle.irc_room.specs.Room.{Room}
 use Rattle.irc_room.specs.Lemmas.Rows.{is_some_map}
-use Rattle.irc_room.proofs.AlikeLaw.{alike_take_alike, home_is_alike}
-use Rattle.irc_room.proofs.HomeLaw.{home_follows}
+use Rattle.irc_room.specs.Lemmas.AlikeLaw.{alike_take_alike, home_is_alike}
+use Rattle.irc_room.specs.Lemmas.HomeLaw.{home_follows}
 use Rattle.irc_merge.specs.Deeds.{does}
 use Rattle.irc_relay.specs.Links.{Name, same, toward}
 use Rattle.irc_relay.specs.Relay.{TakesFrom}

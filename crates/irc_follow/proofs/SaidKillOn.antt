@@ -10,7 +10,7 @@ use Rattle.irc_names.specs.Names.{IsNick, IsServer, is_nick, is_server}
 use Rattle.irc_names.specs.Spellings.{exactly_same}
 use Rattle.irc_names.specs.Tables.{row}
 use Rattle.irc_users.specs.declared.user.User.{User}
-use Rattle.irc_room.specs.declared.effect.Effect.TheVariants.{Quit}
+use Rattle.irc_room.specs.effect.Effect.TheVariants.{Quit}
 use Rattle.irc_room.specs.Room.{Room}
 use Rattle.irc_room.specs.Seen.{Showing, seen}
 use Rattle.irc_room.specs.Sendable.{IsStoredNick}

@@ -12,17 +12,17 @@ use Rattle.irc_names.specs.Fold.{key}
 use Rattle.irc_names.specs.Fold as folded
 use Rattle.irc_names.specs.Tables.{row}
 use Rattle.irc_users.specs.declared.user.User.{User}
-use Rattle.irc_room.specs.declared.effect.By.TheVariants as by
-use Rattle.irc_room.specs.declared.effect.Effect.{Effect}
-use Rattle.irc_room.specs.declared.effect.Effect.TheVariants.{AddUser, Rename, Quit, Join, Part, Kick, ChangeModes, SetTopic, Say, Invite, UserMode}
-use Rattle.irc_room.specs.declared.effect.Target.TheVariants as target
+use Rattle.irc_room.specs.effect.By.TheVariants as by
+use Rattle.irc_room.specs.effect.Effect.{Effect}
+use Rattle.irc_room.specs.effect.Effect.TheVariants.{AddUser, Rename, Quit, Join, Part, Kick, ChangeModes, SetTopic, Say, Invite, UserMode}
+use Rattle.irc_room.specs.effect.Target.TheVariants as target
 use Rattle.irc_room.specs.Effects.{brings_free, has_user, is_member}
 use Rattle.irc_room.specs.OtherInvitations.{AreAlike}
 use Rattle.irc_room.specs.Readers.{home_under}
 use Rattle.irc_room.specs.Room.{Room}
 use Rattle.irc_room.specs.Seen.{stored_nick}
 use Rattle.irc_room.specs.Sendable.{IsSendable}
-use Rattle.irc_room.proofs.AlikeLaw.{alike_have_alike, alike_take_alike}
+use Rattle.irc_room.specs.Lemmas.AlikeLaw.{alike_have_alike, alike_take_alike}
 use Rattle.irc_links.specs.Ways.{homes_in, told_homes, ways_toward}
 use Rattle.irc_merge.specs.BurstRead.{introduced}
 use Rattle.irc_merge.specs.Deeds.{does, kills}

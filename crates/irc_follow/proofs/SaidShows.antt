@@ -11,8 +11,8 @@ use Rattle.irc_names.specs.Tables.{row}
 use Rattle.irc_users.specs.declared.user.User.{User}
 use Rattle.irc_users.specs.UserTable.{is_home}
 use Rattle.irc_batch.specs.Batches.{Sent}
-use Rattle.irc_room.specs.declared.effect.Effect.{Effect}
-use Rattle.irc_room.specs.declared.effect.Effect.TheVariants.{AddUser, Rename, Quit, Join, Part, Kick, ChangeModes, SetTopic, Say, Invite, UserMode}
+use Rattle.irc_room.specs.effect.Effect.{Effect}
+use Rattle.irc_room.specs.effect.Effect.TheVariants.{AddUser, Rename, Quit, Join, Part, Kick, ChangeModes, SetTopic, Say, Invite, UserMode}
 use Rattle.irc_room.specs.After.{after}
 use Rattle.irc_room.specs.Effects.{has_user, needs_users}
 use Rattle.irc_room.specs.InTurn.{EachInTurn}
@@ -24,8 +24,8 @@ use Rattle.irc_room.specs.Seen.{seen, shown_line}
 use Rattle.irc_room.specs.Viewers.{line_for, shows_to}
 use Rattle.irc_room.specs.Lemmas.Rows.{same_some}
 use Rattle.irc_room.specs.Lemmas.WellFormedLaw.{after_is_well_formed}
-use Rattle.irc_room.proofs.AlikeLaw.{alike_stay_alike, alike_take_alike}
-use Rattle.irc_room.proofs.HomeRooms.{home_is_well_formed}
+use Rattle.irc_room.specs.Lemmas.AlikeLaw.{alike_stay_alike, alike_take_alike}
+use Rattle.irc_room.specs.Lemmas.HomeRooms.{home_is_well_formed}
 use Rattle.irc_merge.specs.Deeds.{does, shown_by}
 use Rattle.irc_merge.specs.ShownAlong.{shown_along}
 use Rattle.irc_relay.specs.Links.{Name}

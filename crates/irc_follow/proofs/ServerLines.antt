@@ -25,10 +25,10 @@ use Rattle.irc_modes.specs.declared.modes.ModeChange.{ModeChange}
 use Rattle.irc_mode_words.specs.ModeWritten.{changes_written, letters_text}
 use Rattle.irc_mode_words.specs.Readable.{AreReadable, has_its_word, is_worded}
 use Rattle.irc_mode_words.proofs.WrittenRead.{written_is_read}
-use Rattle.irc_room.specs.declared.effect.By.{By}
-use Rattle.irc_room.specs.declared.effect.By.TheVariants as by
-use Rattle.irc_room.specs.declared.effect.Effect.{Effect}
-use Rattle.irc_room.specs.declared.effect.Effect.TheVariants.{ChangeModes, SetTopic}
+use Rattle.irc_room.specs.effect.By.{By}
+use Rattle.irc_room.specs.effect.By.TheVariants as by
+use Rattle.irc_room.specs.effect.Effect.{Effect}
+use Rattle.irc_room.specs.effect.Effect.TheVariants.{ChangeModes, SetTopic}
 use Rattle.irc_room.specs.Laws.{IsWhole, NamesAreLineWords}
 use Rattle.irc_room.specs.Limits.{IsCarriedText}
 use Rattle.irc_room.specs.Readers.{home_under}

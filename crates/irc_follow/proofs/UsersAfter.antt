@@ -7,8 +7,8 @@ use Rattle.irc_names.specs.Tables.{Table, row, alter, moved}
 use Rattle.irc_names.specs.TableLaws.{same_fold, same_fold-refl, one_fold, row-alter, row-moved, row-moved_none}
 use Rattle.irc_users.specs.declared.user.User.{User}
 use Rattle.irc_users.specs.UserTable.{with_nick, with_invisible}
-use Rattle.irc_room.specs.declared.effect.Effect.{Effect}
-use Rattle.irc_room.specs.declared.effect.Effect.TheVariants.{AddUser, Rename, Quit, Join, Part, Kick, ChangeModes, SetTopic, Say, Invite, UserMode}
+use Rattle.irc_room.specs.effect.Effect.{Effect}
+use Rattle.irc_room.specs.effect.Effect.TheVariants.{AddUser, Rename, Quit, Join, Part, Kick, ChangeModes, SetTopic, Say, Invite, UserMode}
 use Rattle.irc_room.specs.Room.{Room}
 use Rattle.irc_room.specs.After.{after}
 use Rattle.irc_room.specs.Effects.{brings_free}

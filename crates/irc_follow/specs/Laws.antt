@@ -2,7 +2,7 @@
 use Rattle.std.specs.Prelude.{◌≡◌, ◌≢◌, ⊤, ℕ, List, [], ◌∷◌}
 use Rattle.irc_channels.specs.declared.flags.Flags.{Flags}
 use Rattle.irc_modes.specs.declared.modes.ModeChange.{ModeChange}
-use Rattle.irc_room.specs.declared.effect.Effect.{Effect}
+use Rattle.irc_room.specs.effect.Effect.{Effect}
 use Rattle.irc_merge.specs.Deeds.{Deed, does, brings, gains, loses, kills, sets, tops}
 use Rattle.irc_relay.specs.Following.{Fact, Follows}
 use Rattle.irc_relay.specs.Links.{Link, Name}

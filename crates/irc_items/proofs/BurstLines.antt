@@ -14,8 +14,8 @@ use Rattle.irc_users.specs.declared.user.User.{User}
 use Rattle.irc_channels.specs.declared.channel.Channel.{Channel}
 use Rattle.irc_channels.specs.declared.flags.Flags.{Flags}
 use Rattle.irc_modes.specs.declared.modes.ModeChange.{ModeChange}
-use Rattle.irc_room.specs.declared.effect.By.TheVariants as by
-use Rattle.irc_room.specs.declared.effect.Effect.TheVariants.{AddUser, ChangeModes, SetTopic}
+use Rattle.irc_room.specs.effect.By.TheVariants as by
+use Rattle.irc_room.specs.effect.Effect.TheVariants.{AddUser, ChangeModes, SetTopic}
 use Rattle.irc_room.specs.Effects.{brings_free}
 use Rattle.irc_room.specs.InTurn.{EachInTurn}
 use Rattle.irc_room.specs.Laws.{IsWhole}
@@ -25,7 +25,7 @@ use Rattle.irc_room.specs.Readers.{home_under}
 use Rattle.irc_room.specs.Room.{Room}
 use Rattle.irc_room.specs.Sendable.{IsStoredNick}
 use Rattle.irc_room.specs.Lemmas.Rows.{same_some}
-use Rattle.irc_room.proofs.AlikeLaw.{alike_have_alike, alike_stay_alike, alike_take_alike}
+use Rattle.irc_room.specs.Lemmas.AlikeLaw.{alike_have_alike, alike_stay_alike, alike_take_alike}
 use Rattle.irc_merge.specs.AsideInvitations.{AreReadAlike}
 use Rattle.irc_merge.specs.BurstRead.{all_far, brought, new_members}
 use Rattle.irc_merge.specs.Bursts.{home_passes}

@@ -25,7 +25,7 @@ use Rattle.irc_names.specs.Fold.{key}
 use Rattle.irc_names.specs.Tables.{Table, fold_cmp, row}
 use Rattle.irc_names.specs.TableLaws.{same_fold, one_fold, row-alter}
 use Rattle.irc_room.specs.After.{after}
-use Rattle.irc_room.specs.declared.effect.Effect.TheVariants.{AddUser}
+use Rattle.irc_room.specs.effect.Effect.TheVariants.{AddUser}
 use Rattle.irc_room.specs.InTurn.{after_all}
 use Rattle.irc_room.specs.InTurnLaws.{after_all-append, each-keeps}
 use Rattle.irc_room.specs.Lemmas.Rows.{not_none, not_true}

@@ -8,7 +8,7 @@ use Rattle.irc_names.specs.Fold.{key}
 use Rattle.irc_names.specs.Names.{IsChannel}
 use Rattle.irc_names.specs.Tables.{row}
 use Rattle.irc_users.specs.declared.user.User.{User}
-use Rattle.irc_room.specs.declared.effect.Effect.TheVariants.{AddUser}
+use Rattle.irc_room.specs.effect.Effect.TheVariants.{AddUser}
 use Rattle.irc_room.specs.InTurn.{EachInTurn}
 use Rattle.irc_room.specs.Limits.{IsBanCarried, IsCarriedText, IsUserWithin, KeepsLimits}
 use Rattle.irc_room.specs.Room.{Room}

@@ -21,7 +21,7 @@ use Rattle.irc_relay.specs.Links.{Name, Link, joined, same, toward, AreJoined, I
 use Rattle.irc_relay.proofs.GoingToward.{linked_joined, next_hop}
 use Rattle.irc_room.specs.Invitations.{of_home}
 use Rattle.irc_room.specs.Room.{Room, IsWellFormed}
-use Rattle.irc_room.proofs.HomeRooms.{home_is_well_formed}
+use Rattle.irc_room.specs.Lemmas.HomeRooms.{home_is_well_formed}
 use Rattle.irc_routes.specs.Known.{Known, row_of, servers_told}
 use Rattle.irc_routes.specs.declared.server_row.ServerRow.{ServerRow}
 use Rattle.irc_burst_lines.specs.BurstLines.{burst_parts, is_near, server_deed}

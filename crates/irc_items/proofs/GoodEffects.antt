@@ -12,10 +12,10 @@ use Rattle.irc_line.specs.declared.reading.LineFault.{LineFault}
 use Rattle.irc_line.specs.declared.reading.LineFault.TheVariants as fault
 use Rattle.irc_line.specs.Messages.{Parsed, Written, line_text}
 use Rattle.irc_line.specs.Reading.{read_of}
-use Rattle.irc_room.specs.declared.effect.Effect.{Effect}
+use Rattle.irc_room.specs.effect.Effect.{Effect}
 use Rattle.irc_room.specs.Room.{IsWellFormed}
 use Rattle.irc_room.specs.Seen.{seen}
-use Rattle.irc_room.proofs.HomeRooms.{home_is_well_formed}
+use Rattle.irc_room.specs.Lemmas.HomeRooms.{home_is_well_formed}
 use Rattle.irc_burst.specs.DeedsMeant.{Told, a_deed, deeds_meant}
 use Rattle.irc_burst.specs.HandshakeMeant.{handshake_meant}
 use Rattle.irc_link_writer.specs.Written.{wire}

@@ -9,8 +9,8 @@ use Rattle.irc_names.specs.Fold.{key}
 use Rattle.irc_names.specs.Tables.{row}
 use Rattle.irc_users.specs.declared.user.User.{User}
 use Rattle.irc_batch.specs.Batches.{Sent}
-use Rattle.irc_room.specs.declared.effect.Effect.{Effect}
-use Rattle.irc_room.specs.declared.effect.Effect.TheVariants.{Quit}
+use Rattle.irc_room.specs.effect.Effect.{Effect}
+use Rattle.irc_room.specs.effect.Effect.TheVariants.{Quit}
 use Rattle.irc_room.specs.Room.{Room}
 use Rattle.irc_routes.specs.Known.{next_hop, place_of}
 use Rattle.irc_acts.specs.declared.act.Act.{Act}

@@ -1,8 +1,8 @@
 -- The clients that stay where only some do: whatever is done to all clients may be done to those.
 use Rattle.std.proofs.Common.{◌≡◌, ℕ, Bool, true, false, cond, Option, Some, None, refl, sym, ◌∙◌, ap, option_map}
 use Rattle.std.specs.FinMap.{get, insert, remove, retain_keys}
-use Rattle.irc_room.specs.declared.effect.Effect.{Effect}
-use Rattle.irc_room.specs.declared.effect.Effect.TheVariants.{AddUser, Rename, Quit, Join, Part, Kick, ChangeModes, SetTopic, Say, Invite, UserMode}
+use Rattle.irc_room.specs.effect.Effect.{Effect}
+use Rattle.irc_room.specs.effect.Effect.TheVariants.{AddUser, Rename, Quit, Join, Part, Kick, ChangeModes, SetTopic, Say, Invite, UserMode}
 use Rattle.irc_stage.specs.declared.clients.Client.{Client}
 use Rattle.irc_stage.specs.Handle.{clients_after, renamed_in}
 use Rattle.irc_stage.specs.RoomMachine.{Clients, each_client}

@@ -14,8 +14,8 @@ use Rattle.irc_names.specs.Names.{IsServer}
 use Rattle.irc_names.specs.Tables.{row}
 use Rattle.irc_users.specs.declared.user.User.{User}
 use Rattle.irc_users.specs.UserTable.{is_home}
-use Rattle.irc_room.specs.declared.effect.Effect.{Effect}
-use Rattle.irc_room.specs.declared.effect.Effect.TheVariants.{AddUser, Quit}
+use Rattle.irc_room.specs.effect.Effect.{Effect}
+use Rattle.irc_room.specs.effect.Effect.TheVariants.{AddUser, Quit}
 use Rattle.irc_room.specs.After.{after}
 use Rattle.irc_room.specs.Effects.{is_idle, doer_of}
 use Rattle.irc_room.specs.InTurn.{EachInTurn}

@@ -11,8 +11,8 @@ use Rattle.irc_names.specs.Tables.{row}
 use Rattle.irc_users.specs.declared.user.User.{User}
 use Rattle.irc_users.specs.UserTable.{is_home}
 use Rattle.irc_batch.specs.Batches.{Sent, line_to}
-use Rattle.irc_room.specs.declared.effect.Effect.{Effect}
-use Rattle.irc_room.specs.declared.effect.Effect.TheVariants.{AddUser, Rename, Quit, Join, Part, Kick, ChangeModes, SetTopic, Say, Invite, UserMode}
+use Rattle.irc_room.specs.effect.Effect.{Effect}
+use Rattle.irc_room.specs.effect.Effect.TheVariants.{AddUser, Rename, Quit, Join, Part, Kick, ChangeModes, SetTopic, Say, Invite, UserMode}
 use Rattle.irc_room.specs.After.{after}
 use Rattle.irc_room.specs.Effects.{has_user, needs_users, IsPossible}
 use Rattle.irc_room.specs.Invitations.{after_at, is_at, of_home}
@@ -20,9 +20,9 @@ use Rattle.irc_room.specs.OtherInvitations.{AreAlike}
 use Rattle.irc_room.specs.Room.{Room}
 use Rattle.irc_room.specs.Seen.{Showing, seen, shown_line}
 use Rattle.irc_room.specs.Viewers.{line_for, shows_to}
-use Rattle.irc_room.proofs.AlikeLaw.{alike_take_alike, home_is_alike}
-use Rattle.irc_room.proofs.HomeLaw.{home_follows}
-use Rattle.irc_room.proofs.HomeRooms.{home_is_well_formed}
+use Rattle.irc_room.specs.Lemmas.AlikeLaw.{alike_take_alike, home_is_alike}
+use Rattle.irc_room.specs.Lemmas.HomeLaw.{home_follows}
+use Rattle.irc_room.specs.Lemmas.HomeRooms.{home_is_well_formed}
 use Rattle.irc_forest.proofs.Cutting.{both_one, both_other}
 use Rattle.irc_link_writer.specs.Written.{wire}
 use Rattle.irc_relay.specs.Links.{Name}

@@ -9,12 +9,12 @@ use Rattle.irc_names.specs.Fold.{key}
 use Rattle.irc_names.specs.Tables.{row}
 use Rattle.irc_users.specs.declared.user.User.{User}
 use Rattle.irc_users.specs.UserTable.{is_home}
-use Rattle.irc_room.specs.declared.effect.Effect.TheVariants.{AddUser, Quit}
+use Rattle.irc_room.specs.effect.Effect.TheVariants.{AddUser, Quit}
 use Rattle.irc_room.specs.InTurn.{EachInTurn}
 use Rattle.irc_room.specs.Invitations.{of_home}
 use Rattle.irc_room.specs.Room.{Room}
 use Rattle.irc_room.specs.Lemmas.Rows.{same_some}
-use Rattle.irc_room.proofs.AlikeLaw.{home_is_alike}
+use Rattle.irc_room.specs.Lemmas.AlikeLaw.{home_is_alike}
 use Rattle.irc_routes.specs.Known.{place_of}
 use Rattle.irc_routes.specs.Place.{Place}
 use Rattle.irc_acts.specs.declared.act.Act.{Act}

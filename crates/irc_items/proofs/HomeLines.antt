@@ -7,10 +7,10 @@ use Rattle.std.specs.List.{cons_option, filter_map, list_any, AllByRecursion}
 use Rattle.std.specs.Option.{option_map_or}
 use Rattle.irc_line.specs.Messages.{Written, line_text, message_of}
 use Rattle.irc_line.specs.Reading.{read_of}
-use Rattle.irc_room.specs.declared.effect.Effect.{Effect}
+use Rattle.irc_room.specs.effect.Effect.{Effect}
 use Rattle.irc_room.specs.Effects.{brings_free}
 use Rattle.irc_room.specs.OtherInvitations.{AreAlike}
-use Rattle.irc_room.proofs.AlikeLaw.{alike_take_alike, home_is_alike}
+use Rattle.irc_room.specs.Lemmas.AlikeLaw.{alike_take_alike, home_is_alike}
 use Rattle.irc_links.specs.Ends.{End, is_met}
 use Rattle.irc_links.specs.Ways.{told_homes, ways_toward}
 use Rattle.irc_merge.specs.Deeds.{does}

@@ -8,7 +8,7 @@ use Rattle.irc_names.specs.TableLaws.{same_fold, one_fold, row-alter}
 use Rattle.irc_merge.specs.Deeds.{Deed, does, gains, kills, brings, sets, tops, after_deed, after_deeds, shown_by}
 use Rattle.irc_relay.specs.Following.{all_done, all_seen}
 use Rattle.irc_relay.specs.Links.{Name, same, toward, distance}
-use Rattle.irc_room.specs.declared.effect.Effect.TheVariants.{AddUser}
+use Rattle.irc_room.specs.effect.Effect.TheVariants.{AddUser}
 use Rattle.irc_room.specs.Room.{Room}
 use Rattle.irc_routes.specs.Known.{Known, is_itself, is_known, row_of, smallest_free, token_out}
 use Rattle.irc_routes.specs.declared.server_row.ServerRow.{ServerRow}

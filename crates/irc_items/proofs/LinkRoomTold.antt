@@ -9,12 +9,12 @@ use Rattle.irc_line.specs.Messages.{line_text}
 use Rattle.irc_names.specs.Fold.{key}
 use Rattle.irc_names.specs.Tables.{row}
 use Rattle.irc_users.specs.declared.user.User.{User}
-use Rattle.irc_room.specs.declared.effect.Effect.TheVariants.{AddUser}
+use Rattle.irc_room.specs.effect.Effect.TheVariants.{AddUser}
 use Rattle.irc_room.specs.Invitations.{of_home}
 use Rattle.irc_room.specs.Limits.{IsWithinLimits}
 use Rattle.irc_room.specs.Room.{Room}
-use Rattle.irc_room.proofs.AlikeLaw.{home_is_alike}
-use Rattle.irc_room.proofs.SendingAlike.{alike_keep_limits}
+use Rattle.irc_room.specs.Lemmas.AlikeLaw.{home_is_alike}
+use Rattle.irc_room.specs.Lemmas.SendingAlike.{alike_keep_limits}
 use Rattle.irc_burst.specs.DeedsMeant.{as_stored}
 use Rattle.irc_burst_lines.specs.DeedLines.{deed_parts}
 use Rattle.irc_link_reader.specs.Reader.{is_behind_link}

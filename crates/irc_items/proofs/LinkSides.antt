@@ -5,7 +5,7 @@ use Rattle.irc_merge.specs.Bursts.{burst}
 use Rattle.irc_merge.specs.Deeds.{Deed, does, gains, kills, brings, sets, tops}
 use Rattle.irc_relay.specs.Following.{all_done}
 use Rattle.irc_relay.specs.Links.{Name, Link, joined}
-use Rattle.irc_room.specs.declared.effect.Effect.TheVariants.{AddUser}
+use Rattle.irc_room.specs.effect.Effect.TheVariants.{AddUser}
 use Rattle.irc_routes.specs.Known.{Known, servers_told}
 use Rattle.irc_routes.specs.declared.server_row.ServerRow.{ServerRow}
 use Rattle.irc_world.specs.World.{World}

@@ -5,14 +5,14 @@ use Rattle.std.specs.FinMap.{get}
 use Rattle.std.specs.List.{AllByRecursion}
 use Rattle.irc_line.specs.Messages.{line_text}
 use Rattle.irc_batch.specs.Batches.{Sent}
-use Rattle.irc_room.specs.declared.effect.Effect.{Effect}
+use Rattle.irc_room.specs.effect.Effect.{Effect}
 use Rattle.irc_room.specs.InTurn.{after_all, EachInTurn}
 use Rattle.irc_room.specs.Invitations.{of_home}
 use Rattle.irc_room.specs.OtherInvitations.{AreAlike}
 use Rattle.irc_room.specs.Room.{Room, IsWellFormed}
-use Rattle.irc_room.proofs.AlikeLaw.{alike_have_alike, alike_stay_alike, alike_take_alike, home_is_alike}
-use Rattle.irc_room.proofs.HomeLaw.{home_follows}
-use Rattle.irc_room.proofs.HomeRooms.{home_is_well_formed}
+use Rattle.irc_room.specs.Lemmas.AlikeLaw.{alike_have_alike, alike_stay_alike, alike_take_alike, home_is_alike}
+use Rattle.irc_room.specs.Lemmas.HomeLaw.{home_follows}
+use Rattle.irc_room.specs.Lemmas.HomeRooms.{home_is_well_formed}
 use Rattle.irc_merge.specs.Deeds.{Deed, loses, after_deed, after_deeds, shown_by, shown_by_all}
 use Rattle.irc_merge.specs.Quits.{quits_of, users_at}
 use Rattle.irc_merge.specs.Lemmas.Quitting.{quits_well}

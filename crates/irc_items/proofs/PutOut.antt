@@ -6,7 +6,7 @@ use Rattle.std.specs.FinMap.{entries}
 use Rattle.std.specs.List.{cons_option, flat_map}
 use Rattle.irc_batch.specs.Batches.{Sent, line_to}
 use Rattle.irc_line.specs.Messages.{Written, line_text, text}
-use Rattle.irc_room.specs.declared.effect.Effect.{Effect}
+use Rattle.irc_room.specs.effect.Effect.{Effect}
 use Rattle.irc_room.specs.Seen.{Showing, seen}
 use Rattle.irc_links.specs.Ways.{but}
 use Rattle.irc_stage.specs.declared.clients.Client.{Client}

@@ -5,8 +5,8 @@ use Rattle.std.specs.List.{find}
 use Rattle.irc_line.specs.Messages.{Parsed}
 use Rattle.irc_names.specs.Names.{is_channel}
 use Rattle.irc_modes.specs.declared.modes.ModeChange.{ModeChange}
-use Rattle.irc_room.specs.declared.effect.Effect.{Effect}
-use Rattle.irc_room.specs.declared.effect.Effect.TheVariants.{ChangeModes}
+use Rattle.irc_room.specs.effect.Effect.{Effect}
+use Rattle.irc_room.specs.effect.Effect.TheVariants.{ChangeModes}
 use Rattle.irc_link_words.specs.declared.fault.WireFault.{WireFault}
 use Rattle.irc_link_words.specs.declared.fault.WireFault.TheVariants.{UnknownCommand, Parameters, BadToken, WrongDirection, BadName, Memory}
 use Rattle.irc_link_words.specs.Words.{are_changes, are_members_named, changes_of, is_command, is_for_channel, told_changes}

@@ -32,10 +32,10 @@ use Rattle.irc_names.specs.Fold.{same}
 use Rattle.irc_names.specs.Limits.{max_real_name}
 use Rattle.irc_names.specs.Names.{fits, is_nick, is_channel, is_host, is_server}
 use Rattle.irc_names.specs.Digits.{number_of}
-use Rattle.irc_room.specs.declared.effect.By.{By}
-use Rattle.irc_room.specs.declared.effect.By.TheVariants as by
-use Rattle.irc_room.specs.declared.effect.Effect.{Effect}
-use Rattle.irc_room.specs.declared.effect.Effect.TheVariants.{AddUser, Rename, Quit, Join, Part, Kick, ChangeModes, SetTopic, Say, Invite, UserMode}
+use Rattle.irc_room.specs.effect.By.{By}
+use Rattle.irc_room.specs.effect.By.TheVariants as by
+use Rattle.irc_room.specs.effect.Effect.{Effect}
+use Rattle.irc_room.specs.effect.Effect.TheVariants.{AddUser, Rename, Quit, Join, Part, Kick, ChangeModes, SetTopic, Say, Invite, UserMode}
 use Rattle.irc_room.specs.Effects.{needs_users}
 use Rattle.irc_room.specs.Room.{Room}
 use Rattle.irc_routes.specs.Known.{Known}

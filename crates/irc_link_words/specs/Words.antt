@@ -16,8 +16,8 @@ use Rattle.irc_modes.specs.Modes.{is_nil}
 use Rattle.irc_mode_words.specs.ModeWords.{Asked, change, list, no_word, unknown, modes_read}
 use Rattle.irc_mode_words.specs.ModeWritten.{changes_written}
 use Rattle.irc_mode_words.specs.Readable.{has_its_word, is_worded}
-use Rattle.irc_room.specs.declared.effect.Target.{Target}
-use Rattle.irc_room.specs.declared.effect.Target.TheVariants as target
+use Rattle.irc_room.specs.effect.Target.{Target}
+use Rattle.irc_room.specs.effect.Target.TheVariants as target
 use Rattle.irc_link_words.specs.declared.fault.WireFault.{WireFault}
 use Rattle.irc_link_words.specs.declared.fault.WireFault.TheVariants.{BadName}
 

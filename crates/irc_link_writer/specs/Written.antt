@@ -15,10 +15,10 @@
 use Rattle.std.specs.Prelude.{ℕ, suc, Option, Some, None, List, [], ◌∷◌, codes, decimal, unwrap_or, if◌then◌else◌}
 use Rattle.irc_line.specs.Messages.{Written, nobody, named}
 use Rattle.irc_users.specs.declared.user.User.{User}
-use Rattle.irc_room.specs.declared.effect.By.{By}
-use Rattle.irc_room.specs.declared.effect.By.TheVariants as by
-use Rattle.irc_room.specs.declared.effect.Effect.{Effect}
-use Rattle.irc_room.specs.declared.effect.Effect.TheVariants.{AddUser, Rename, Quit, Join, Part, Kick, ChangeModes, SetTopic, Say, Invite, UserMode}
+use Rattle.irc_room.specs.effect.By.{By}
+use Rattle.irc_room.specs.effect.By.TheVariants as by
+use Rattle.irc_room.specs.effect.Effect.{Effect}
+use Rattle.irc_room.specs.effect.Effect.TheVariants.{AddUser, Rename, Quit, Join, Part, Kick, ChangeModes, SetTopic, Say, Invite, UserMode}
 use Rattle.irc_room.specs.Room.{Room}
 use Rattle.irc_room.specs.Seen.{stored_nick, stored_channel, target_name, changes_words}
 use Rattle.irc_routes.specs.Known.{Known, distance_of, token_out}

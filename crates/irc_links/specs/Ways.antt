@@ -15,9 +15,9 @@ use Rattle.std.specs.Ordering.{nat_cmp}
 use Rattle.std.specs.FinMap.{entries, from_entries, get, keys}
 use Rattle.irc_names.specs.Fold.{key}
 use Rattle.irc_batch.specs.Batches.{is_number}
-use Rattle.irc_room.specs.declared.effect.Effect.{Effect}
-use Rattle.irc_room.specs.declared.effect.Effect.TheVariants.{Say, Invite}
-use Rattle.irc_room.specs.declared.effect.Target.TheVariants as target
+use Rattle.irc_room.specs.effect.Effect.{Effect}
+use Rattle.irc_room.specs.effect.Effect.TheVariants.{Say, Invite}
+use Rattle.irc_room.specs.effect.Target.TheVariants as target
 use Rattle.irc_room.specs.Room.{Room}
 use Rattle.irc_room.specs.Readers.{home_under, nicks_in}
 use Rattle.irc_routes.specs.Known.{Known, link_key, next_hop}

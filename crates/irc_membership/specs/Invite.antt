@@ -7,7 +7,7 @@ use Rattle.irc_users.specs.declared.user.User.{User}
 use Rattle.irc_channels.specs.declared.channel.Channel.{Channel}
 use Rattle.irc_channels.specs.Channels.{has_member}
 use Rattle.irc_numerics.specs.declared.replies.Reply.TheVariants.{Inviting, NoSuchNick, NoSuchChannel, NotOnChannel, UserOnChannel, ChanOPrivsNeeded}
-use Rattle.irc_room.specs.declared.effect.Effect.TheVariants.{Invite}
+use Rattle.irc_room.specs.effect.Effect.TheVariants.{Invite}
 use Rattle.irc_room.specs.Room.{Room}
 use Rattle.irc_acts.specs.declared.act.Act.{Act}
 use Rattle.irc_acts.specs.declared.act.Act.TheVariants.{Answer, Do}

@@ -11,7 +11,7 @@ use Rattle.irc_channels.specs.Channels.{is_invited, joined, new_channel}
 use Rattle.irc_modes.specs.Modes.{is_nil}
 use Rattle.irc_channels.specs.Texts.{cut_words}
 use Rattle.irc_numerics.specs.declared.replies.Reply.TheVariants.{NoSuchChannel, TooManyChannels, InviteOnlyChan, BannedFromChan, BadChannelKey, ChannelIsFull, Topic}
-use Rattle.irc_room.specs.declared.effect.Effect.TheVariants.{Join, Part}
+use Rattle.irc_room.specs.effect.Effect.TheVariants.{Join, Part}
 use Rattle.irc_room.specs.Room.{Room}
 use Rattle.irc_room.specs.Effects.{is_member}
 use Rattle.irc_membership.specs.Limits.{max_joined}

@@ -7,7 +7,7 @@ use Rattle.irc_channels.specs.declared.flags.Flags.{Flags}
 use Rattle.irc_channels.specs.declared.channel.Channel.{Channel}
 use Rattle.irc_channels.specs.Channels.{has_member}
 use Rattle.irc_numerics.specs.declared.replies.Reply.TheVariants.{NeedMoreParams, NoSuchChannel, UserNotInChannel, NotOnChannel, ChanOPrivsNeeded}
-use Rattle.irc_room.specs.declared.effect.Effect.TheVariants.{Kick}
+use Rattle.irc_room.specs.effect.Effect.TheVariants.{Kick}
 use Rattle.irc_room.specs.Room.{Room}
 use Rattle.irc_acts.specs.declared.act.Act.{Act}
 use Rattle.irc_acts.specs.declared.act.Act.TheVariants.{Answer, Do}

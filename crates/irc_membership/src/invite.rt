@@ -1,6 +1,6 @@
 //! INVITE.
 ghost use Rattle.std.specs.Prelude.{◌≡◌, None};
-ghost use Rattle.irc_room.specs.declared.effect.Effect.TheVariants.{Invite};
+ghost use Rattle.irc_room.specs.effect.Effect.TheVariants.{Invite};
 ghost use Rattle.irc_acts.specs.Refusing.{first_refusal};
 ghost use Rattle.irc_acts.specs.Steps.{by_room, Yields};
 ghost use Rattle.irc_membership.specs.Invite.{invite_refusals, invite_steps, invites, invites_found, invites_there};

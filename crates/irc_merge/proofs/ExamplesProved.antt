@@ -15,8 +15,8 @@ use Rattle.irc_line.specs.Messages.{line_text}
 use Rattle.irc_users.specs.declared.user.User.{User}
 use Rattle.irc_channels.specs.declared.flags.Flags.{Flags}
 use Rattle.irc_channels.specs.declared.channel.Channel.{Channel}
-use Rattle.irc_room.specs.declared.effect.Effect.{Effect}
-use Rattle.irc_room.specs.declared.effect.Effect.TheVariants.{AddUser}
+use Rattle.irc_room.specs.effect.Effect.{Effect}
+use Rattle.irc_room.specs.effect.Effect.TheVariants.{AddUser}
 use Rattle.irc_room.specs.Effects.{has_user}
 use Rattle.irc_room.specs.Examples.{room_after, flags_of}
 use Rattle.irc_room.specs.Lemmas.Listed.{table_of, row_listed}

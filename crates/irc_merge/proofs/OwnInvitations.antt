@@ -12,7 +12,7 @@ use Rattle.irc_users.specs.UserTable.{is_home}
 use Rattle.irc_channels.specs.declared.channel.Channel.{Channel}
 use Rattle.irc_modes.specs.Modes.{is_nil}
 use Rattle.irc_channels.specs.Channels.{has_member, without_user}
-use Rattle.irc_room.specs.declared.effect.Effect.TheVariants.{Quit}
+use Rattle.irc_room.specs.effect.Effect.TheVariants.{Quit}
 use Rattle.irc_room.specs.Room.{Room, IsWellFormed, IsSoundRow}
 use Rattle.irc_room.specs.After.{after}
 use Rattle.irc_room.specs.Lemmas.Rows.{not_none, not_true, same_some, alter_same}

@@ -12,7 +12,7 @@ use Rattle.irc_modes.specs.declared.modes.ModeChange.{ModeChange}
 use Rattle.irc_channels.specs.declared.channel.Channel.{Channel}
 use Rattle.irc_modes.specs.Modes.{is_nil}
 use Rattle.irc_channels.specs.Channels.{while_members}
-use Rattle.irc_room.specs.declared.effect.Effect.TheVariants.{AddUser}
+use Rattle.irc_room.specs.effect.Effect.TheVariants.{AddUser}
 use Rattle.irc_room.specs.Room.{Room}
 use Rattle.irc_merge.specs.Deeds.{Deed, does, brings, sets, tops}
 use Rattle.irc_modes.specs.ModesSet.{set_changes, ban_changes}

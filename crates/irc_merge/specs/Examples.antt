@@ -5,9 +5,9 @@ use Rattle.irc_line.specs.Bytes.{crlf}
 use Rattle.irc_users.specs.declared.user.User.{User}
 use Rattle.irc_channels.specs.declared.flags.Flags.{Flags}
 use Rattle.irc_modes.specs.declared.modes.ModeLetter.TheVariants as letter
-use Rattle.irc_room.specs.declared.effect.By.TheVariants as by
-use Rattle.irc_room.specs.declared.effect.Effect.{Effect}
-use Rattle.irc_room.specs.declared.effect.Effect.TheVariants.{AddUser, Join, ChangeModes, SetTopic}
+use Rattle.irc_room.specs.effect.By.TheVariants as by
+use Rattle.irc_room.specs.effect.Effect.{Effect}
+use Rattle.irc_room.specs.effect.Effect.TheVariants.{AddUser, Join, ChangeModes, SetTopic}
 use Rattle.irc_room.specs.Effects.{has_user}
 use Rattle.irc_room.specs.Examples.{room_after, somebody, set, flags_of}
 use Rattle.irc_merge.specs.Deeds.{does, kills, brings, sets, tops}

@@ -9,8 +9,8 @@ use Rattle.irc_modes.specs.declared.modes.ModeChange.{ModeChange}
 use Rattle.irc_channels.specs.Channels.{all_changed}
 use Rattle.irc_mode_words.specs.ModeWords.{Asked, change, list, no_word, unknown, modes_read}
 use Rattle.irc_numerics.specs.declared.replies.Reply.TheVariants.{NoSuchChannel, NeedMoreParams, UnknownMode, ChanOPrivsNeeded}
-use Rattle.irc_room.specs.declared.effect.By.TheVariants as by
-use Rattle.irc_room.specs.declared.effect.Effect.TheVariants.{ChangeModes}
+use Rattle.irc_room.specs.effect.By.TheVariants as by
+use Rattle.irc_room.specs.effect.Effect.TheVariants.{ChangeModes}
 use Rattle.irc_room.specs.Room.{Room}
 use Rattle.irc_acts.specs.declared.act.Act.{Act}
 use Rattle.irc_acts.specs.declared.act.Act.TheVariants.{Answer, Do}

@@ -6,7 +6,7 @@ use Rattle.irc_users.specs.declared.user.User.{User}
 use Rattle.irc_modes.specs.Letters.{plus_byte}
 use Rattle.irc_mode_words.specs.ModeWords.{is_sign}
 use Rattle.irc_numerics.specs.declared.replies.Reply.TheVariants.{UserModeIs, UModeUnknownFlag, UsersDontMatch}
-use Rattle.irc_room.specs.declared.effect.Effect.TheVariants.{UserMode}
+use Rattle.irc_room.specs.effect.Effect.TheVariants.{UserMode}
 use Rattle.irc_acts.specs.declared.act.Act.{Act}
 use Rattle.irc_acts.specs.declared.act.Act.TheVariants.{Answer, Do}
 use Rattle.irc_judging.specs.Judging.{differs}

@@ -5,7 +5,7 @@ use Rattle.irc_line.specs.Messages.{Parsed}
 use Rattle.irc_names.specs.UserTexts.{clean_user, cut_real}
 use Rattle.irc_users.specs.declared.user.User.{User}
 use Rattle.irc_numerics.specs.declared.replies.Reply.TheVariants.{Welcome, YourHost, Created, MyInfo, NoMotd, NoNicknameGiven, ErroneousNickname, NicknameInUse, NotRegistered, NeedMoreParams}
-use Rattle.irc_room.specs.declared.effect.Effect.TheVariants.{AddUser}
+use Rattle.irc_room.specs.effect.Effect.TheVariants.{AddUser}
 use Rattle.irc_room.specs.Room.{Room}
 use Rattle.irc_room.specs.Effects.{has_user}
 use Rattle.irc_routes.specs.Place.{Place}

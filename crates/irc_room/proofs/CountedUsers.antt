@@ -18,13 +18,13 @@ use Rattle.irc_tables.specs.Lemmas.OrderedEntries.{less_is}
 use Rattle.irc_tables.specs.Lemmas.RowsAsTable.{alter_alike, alter-absent}
 use Rattle.irc_users.specs.declared.user.User.{User}
 use Rattle.irc_users.specs.UserTable.{is_home, with_nick, with_invisible}
-use Rattle.irc_room.specs.declared.effect.Effect.{Effect}
-use Rattle.irc_room.specs.declared.effect.Effect.TheVariants.{AddUser, Rename, Quit, Join, Part, Kick, ChangeModes, SetTopic, Say, Invite, UserMode}
-use Rattle.irc_room.specs.Room.{Room}
-use Rattle.irc_room.specs.After.{after}
-use Rattle.irc_room.specs.Effects.{brings_free}
+use Rattle.irc_effects.specs.declared.effect.Effect.{Effect}
+use Rattle.irc_effects.specs.declared.effect.Effect.TheVariants.{AddUser, Rename, Quit, Join, Part, Kick, ChangeModes, SetTopic, Say, Invite, UserMode}
+use Rattle.irc_effects.specs.Room.{Room}
+use Rattle.irc_effects.specs.After.{after}
+use Rattle.irc_effects.specs.Effects.{brings_free}
 use Rattle.irc_room.specs.Loops.HomeCount.{home_count, one_of, gone, come}
-use Rattle.irc_room.specs.Lemmas.Rows.{not_true, alter_same}
+use Rattle.irc_effects.specs.Lemmas.Rows.{not_true, alter_same}
 
 told : (b : Bool) → T b → b ≡ true
 told true h = refl
@@ -177,9 +177,6 @@ pub none_home : (home : List ℕ) (users : Table User) → users ≡ empty → 0
 none_home home users none =
     let nobody : Table User = empty in
     omega (arith, home_fits home users, ap (λ (t : Table User). length (keys t)) none, length-map (entries nobody) (λ e. e.0), len-entries nobody, len-empty fold_cmp User)
-
-pub users_counted : (users : Table User) → length (keys users) ≡ length (values users)
-users_counted users = length-map (entries users) (λ e. e.0) ∙ sym (length-map (entries users) (λ e. e.1))
 
 -- the number after an effect, by that of those who stay
 pub still_counted : (home : List ℕ) (room : Room) (effect : Effect) (count staying : ℕ) → brings_free room effect ≡ true → count ≡ home_count home room.users

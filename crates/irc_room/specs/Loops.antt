@@ -1,5 +1,1 @@
 pub mod HomeCount
-pub mod LineViews
-pub mod Tables
-pub mod Telling
-pub mod Viewing

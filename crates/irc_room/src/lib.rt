@@ -1,31 +1,14 @@
-//! One room: what changes it, and who is shown what.
+//! One room as one server keeps it: what changes it, and who is shown what. The definitions of a room are irc_effects', passed on
+//! here.
 #![tactic(auto)]
 
-mod audience;
-mod changing;
-mod effect;
-mod effect_lines;
-mod effect_names;
-pub mod examples;
-mod fault;
 mod home_count;
-mod idle;
-mod indexed_channels;
-pub mod invitation_laws;
-pub mod laws;
-mod lines;
-mod mode_letters;
-mod name_index;
-mod own_channels;
 mod performing;
 mod refusing;
 mod room;
-mod showing;
-mod shown_line;
-mod tables;
-mod viewers;
 
-pub use effect::{By, Effect, ModeChanges, Target};
-pub use fault::RoomFault;
+pub use irc_effects::{By, Effect, ModeChanges, RoomFault, ShownLine, Target};
+pub use irc_effects::examples as examples;
+pub use irc_effects::invitation_laws as invitation_laws;
+pub use irc_effects::laws as laws;
 pub use room::Room;
-pub use shown_line::ShownLine;

@@ -4,7 +4,7 @@ use Rattle.irc_numerics.specs.Replies.{reply_text}
 use Rattle.irc_users.specs.declared.user.User.{User}
 use Rattle.irc_line.specs.Messages.{Parsed}
 use Rattle.irc_room.specs.Room.{Room}
-use Rattle.irc_room.specs.declared.effect.Effect.{Effect}
+use Rattle.irc_room.specs.effect.Effect.{Effect}
 use Rattle.irc_routes.specs.Known.{Known, place_of}
 use Rattle.irc_routes.specs.Place.{Place}
 use Rattle.irc_acts.specs.declared.act.Act.{Act}

@@ -17,7 +17,7 @@ use Rattle.irc_handshake.specs.declared.openings.Opening.TheVariants as opening
 use Rattle.irc_handshake.specs.Peers.{refusal}
 use Rattle.irc_users.specs.declared.user.User.{User}
 use Rattle.irc_numerics.specs.Replies.{reply_text}
-use Rattle.irc_room.specs.declared.effect.Effect.TheVariants.{Quit}
+use Rattle.irc_room.specs.effect.Effect.TheVariants.{Quit}
 use Rattle.irc_links.specs.Ends.{End, fresh_end, is_met}
 use Rattle.irc_links.specs.Ways.{AreEnds, IsMetEnd}
 use Rattle.irc_routes.specs.Known.{place_of}

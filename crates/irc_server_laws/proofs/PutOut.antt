@@ -9,8 +9,8 @@ use Rattle.irc_line.specs.Messages.{Parsed, Written, text}
 use Rattle.irc_batch.specs.Batches.{Sent, end_of, line_on, line_to}
 use Rattle.irc_users.specs.declared.user.User.{User}
 use Rattle.irc_numerics.specs.Replies.{reply_text}
-use Rattle.irc_room.specs.declared.effect.Effect.{Effect}
-use Rattle.irc_room.specs.declared.effect.Effect.TheVariants.{Quit}
+use Rattle.irc_room.specs.effect.Effect.{Effect}
+use Rattle.irc_room.specs.effect.Effect.TheVariants.{Quit}
 use Rattle.irc_room.specs.Effects.{has_user}
 use Rattle.irc_room.specs.Seen.{Showing, seen}
 use Rattle.irc_routes.specs.Known.{place_of}

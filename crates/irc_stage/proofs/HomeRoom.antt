@@ -11,8 +11,8 @@ use Rattle.irc_names.specs.Tables.{fold_cmp, row}
 use Rattle.irc_names.specs.TableLaws.{same_fold, same_fold-refl, one_fold}
 use Rattle.irc_users.specs.declared.user.User.{User}
 use Rattle.irc_users.specs.UserTable.{is_home}
-use Rattle.irc_room.specs.declared.effect.Effect.{Effect}
-use Rattle.irc_room.specs.declared.fault.RoomFault.TheVariants.{NoSuchUser, NoSuchChannel, Failed}
+use Rattle.irc_room.specs.effect.Effect.{Effect}
+use Rattle.irc_room.specs.fault.RoomFault.TheVariants.{NoSuchUser, NoSuchChannel, Failed}
 use Rattle.irc_room.specs.Room.{Room}
 use Rattle.irc_room.specs.Effects.{is_idle}
 use Rattle.irc_room.specs.After.{after}

@@ -3,8 +3,8 @@ use Rattle.std.proofs.Common.{◌≡◌, ℕ, Bool, Option, Some, None, List, re
 use Rattle.arrayvec.specs.ArrayVec.{ArrayVec}
 use Rattle.irc_names.specs.Fold.{key}
 use Rattle.irc_names.specs.Tables.{Table, row}
-use Rattle.irc_room.specs.declared.effect.Effect.TheVariants.{Say}
-use Rattle.irc_room.specs.declared.effect.Target.{Target}
+use Rattle.irc_room.specs.effect.Effect.TheVariants.{Say}
+use Rattle.irc_room.specs.effect.Target.{Target}
 use Rattle.irc_stage.specs.declared.origin.Origin.{Origin}
 use Rattle.irc_stage.specs.declared.origin.Origin.TheVariants.{Client, Link}
 use Rattle.irc_stage.specs.RoomMachine.{RoomMachine, client_of}

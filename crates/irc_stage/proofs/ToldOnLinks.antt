@@ -8,7 +8,7 @@ use Rattle.std.specs.Ordering.{nat_cmp}
 use Rattle.irc_batch.specs.Batches.{Sent}
 use Rattle.irc_link_writer.specs.Written.{wire}
 use Rattle.irc_links.specs.Ways.{told_homes, AreEnds, IsMetEnd}
-use Rattle.irc_room.specs.declared.effect.Effect.{Effect}
+use Rattle.irc_room.specs.effect.Effect.{Effect}
 use Rattle.irc_room.specs.After.{after}
 use Rattle.irc_room.specs.Seen.{seen}
 use Rattle.irc_routes.specs.Known.{Known, next_hop}

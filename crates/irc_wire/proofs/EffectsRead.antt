@@ -8,11 +8,11 @@ use Rattle.irc_line.specs.Messages.{message_of}
 use Rattle.irc_names.specs.FoldLaws.{same-tells}
 use Rattle.irc_names.specs.Limits.{max_words}
 use Rattle.irc_names.specs.Names.{IsNick, IsChannel, fits, is_nick, is_channel, is_server}
-use Rattle.irc_room.specs.declared.effect.By.TheVariants as by
-use Rattle.irc_room.specs.declared.effect.Effect.{Effect}
-use Rattle.irc_room.specs.declared.effect.Effect.TheVariants.{ChangeModes, Rename, Quit, Join, Part, Kick, SetTopic, Say, Invite, UserMode}
-use Rattle.irc_room.specs.declared.effect.Target.{Target}
-use Rattle.irc_room.specs.declared.effect.Target.TheVariants as target
+use Rattle.irc_room.specs.effect.By.TheVariants as by
+use Rattle.irc_room.specs.effect.Effect.{Effect}
+use Rattle.irc_room.specs.effect.Effect.TheVariants.{ChangeModes, Rename, Quit, Join, Part, Kick, SetTopic, Say, Invite, UserMode}
+use Rattle.irc_room.specs.effect.Target.{Target}
+use Rattle.irc_room.specs.effect.Target.TheVariants as target
 use Rattle.irc_room.specs.Effects.{needs_users}
 use Rattle.irc_room.specs.Sendable.{target_word}
 use Rattle.irc_link_reader.specs.Means.{first_fault, if_there, of_user, of_either, change_of, is_itself_or_none, mode_line, user_mode_line, read_by, say_line}

@@ -10,7 +10,7 @@ use Rattle.irc_names.specs.Names.{fits, is_nick, is_host}
 use Rattle.irc_names.specs.Digits.{number_of}
 use Rattle.irc_names.specs.UserTexts.{IsUserName, IsRealName, is_user_byte}
 use Rattle.irc_users.specs.declared.user.User.{User}
-use Rattle.irc_room.specs.declared.effect.Effect.TheVariants.{AddUser}
+use Rattle.irc_room.specs.effect.Effect.TheVariants.{AddUser}
 use Rattle.irc_room.specs.Limits.{IsUserWithin}
 use Rattle.irc_routes.specs.Known.{Known, distance_of}
 use Rattle.irc_wire.specs.Introductions.{IntroducedIsRead}

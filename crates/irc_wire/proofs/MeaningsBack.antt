@@ -7,11 +7,11 @@ use Rattle.irc_names.specs.Fold.{key}
 use Rattle.irc_names.specs.Names.{IsNick}
 use Rattle.irc_names.specs.Tables.{row}
 use Rattle.irc_users.specs.declared.user.User.{User}
-use Rattle.irc_room.specs.declared.effect.By.TheVariants as by
-use Rattle.irc_room.specs.declared.effect.Effect.{Effect}
-use Rattle.irc_room.specs.declared.effect.Effect.TheVariants.{AddUser, Rename, Quit, Join, Part, Kick, ChangeModes, SetTopic, Say, Invite, UserMode}
-use Rattle.irc_room.specs.declared.effect.Target.{Target}
-use Rattle.irc_room.specs.declared.effect.Target.TheVariants as target
+use Rattle.irc_room.specs.effect.By.TheVariants as by
+use Rattle.irc_room.specs.effect.Effect.{Effect}
+use Rattle.irc_room.specs.effect.Effect.TheVariants.{AddUser, Rename, Quit, Join, Part, Kick, ChangeModes, SetTopic, Say, Invite, UserMode}
+use Rattle.irc_room.specs.effect.Target.{Target}
+use Rattle.irc_room.specs.effect.Target.TheVariants as target
 use Rattle.irc_room.specs.Limits.{IsWithinLimits}
 use Rattle.irc_room.specs.Room.{Room}
 use Rattle.irc_room.specs.Seen.{full_sender, stored_nick, stored_channel, target_name}

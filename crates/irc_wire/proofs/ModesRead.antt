@@ -21,10 +21,10 @@ use Rattle.irc_modes.specs.Modes.{is_nil}
 use Rattle.irc_mode_words.specs.ModeWords.{Asked, change, list, modes_read, no_word, unknown}
 use Rattle.irc_mode_words.specs.ModeWritten.{changes_written, letters_text}
 use Rattle.irc_mode_words.specs.Readable.{AreReadable, AreSomeAsked, has_its_word, nothing_left, one_left_out, one_made, word_fits}
-use Rattle.irc_room.specs.declared.effect.By.{By}
-use Rattle.irc_room.specs.declared.effect.By.TheVariants as by
-use Rattle.irc_room.specs.declared.effect.Effect.{Effect}
-use Rattle.irc_room.specs.declared.effect.Effect.TheVariants.{ChangeModes}
+use Rattle.irc_room.specs.effect.By.{By}
+use Rattle.irc_room.specs.effect.By.TheVariants as by
+use Rattle.irc_room.specs.effect.Effect.{Effect}
+use Rattle.irc_room.specs.effect.Effect.TheVariants.{ChangeModes}
 use Rattle.irc_room.specs.Laws.{NamesAreLineWords}
 use Rattle.irc_room.specs.Limits.{IsWithinLimits}
 use Rattle.irc_room.specs.Room.{Room}

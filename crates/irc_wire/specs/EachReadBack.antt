@@ -1,7 +1,7 @@
 -- What is written on a link of an effect that can be sent is read as that effect, whatever the effect (RFC 2813 section 4).
 use Rattle.std.specs.Prelude.{ℕ, ⊤}
-use Rattle.irc_room.specs.declared.effect.Effect.{Effect}
-use Rattle.irc_room.specs.declared.effect.Effect.TheVariants.{AddUser}
+use Rattle.irc_room.specs.effect.Effect.{Effect}
+use Rattle.irc_room.specs.effect.Effect.TheVariants.{AddUser}
 use Rattle.irc_room.specs.Room.{Room}
 use Rattle.irc_routes.specs.Known.{Known}
 use Rattle.irc_wire.specs.Introductions.{IsIntroduced}

@@ -4,7 +4,7 @@ use Rattle.std.specs.Prelude.{◌≡◌, ◌≤◌, Ok, Some, [], ◌∷◌}
 use Rattle.std.specs.Option.{IfSome}
 use Rattle.irc_line.specs.Messages.{message_of}
 use Rattle.irc_users.specs.declared.user.User.{User}
-use Rattle.irc_room.specs.declared.effect.Effect.TheVariants.{AddUser}
+use Rattle.irc_room.specs.effect.Effect.TheVariants.{AddUser}
 use Rattle.irc_room.specs.Limits.{IsUserWithin}
 use Rattle.irc_routes.specs.Known.{Known}
 use Rattle.irc_link_reader.specs.Means.{read_by}

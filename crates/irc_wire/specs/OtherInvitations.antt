@@ -2,7 +2,7 @@
 -- by all of the room.
 use Rattle.std.specs.Prelude.{◌≡◌, ℕ, List}
 use Rattle.irc_line.specs.Messages.{Parsed}
-use Rattle.irc_room.specs.declared.effect.Effect.{Effect}
+use Rattle.irc_room.specs.effect.Effect.{Effect}
 use Rattle.irc_room.specs.Invitations.{of_home}
 use Rattle.irc_room.specs.OtherInvitations.{AreAlike}
 use Rattle.irc_room.specs.Room.{Room}

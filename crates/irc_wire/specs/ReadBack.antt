@@ -5,8 +5,8 @@ use Rattle.std.specs.Option.{option_map_or, IfSome}
 use Rattle.irc_line.specs.Lines.{IsLine}
 use Rattle.irc_line.specs.Messages.{line_text, message_of}
 use Rattle.irc_line.specs.Reading.{read_of}
-use Rattle.irc_room.specs.declared.effect.Effect.{Effect}
-use Rattle.irc_room.specs.declared.effect.Effect.TheVariants.{AddUser, ChangeModes}
+use Rattle.irc_room.specs.effect.Effect.{Effect}
+use Rattle.irc_room.specs.effect.Effect.TheVariants.{AddUser, ChangeModes}
 use Rattle.irc_room.specs.Effects.{needs_users}
 use Rattle.irc_room.specs.Limits.{IsWithinLimits}
 use Rattle.irc_room.specs.Room.{Room}

@@ -7,9 +7,9 @@ use Rattle.irc_names.specs.Names.{IsServer}
 use Rattle.irc_users.specs.declared.user.User.{User}
 use Rattle.irc_modes.specs.declared.modes.ModeChange.{ModeChange}
 use Rattle.irc_mode_words.specs.Readable.{AreReadable}
-use Rattle.irc_room.specs.declared.effect.By.TheVariants as by
-use Rattle.irc_room.specs.declared.effect.Effect.{Effect}
-use Rattle.irc_room.specs.declared.effect.Effect.TheVariants.{AddUser, ChangeModes, SetTopic}
+use Rattle.irc_room.specs.effect.By.TheVariants as by
+use Rattle.irc_room.specs.effect.Effect.{Effect}
+use Rattle.irc_room.specs.effect.Effect.TheVariants.{AddUser, ChangeModes, SetTopic}
 use Rattle.irc_room.specs.Laws.{IsWhole, whole_text}
 use Rattle.irc_room.specs.Limits.{IsCarriedText, IsUserWithin, IsWithinLimits}
 use Rattle.irc_room.specs.Room.{Room}

@@ -17,9 +17,9 @@ use Rattle.irc_channels.specs.declared.flags.Flags.{Flags}
 use Rattle.irc_channels.specs.declared.channel.Channel.{Channel}
 use Rattle.irc_channels.specs.Channels.{has_member}
 use Rattle.irc_numerics.specs.declared.replies.Reply.TheVariants.{CannotSendToChan}
-use Rattle.irc_room.specs.declared.effect.Target.TheVariants as target
-use Rattle.irc_room.specs.declared.effect.Effect.{Effect}
-use Rattle.irc_room.specs.declared.effect.Effect.TheVariants.{Say}
+use Rattle.irc_room.specs.effect.Target.TheVariants as target
+use Rattle.irc_room.specs.effect.Effect.{Effect}
+use Rattle.irc_room.specs.effect.Effect.TheVariants.{Say}
 use Rattle.irc_room.specs.Room.{Room}
 use Rattle.irc_room.specs.Examples.{somebody}
 use Rattle.irc_room.specs.Seen.{Showing, seen, shown_to, parts_of, full_sender}

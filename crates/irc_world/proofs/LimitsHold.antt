@@ -13,8 +13,8 @@ use Rattle.irc_line.specs.Laws.{WordsAreOfTheLine}
 use Rattle.irc_line.specs.Messages.{Parsed}
 use Rattle.irc_line.specs.Reading.{read_of}
 use Rattle.irc_users.specs.declared.user.User.{User}
-use Rattle.irc_room.specs.declared.effect.Effect.{Effect}
-use Rattle.irc_room.specs.declared.effect.Effect.TheVariants.{AddUser, Rename, Quit, Join, Part, Kick, ChangeModes, SetTopic, Say, Invite, UserMode}
+use Rattle.irc_room.specs.effect.Effect.{Effect}
+use Rattle.irc_room.specs.effect.Effect.TheVariants.{AddUser, Rename, Quit, Join, Part, Kick, ChangeModes, SetTopic, Say, Invite, UserMode}
 use Rattle.irc_room.specs.Room.{IsWellFormed}
 use Rattle.irc_room.specs.Limits.{IsWithinLimits, KeepsLimits}
 use Rattle.irc_room.specs.Laws.{NoRoomIsWithinLimits, AfterIsWithinLimits, SentKeepsLimits}

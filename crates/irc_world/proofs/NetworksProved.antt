@@ -9,7 +9,7 @@ use Rattle.irc_names.specs.Fold.{fold, fold_table}
 use Rattle.irc_line.specs.Bytes.{cut as cut_line}
 use Rattle.irc_line.specs.Messages.{line_text}
 use Rattle.irc_relay.specs.Links.{Name, Link, part, joined, links_without}
-use Rattle.irc_room.specs.declared.effect.Effect.{Effect}
+use Rattle.irc_room.specs.effect.Effect.{Effect}
 use Rattle.irc_room.specs.Examples.{room_after}
 use Rattle.irc_room.specs.Lemmas.ListedRooms.{ListedRoom, room_of, no_list, all_listed}
 use Rattle.irc_room.specs.Lemmas.ExampleRooms.{list_room}

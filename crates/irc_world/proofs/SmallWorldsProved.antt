@@ -18,7 +18,7 @@ use Rattle.irc_channels.specs.Channels.{is_invited}
 use Rattle.irc_relay.specs.Links.{Name, Link, part, joined, links_without, distance}
 use Rattle.irc_room.specs.Laws.{no_room}
 use Rattle.irc_room.specs.Room.{Room}
-use Rattle.irc_room.specs.declared.effect.Effect.{Effect}
+use Rattle.irc_room.specs.effect.Effect.{Effect}
 use Rattle.irc_modes.specs.Modes.{no_modes}
 use Rattle.irc_room.specs.Examples.{room_after, somebody}
 use Rattle.irc_room.specs.Invitations.{is_at, inviting_only, of_home}

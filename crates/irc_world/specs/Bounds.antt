@@ -6,8 +6,8 @@ use Rattle.irc_names.specs.Tables.{row}
 use Rattle.irc_line.specs.Messages.{Parsed}
 use Rattle.irc_line.specs.Reading.{read_of}
 use Rattle.irc_users.specs.declared.user.User.{User}
-use Rattle.irc_room.specs.declared.effect.Effect.{Effect}
-use Rattle.irc_room.specs.declared.effect.Effect.TheVariants.{Quit}
+use Rattle.irc_room.specs.effect.Effect.{Effect}
+use Rattle.irc_room.specs.effect.Effect.TheVariants.{Quit}
 use Rattle.irc_acts.specs.Acts.{effects_among}
 use Rattle.irc_commands.specs.Decide.{decide}
 use Rattle.irc_registering.specs.Register.{register}

@@ -2,9 +2,9 @@
 use Rattle.std.specs.Prelude.{◌≡◌, ℕ, true, false, Some, None, List, [], ◌∷◌, ◌++◌, codes}
 use Rattle.std.specs.FinMap.{from_entries}
 use Rattle.irc_line.specs.Bytes.{crlf}
-use Rattle.irc_room.specs.declared.effect.By.TheVariants as by
-use Rattle.irc_room.specs.declared.effect.Effect.{Effect}
-use Rattle.irc_room.specs.declared.effect.Effect.TheVariants.{AddUser, Join, SetTopic}
+use Rattle.irc_room.specs.effect.By.TheVariants as by
+use Rattle.irc_room.specs.effect.Effect.{Effect}
+use Rattle.irc_room.specs.effect.Effect.TheVariants.{AddUser, Join, SetTopic}
 use Rattle.irc_room.specs.Examples.{room_after, somebody}
 use Rattle.irc_relay.specs.Links.{Link}
 use Rattle.irc_stage.specs.declared.clients.Client.{Client}

@@ -3,9 +3,9 @@ use Rattle.std.specs.Prelude.{◌≡◌, ℕ, true, false, Some, None, List, [],
 use Rattle.irc_names.specs.Fold.{key}
 use Rattle.irc_line.specs.Bytes.{crlf}
 use Rattle.irc_modes.specs.declared.modes.ModeLetter.TheVariants as letter
-use Rattle.irc_room.specs.declared.effect.By.TheVariants as by
-use Rattle.irc_room.specs.declared.effect.Effect.{Effect}
-use Rattle.irc_room.specs.declared.effect.Effect.TheVariants.{Join, ChangeModes, SetTopic, Invite}
+use Rattle.irc_room.specs.effect.By.TheVariants as by
+use Rattle.irc_room.specs.effect.Effect.{Effect}
+use Rattle.irc_room.specs.effect.Effect.TheVariants.{Join, ChangeModes, SetTopic, Invite}
 use Rattle.irc_room.specs.Examples.{set}
 use Rattle.irc_room.specs.Readers.{is_invited_at}
 use Rattle.irc_relay.specs.Links.{Link, links_without}

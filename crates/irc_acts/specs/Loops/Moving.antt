@@ -2,7 +2,7 @@
 use Rattle.std.specs.Prelude.{ℕ, ◌+◌, ◌-◌, false, ◌&&◌, Option, Some, None, List, if◌then◌else◌}
 use Rattle.irc_names.specs.Fold.{same}
 use Rattle.irc_channels.specs.declared.flags.Flags.{Flags}
-use Rattle.irc_room.specs.declared.effect.Effect.TheVariants.{Join, Part, Kick}
+use Rattle.irc_room.specs.effect.Effect.TheVariants.{Join, Part, Kick}
 use Rattle.irc_acts.specs.declared.act.Act.{Act}
 use Rattle.irc_acts.specs.declared.act.Act.TheVariants.{Do}
 

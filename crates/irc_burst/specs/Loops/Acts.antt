@@ -24,7 +24,7 @@ use Rattle.irc_names.specs.Fold.{key, same}
 use Rattle.irc_names.specs.Names.{is_nick}
 use Rattle.irc_room.specs.Effects.{is_member}
 use Rattle.irc_room.specs.Seen.{stored_nick}
-use Rattle.irc_room.specs.declared.effect.Effect.{Effect}
+use Rattle.irc_room.specs.effect.Effect.{Effect}
 use Rattle.irc_users.specs.declared.user.User.{User}
 use Rattle.irc_room.specs.Room.{Room}
 use Rattle.irc_burst.specs.DeedsMeant.{Told, a_deed, a_server, Judged, first_reason, later_server, server_line, squit_line, kill_line, killed, njoin_line, as_stored, collided, deeds_meant, effects_told, is_next_distance, member_of, members_of, renamed_or_killed}

@@ -4,8 +4,8 @@ use Rattle.std.specs.FinMap.{get, retain_keys}
 use Rattle.irc_line.specs.Messages.{Written}
 use Rattle.irc_batch.specs.Batches.{Sent}
 use Rattle.irc_room.specs.Effects.{has_user}
-use Rattle.irc_room.specs.declared.effect.Effect.{Effect}
-use Rattle.irc_room.specs.declared.effect.Effect.TheVariants.{Quit}
+use Rattle.irc_room.specs.effect.Effect.{Effect}
+use Rattle.irc_room.specs.effect.Effect.TheVariants.{Quit}
 use Rattle.irc_merge.specs.Deeds.{Deed, does, gains, loses, kills, brings, sets, tops, effects_of}
 use Rattle.irc_merge.specs.Quits.{collision_text}
 use Rattle.irc_links.specs.Ways.{but, met_links}

@@ -9,7 +9,7 @@ use Rattle.irc_line.specs.Messages.{Parsed}
 use Rattle.irc_users.specs.UserTable.{is_home}
 use Rattle.irc_batch.specs.Batches.{end_of_link}
 use Rattle.irc_batch.specs.declared.close_reason.CloseReason.TheVariants as reason
-use Rattle.irc_room.specs.declared.effect.Effect.{Effect}
+use Rattle.irc_room.specs.effect.Effect.{Effect}
 use Rattle.irc_room.specs.Room.{IsWellFormed}
 use Rattle.irc_routes.specs.Known.{added, place_of, without_link, without_server}
 use Rattle.irc_routes.specs.Place.{Place}

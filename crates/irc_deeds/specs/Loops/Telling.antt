@@ -6,9 +6,9 @@ use Rattle.irc_burst.specs.declared.acts.NewMember.{NewMember}
 use Rattle.irc_burst.specs.Loops.Acts.{member_told, members_told}
 use Rattle.irc_merge.specs.Deeds.{Deed, brings, flag_given, kills, loses, member_comes, sets, tops}
 use Rattle.irc_modes.specs.declared.modes.ModeLetter.{ModeLetter}
-use Rattle.irc_room.specs.declared.effect.By.TheVariants as by
-use Rattle.irc_room.specs.declared.effect.Effect.{Effect}
-use Rattle.irc_room.specs.declared.effect.Effect.TheVariants.{ChangeModes, Quit}
+use Rattle.irc_room.specs.effect.By.TheVariants as by
+use Rattle.irc_room.specs.effect.Effect.{Effect}
+use Rattle.irc_room.specs.effect.Effect.TheVariants.{ChangeModes, Quit}
 use Rattle.irc_stage.specs.declared.linked.Newcomer.{Newcomer}
 use Rattle.irc_stage.specs.declared.stage.Stage.{Stage}
 use Rattle.irc_stage.specs.EffectTold.{all_changed}

@@ -9,10 +9,10 @@ use Rattle.irc_names.specs.Names.{fits, is_channel, is_nick, is_server}
 use Rattle.irc_tables.specs.declared.table.Row.{Row as TableRow}
 use Rattle.irc_channels.specs.declared.flags.Flags.{Flags}
 use Rattle.irc_modes.specs.declared.modes.ModeChange.{ModeChange}
-use Rattle.irc_room.specs.declared.effect.By.{By}
-use Rattle.irc_room.specs.declared.effect.By.TheVariants as by
-use Rattle.irc_room.specs.declared.effect.Effect.{Effect}
-use Rattle.irc_room.specs.declared.effect.Effect.TheVariants.{ChangeModes, SetTopic}
+use Rattle.irc_room.specs.effect.By.{By}
+use Rattle.irc_room.specs.effect.By.TheVariants as by
+use Rattle.irc_room.specs.effect.Effect.{Effect}
+use Rattle.irc_room.specs.effect.Effect.TheVariants.{ChangeModes, SetTopic}
 use Rattle.irc_link_reader.specs.declared.arrival.Arrival.{Arrival}
 use Rattle.irc_link_reader.specs.declared.reading_users.Newcomer.{Newcomer}
 use Rattle.irc_link_reader.specs.declared.commands.Command.{Command}

@@ -9,7 +9,7 @@ use Rattle.irc_users.specs.declared.user.User.{User}
 use Rattle.irc_channels.specs.declared.channel.Channel.{Channel}
 use Rattle.irc_channels.specs.Channels.{is_invited}
 use Rattle.irc_numerics.specs.declared.replies.Reply.TheVariants.{NoSuchChannel, TooManyChannels, InviteOnlyChan, BannedFromChan, BadChannelKey, ChannelIsFull}
-use Rattle.irc_room.specs.declared.effect.Effect.TheVariants.{Join}
+use Rattle.irc_room.specs.effect.Effect.TheVariants.{Join}
 use Rattle.irc_room.specs.Room.{Room, IsWellFormed}
 use Rattle.irc_room.specs.Effects.{has_user, is_member}
 use Rattle.irc_room.specs.InTurn.{EachInTurn}

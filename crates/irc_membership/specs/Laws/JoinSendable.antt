@@ -4,7 +4,7 @@ use Rattle.irc_line.specs.Carried.{IsCarried}
 use Rattle.irc_users.specs.declared.user.User.{User}
 use Rattle.irc_channels.specs.declared.channel.Channel.{Channel}
 use Rattle.irc_channels.specs.Texts.{cut_words}
-use Rattle.irc_room.specs.declared.effect.Effect.TheVariants.{Part}
+use Rattle.irc_room.specs.effect.Effect.TheVariants.{Part}
 use Rattle.irc_room.specs.After.{after}
 use Rattle.irc_room.specs.Room.{Room}
 use Rattle.irc_acts.specs.declared.act.Act.{Act}

@@ -14,7 +14,7 @@ use Rattle.irc_users.specs.declared.user.User.{User}
 use Rattle.irc_channels.specs.declared.channel.Channel.{Channel}
 use Rattle.irc_channels.specs.Channels.{has_member, left}
 use Rattle.irc_channels.specs.Texts.{cut_words}
-use Rattle.irc_room.specs.declared.effect.Effect.TheVariants.{Part}
+use Rattle.irc_room.specs.effect.Effect.TheVariants.{Part}
 use Rattle.irc_room.specs.Room.{Room, IsWellFormed}
 use Rattle.irc_room.specs.After.{after}
 use Rattle.irc_room.specs.Lemmas.ViewerLaws.{both_true}

@@ -13,11 +13,11 @@ use Rattle.irc_tables.specs.Lemmas.OrderedEntries.{turned}
 use Rattle.irc_users.specs.declared.user.User.{User}
 use Rattle.irc_channels.specs.declared.channel.Channel.{Channel}
 use Rattle.irc_channels.specs.Channels.{without_user}
-use Rattle.irc_room.specs.declared.effect.Effect.TheVariants.{AddUser, Quit}
+use Rattle.irc_room.specs.effect.Effect.TheVariants.{AddUser, Quit}
 use Rattle.irc_room.specs.Room.{Room, IsWellFormed}
 use Rattle.irc_room.specs.After.{after}
 use Rattle.irc_room.specs.InTurn.{after_all}
-use Rattle.irc_room.specs.Loops.Viewing.{users_under}
+use Rattle.irc_room.specs.Found.{users_under}
 use Rattle.irc_room.specs.Lemmas.FoundInTurn.{table_chooses}
 use Rattle.irc_room.specs.Lemmas.ViewerLaws.{IsNamed, table_named}
 use Rattle.irc_room.specs.Lemmas.WellFormedLaw.{after_is_well_formed}

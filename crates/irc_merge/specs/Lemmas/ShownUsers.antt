@@ -12,11 +12,11 @@ use Rattle.irc_names.specs.TableLaws.{same_fold, one_fold, row-alter}
 use Rattle.irc_users.specs.declared.user.User.{User}
 use Rattle.irc_channels.specs.declared.channel.Channel.{Channel}
 use Rattle.irc_channels.specs.Channels.{has_member, without_user}
-use Rattle.irc_room.specs.declared.effect.Effect.TheVariants.{AddUser, Quit}
+use Rattle.irc_room.specs.effect.Effect.TheVariants.{AddUser, Quit}
 use Rattle.irc_room.specs.Room.{Room, IsWellFormed}
 use Rattle.irc_room.specs.After.{after}
 use Rattle.irc_room.specs.Seen.{full_sender, line_from}
-use Rattle.irc_room.specs.Loops.Viewing.{users_under}
+use Rattle.irc_room.specs.Found.{users_under}
 use Rattle.irc_room.specs.Lemmas.Rows.{not_true}
 use Rattle.irc_room.specs.Lemmas.ViewerLaws.{IsNamed, table_named}
 use Rattle.irc_room.specs.Viewers.{shows_to, line_for}

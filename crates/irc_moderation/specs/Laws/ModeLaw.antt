@@ -9,9 +9,9 @@ use Rattle.irc_channels.specs.Channels.{all_changed}
 use Rattle.irc_modes.specs.Modes.{is_nil}
 use Rattle.irc_mode_words.specs.ModeWords.{Asked, change, list, no_word, unknown, modes_read}
 use Rattle.irc_numerics.specs.declared.replies.Reply.TheVariants.{UsersDontMatch, UModeUnknownFlag, EndOfBanList}
-use Rattle.irc_room.specs.declared.effect.By.TheVariants as by
-use Rattle.irc_room.specs.declared.effect.Effect.{Effect}
-use Rattle.irc_room.specs.declared.effect.Effect.TheVariants.{ChangeModes, UserMode}
+use Rattle.irc_room.specs.effect.By.TheVariants as by
+use Rattle.irc_room.specs.effect.Effect.{Effect}
+use Rattle.irc_room.specs.effect.Effect.TheVariants.{ChangeModes, UserMode}
 use Rattle.irc_room.specs.Room.{Room}
 use Rattle.irc_room.specs.InTurn.{EachInTurn}
 use Rattle.irc_acts.specs.declared.act.Act.{Act}

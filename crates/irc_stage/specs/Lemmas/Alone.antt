@@ -14,8 +14,8 @@ use Rattle.irc_links.specs.Ends.{End, Ends, is_met}
 use Rattle.irc_links.specs.Lemmas.Listed.{listed}
 use Rattle.irc_links.specs.Ways.{but, met_links, told_homes, ways_toward}
 use Rattle.irc_numerics.specs.Replies.{reply_text}
-use Rattle.irc_room.specs.declared.effect.Effect.{Effect}
-use Rattle.irc_room.specs.declared.effect.Effect.TheVariants.{AddUser, Rename, Quit, Join, Part, Kick, ChangeModes, SetTopic, Say, Invite, UserMode}
+use Rattle.irc_room.specs.effect.Effect.{Effect}
+use Rattle.irc_room.specs.effect.Effect.TheVariants.{AddUser, Rename, Quit, Join, Part, Kick, ChangeModes, SetTopic, Say, Invite, UserMode}
 use Rattle.irc_room.specs.After.{after}
 use Rattle.irc_room.specs.Readers.{home_under}
 use Rattle.irc_room.specs.Seen.{seen}

@@ -8,7 +8,7 @@ use Rattle.irc_names.specs.Fold.{key}
 use Rattle.irc_names.specs.Tables.{row}
 use Rattle.irc_users.specs.declared.user.User.{User}
 use Rattle.irc_users.specs.UserTable.{is_home}
-use Rattle.irc_room.specs.declared.effect.Effect.TheVariants.{AddUser, Quit}
+use Rattle.irc_room.specs.effect.Effect.TheVariants.{AddUser, Quit}
 use Rattle.irc_room.specs.Room.{Room, IsWellFormed}
 use Rattle.irc_room.specs.Effects.{IsPossible}
 use Rattle.irc_room.specs.Lemmas.Rows.{same_some}

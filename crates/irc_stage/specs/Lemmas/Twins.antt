@@ -10,8 +10,8 @@ use Rattle.irc_names.specs.TableLaws.{same_fold, one_fold, row-alter}
 use Rattle.irc_channels.specs.declared.channel.Channel.{Channel}
 use Rattle.irc_channels.specs.Channels.{invited_too}
 use Rattle.irc_users.specs.declared.user.User.{User}
-use Rattle.irc_room.specs.declared.effect.Effect.{Effect}
-use Rattle.irc_room.specs.declared.effect.Effect.TheVariants.{AddUser, Rename, Quit, Join, Part, Kick, ChangeModes, SetTopic, Say, Invite, UserMode}
+use Rattle.irc_room.specs.effect.Effect.{Effect}
+use Rattle.irc_room.specs.effect.Effect.TheVariants.{AddUser, Rename, Quit, Join, Part, Kick, ChangeModes, SetTopic, Say, Invite, UserMode}
 use Rattle.irc_room.specs.After.{after}
 use Rattle.irc_room.specs.InTurn.{IsSoFirst}
 use Rattle.irc_room.specs.OtherInvitations.{uninviting, AlikeStayAlike, AlikeTakeAlike, AreAlike}

@@ -3,9 +3,9 @@ use Rattle.std.specs.Prelude.{◌≡◌, ℕ, Bool, false, Option, Some, None, L
 use Rattle.std.specs.List.{flat_map}
 use Rattle.irc_names.specs.Fold.{key, same}
 use Rattle.irc_names.specs.Tables.{Table, row}
-use Rattle.irc_room.specs.declared.effect.Effect.{Effect}
-use Rattle.irc_room.specs.declared.effect.Effect.TheVariants.{Say}
-use Rattle.irc_room.specs.declared.effect.Target.TheVariants.{Channel, User}
+use Rattle.irc_room.specs.effect.Effect.{Effect}
+use Rattle.irc_room.specs.effect.Effect.TheVariants.{Say}
+use Rattle.irc_room.specs.effect.Target.TheVariants.{Channel, User}
 use Rattle.irc_room.specs.Room.{Room}
 use Rattle.irc_room.specs.Readers.{nicks_in}
 use Rattle.irc_stage.specs.declared.listeners.Listeners.{Listeners}

@@ -1,8 +1,8 @@
 -- Whose words are said: a client's by its own user, a link's by a user who is no client here.
 use Rattle.std.specs.Prelude.{ℕ, ⊤, Option, Some, None, List}
 use Rattle.irc_names.specs.Fold.{key}
-use Rattle.irc_room.specs.declared.effect.Effect.{Effect}
-use Rattle.irc_room.specs.declared.effect.Effect.TheVariants.{Say}
+use Rattle.irc_room.specs.effect.Effect.{Effect}
+use Rattle.irc_room.specs.effect.Effect.TheVariants.{Say}
 use Rattle.irc_acts.specs.declared.act.Act.{Act}
 use Rattle.irc_stage.specs.declared.origin.Origin.{Origin}
 use Rattle.irc_stage.specs.declared.origin.Origin.TheVariants.{Client, Link}

@@ -1,6 +1,6 @@
 use Rattle.std.proofs.Common.{false, ◌∙◌, ap}
 use Rattle.irc_burst.specs.Loops.Acts.{member_told}
-use Rattle.irc_room.specs.declared.effect.Effect.TheVariants.{Join}
+use Rattle.irc_room.specs.effect.Effect.TheVariants.{Join}
 use Rattle.irc_stage.specs.EffectTold.{changed_if}
 use Rattle.irc_stage.specs.Lemmas.Outcomes.{on_ok}
 use Rattle.irc_stage.specs.Loops.Stage.{served_at}

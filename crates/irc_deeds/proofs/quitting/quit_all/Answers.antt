@@ -4,7 +4,7 @@ use Rattle.std.proofs.lemmas.Simd.{map-map}
 use Rattle.irc_users.specs.declared.user.User.{User}
 use Rattle.irc_merge.specs.Quits.{users_at}
 use Rattle.irc_room.specs.Room.{Room}
-use Rattle.irc_room.specs.declared.effect.Effect.TheVariants.{Quit}
+use Rattle.irc_room.specs.effect.Effect.TheVariants.{Quit}
 use Rattle.irc_stage.specs.EffectTold.{Served, all_changed}
 use Rattle.irc_stage.specs.Loops.Stage.{served_at}
 use Rattle.irc_deeds.specs.Loops.Telling.{quits_by_nick}

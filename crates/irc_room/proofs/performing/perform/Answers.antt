@@ -1,8 +1,8 @@
 use Rattle.std.proofs.Common.{◌∙◌, ap, map, sym}
-use Rattle.irc_room.specs.Room.{Room}
-use Rattle.irc_room.proofs.IdleLaw.{idle_changes_nothing}
-use Rattle.irc_room.specs.Lemmas.Rows.{not_true}
-use Rattle.irc_room.proofs.ToldLaw.{idle_tells_nothing}
+use Rattle.irc_effects.specs.Room.{Room}
+use Rattle.irc_effects.specs.Lemmas.IdleLaw.{idle_changes_nothing}
+use Rattle.irc_effects.specs.Lemmas.Rows.{not_true}
+use Rattle.irc_shown.proofs.ToldLaw.{idle_tells_nothing}
 use Rattle.irc_room.proofs.performing.perform.Goals as goal
 
 pub returns-then-is_idle-clause-changed : goal.returns-then-is_idle-clause-changed

@@ -1,5 +1,5 @@
 use Rattle.std.proofs.Common.{None, ap, ◌∙◌, sym, subst}
-use Rattle.irc_room.specs.declared.effect.Effect.TheVariants.{Quit}
+use Rattle.irc_room.specs.effect.Effect.TheVariants.{Quit}
 use Rattle.irc_stage.specs.ClientTold.{quit_told, unseated}
 use Rattle.irc_stage.specs.EffectTold.{effect_told, in_silence}
 use Rattle.irc_stage.specs.Handle.{lost_text}

@@ -2,7 +2,7 @@ use Rattle.std.proofs.Common.{◌≡◌, true, is_some, sym, ◌∙◌, ap}
 use Rattle.irc_names.specs.Fold.{key}
 use Rattle.irc_names.specs.Tables.{row}
 use Rattle.irc_room.specs.Effects.{has_user}
-use Rattle.irc_room.specs.declared.effect.Effect.TheVariants.{Quit}
+use Rattle.irc_room.specs.effect.Effect.TheVariants.{Quit}
 use Rattle.irc_stage.specs.Lemmas.Counting.{quit_possible}
 use Rattle.irc_stage.specs.Lemmas.Matching.{fit_by}
 use Rattle.irc_stage.specs.Loops.Stage.{machine_at}

@@ -1,0 +1,5 @@
+use Rattle.irc_effects.specs.Lemmas.AlikeLaw.{alike_have_alike}
+use Rattle.irc_effects.proofs.invitation_laws.alike_have_alike.Goals as goal
+
+pub returns : goal.returns
+returns c = alike_have_alike

@@ -1,0 +1,23 @@
+-- Lemmas, with their proofs, that the crates above cite too. No rule stands here.
+pub mod AlikeLaw
+pub mod AllSeen
+pub mod BlindToInvitations
+pub mod ExampleRooms
+pub mod FoundInTurn
+pub mod HomeLaw
+pub mod HomeRooms
+pub mod IdleLaw
+pub mod InvitationsMoved
+pub mod InvitingOnly
+pub mod LimitsKept
+pub mod Listed
+pub mod ListedRooms
+pub mod ListedSeen
+pub mod ModesKept
+pub mod ModesWithin
+pub mod OneViewer
+pub mod Rows
+pub mod SendingAlike
+pub mod SoundRows
+pub mod ViewerLaws
+pub mod WellFormedLaw

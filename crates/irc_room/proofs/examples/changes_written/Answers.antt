@@ -1,5 +1,0 @@
-use Rattle.irc_room.proofs.ExamplesProved.{changes_written}
-use Rattle.irc_room.proofs.examples.changes_written.Goals as goal
-
-pub returns : goal.returns
-returns c = changes_written

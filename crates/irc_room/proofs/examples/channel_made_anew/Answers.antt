@@ -1,5 +1,0 @@
-use Rattle.irc_room.proofs.ExamplesProved.{channel_made_anew}
-use Rattle.irc_room.proofs.examples.channel_made_anew.Goals as goal
-
-pub returns : goal.returns
-returns c = channel_made_anew

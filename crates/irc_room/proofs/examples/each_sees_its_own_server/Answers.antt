@@ -1,5 +1,0 @@
-use Rattle.irc_room.proofs.ExamplesProved.{each_sees_its_own_server}
-use Rattle.irc_room.proofs.examples.each_sees_its_own_server.Goals as goal
-
-pub returns : goal.returns
-returns c = each_sees_its_own_server

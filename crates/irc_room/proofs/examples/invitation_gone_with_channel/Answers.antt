@@ -1,5 +1,0 @@
-use Rattle.irc_room.proofs.ExamplesProved.{invitation_gone_with_channel}
-use Rattle.irc_room.proofs.examples.invitation_gone_with_channel.Goals as goal
-
-pub returns : goal.returns
-returns c = invitation_gone_with_channel

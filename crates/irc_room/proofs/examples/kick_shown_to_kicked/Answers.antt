@@ -1,5 +1,0 @@
-use Rattle.irc_room.proofs.ExamplesProved.{kick_shown_to_kicked}
-use Rattle.irc_room.proofs.examples.kick_shown_to_kicked.Goals as goal
-
-pub returns : goal.returns
-returns c = kick_shown_to_kicked

@@ -1,5 +1,0 @@
-use Rattle.irc_room.proofs.ExamplesProved.{own_spelling_is_free}
-use Rattle.irc_room.proofs.examples.own_spelling_is_free.Goals as goal
-
-pub returns : goal.returns
-returns c = own_spelling_is_free

@@ -1,5 +1,0 @@
-use Rattle.irc_room.proofs.ExamplesProved.{rename_carries_membership}
-use Rattle.irc_room.proofs.examples.rename_carries_membership.Goals as goal
-
-pub returns : goal.returns
-returns c = rename_carries_membership

@@ -1,5 +1,0 @@
-use Rattle.irc_room.proofs.ExamplesProved.{rename_shown_once}
-use Rattle.irc_room.proofs.examples.rename_shown_once.Goals as goal
-
-pub returns : goal.returns
-returns c = rename_shown_once

@@ -1,5 +1,0 @@
-use Rattle.irc_room.proofs.ExamplesProved.{second_member_is_no_operator}
-use Rattle.irc_room.proofs.examples.second_member_is_no_operator.Goals as goal
-
-pub returns : goal.returns
-returns c = second_member_is_no_operator

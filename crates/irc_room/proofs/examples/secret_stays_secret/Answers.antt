@@ -1,5 +1,0 @@
-use Rattle.irc_room.proofs.ExamplesProved.{secret_stays_secret}
-use Rattle.irc_room.proofs.examples.secret_stays_secret.Goals as goal
-
-pub returns : goal.returns
-returns c = secret_stays_secret

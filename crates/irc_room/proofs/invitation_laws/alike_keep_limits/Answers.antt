@@ -1,5 +1,0 @@
-use Rattle.irc_room.proofs.SendingAlike.{alike_keep_limits}
-use Rattle.irc_room.proofs.invitation_laws.alike_keep_limits.Goals as goal
-
-pub returns : goal.returns
-returns c = alike_keep_limits

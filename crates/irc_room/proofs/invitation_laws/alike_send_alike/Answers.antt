@@ -1,5 +1,0 @@
-use Rattle.irc_room.proofs.SendingAlike.{alike_send_alike}
-use Rattle.irc_room.proofs.invitation_laws.alike_send_alike.Goals as goal
-
-pub returns : goal.returns
-returns c = alike_send_alike

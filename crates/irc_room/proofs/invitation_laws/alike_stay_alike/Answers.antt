@@ -1,5 +1,0 @@
-use Rattle.irc_room.proofs.AlikeLaw.{alike_stay_alike}
-use Rattle.irc_room.proofs.invitation_laws.alike_stay_alike.Goals as goal
-
-pub returns : goal.returns
-returns c = alike_stay_alike

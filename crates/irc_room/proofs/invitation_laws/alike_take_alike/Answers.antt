@@ -1,5 +1,0 @@
-use Rattle.irc_room.proofs.AlikeLaw.{alike_take_alike}
-use Rattle.irc_room.proofs.invitation_laws.alike_take_alike.Goals as goal
-
-pub returns : goal.returns
-returns c = alike_take_alike

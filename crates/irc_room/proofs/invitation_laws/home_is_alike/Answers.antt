@@ -1,5 +1,0 @@
-use Rattle.irc_room.proofs.AlikeLaw.{home_is_alike}
-use Rattle.irc_room.proofs.invitation_laws.home_is_alike.Goals as goal
-
-pub returns : goal.returns
-returns c = home_is_alike

@@ -1,5 +1,0 @@
-use Rattle.irc_room.proofs.HomeRooms.{home_is_well_formed}
-use Rattle.irc_room.proofs.invitation_laws.home_is_well_formed.Goals as goal
-
-pub returns : goal.returns
-returns c = home_is_well_formed

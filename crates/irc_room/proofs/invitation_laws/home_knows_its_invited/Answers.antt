@@ -1,5 +1,0 @@
-use Rattle.irc_room.proofs.SendingAlike.{home_knows_its_invited}
-use Rattle.irc_room.proofs.invitation_laws.home_knows_its_invited.Goals as goal
-
-pub returns : goal.returns
-returns c = home_knows_its_invited

@@ -1,5 +1,0 @@
-use Rattle.irc_room.proofs.HomeRooms.{home_of_home}
-use Rattle.irc_room.proofs.invitation_laws.home_of_home.Goals as goal
-
-pub returns : goal.returns
-returns c = home_of_home

@@ -1,8 +1,0 @@
-use Rattle.irc_room.proofs.LimitsKept.{after_is_within_limits, sent_keeps_limits}
-use Rattle.irc_room.proofs.laws.after_is_within_limits.Goals as goal
-
-pub returns-clause-all : goal.returns-clause-all
-returns-clause-all c = after_is_within_limits
-
-pub returns-clause-sent : goal.returns-clause-sent
-returns-clause-sent c = sent_keeps_limits

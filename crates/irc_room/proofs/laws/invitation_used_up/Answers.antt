@@ -1,5 +1,0 @@
-use Rattle.irc_room.proofs.EndsAndStarts.{invitation_used_up}
-use Rattle.irc_room.proofs.laws.invitation_used_up.Goals as goal
-
-pub returns : goal.returns
-returns c = invitation_used_up

@@ -1,5 +1,0 @@
-use Rattle.irc_room.proofs.LimitsKept.{no_room_is_within_limits}
-use Rattle.irc_room.proofs.laws.no_room_is_within_limits.Goals as goal
-
-pub returns : goal.returns
-returns c = no_room_is_within_limits

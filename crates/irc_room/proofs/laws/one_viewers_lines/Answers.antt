@@ -1,5 +1,0 @@
-use Rattle.irc_room.proofs.OneViewer.{one_viewers_lines}
-use Rattle.irc_room.proofs.laws.one_viewers_lines.Goals as goal
-
-pub returns : goal.returns
-returns c = one_viewers_lines

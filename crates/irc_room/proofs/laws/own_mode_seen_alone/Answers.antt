@@ -1,5 +1,0 @@
-use Rattle.irc_room.proofs.SeenAlone.{own_mode_seen_alone}
-use Rattle.irc_room.proofs.laws.own_mode_seen_alone.Goals as goal
-
-pub returns : goal.returns
-returns c = own_mode_seen_alone

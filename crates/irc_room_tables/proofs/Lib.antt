@@ -1,0 +1,5 @@
+pub mod IndexChanges
+pub mod Keeping
+pub mod KeptWell
+pub mod Memberships
+pub mod OwnNames

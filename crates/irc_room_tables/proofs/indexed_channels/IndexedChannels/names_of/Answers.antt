@@ -1,0 +1,11 @@
+use Rattle.std.proofs.Common.{◌∙◌, ap}
+use Rattle.irc_names.specs.Fold.{key}
+use Rattle.irc_room_tables.specs.Indexes.{own_names}
+use Rattle.irc_room_tables.proofs.OwnNames.{names_told}
+use Rattle.irc_room_tables.proofs.indexed_channels.IndexedChannels.names_of.Goals as goal
+
+pub returns : goal.returns
+returns c =
+    c.names.ensures
+    ∙ names_told (key c.args.nick.now) c.self.inside.rows c.self.inside.joined.rows c.self.invariant
+    ∙ ap (own_names (key c.args.nick.now)) c.self.view_is

@@ -1,0 +1,103 @@
+//! The tables of a room after an effect.
+ghost use Rattle.std.specs.Prelude.{◌≡◌, Some, None, OnOk, OnErr};
+ghost use Rattle.irc_names.specs.Fold.{key};
+ghost use Rattle.irc_names.specs.Tables.{row, alter, moved};
+ghost use Rattle.irc_users.specs.UserTable.{rename_fault, with_nick};
+ghost use Rattle.irc_effects.specs.After.{after};
+ghost use Rattle.irc_effects.specs.Effects.{IsPossible};
+ghost use Rattle.irc_room_tables.specs.Codes.{room_of};
+ghost use Rattle.irc_effects.specs.Room.{IsWellFormed};
+
+use irc_effects::Effect;
+use crate::indexed_channels::IndexedChannels;
+use crate::tables::Tables;
+use irc_names::Nick;
+use irc_users::{User, Users, UsersFault};
+use std::alloc::{AllocError, Global};
+
+impl Tables {
+    /// Makes an effect's change of users and channels.
+    ///
+    /// # Errors
+    /// Where memory runs out; nothing has changed then.
+    pub fn change(&mut self, effect: &Effect) -> Result<(), AllocError>
+        requires { IsPossible self.old effect.now }
+        ensures changed { OnOk result (self.new ≡ after self.old effect.now) }
+        ensures refused { OnErr result (self.new ≡ self.old) }
+    {
+        change(&mut self.users, &mut self.channels, effect)
+    }
+}
+
+/// Makes an effect's change of users and channels.
+///
+/// # Errors
+/// Where memory runs out; nothing has changed then.
+#[tactic(auto, unfolding(irc_effects::specs::After::after))]
+fn change(
+    users: &mut Users,
+    channels: &mut IndexedChannels,
+    effect: &Effect,
+) -> Result<(), AllocError>
+    requires well { IsWellFormed (room_of users.old channels.old) }
+    requires possible { IsPossible (room_of users.old channels.old) effect.now }
+    ensures ok { OnOk result (room_of users.new channels.new ≡ after (room_of users.old channels.old) effect.now) }
+    ensures refused { OnErr result ((users.new ≡ users.old) × (channels.new ≡ channels.old)) }
+{
+    match effect {
+        Effect::AddUser(user) => add(users, user),
+        Effect::Rename { nick, new } => {
+            rename(users, nick, new);
+            channels.rename_member(nick, new);
+            Ok(())
+        }
+        Effect::Quit { nick, .. } => {
+            users.remove(nick);
+            channels.remove_user(nick);
+            Ok(())
+        }
+        Effect::Join { nick, channel, op } => channels.join(nick, channel, *op),
+        Effect::Part { nick, channel, .. } | Effect::Kick { nick, channel, .. } => {
+            channels.leave(nick, channel);
+            Ok(())
+        }
+        Effect::ChangeModes {
+            channel,
+            changes,
+            ..
+        } => channels.change_modes(channel, changes),
+        Effect::SetTopic { channel, text, .. } => {
+            channels.set_topic(channel, text);
+            Ok(())
+        }
+        Effect::Say { .. } => Ok(()),
+        Effect::Invite { nick, channel, .. } => channels.invite(nick, channel),
+        Effect::UserMode { nick, invisible } => {
+            users.set_invisible(nick, *invisible);
+            Ok(())
+        }
+    }
+}
+
+/// Adds a user whose nickname is free.
+fn add(users: &mut Users, user: &User) -> Result<(), AllocError>
+    requires { row users.old (key user.now.nick) ≡ None }
+    ensures ok { OnOk result (users.new ≡ alter (key user.now.nick) (λ _. Some user.now) users.old) }
+    ensures refused { OnErr result (users.new ≡ users.old) }
+{
+    match users.add(user.copy()) {
+        Ok(()) => Ok(()),
+        Err(UsersFault::Taken) => unreachable!(),
+        Err(UsersFault::Memory) => Err(AllocError),
+    }
+}
+
+/// Gives a user that is there another nickname, which no other user has.
+fn rename(users: &mut Users, nick: &Nick, new: &Nick)
+    requires { rename_fault users.old nick.now new.now ≡ None }
+    ensures { users.new ≡ moved (key nick.now) (key new.now) (with_nick new.now) users.old }
+{
+    if users.rename(nick, new).is_err() {
+        unreachable!();
+    }
+}

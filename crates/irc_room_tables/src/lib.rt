@@ -1,0 +1,13 @@
+//! The tables of a room: its users, its channels with each user's own, and what an effect makes of them.
+#![tactic(auto)]
+
+mod changing;
+mod idle;
+mod indexed_channels;
+mod name_index;
+mod own_channels;
+mod tables;
+
+pub use idle::is_idle;
+pub use indexed_channels::IndexedChannels;
+pub use tables::Tables;

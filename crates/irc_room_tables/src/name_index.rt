@@ -1,0 +1,134 @@
+//! Names of channels by nickname.
+ghost use Rattle.std.specs.Prelude.{◌≡◌, Some, None, OnOk, OnErr, is_some, map};
+ghost use Rattle.std.specs.FinMap.{empty};
+ghost use Rattle.irc_names.specs.Fold.{key};
+ghost use Rattle.irc_names.specs.Tables.{row, alter, moved};
+ghost use Rattle.irc_tables.specs.RowViews.{row_entry};
+ghost use Rattle.irc_room_tables.specs.Indexes.{names_in, IsAlike, IsOpened, Adds, Drops};
+
+use irc_names::{ChannelName, Nick};
+use irc_tables::{NameTable, Row, RowAttempt, RowChange};
+use std::alloc::{AllocError, Global};
+
+/// Names of channels by nickname.
+#[derive(Drop)]
+pub(crate) struct NameIndex {
+    /// The names by each nickname.
+    pub rows: NameTable<NameTable<()>>,
+    alloc: Global,
+}
+
+impl NameIndex {
+    /// No names.
+    pub fn new(alloc: Global) -> Self
+        ensures { result.rows ≡ empty }
+    {
+        NameIndex {
+            rows: NameTable::new(alloc),
+            alloc,
+        }
+    }
+
+    /// The names by a nickname, in folded order.
+    pub fn names(&self, nick: &[u8]) -> &[Row<()>]
+        ensures { map row_entry result.now ≡ names_in (row self.now.rows (key nick.now)) }
+    {
+        match self.rows.get(nick) {
+            Some(names) => names.as_slice(),
+            None => &[],
+        }
+    }
+
+    /// The names by a nickname, in folded order. They are looked for near a place first, as [`NameTable::get_near`] has it.
+    pub fn names_near(&self, near: &mut usize, nick: &[u8]) -> &[Row<()>]
+        ensures { map row_entry result.now ≡ names_in (row self.now.rows (key nick.now)) }
+    {
+        match self.rows.get_near(near, nick) {
+            Some(names) => names.as_slice(),
+            None => &[],
+        }
+    }
+
+    /// Puts a name by a nickname; where it stands there already nothing changes.
+    ///
+    /// # Errors
+    /// Where memory runs out; the names are the same then.
+    pub fn add(&mut self, nick: &Nick, name: &ChannelName) -> Result<(), AllocError>
+        ensures ok { OnOk result (Adds self.old.rows self.new.rows (key nick.now) (key name.now)) }
+        ensures refused { OnErr result (IsAlike self.old.rows self.new.rows) }
+    {
+        open(&mut self.rows, self.alloc, nick)?;
+        self.rows.try_at(nick.as_bytes(), &Adding { name })
+    }
+
+    /// Takes a name by a nickname out; where it does not stand there nothing changes. It takes no memory.
+    pub fn remove(&mut self, nick: &[u8], name: &ChannelName)
+        ensures { Drops self.old.rows self.new.rows (key nick.now) (key name.now) }
+    {
+        self.rows.change_at(nick, &Removing { name });
+    }
+
+    /// Takes all names by a nickname out. It takes no memory.
+    pub fn forget(&mut self, nick: &Nick)
+        ensures { self.new.rows ≡ alter (key nick.now) (λ _. None) self.old.rows }
+    {
+        self.rows.remove(nick.as_bytes());
+    }
+
+    /// Puts the names by a nickname by another. It takes no memory.
+    pub fn rename(&mut self, nick: &Nick, new: &Nick)
+        ensures { self.new.rows ≡ moved (key nick.now) (key new.now) (λ names. names) self.old.rows }
+    {
+        self.rows.rename(nick.as_bytes(), new.as_bytes());
+    }
+}
+
+/// Gives a nickname a row, where it has none.
+fn open(rows: &mut NameTable<NameTable<()>>, alloc: Global, nick: &Nick) -> Result<(), AllocError>
+    ensures ok { OnOk result (IsOpened rows.old rows.new (key nick.now)) }
+    ensures refused { OnErr result (rows.new ≡ rows.old) }
+{
+    if has_row(rows, nick) {
+        return Ok(());
+    }
+    let names = NameTable::with_room(alloc, 1)?;
+    rows.insert(nick.as_bytes(), names)
+}
+
+/// Whether a nickname has a row.
+fn has_row(rows: &NameTable<NameTable<()>>, nick: &Nick) -> bool
+    ensures { result ≡ is_some (row rows.now (key nick.now)) }
+{
+    rows.get(nick.as_bytes()).is_some()
+}
+
+/// A name is put in.
+#[derive(Drop)]
+struct Adding<'a> {
+    name: &'a ChannelName,
+}
+
+impl<'a> RowAttempt<NameTable<()>> for Adding<'a> {
+    ghost tried = { λ adding names. alter (key adding.name.now) (λ _. Some tt) names };
+
+    ghost surely = { λ adding names. is_some (row names (key adding.name.now)) };
+
+    fn attempt(&self, names: &mut NameTable<()>) -> Result<(), AllocError> {
+        names.insert(self.name.as_bytes(), ())
+    }
+}
+
+/// A name is taken out.
+#[derive(Drop)]
+struct Removing<'a> {
+    name: &'a ChannelName,
+}
+
+impl<'a> RowChange<NameTable<()>> for Removing<'a> {
+    ghost changed = { λ removing names. Some (alter (key removing.name.now) (λ _. None) names) };
+
+    fn change(&self, names: &mut NameTable<()>) -> bool {
+        names.remove(self.name.as_bytes());
+        true
+    }
+}

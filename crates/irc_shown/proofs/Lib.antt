@@ -1,0 +1,5 @@
+pub mod AudienceLaw
+pub mod ModeLine
+pub mod RowValues
+pub mod ToldLaw
+pub mod WhoSees
