@@ -9,5 +9,6 @@ mod words;
 
 pub use ending::{end_with, stop_with};
 pub use fault::{MAX_BAD_SCRIPT, Stop};
+pub use irc_script::{SimFault, run_sim};
 pub use ready::say_ready;
 pub use words::{Task, words_given};

@@ -18,7 +18,7 @@ use Rattle.irc_items.specs.Relayed.{way_at}
 use Rattle.irc_items.specs.SetUp.{setting_now, settings_of, view_at, HasPassword, IsConfigured, IsSetUp}
 use Rattle.irc_items.proofs.AtRest.{beyond, nothing_received}
 use Rattle.irc_items.proofs.SentOut.{all_sent, IsSentOut}
-use Rattle.irc_items.proofs.SetUpFacts.{there}
+use Rattle.irc_items.specs.Lemmas.SetUpFacts.{there}
 use Rattle.irc_items.proofs.SiteChanged.{changed_twice, set_up_after, site_set, site_there, IsAlikeSite, IsSetUpAfter, IsSiteChanged}
 
 -- t answered: what it put out waits behind the others on its ways, and is received behind all else

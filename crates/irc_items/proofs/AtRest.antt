@@ -24,7 +24,7 @@ use Rattle.irc_items.specs.Relayed.{fixed_of, relayed}
 use Rattle.irc_items.specs.SetUp.{routes_in, settings_of, view_at}
 use Rattle.irc_items.specs.Sound.{IsSound, owed_now, world_now}
 use Rattle.irc_items.proofs.Rest.{AreRestLaws, nothing_under_way}
-use Rattle.irc_items.proofs.SetUpFacts.{fixed, listed, servers_named}
+use Rattle.irc_items.specs.Lemmas.SetUpFacts.{fixed, listed, servers_named}
 
 -- ---- what a client has received
 

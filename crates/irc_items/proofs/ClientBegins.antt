@@ -48,7 +48,7 @@ use Rattle.irc_items.proofs.GoodLines.{good_terms, well_follow}
 use Rattle.irc_items.proofs.HomeFits.{DoesAsMachine}
 use Rattle.irc_items.proofs.OtherServers.{comes_to_world, deeds_at, elsewhere_stays, shows_its_clients, IsKnownOfEvents}
 use Rattle.irc_items.proofs.Rest.{nothing_owed, quiet_ways}
-use Rattle.irc_items.proofs.SetUpFacts.{viewed_nowhere}
+use Rattle.irc_items.specs.Lemmas.SetUpFacts.{viewed_nowhere}
 use Rattle.irc_items.proofs.SourceFacts.{IsFartherFrom, IsNextTo, at_no_depth, farther, next_to, source_of_farther}
 
 -- what is put out on links tells whoever is linked to the client's server of its effects, and goes well in the world that they make

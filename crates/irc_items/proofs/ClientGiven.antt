@@ -23,7 +23,7 @@ use Rattle.irc_items.specs.Relayed.{way_at}
 use Rattle.irc_items.specs.SetUp.{settings_of, view_at, IsSetUp}
 use Rattle.irc_items.specs.Sound.{IsSound, world_now}
 use Rattle.irc_items.proofs.Asked.{asked_there, IsAskedAt}
-use Rattle.irc_items.proofs.SetUpFacts.{placed_if, there, viewed, viewed_nowhere}
+use Rattle.irc_items.specs.Lemmas.SetUpFacts.{placed_if, there, viewed, viewed_nowhere}
 
 -- what a server does by something of a client
 abbrev pub done_at : Network → Name → Happening → Served

@@ -37,7 +37,7 @@ use Rattle.irc_items.proofs.ClientSide.{ends, fits_here, fixed_here, home_fixed,
 use Rattle.irc_items.proofs.ClientSound.{client_sound}
 use Rattle.irc_items.proofs.Due.{IsDueAtHome}
 use Rattle.irc_items.proofs.HomeFits.{does_as_machine, AreHomeLaws}
-use Rattle.irc_items.proofs.SetUpFacts.{listed, servers_named}
+use Rattle.irc_items.specs.Lemmas.SetUpFacts.{listed, servers_named}
 
 -- a client's server tells its neighbours of the effects
 abbrev pub TellsByHome : Type 0

@@ -31,7 +31,7 @@ use Rattle.irc_items.specs.SetUp.{routes_in, settings_of, view_at}
 use Rattle.irc_items.specs.Sound.{world_now, IsSound}
 use Rattle.irc_items.proofs.ClientGiven.{IsServedFor}
 use Rattle.irc_items.proofs.Due.{IsDueAtHome}
-use Rattle.irc_items.proofs.SetUpFacts.{fixed}
+use Rattle.irc_items.specs.Lemmas.SetUpFacts.{fixed}
 use Rattle.irc_items.proofs.SourceFacts.{IsFartherFrom, farther}
 
 none_either : {A : Type 0} (a b : Bool) → cond {A = Option A} a None None ≡ cond {A = Option A} b None None

@@ -10,7 +10,7 @@ use Rattle.irc_follow.specs.Tree.{index_in}
 use Rattle.irc_network.specs.Network.{Network, Site, site_changed_at, with_site, without_way}
 use Rattle.irc_items.specs.Relayed.{way_at}
 use Rattle.irc_items.specs.SetUp.{settings_of, view_at, IsSetUp}
-use Rattle.irc_items.proofs.SetUpFacts.{there, IsThere}
+use Rattle.irc_items.specs.Lemmas.SetUpFacts.{there, IsThere}
 use Rattle.irc_items.proofs.SiteChanged.{same_server, set_up_after, site_set, site_there, IsSetUpAfter, IsSiteChanged}
 
 abbrev pub closed_at : Network → Name → ℕ → Site → Network

@@ -42,7 +42,7 @@ use Rattle.irc_items.proofs.CutSides.{cut_side, deeds_of_cut, routes_after_cut}
 use Rattle.irc_items.proofs.CutStep.{apart, cut_fixed, forest, left_of, far_source, linked_before, near_source, old_ends, stands, at_near, at_far, behind_near, behind_far, aside, IsCutStep, Stands}
 use Rattle.irc_items.proofs.GoodLines.{good_terms}
 use Rattle.irc_items.proofs.Rest.{nothing_owed, quiet_ways}
-use Rattle.irc_items.proofs.SetUpFacts.{viewed_nowhere}
+use Rattle.irc_items.specs.Lemmas.SetUpFacts.{viewed_nowhere}
 use Rattle.irc_items.proofs.SourceFacts.{next_to}
 
 -- the lines by which an end tells its neighbours of what it has lost

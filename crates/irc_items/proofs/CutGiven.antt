@@ -23,7 +23,7 @@ use Rattle.irc_items.specs.Sound.{world_now, IsSound}
 use Rattle.irc_items.proofs.Asked.{asked_there, IsAskedAt}
 use Rattle.irc_items.proofs.ClientGiven.{reply_taken, set_up_besides}
 use Rattle.irc_items.proofs.ClosedWays.{closed_at, is_closed, way_closed, IsClosed}
-use Rattle.irc_items.proofs.SetUpFacts.{placed_if, there}
+use Rattle.irc_items.specs.Lemmas.SetUpFacts.{placed_if, there}
 
 -- two servers whose link may be lost
 pub record IsParting (net : Network) (near far : Name) : Type 0 where

@@ -42,7 +42,7 @@ use Rattle.irc_items.proofs.CutStep.{cut_fixed, fixed_here, left_of, linked_befo
 use Rattle.irc_items.proofs.CutTold.{side_without, tells_in_turn, IsLossOfCut, IsOfCut}
 use Rattle.irc_items.proofs.GoodLines.{IsWithinSide, MayKill}
 use Rattle.irc_items.proofs.MetEnds.{AreLinkedAlike}
-use Rattle.irc_items.proofs.SetUpFacts.{servers_named}
+use Rattle.irc_items.specs.Lemmas.SetUpFacts.{servers_named}
 
 pub record AreCutItemLaws : Type 0 where
   pub cut : AreCutLaws

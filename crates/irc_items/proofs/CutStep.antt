@@ -19,7 +19,7 @@ use Rattle.irc_items.specs.Relayed.{fixed_of}
 use Rattle.irc_items.specs.SetUp.{routes_in, settings_of}
 use Rattle.irc_items.specs.Sound.{world_now, IsSound}
 use Rattle.irc_items.proofs.CutGiven.{IsCut, IsParting}
-use Rattle.irc_items.proofs.SetUpFacts.{fixed}
+use Rattle.irc_items.specs.Lemmas.SetUpFacts.{fixed}
 
 -- the links that are left
 abbrev pub left_of : Network → Name → Name → List Link

@@ -13,7 +13,7 @@ use Rattle.irc_network.specs.Network.{Course, Site, site_asked, line_counted, de
 use Rattle.irc_items.specs.Relayed.{way_at, way_between}
 use Rattle.irc_items.specs.SetUp.{settings_of, view_at, IsSetUp}
 use Rattle.irc_items.specs.Sound.{IsPlaceOf, IsSound}
-use Rattle.irc_items.proofs.SetUpFacts.{at_place, there}
+use Rattle.irc_items.specs.Lemmas.SetUpFacts.{at_place, there}
 use Rattle.irc_items.proofs.SiteChanged.{same_server, set_up_after, site_set, site_there, IsSetUpAfter, IsSiteChanged}
 
 -- t took the oldest line on its way from p; it was counted, and then t was asked for it

@@ -20,7 +20,7 @@ use Rattle.irc_items.specs.Relayed.{owed_to, relayed, way_at, way_between}
 use Rattle.irc_items.specs.SetUp.{view_at}
 use Rattle.irc_items.specs.Sound.{world_now, IsSound}
 use Rattle.irc_items.proofs.AtRest.{flowing, forest_now, holds_now}
-use Rattle.irc_items.proofs.SetUpFacts.{at_place, there}
+use Rattle.irc_items.specs.Lemmas.SetUpFacts.{at_place, there}
 
 module _ (net : Network) (sound : IsSound net) (forest : IsForest net.links) (p t : Name) (line : List ℕ) (rest : List (List ℕ))
     (waited : way_between net p t ≡ Some (line ∷ rest)) where

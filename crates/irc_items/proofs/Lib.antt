@@ -1,4 +1,3 @@
-pub mod SetUpFacts
 pub mod SiteChanged
 pub mod SentOut
 pub mod Asked

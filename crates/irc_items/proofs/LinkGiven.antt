@@ -39,7 +39,7 @@ use Rattle.irc_items.proofs.Asked.{asked_there, IsAskedAt}
 use Rattle.irc_items.proofs.AtRest.{nothing_received}
 use Rattle.irc_items.proofs.ClientGiven.{reply_taken, set_up_besides}
 use Rattle.irc_items.proofs.OpenedWays.{is_opened, opened_at, way_opened, IsOpened}
-use Rattle.irc_items.proofs.SetUpFacts.{there, viewed, viewed_nowhere}
+use Rattle.irc_items.specs.Lemmas.SetUpFacts.{there, viewed, viewed_nowhere}
 
 -- Two servers of different parts may be linked: they keep one password for each other, and agree.
 pub record IsMeeting (net : Network) (near far : Name) : Type 0 where

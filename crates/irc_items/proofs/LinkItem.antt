@@ -37,7 +37,7 @@ use Rattle.irc_items.proofs.LinkSide.{apart, covers, fixed_here, forest, meet, l
 use Rattle.irc_items.proofs.LinkSides.{deeds_of_link, routes_after, side_of}
 use Rattle.irc_items.proofs.LinkSound.{link_sound, AreLinkLaws, ComesToOne}
 use Rattle.irc_items.proofs.LinkTold.{far_answered, far_lines, near_answered, near_lines, told_by_link}
-use Rattle.irc_items.proofs.SetUpFacts.{servers_named}
+use Rattle.irc_items.specs.Lemmas.SetUpFacts.{servers_named}
 
 pub record AreLinkItemLaws : Type 0 where
   pub link : AreLinkLaws

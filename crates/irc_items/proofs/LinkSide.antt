@@ -27,7 +27,7 @@ use Rattle.irc_items.specs.SetUp.{routes_in, settings_of, view_at}
 use Rattle.irc_items.specs.Sound.{world_now, IsSound}
 use Rattle.irc_items.proofs.LinkGiven.{IsLinked, IsMeeting}
 use Rattle.irc_items.proofs.LinkSides.{side_of}
-use Rattle.irc_items.proofs.SetUpFacts.{fixed}
+use Rattle.irc_items.specs.Lemmas.SetUpFacts.{fixed}
 
 -- what stays while two sides come to know each other
 abbrev pub link_fixed : Network → Name → Name → Fixed

@@ -28,7 +28,7 @@ use Rattle.irc_items.specs.SetUp.{no_view, view_at}
 use Rattle.irc_items.specs.Sound.{world_now}
 use Rattle.irc_items.proofs.LinkSide.{fits_begun, fresh, has_ends_so, link_fixed, as_before, IsLinkStep}
 use Rattle.irc_items.proofs.Rest.{quiet_ways}
-use Rattle.irc_items.proofs.SetUpFacts.{viewed_nowhere}
+use Rattle.irc_items.specs.Lemmas.SetUpFacts.{viewed_nowhere}
 
 module _ (after_link : PartAfterLink) (quiet : RestStays) (net new : Network) (near far : Name) (given : IsLinkStep net new near far) where
   abbrev s : Fixed

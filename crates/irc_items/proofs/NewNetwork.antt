@@ -38,7 +38,7 @@ use Rattle.irc_items.specs.Sound.{most_now, owed_now, IsSound, IsSoundFrom, IsUn
 use Rattle.irc_items.proofs.Begun.{none_at_source}
 use Rattle.irc_items.proofs.Counting.{sum_most}
 use Rattle.irc_items.proofs.FewLines.{none_pending}
-use Rattle.irc_items.proofs.SetUpFacts.{fixed, servers_named, setting_there, there, viewed_nowhere}
+use Rattle.irc_items.specs.Lemmas.SetUpFacts.{fixed, servers_named, setting_there, there, viewed_nowhere}
 
 no_depth : (t : Name) → distance [] t t ≡ 0
 unfolding distance

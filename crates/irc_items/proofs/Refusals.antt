@@ -24,7 +24,7 @@ use Rattle.irc_items.specs.Laws.{RefusalsAreTheWorlds, RestIsOneRoom}
 use Rattle.irc_items.specs.OneRoom.{IsOneRoom}
 use Rattle.irc_items.specs.SetUp.{settings_of, view_at, IsSetUp}
 use Rattle.irc_items.specs.Sound.{world_now}
-use Rattle.irc_items.proofs.SetUpFacts.{listed, placed_if, setting_there, viewed, viewed_nowhere}
+use Rattle.irc_items.specs.Lemmas.SetUpFacts.{listed, placed_if, setting_there, viewed, viewed_nowhere}
 
 module _ (aside : AgreeLooksAtNoInvitation) (net : Network) (set_up : IsSetUp net) (links : net.links ≡ (world_now net).links)
     (homes : net.homes ≡ (world_now net).homes) (room : IsOneRoom net) (sound : IsSound (settings_of net) (world_now net)) where

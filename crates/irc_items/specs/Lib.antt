@@ -6,3 +6,4 @@ pub mod OneRoom
 pub mod Laws
 pub mod Kept
 pub mod InAnyOrder
+pub mod Lemmas

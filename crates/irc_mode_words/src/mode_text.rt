@@ -6,8 +6,8 @@ ghost use Rattle.irc_line.specs.Limits.{max_line};
 ghost use Rattle.irc_line.specs.MessageViews.{optional_now};
 ghost use Rattle.irc_mode_words.specs.ModeWritten.{letter_text, letters_text, parameter_text, sign_between};
 
-use irc_modes::ModeChange;
 use irc_line::{Text, push_cut};
+use irc_modes::ModeChange;
 
 /// Appends the letters of changes in order, with a sign before the first and wherever it differs from the one before.
 pub fn push_letters(line: &mut Text, changes: &[ModeChange])

@@ -5,8 +5,8 @@ ghost use Rattle.std.specs.Cmp.{on_equiv, on_total, partial_equiv_from_equiv, po
 ghost use Rattle.std.specs.Hash as fed;
 ghost use Rattle.irc_names.specs.Spellings.{exactly_same, exact_cmp, exactly_same-equivalence, exact_cmp-total, exactly_same-ties, bytes_fed, exactly_same-fed};
 
-use irc_rules::compare;
 use crate::{BanMask, ChannelName, Nick};
+use irc_rules::compare;
 use std::cmp::Ordering;
 use std::hash::{Hash, Hasher};
 

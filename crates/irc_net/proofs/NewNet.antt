@@ -26,7 +26,7 @@ use Rattle.irc_byte_network.specs.ByteNetwork.{ByteNetwork}
 use Rattle.irc_byte_network.specs.Whole.{no_wires}
 use Rattle.irc_network.specs.Network.{Network, Site, server_place, site_at}
 use Rattle.irc_items.specs.SetUp.{named_at, no_view, view_at, HasPassword, IsConfigured, IsNew, IsNewServer}
-use Rattle.irc_items.proofs.SetUpFacts.{placed_if}
+use Rattle.irc_items.specs.Lemmas.SetUpFacts.{placed_if}
 use Rattle.irc_net.specs.Making.{config_name, configs_fault, has_name_twice, is_bad_config, is_bad_name, is_config_of, made_of, new_site}
 use Rattle.irc_net.proofs.Named.{ordered_few, without_fault}
 

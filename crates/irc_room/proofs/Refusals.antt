@@ -2,15 +2,15 @@
 use Rattle.std.proofs.Common.{◌≡◌, Bool, true, false, cond, not, Some, None, Result, Ok, Err, [], refl, sym, ◌∙◌, ap}
 use Rattle.std.specs.List.{list_all}
 use Rattle.std.specs.Option.{option_map_or}
-use Rattle.irc_effects.specs.declared.effect.Effect.{Effect}
-use Rattle.irc_effects.specs.declared.fault.RoomFault.{RoomFault}
-use Rattle.irc_effects.specs.declared.fault.RoomFault.TheVariants.{NoSuchUser, NoSuchChannel, Memory, Failed}
-use Rattle.irc_effects.specs.declared.shown_line.ShownLine.{ShownLine}
-use Rattle.irc_effects.specs.Room.{Room}
-use Rattle.irc_effects.specs.After.{after}
-use Rattle.irc_effects.specs.Effects.{has_user, has_channel, is_idle, needs_users, needs_channel}
-use Rattle.irc_effects.specs.Applying.{Kept, room_fault, pairs_of, Applied}
-use Rattle.irc_effects.specs.Lemmas.IdleLaw.{idle_changes_nothing}
+use Rattle.irc_shown.specs.effect.Effect.{Effect}
+use Rattle.irc_shown.specs.fault.RoomFault.{RoomFault}
+use Rattle.irc_shown.specs.fault.RoomFault.TheVariants.{NoSuchUser, NoSuchChannel, Memory, Failed}
+use Rattle.irc_shown.specs.shown_line.ShownLine.{ShownLine}
+use Rattle.irc_shown.specs.Room.{Room}
+use Rattle.irc_shown.specs.After.{after}
+use Rattle.irc_shown.specs.Effects.{has_user, has_channel, is_idle, needs_users, needs_channel}
+use Rattle.irc_shown.specs.Applying.{Kept, room_fault, pairs_of, Applied}
+use Rattle.irc_shown.specs.Lemmas.IdleLaw.{idle_changes_nothing}
 use Rattle.irc_shown.proofs.ToldLaw.{idle_tells_nothing}
 
 -- want of memory is no cause that is looked for

@@ -5,9 +5,9 @@ use Rattle.std.specs.FinMap.{code}
 use Rattle.irc_names.specs.Tables.{Table}
 use Rattle.irc_users.specs.declared.user.User.{User}
 use Rattle.irc_channels.specs.declared.channel.Channel.{Channel}
-use Rattle.irc_effects.specs.Applying.{Kept}
-use Rattle.irc_effects.specs.Room.{Room}
-use Rattle.irc_room_tables.specs.Codes.{coded_name}
+use Rattle.irc_shown.specs.Applying.{Kept}
+use Rattle.irc_shown.specs.Room.{Room}
+use Rattle.irc_shown.specs.Codes.{coded_name}
 
 -- as its fields
 abbrev pub kept_code : Coded (Table User) → Coded Channel → Coded Kept

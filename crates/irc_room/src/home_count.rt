@@ -6,9 +6,8 @@ ghost use Rattle.irc_users.specs.Rosters.{boxed};
 ghost use Rattle.irc_users.specs.UserTable.{is_home};
 ghost use Rattle.irc_room.specs.Loops.HomeCount.{come, gone, home_count, one_of};
 
-use irc_effects::Effect;
-use irc_room_tables::Tables;
 use irc_names::{Nick, ServerName};
+use irc_shown::{Effect, Tables};
 use irc_users::User;
 use std::alloc::Global;
 

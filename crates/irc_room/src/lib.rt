@@ -7,8 +7,8 @@ mod performing;
 mod refusing;
 mod room;
 
-pub use irc_effects::{By, Effect, ModeChanges, RoomFault, ShownLine, Target};
-pub use irc_effects::examples as examples;
-pub use irc_effects::invitation_laws as invitation_laws;
-pub use irc_effects::laws as laws;
+pub use irc_shown::{
+    By, Effect, ModeChanges, RoomFault, ShownLine, Target, examples as examples,
+    invitation_laws as invitation_laws, laws as laws,
+};
 pub use room::Room;

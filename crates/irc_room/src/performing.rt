@@ -1,15 +1,11 @@
 //! An effect on a room: what it shows, and the room after it.
 ghost use Rattle.std.specs.Prelude.{◌≡◌, Ok, [], true, OnOk, OnErr};
-ghost use Rattle.irc_effects.specs.After.{after};
-ghost use Rattle.irc_effects.specs.Applying.{pairs_of};
-ghost use Rattle.irc_effects.specs.Effects.{is_idle, IsPossible};
+ghost use Rattle.irc_shown.specs.After.{after};
+ghost use Rattle.irc_shown.specs.Applying.{pairs_of};
+ghost use Rattle.irc_shown.specs.Effects.{is_idle, IsPossible};
 ghost use Rattle.irc_shown.specs.Loops.Telling.{shown_at};
 
-use irc_effects::Effect;
-use irc_room_tables::is_idle;
-use irc_shown::show;
-use irc_effects::ShownLine;
-use irc_room_tables::Tables;
+use irc_shown::{Effect, ShownLine, Tables, is_idle, show};
 use std::alloc::{AllocError, Global};
 
 /// Puts out what an effect shows to the users of the server of this name, and makes its change of users and channels; one that does

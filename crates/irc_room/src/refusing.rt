@@ -2,14 +2,12 @@
 ghost use Rattle.std.specs.Prelude.{◌≡◌, ℕ, true, List};
 ghost use Rattle.std.specs.List.{list_all};
 ghost use Rattle.std.specs.Option.{option_copied, option_map_or};
-ghost use Rattle.irc_effects.specs.Applying.{missing_fault, room_fault};
-ghost use Rattle.irc_effects.specs.Effects.{has_user, has_channel, needs_users, needs_channel};
+ghost use Rattle.irc_shown.specs.Applying.{missing_fault, room_fault};
+ghost use Rattle.irc_shown.specs.Effects.{has_user, has_channel, needs_users, needs_channel};
 ghost use Rattle.irc_room.specs.KeptCodes.{kept_of};
 
-use irc_effects::Effect;
-use irc_effects::RoomFault;
-use irc_room_tables::Tables;
 use irc_names::Nick;
+use irc_shown::{Effect, RoomFault, Tables};
 
 /// Why a room with these users and channels refuses an effect, if it does.
 pub(crate) fn refusal(failed: bool, tables: &Tables, effect: &Effect) -> Option<RoomFault>

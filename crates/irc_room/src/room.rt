@@ -11,29 +11,24 @@ ghost use Rattle.irc_names.specs.Tables.{row};
 ghost use Rattle.irc_tables.specs.RowViews.{row_entry};
 ghost use Rattle.irc_users.specs.Rosters.{boxed};
 ghost use Rattle.irc_channels.specs.ChannelTable.{members_in};
-ghost use Rattle.irc_effects.specs.Applying.{Kept, Applied, IdleStays, ShowsHere, does};
-ghost use Rattle.irc_effects.specs.Effects.{brings_free};
-ghost use Rattle.irc_effects.specs.Laws.{no_room};
-ghost use Rattle.irc_effects.specs.Readers.{user_at, channel_at, channels_of, flags_at, is_invited_at, is_visible_at, nicks_in, rows_now, spelling_at, users_now, users_of, viewers_of};
-ghost use Rattle.irc_effects.specs.Room.{IsWellFormed};
-ghost use Rattle.irc_effects.specs.Seen.{changes_text, stored_channel, stored_nick, target_name};
+ghost use Rattle.irc_shown.specs.Applying.{Kept, Applied, IdleStays, ShowsHere, does};
+ghost use Rattle.irc_shown.specs.Effects.{brings_free};
+ghost use Rattle.irc_shown.specs.Laws.{no_room};
+ghost use Rattle.irc_shown.specs.Readers.{user_at, channel_at, channels_of, flags_at, is_invited_at, is_visible_at, nicks_in, rows_now, spelling_at, users_now, users_of, viewers_of};
+ghost use Rattle.irc_shown.specs.Room.{IsWellFormed};
+ghost use Rattle.irc_shown.specs.Seen.{changes_text, stored_channel, stored_nick, target_name};
 
-use irc_shown::{audience, member_nicks};
-use irc_effects::{Effect, Target};
-use irc_shown::effect_line;
-use irc_effects::RoomFault;
 use crate::home_count::{homed, staying, with_newcomer};
-use irc_room_tables::is_idle;
-use irc_room_tables::IndexedChannels;
-use irc_shown::push_changes;
 use crate::performing::perform;
 use crate::refusing::{missing, refusal};
-use irc_effects::ShownLine;
-use irc_room_tables::Tables;
 use irc_channels::{Channel, Flags};
 use irc_line::Text;
 use irc_modes::ModeChange;
 use irc_names::{ChannelName, Nick, ServerName};
+use irc_shown::{
+    Effect, IndexedChannels, RoomFault, ShownLine, Tables, Target, audience, effect_line, is_idle,
+    member_nicks, push_changes,
+};
 use irc_tables::Row;
 use irc_users::User;
 use std::alloc::{AllocError, Global};
@@ -51,7 +46,7 @@ pub struct Room {
 
 /// In a clause it is whose room it is, whether memory ran out, and the room, which is well formed.
 impl Model for Room {
-    ghost use Rattle.irc_effects.specs.Applying.{Kept};
+    ghost use Rattle.irc_shown.specs.Applying.{Kept};
     ghost use Rattle.irc_room.specs.Loops.HomeCount.{IsCounted};
     ghost use Rattle.irc_room.specs.KeptCodes.{kept_code};
     ghost use Rattle.irc_users.specs.contracts.users.Users.{the_row as users_row};

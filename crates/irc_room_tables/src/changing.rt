@@ -8,9 +8,9 @@ ghost use Rattle.irc_effects.specs.Effects.{IsPossible};
 ghost use Rattle.irc_room_tables.specs.Codes.{room_of};
 ghost use Rattle.irc_effects.specs.Room.{IsWellFormed};
 
-use irc_effects::Effect;
 use crate::indexed_channels::IndexedChannels;
 use crate::tables::Tables;
+use irc_effects::Effect;
 use irc_names::Nick;
 use irc_users::{User, Users, UsersFault};
 use std::alloc::{AllocError, Global};

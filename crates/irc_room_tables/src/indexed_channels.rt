@@ -9,9 +9,9 @@ ghost use Rattle.irc_channels.specs.ChannelTable.{members_in};
 ghost use Rattle.irc_channels.specs.Channels.{has_member, left, without_user, renamed, invited_too, with_topic, all_changed};
 ghost use Rattle.irc_room_tables.specs.Indexes.{entry_at, holds, own_names, row_joined, with_row, IsFreeOf};
 
-use irc_effects::ModeChanges;
 use crate::name_index::NameIndex;
 use irc_channels::{Channel, Channels, ChannelsFault, Flags, Words};
+use irc_effects::ModeChanges;
 use irc_names::{ChannelName, Nick};
 use irc_tables::Row;
 use std::alloc::{AllocError, Global};

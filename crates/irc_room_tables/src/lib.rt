@@ -10,4 +10,8 @@ mod tables;
 
 pub use idle::is_idle;
 pub use indexed_channels::IndexedChannels;
+pub use irc_effects::{
+    By, Effect, ModeChanges, RoomFault, ShownLine, Target, examples as examples,
+    invitation_laws as invitation_laws, laws as laws,
+};
 pub use tables::Tables;

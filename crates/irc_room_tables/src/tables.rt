@@ -12,9 +12,9 @@ ghost use Rattle.irc_effects.specs.Laws.{no_room};
 ghost use Rattle.irc_effects.specs.Room.{IsWellFormed};
 ghost use Rattle.irc_effects.specs.Seen.{from_by, from_nick, full_sender, stored_channel, stored_nick, target_name};
 
-use irc_effects::{By, Target};
 use crate::indexed_channels::IndexedChannels;
 use irc_channels::Channel;
+use irc_effects::{By, Target};
 use irc_line::Prefix;
 use irc_names::{ChannelName, Nick};
 use irc_users::{User, Users};

@@ -9,15 +9,15 @@ use Rattle.std.specs.List.Sorted.{IsPermutation, IsSortedByKey}
 use Rattle.std.specs.Ordering.{is_lt, nat_cmp}
 use Rattle.std.specs.declared.cmp.Ordering.{Ordering}
 use Rattle.std.specs.declared.cmp.Ordering.TheVariants.{Less, Equal, Greater}
-use Rattle.irc_byte_network.specs.ByteNetwork.{ByteNetwork}
-use Rattle.irc_byte_network.specs.Whole.{no_wires}
+use Rattle.irc_net.specs.ByteNetwork.{ByteNetwork}
+use Rattle.irc_net.specs.Whole.{no_wires}
 use Rattle.irc_net.specs.Making.{IsMadeOf, config_name, new_site}
-use Rattle.irc_network.specs.Network.{Network, Site}
+use Rattle.irc_net.specs.Network.{Network, Site}
 use Rattle.irc_relay.specs.Links.{Name}
 use Rattle.irc_routes.specs.Known.{Known, alone_known}
 use Rattle.irc_room.specs.Laws.{no_room}
-use Rattle.irc_server.specs.declared.config.Config.{Config}
-use Rattle.irc_stage.specs.View.{KnownPeer, known_peer}
+use Rattle.irc_net.specs.config.Config.{Config}
+use Rattle.irc_net.specs.View.{KnownPeer, known_peer}
 use Rattle.irc_script.specs.Loops.Configs.{AreConfigured, IsOwnConfig}
 use Rattle.irc_script.specs.Networks.{exceeds, first_net, first_site, in_name_order, is_greater}
 use Rattle.irc_script.specs.RunLaws.{are_ordered}

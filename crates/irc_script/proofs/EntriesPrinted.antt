@@ -4,14 +4,14 @@ use Rattle.std.proofs.lemmas.Grind.{flat_map-append}
 use Rattle.std.proofs.lemmas.List.Elements.{filter_map-append}
 use Rattle.std.proofs.lemmas.List.Folds.{flat_map-map}
 use Rattle.std.specs.List.{cons_option, flat_map}
-use Rattle.irc_byte_network.specs.ByteNetwork.{ByteCourse, ByteNetwork, item_given}
+use Rattle.irc_net.specs.ByteNetwork.{ByteCourse, ByteNetwork, item_given}
 use Rattle.irc_net.specs.declared.fault.NetFault.{NetFault}
 use Rattle.irc_net.specs.Calls.{Delivers, delivers_it, delivery, piece, piece_count, settles_it, standing, takes_them}
 use Rattle.irc_net.specs.Faults.{deliver_fault, item_fault}
 use Rattle.irc_net.specs.Laws.{AnswersAreReceived, HasReceived}
-use Rattle.irc_network.specs.Laws.{ReceiptsAreReceived}
-use Rattle.irc_network.specs.Network.{Receipt, lines_of_client, received_by}
-use Rattle.irc_world.specs.Stepping.{Item}
+use Rattle.irc_net.specs.NetworkLaws.{ReceiptsAreReceived}
+use Rattle.irc_net.specs.Network.{Receipt, lines_of_client, received_by}
+use Rattle.irc_net.specs.Stepping.{Item}
 use Rattle.irc_script.specs.Moves.{Move, gives, delivers_line, takes_bytes, settles_all}
 use Rattle.irc_script.specs.OneRoom.{Entry, counts, entry_text, line_to, lines_shown_to, receives, refuses}
 use Rattle.irc_script.specs.Printing.{count_line, fault_number, printed, refusal_line, taken_text}

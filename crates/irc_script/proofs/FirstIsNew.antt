@@ -12,14 +12,14 @@ use Rattle.std.specs.List.{cons_option, list_any, slice_get, AllByRecursion}
 use Rattle.std.specs.List.Sorted.{IsPermutation}
 use Rattle.std.specs.Option.{option_and_then, option_to_list}
 use Rattle.std.specs.Str.{bytes_eq}
-use Rattle.irc_items.specs.SetUp.{named_at, no_view, view_at, HasPassword, IsConfigured, IsNew, IsNewServer}
-use Rattle.irc_items.proofs.SetUpFacts.{placed_if}
+use Rattle.irc_net.specs.SetUp.{named_at, no_view, view_at, HasPassword, IsConfigured, IsNew, IsNewServer}
+use Rattle.irc_net.specs.ItemLemmas.SetUpFacts.{placed_if}
 use Rattle.irc_names.specs.Names.{IsServer, is_server}
-use Rattle.irc_network.specs.Network.{Site, server_place, site_at}
+use Rattle.irc_net.specs.Network.{Site, server_place, site_at}
 use Rattle.irc_relay.specs.Distances.{IsAmong}
 use Rattle.irc_relay.specs.Links.{Name, same}
 use Rattle.irc_relay.specs.Lemmas.TellingNames.{Telling, alike, unlike, tell}
-use Rattle.irc_stage.specs.View.{View}
+use Rattle.irc_net.specs.View.{View}
 use Rattle.irc_script.specs.Limits.{max_script_servers}
 use Rattle.irc_script.specs.Networks.{first_network, first_site, first_view, in_name_order, peers_for, script_password}
 use Rattle.irc_script.specs.Scripts.{Cut, another_server, cut_at_space, if_another, is_word, named_in, server_declared, servers_behind, servers_of}

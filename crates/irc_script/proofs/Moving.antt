@@ -1,16 +1,16 @@
 -- What a move comes to, by what the network answered.
 use Rattle.std.proofs.Common.{◌≡◌, ℕ, Bool, true, false, cond, Option, Some, None, Result, Ok, Err, List, [], ◌∷◌, ap, sym, subst, refl, ◌∙◌}
 use Rattle.std.specs.List.{flat_map}
-use Rattle.irc_byte_network.specs.ByteNetwork.{ByteCourse, ByteNetwork, item_given}
+use Rattle.irc_net.specs.ByteNetwork.{ByteCourse, ByteNetwork, item_given}
 use Rattle.irc_net.specs.declared.answer.Answer.{Answer}
-use Rattle.irc_network.specs.declared.receipt.Receipt.{Receipt as KeptReceipt}
+use Rattle.irc_net.specs.receipt.Receipt.{Receipt as KeptReceipt}
 use Rattle.irc_net.specs.declared.fault.NetFault.{NetFault}
 use Rattle.irc_net.specs.Calls.{NetView, BytesTaken, IsGiven, IsDelivered, Delivers, IsSettled, delivery, piece, piece_count, takes_them, taking_refused, taking_wants_memory, taking_by_failed, given_it, given_refused, given_wants_memory, given_to_failed, delivers_it, delivery_refused, delivery_wants_memory, delivery_by_failed, settles_it}
 use Rattle.irc_net.specs.Faults.{deliver_fault, is_refusal}
-use Rattle.irc_network.specs.Network.{Receipt}
-use Rattle.irc_network.specs.Views.{receipts_of}
+use Rattle.irc_net.specs.Network.{Receipt}
+use Rattle.irc_net.specs.NetworkViews.{receipts_of}
 use Rattle.irc_relay.specs.Links.{Name}
-use Rattle.irc_world.specs.Stepping.{Item}
+use Rattle.irc_net.specs.Stepping.{Item}
 use Rattle.irc_script.specs.declared.fault.Trouble.{Trouble}
 use Rattle.irc_script.specs.declared.fault.Trouble.TheVariants.{Memory}
 use Rattle.irc_script.specs.Loops.Steps.{Breaks, IsFaultPrinted, IsPlayed, IsPut, taken_count}

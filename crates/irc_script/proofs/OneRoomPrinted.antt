@@ -2,14 +2,14 @@
 use Rattle.std.proofs.Common.{◌≡◌, ℕ, zero, suc, Ok, List, [], ◌++◌, ap, sym, subst, refl, ◌∙◌}
 use Rattle.std.specs.List.{AllByRecursion}
 use Rattle.irc_relay.specs.Relay.{IsFront}
-use Rattle.irc_items.specs.Laws.{ReceivedIsFront, RestIsOneRoom}
-use Rattle.irc_items.specs.Sound.{owed_now}
-use Rattle.irc_byte_network.specs.ByteNetwork.{ByteNetwork, net_in_lines}
-use Rattle.irc_byte_network.specs.Whole.{RestAsLines}
+use Rattle.irc_net.specs.ItemLaws.{ReceivedIsFront, RestIsOneRoom}
+use Rattle.irc_net.specs.Sound.{owed_now}
+use Rattle.irc_net.specs.ByteNetwork.{ByteNetwork, net_in_lines}
+use Rattle.irc_net.specs.Whole.{RestAsLines}
 use Rattle.irc_net.specs.Laws.{AnswersAreReceived, StaysKept}
 use Rattle.irc_net.specs.OneRoom.{IsKeptSound}
-use Rattle.irc_network.specs.Laws.{ReceiptsAreReceived}
-use Rattle.irc_network.specs.Network.{received_by}
+use Rattle.irc_net.specs.NetworkLaws.{ReceiptsAreReceived}
+use Rattle.irc_net.specs.Network.{received_by}
 use Rattle.irc_script.specs.Networks.{first_net, first_network}
 use Rattle.irc_script.specs.OneRoom.{lines_shown_to, IsPrintedOf}
 use Rattle.irc_script.specs.RunLaws.{PrintsOneRoom}

@@ -1,6 +1,6 @@
 -- A script runs in one way.
 use Rattle.std.proofs.Common.{◌≡◌, ℕ, List, ◌++◌, ap, sym, subst, refl, ◌∙◌}
-use Rattle.irc_byte_network.specs.ByteNetwork.{ByteNetwork}
+use Rattle.irc_net.specs.ByteNetwork.{ByteNetwork}
 use Rattle.irc_script.specs.Moves.{Move, gives, delivers_line, takes_bytes, settles_all}
 use Rattle.irc_script.specs.Printing.{taken_text}
 use Rattle.irc_script.specs.RunLaws.{SameRun}

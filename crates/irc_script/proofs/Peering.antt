@@ -6,7 +6,7 @@ use Rattle.std.proofs.lemmas.List.{map-append, take_more}
 use Rattle.std.proofs.lemmas.List.Elements.{filter_map-append}
 use Rattle.irc_net.specs.Making.{config_name}
 use Rattle.irc_relay.specs.Links.{Name}
-use Rattle.irc_server.specs.declared.config.Config.{Config}
+use Rattle.irc_net.specs.config.Config.{Config}
 use Rattle.irc_script.specs.Loops.Configs.{AreConfigured, IsConfigured, IsOwnConfig}
 
 found_alone : {X : Type 0} (found : Option X) → cons_option found [] ≡ option_to_list found

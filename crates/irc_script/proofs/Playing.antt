@@ -6,7 +6,7 @@ use Rattle.std.specs.List.{AllByRecursion}
 use Rattle.arrayvec.specs.ArrayVec.{ArrayVec}
 use Rattle.irc_line.specs.Carried.{IsCarried}
 use Rattle.irc_line.specs.Framed.{bytes_of}
-use Rattle.irc_byte_network.specs.ByteNetwork.{ByteNetwork}
+use Rattle.irc_net.specs.ByteNetwork.{ByteNetwork}
 use Rattle.irc_script.specs.declared.fault.Trouble.{Trouble}
 use Rattle.irc_script.specs.declared.fault.Trouble.TheVariants.{Memory, Device}
 use Rattle.irc_script.specs.declared.fault.Unwritten.{Unwritten}

@@ -3,8 +3,8 @@ use Rattle.std.proofs.Common.{◌≡◌, ℕ, ◌+◌, ◌<◌, List, [], ◌∷
 use Rattle.std.proofs.lemmas.List.{map-append, take_more, take-append-drop}
 use Rattle.std.proofs.lemmas.Grind.{flat_map-append}
 use Rattle.std.specs.List.{flat_map}
-use Rattle.irc_network.specs.declared.receipt.Receipt.{Receipt}
-use Rattle.irc_network.specs.Views.{receipt_of, receipts_of}
+use Rattle.irc_net.specs.receipt.Receipt.{Receipt}
+use Rattle.irc_net.specs.NetworkViews.{receipt_of, receipts_of}
 use Rattle.irc_script.specs.Printing.{printed}
 
 abbrev pub text_of : List Receipt → List ℕ

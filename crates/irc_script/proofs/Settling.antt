@@ -6,10 +6,10 @@ use Rattle.std.specs.List.{find, list_all}
 use Rattle.std.specs.Option.{option_map, option_map_or}
 use Rattle.std.specs.Ordering.{nat_cmp}
 use Rattle.irc_line.specs.Lines.{has_nothing}
-use Rattle.irc_byte_network.specs.ByteNetwork.{ByteCourse, ByteNetwork, is_byte_rest}
-use Rattle.irc_byte_network.specs.Turns.{TurnsGo, lines_in_turn, none_yet, turn_first, turn_in, turn_taken}
+use Rattle.irc_net.specs.ByteNetwork.{ByteCourse, ByteNetwork, is_byte_rest}
+use Rattle.irc_net.specs.Turns.{TurnsGo, lines_in_turn, none_yet, turn_first, turn_in, turn_taken}
 use Rattle.irc_net.specs.Calls.{NetView, Settles, standing}
-use Rattle.irc_network.specs.Network.{Receipt, max_count}
+use Rattle.irc_net.specs.Network.{Receipt, max_count}
 use Rattle.irc_room.specs.Lemmas.Rows.{same_some}
 use Rattle.irc_wires.specs.Wires.{Direction, Wire, Wires, are_still, are_still_in, first_from, first_in, has_byte, is_none, is_still, wire_in}
 use Rattle.irc_script.specs.RunLaws.{SettlesToRest}

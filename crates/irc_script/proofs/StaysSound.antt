@@ -3,16 +3,16 @@ use Rattle.std.proofs.Common.{◌≡◌, ℕ, Bool, true, false, Option, Some, N
 use Rattle.std.specs.Bool.{⊤}
 use Rattle.std.specs.List.{AllByRecursion}
 use Rattle.std.specs.Option.{option_and_then, option_map_or}
-use Rattle.irc_byte_network.specs.ByteNetwork.{ByteCourse, ByteNetwork, byte_begun}
+use Rattle.irc_net.specs.ByteNetwork.{ByteCourse, ByteNetwork, byte_begun}
 use Rattle.irc_net.specs.declared.fault.NetFault.{NetFault}
 use Rattle.irc_net.specs.Calls.{delivery, line_between, piece_between, wire_between}
 use Rattle.irc_net.specs.Faults.{deliver_fault, item_fault}
 use Rattle.irc_net.specs.Laws.{StaysKept}
 use Rattle.irc_net.specs.OneRoom.{IsKeptSound}
-use Rattle.irc_network.specs.Network.{LinkPlaces, link_places}
+use Rattle.irc_net.specs.Network.{LinkPlaces, link_places}
 use Rattle.irc_room.specs.Lemmas.Rows.{same_some}
 use Rattle.irc_wires.specs.Wires.{has_byte, through_line_feed}
-use Rattle.irc_world.specs.WithinLimits.{IsItemWithin}
+use Rattle.irc_net.specs.WithinLimits.{IsItemWithin}
 use Rattle.irc_script.specs.Moves.{Move, gives, delivers_line, takes_bytes, settles_all, moves_of}
 use Rattle.irc_script.specs.Runs.{Comes, MoveOutcome, Plays, Runs, delivered_by, delivered_or, end, given_or, move, nothing, request, taken_or}
 use Rattle.irc_script.specs.Scripts.{Request}

@@ -3,7 +3,7 @@ use Rattle.std.specs.Prelude.{ℕ, List, [], ◌∷◌, ◌++◌, map}
 use Rattle.irc_line.specs.Bytes.{line_feed}
 use Rattle.irc_line.specs.Lines.{lines}
 use Rattle.irc_relay.specs.Links.{Name}
-use Rattle.irc_world.specs.Stepping.{Item, connect, line, gone, link, cut}
+use Rattle.irc_net.specs.Stepping.{Item, connect, line, gone, link, cut}
 use Rattle.irc_script.specs.Scripts.{Request, connects, says, goes, links, cuts, delivers, takes, settles}
 
 -- An item is given; the bytes through the next LF come from one server to another; so many bytes do, or all where there are fewer; bytes come in turn until

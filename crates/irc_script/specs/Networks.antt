@@ -6,13 +6,13 @@ use Rattle.std.specs.List.{filter_map}
 use Rattle.std.specs.Ordering.{nat_cmp}
 use Rattle.std.specs.declared.cmp.Ordering.{Ordering}
 use Rattle.std.specs.declared.cmp.Ordering.TheVariants.{Greater}
-use Rattle.irc_byte_network.specs.ByteNetwork.{ByteNetwork}
-use Rattle.irc_byte_network.specs.Whole.{no_wires}
-use Rattle.irc_network.specs.Network.{Network, Site}
+use Rattle.irc_net.specs.ByteNetwork.{ByteNetwork}
+use Rattle.irc_net.specs.Whole.{no_wires}
+use Rattle.irc_net.specs.Network.{Network, Site}
 use Rattle.irc_relay.specs.Links.{Name, same}
 use Rattle.irc_room.specs.Laws.{no_room}
 use Rattle.irc_routes.specs.Known.{alone_known}
-use Rattle.irc_stage.specs.View.{KnownPeer, View}
+use Rattle.irc_net.specs.View.{KnownPeer, View}
 
 -- the password that any two servers of a script keep for each other
 abbrev pub script_password : List ℕ

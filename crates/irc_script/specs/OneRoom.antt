@@ -2,9 +2,9 @@
 use Rattle.std.specs.Prelude.{◌≡◌, ℕ, true, nat_eq, Option, Some, None, List, if◌then◌else◌}
 use Rattle.std.specs.List.{filter_map, flat_map}
 use Rattle.irc_relay.specs.Relay.{IsFront}
-use Rattle.irc_byte_network.specs.ByteNetwork.{ByteNetwork, net_in_lines, is_byte_rest}
-use Rattle.irc_network.specs.Network.{Receipt, received_by}
-use Rattle.irc_items.specs.Sound.{owed_now, IsSound}
+use Rattle.irc_net.specs.ByteNetwork.{ByteNetwork, net_in_lines, is_byte_rest}
+use Rattle.irc_net.specs.Network.{Receipt, received_by}
+use Rattle.irc_net.specs.Sound.{owed_now, IsSound}
 use Rattle.irc_net.specs.declared.fault.NetFault.{NetFault}
 use Rattle.irc_script.specs.Printing.{count_line, fault_number, printed, refusal_line}
 

@@ -6,7 +6,7 @@ use Rattle.irc_line.specs.Bytes.{crlf, space, line_feed}
 use Rattle.irc_net.specs.declared.fault.NetFault.{NetFault}
 use Rattle.irc_net.specs.declared.fault.NetFault.TheVariants.{NotAtRest, NoSuchServer, NoSuchClient, NotLinked, LinkRefused, Disagree, Memory, Failed}
 use Rattle.irc_net.specs.Faults.{is_refusal}
-use Rattle.irc_network.specs.Network.{Receipt}
+use Rattle.irc_net.specs.Network.{Receipt}
 
 -- a text without the CR LF at its end, if it has one
 abbrev pub body_of : List ℕ → List ℕ

@@ -2,7 +2,7 @@
 use Rattle.std.specs.Prelude.{◌≡◌, ℕ, Bool, true, not, ◌&&◌, Ok, List, [], ◌∷◌, ◌++◌}
 use Rattle.std.specs.List.{list_any}
 use Rattle.std.specs.List.Sorted.{IsPermutation}
-use Rattle.irc_byte_network.specs.ByteNetwork.{ByteNetwork, is_byte_rest}
+use Rattle.irc_net.specs.ByteNetwork.{ByteNetwork, is_byte_rest}
 use Rattle.irc_relay.specs.Links.{Name}
 use Rattle.irc_script.specs.Networks.{exceeds, first_net, in_name_order}
 use Rattle.irc_script.specs.OneRoom.{IsPrintedOf}

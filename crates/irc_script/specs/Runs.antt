@@ -3,12 +3,12 @@ use Rattle.std.specs.Prelude.{◌≡◌, ℕ, Option, Some, None, Result, Ok, Er
 use Rattle.std.specs.Io.KnownBytes.{Appends}
 use Rattle.std.specs.List.{flat_map}
 use Rattle.irc_net.specs.declared.fault.NetFault.{NetFault}
-use Rattle.irc_byte_network.specs.ByteNetwork.{ByteCourse, ByteNetwork, item_given}
+use Rattle.irc_net.specs.ByteNetwork.{ByteCourse, ByteNetwork, item_given}
 use Rattle.irc_net.specs.Calls.{Settles, delivery, piece, piece_count, standing}
 use Rattle.irc_net.specs.Faults.{deliver_fault, item_fault}
-use Rattle.irc_network.specs.Network.{Receipt}
+use Rattle.irc_net.specs.Network.{Receipt}
 use Rattle.irc_relay.specs.Links.{Name}
-use Rattle.irc_world.specs.Stepping.{Item}
+use Rattle.irc_net.specs.Stepping.{Item}
 use Rattle.irc_script.specs.declared.fault.SimFault.{SimFault}
 use Rattle.irc_script.specs.declared.fault.SimFault.TheVariants.{BadScript, Failed, Device}
 use Rattle.irc_script.specs.Moves.{Move, gives, delivers_line, takes_bytes, settles_all, moves_of}

@@ -1,12 +1,12 @@
 //! How the servers of a script are configured.
 ghost use Rattle.std.specs.Prelude.{◌≡◌, map, IfOk, OnOk};
-ghost use Rattle.irc_stage.specs.View.{known_peer};
+ghost use Rattle.irc_net.specs.View.{known_peer};
 ghost use Rattle.irc_script.specs.Networks.{peers_for};
 ghost use Rattle.irc_script.specs.Loops.Configs.{AddsOther, AreConfigured, IsConfigured};
 
 use irc_names::ServerName;
+use irc_net::{Config, Peer};
 use irc_routes::Own;
-use irc_server::{Config, Peer};
 use std::alloc::{AllocError, Global};
 
 /// How each server of a script describes itself.

@@ -46,10 +46,10 @@ pub fn scripts_print_one_room()
 {
     irc_net::laws::networks_stay_sound();
     irc_net::laws::answers_are_received();
-    irc_network::laws::receipts_are_received();
-    irc_items::laws::received_is_front();
-    irc_items::laws::rest_is_one_room();
-    irc_byte_network::laws::rest_as_lines();
+    irc_net::network_laws::receipts_are_received();
+    irc_net::item_laws::received_is_front();
+    irc_net::item_laws::rest_is_one_room();
+    irc_net::byte_laws::rest_as_lines();
 }
 
 /// Behind a `settle` nothing is on its way.

@@ -1,7 +1,7 @@
 //! A script as it runs: the network that it is played on, and what it does to it.
 ghost use Rattle.std.specs.Prelude.{◌≡◌, [], ◌∷◌, IfOk};
 ghost use Rattle.irc_net.specs.Calls.{IsGivable};
-ghost use Rattle.irc_network.specs.Views.{item_of};
+ghost use Rattle.irc_net.specs.NetworkViews.{item_of};
 ghost use Rattle.irc_script.specs.Loops.Steps.{PlaysMoves, taken_count};
 ghost use Rattle.irc_script.specs.Moves.{delivers_line, gives, lines_said, moves_of, settles_all, takes_bytes};
 ghost use Rattle.irc_script.specs.Networks.{first_net};

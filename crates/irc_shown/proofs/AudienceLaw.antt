@@ -4,13 +4,13 @@ use Rattle.std.proofs.Common.{◌≡◌, ℕ, Bool, true, false, cond, Option, S
 use Rattle.std.specs.List.{cons_option}
 use Rattle.std.specs.FinMap.{values}
 use Rattle.irc_users.specs.declared.user.User.{User}
-use Rattle.irc_effects.specs.declared.effect.Effect.{Effect}
-use Rattle.irc_effects.specs.Room.{Room}
-use Rattle.irc_effects.specs.Effects.{is_idle}
+use Rattle.irc_room_tables.specs.effect.Effect.{Effect}
+use Rattle.irc_room_tables.specs.Room.{Room}
+use Rattle.irc_room_tables.specs.Effects.{is_idle}
 use Rattle.irc_shown.specs.Loops.Viewing.{viewers}
-use Rattle.irc_effects.specs.Seen.{Showing, seen, shown_to, shown_line, sees}
-use Rattle.irc_effects.specs.Lemmas.Rows.{not_true}
-use Rattle.irc_effects.specs.Lemmas.AllSeen.{nicks, IsLined, all_seen}
+use Rattle.irc_room_tables.specs.Seen.{Showing, seen, shown_to, shown_line, sees}
+use Rattle.irc_room_tables.specs.Lemmas.Rows.{not_true}
+use Rattle.irc_room_tables.specs.Lemmas.AllSeen.{nicks, IsLined, all_seen}
 
 no_line : (line : Option (List ℕ)) → is_some line ≡ false → line ≡ None
 no_line None none = refl

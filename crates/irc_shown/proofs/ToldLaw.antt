@@ -11,14 +11,14 @@ use Rattle.irc_names.specs.Tables.{Table, fold_cmp, row}
 use Rattle.irc_tables.specs.Lemmas.OrderedEntries.{find-there, sorted-below}
 use Rattle.irc_users.specs.declared.user.User.{User}
 use Rattle.irc_users.specs.UserTable.{is_home}
-use Rattle.irc_effects.specs.declared.effect.Effect.{Effect}
-use Rattle.irc_effects.specs.Room.{Room}
-use Rattle.irc_effects.specs.Effects.{is_idle}
-use Rattle.irc_effects.specs.Seen.{Showing, seen, shown_to, shown_line, sees}
-use Rattle.irc_effects.specs.Applying.{Kept, is_own, handed}
+use Rattle.irc_room_tables.specs.effect.Effect.{Effect}
+use Rattle.irc_room_tables.specs.Room.{Room}
+use Rattle.irc_room_tables.specs.Effects.{is_idle}
+use Rattle.irc_room_tables.specs.Seen.{Showing, seen, shown_to, shown_line, sees}
+use Rattle.irc_room_tables.specs.Applying.{Kept, is_own, handed}
 use Rattle.irc_shown.specs.Loops.LineViews.{ShowsAt}
 use Rattle.irc_shown.specs.Loops.Telling.{shown_at}
-use Rattle.irc_effects.specs.Found.{AreNamed}
+use Rattle.irc_room_tables.specs.Found.{AreNamed}
 use Rattle.irc_shown.specs.Loops.Viewing.{own_nick, line_for_own, viewers}
 
 true_is : (b : Bool) → T b → b ≡ true

@@ -17,12 +17,12 @@ use Rattle.irc_channels.specs.declared.channel.Channel.{Channel}
 use Rattle.irc_channels.specs.declared.flags.Flags.{Flags}
 use Rattle.irc_channels.specs.Channels.{has_member}
 use Rattle.irc_channels.specs.ChannelTable.{members_in}
-use Rattle.irc_effects.specs.Found.{AreNamed}
+use Rattle.irc_room_tables.specs.Found.{AreNamed}
 use Rattle.irc_room_tables.specs.Indexes.{joins_both}
-use Rattle.irc_effects.specs.Found.{users_who, users_under}
+use Rattle.irc_room_tables.specs.Found.{users_who, users_under}
 use Rattle.irc_shown.specs.Loops.Viewing.{Gains}
-use Rattle.irc_effects.specs.Lemmas.Rows.{found_also}
-use Rattle.irc_effects.specs.Lemmas.FoundInTurn.{entries_choose, table_chooses, fold_of, one_chosen}
+use Rattle.irc_room_tables.specs.Lemmas.Rows.{found_also}
+use Rattle.irc_room_tables.specs.Lemmas.FoundInTurn.{entries_choose, table_chooses, fold_of, one_chosen}
 
 -- ---- names put into a table
 

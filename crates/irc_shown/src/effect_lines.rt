@@ -3,15 +3,14 @@ ghost use Rattle.std.specs.Prelude.{◌≡◌, is_some};
 ghost use Rattle.irc_users.specs.declared.user.User.{User};
 ghost use Rattle.irc_shown.specs.Loops.LineViews.{line_if};
 ghost use Rattle.irc_shown.specs.Loops.LineViews.{IsByUser, IsOfUsers, ShowsAll, ShowsAt};
-ghost use Rattle.irc_effects.specs.Seen.{shown_line};
+ghost use Rattle.irc_room_tables.specs.Seen.{shown_line};
 
-use irc_effects::Effect;
 use crate::lines::{
     invite_line, join_line, kick_line, mode_line, nick_line, part_line, quit_line, say_line,
     topic_line, user_mode_line,
 };
-use irc_room_tables::Tables;
 use irc_line::Text;
+use irc_room_tables::{Effect, Tables};
 
 /// Writes the line that an effect on a room shows at the server of this name to those who see it, where it shows one. Here and below: tells
 /// whether it did.

@@ -6,9 +6,9 @@ ghost use Rattle.irc_line.specs.PartViews.{sender, words_now};
 ghost use Rattle.irc_shown.specs.Loops.LineViews.{invisible_word, mode_params, mode_parts, say_command, Writes};
 
 use crate::mode_letters::push_changes;
-use irc_room_tables::Tables;
 use irc_line::{Parts, Prefix, Text, push_cut, push_prefix, write_message};
 use irc_modes::ModeChange;
+use irc_room_tables::Tables;
 
 /// Writes the line with these tables, if there is somebody who sends it. Here and below: tells whether it did.
 fn write_line(

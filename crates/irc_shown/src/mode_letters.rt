@@ -5,12 +5,12 @@ ghost use Rattle.irc_line.specs.Bytes.{cut};
 ghost use Rattle.irc_line.specs.Limits.{max_line};
 ghost use Rattle.irc_line.specs.Messages.{middle_text};
 ghost use Rattle.irc_line.specs.MessageViews.{optional_now};
-ghost use Rattle.irc_effects.specs.Seen.{changes_text, written_word, written_words};
+ghost use Rattle.irc_room_tables.specs.Seen.{changes_text, written_word, written_words};
 
-use irc_room_tables::Tables;
 use irc_line::{Text, push_cut};
 use irc_mode_words::{push_letters, push_parameter};
 use irc_modes::ModeChange;
+use irc_room_tables::Tables;
 
 /// Appends the letters of changes, and then the parameter of each behind a space.
 pub fn push_changes(tables: &Tables, line: &mut Text, changes: &[ModeChange])

@@ -1,17 +1,15 @@
 //! What an effect shows to the users of one server.
 ghost use Rattle.std.specs.Prelude.{◌≡◌, [], false, ◌++◌, OnOk};
-ghost use Rattle.irc_effects.specs.Applying.{pairs_of};
-ghost use Rattle.irc_effects.specs.Effects.{is_idle};
-ghost use Rattle.irc_effects.specs.Readers.{users_now};
+ghost use Rattle.irc_room_tables.specs.Applying.{pairs_of};
+ghost use Rattle.irc_room_tables.specs.Effects.{is_idle};
+ghost use Rattle.irc_room_tables.specs.Readers.{users_now};
 ghost use Rattle.irc_shown.specs.Loops.Viewing.{own_nick, own_nicks, own_viewers};
 ghost use Rattle.irc_shown.specs.Loops.Telling.{shown_at};
 
-use irc_effects::Effect;
 use crate::effect_lines::effect_line;
-use irc_effects::ShownLine;
-use irc_room_tables::Tables;
 use crate::viewers::viewers;
 use irc_names::Nick;
+use irc_room_tables::{Effect, ShownLine, Tables};
 use irc_users::User;
 use std::alloc::{AllocError, Global};
 

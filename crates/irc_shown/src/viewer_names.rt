@@ -1,13 +1,11 @@
 //! Who sees an effect, on whichever server.
 ghost use Rattle.std.specs.Prelude.{◌≡◌, IfOk, map};
-ghost use Rattle.irc_effects.specs.Readers.{nicks_in, viewers_of};
+ghost use Rattle.irc_room_tables.specs.Readers.{nicks_in, viewers_of};
 
-use irc_effects::Effect;
 use crate::effect_lines::has_line;
-use irc_room_tables::is_idle;
-use irc_room_tables::Tables;
 use crate::viewers::{members, viewers};
 use irc_names::{ChannelName, Nick};
+use irc_room_tables::{Effect, Tables, is_idle};
 use irc_users::User;
 use std::alloc::{AllocError, Global};
 

@@ -12,8 +12,8 @@ use Rattle.ircd.specs.Loops.Turns.{IsOfFile, TakesTurns}
 use Rattle.ircd.specs.Serving.{IsCutShort, IsOpened, IsReadSetup, IsTextOf, Serves, ServesFile, ServesText}
 use Rattle.ircd.specs.Serving.IsCutShort.{printing, unprinted}
 use Rattle.irc_endings.specs.Ready.{ready_text}
-use Rattle.irc_script.specs.Sinks.{Wrote, sink}
-use Rattle.irc_script.specs.Lemmas.Sinking.{all_lost}
+use Rattle.irc_endings.specs.Sinks.{Wrote, sink}
+use Rattle.irc_endings.specs.ScriptLemmas.Sinking.{all_lost}
 
 -- nothing written is a front
 pub tells_nothing : (held : Option (List ℕ)) (text : List ℕ) → Wrote held held text

@@ -1,9 +1,9 @@
 -- How the program ends a run.
 use Rattle.std.specs.Prelude.{◌≡◌, ℕ, Option, Some, None, Result, List, String}
 use Rattle.std.specs.declared.alloc.Global.{Global}
-use Rattle.irc_script.specs.declared.fault.SimFault.{SimFault}
-use Rattle.irc_script.specs.Runs.{Ran}
-use Rattle.irc_script.specs.Sinks.{Wrote}
+use Rattle.irc_endings.specs.script_fault.SimFault.{SimFault}
+use Rattle.irc_endings.specs.Runs.{Ran}
+use Rattle.irc_endings.specs.Sinks.{Wrote}
 use Rattle.irc_endings.specs.declared.fault.Stop.{Stop}
 use Rattle.irc_endings.specs.declared.fault.Stop.TheVariants.{Usage}
 use Rattle.irc_endings.specs.Statuses.{ending_of, ending_text, exit_status, stop_line}

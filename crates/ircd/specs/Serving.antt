@@ -18,7 +18,7 @@ use Rattle.irc_sockets.specs.Listening.{ListensAt}
 use Rattle.irc_endings.specs.declared.fault.Stop.{Stop}
 use Rattle.irc_endings.specs.declared.fault.Stop.TheVariants.{Usage, BadScript, BadConfiguration, Failed}
 use Rattle.ircd.specs.declared.setup.Setup.{Setup}
-use Rattle.irc_script.specs.Sinks.{Wrote}
+use Rattle.irc_endings.specs.Sinks.{Wrote}
 use Rattle.irc_endings.specs.Ready.{ready_text}
 use Rattle.irc_endings.specs.Statuses.{ending_text, exit_status}
 

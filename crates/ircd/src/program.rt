@@ -5,8 +5,7 @@ ghost use Rattle.ircd.specs.Endings.{AsksForRun, AsksNothing, EndsRunOn, EndsSer
 ghost use Rattle.irc_endings.specs.Statuses.{ending_of, status_of};
 
 use crate::serve::serve;
-use irc_endings::{Stop, Task, end_with, stop_with};
-use irc_script::{SimFault, run_sim};
+use irc_endings::{SimFault, Stop, Task, end_with, run_sim, stop_with};
 use std::alloc::Global;
 use std::fs::Files;
 use std::io::{Read, Write};

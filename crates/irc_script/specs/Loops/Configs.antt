@@ -4,9 +4,9 @@ use Rattle.std.specs.List.{AllByRecursion}
 use Rattle.std.specs.declared.alloc.Global.{Global}
 use Rattle.irc_net.specs.Making.{config_name}
 use Rattle.irc_relay.specs.Links.{Name}
-use Rattle.irc_server.specs.declared.config.Config.{Config}
-use Rattle.irc_stage.specs.declared.peer.Peer.{Peer}
-use Rattle.irc_stage.specs.View.{known_peer}
+use Rattle.irc_net.specs.config.Config.{Config}
+use Rattle.irc_net.specs.peer.Peer.{Peer}
+use Rattle.irc_net.specs.View.{known_peer}
 use Rattle.irc_script.specs.Networks.{peer_of, peers_for}
 
 -- a configuration is that of one of these servers

@@ -3,10 +3,10 @@ use Rattle.std.specs.Prelude.{◌≡◌, ℕ, Bool, if◌then◌else◌, Option,
 use Rattle.std.specs.List.{flat_map}
 use Rattle.arrayvec.specs.ArrayVec.{ArrayVec}
 use denote.Ref.{Bor}
-use Rattle.irc_byte_network.specs.ByteNetwork.{ByteNetwork}
+use Rattle.irc_net.specs.ByteNetwork.{ByteNetwork}
 use Rattle.irc_net.specs.declared.fault.NetFault.{NetFault}
-use Rattle.irc_network.specs.declared.receipt.Receipt.{Receipt}
-use Rattle.irc_network.specs.Views.{receipt_of, receipts_of}
+use Rattle.irc_net.specs.receipt.Receipt.{Receipt}
+use Rattle.irc_net.specs.NetworkViews.{receipt_of, receipts_of}
 use Rattle.irc_script.specs.declared.commands.Command.{Command}
 use Rattle.irc_script.specs.declared.script_run.ScriptRun.{ScriptRun}
 use Rattle.irc_script.specs.declared.fault.Trouble.{Trouble}

@@ -6,11 +6,11 @@ use Rattle.irc_line.specs.Messages.{Sender, Written}
 use Rattle.irc_line.specs.declared.writing.Prefix.{Prefix}
 use Rattle.irc_line.specs.PartViews.{sender}
 use Rattle.irc_modes.specs.declared.modes.ModeChange.{ModeChange}
-use Rattle.irc_effects.specs.Room.{Room}
-use Rattle.irc_effects.specs.Seen.{changes_words, line_from, shown_line}
+use Rattle.irc_room_tables.specs.Room.{Room}
+use Rattle.irc_room_tables.specs.Seen.{changes_words, line_from, shown_line}
 use Rattle.irc_users.specs.declared.user.User.{User}
-use Rattle.irc_effects.specs.declared.effect.Effect.{Effect}
-use Rattle.irc_effects.specs.declared.effect.Effect.TheVariants.{Join, Part, Kick, ChangeModes, SetTopic, Invite}
+use Rattle.irc_room_tables.specs.effect.Effect.{Effect}
+use Rattle.irc_room_tables.specs.effect.Effect.TheVariants.{Join, Part, Kick, ChangeModes, SetTopic, Invite}
 
 -- the bytes of a line, if it was written
 abbrev pub line_if : Bool → ArrayVec ℕ → Option (List ℕ)

@@ -13,14 +13,14 @@ use Rattle.irc_users.specs.declared.user.User.{User}
 use Rattle.irc_channels.specs.declared.channel.Channel.{Channel}
 use Rattle.irc_channels.specs.declared.flags.Flags.{Flags}
 use Rattle.irc_channels.specs.Channels.{has_member}
-use Rattle.irc_effects.specs.declared.effect.Effect.{Effect}
-use Rattle.irc_effects.specs.declared.effect.Target.{Target}
-use Rattle.irc_effects.specs.declared.effect.Target.TheVariants as target
-use Rattle.irc_effects.specs.Effects.{is_member}
+use Rattle.irc_room_tables.specs.effect.Effect.{Effect}
+use Rattle.irc_room_tables.specs.effect.Target.{Target}
+use Rattle.irc_room_tables.specs.effect.Target.TheVariants as target
+use Rattle.irc_room_tables.specs.Effects.{is_member}
 use Rattle.irc_room_tables.specs.Indexes.{holds, joins_both}
-use Rattle.irc_effects.specs.Found.{users_who, users_under}
-use Rattle.irc_effects.specs.Room.{Room}
-use Rattle.irc_effects.specs.Seen.{sees, share_channel}
+use Rattle.irc_room_tables.specs.Found.{users_who, users_under}
+use Rattle.irc_room_tables.specs.Room.{Room}
+use Rattle.irc_room_tables.specs.Seen.{sees, share_channel}
 
 -- those that see an effect
 abbrev pub viewers : Room → Effect → List User

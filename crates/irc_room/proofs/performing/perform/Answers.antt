@@ -1,7 +1,7 @@
 use Rattle.std.proofs.Common.{◌∙◌, ap, map, sym}
-use Rattle.irc_effects.specs.Room.{Room}
-use Rattle.irc_effects.specs.Lemmas.IdleLaw.{idle_changes_nothing}
-use Rattle.irc_effects.specs.Lemmas.Rows.{not_true}
+use Rattle.irc_shown.specs.Room.{Room}
+use Rattle.irc_shown.specs.Lemmas.IdleLaw.{idle_changes_nothing}
+use Rattle.irc_shown.specs.Lemmas.Rows.{not_true}
 use Rattle.irc_shown.proofs.ToldLaw.{idle_tells_nothing}
 use Rattle.irc_room.proofs.performing.perform.Goals as goal
 

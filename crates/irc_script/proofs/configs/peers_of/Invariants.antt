@@ -1,5 +1,5 @@
 use Rattle.std.proofs.Common.{◌≡◌, map, take}
-use Rattle.irc_stage.specs.View.{known_peer}
+use Rattle.irc_net.specs.View.{known_peer}
 use Rattle.irc_script.specs.Networks.{peers_for}
 use Rattle.irc_script.proofs.configs.peers_of.Given as goal
 

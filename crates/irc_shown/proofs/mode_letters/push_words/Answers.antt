@@ -2,7 +2,7 @@ use Rattle.std.proofs.Common.{[], ◌++◌, ◌∙◌, ap, refl, option_to_list,
 use Rattle.irc_line.specs.Bytes.{cut}
 use Rattle.irc_line.specs.Messages.{middle_text}
 use Rattle.irc_modes.specs.declared.modes.ModeChange.{ModeChange}
-use Rattle.irc_effects.specs.Seen.{written_word}
+use Rattle.irc_room_tables.specs.Seen.{written_word}
 use Rattle.irc_line.specs.Lemmas.CutPieces.{piece_on}
 use Rattle.irc_mode_words.specs.Lemmas.ModePieces.{words_next, words_done}
 use Rattle.irc_shown.proofs.mode_letters.push_words.Goals as goal

@@ -3,7 +3,7 @@ use Rattle.std.specs.List.{filter_map}
 use Rattle.irc_line.specs.Bytes.{cut}
 use Rattle.irc_line.specs.Limits.{max_line}
 use Rattle.irc_line.specs.Messages.{middle_text}
-use Rattle.irc_effects.specs.Seen.{written_word}
+use Rattle.irc_room_tables.specs.Seen.{written_word}
 use Rattle.irc_shown.proofs.mode_letters.push_words.Given as goal
 
 abbrev pub invariant-loop-change : goal.invariant-loop-change

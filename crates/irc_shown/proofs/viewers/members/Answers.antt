@@ -3,10 +3,10 @@ use Rattle.irc_names.specs.Fold.{key}
 use Rattle.irc_names.specs.Tables.{row}
 use Rattle.irc_tables.specs.RowViews.{row_entry}
 use Rattle.irc_channels.specs.ChannelTable.{members_in}
-use Rattle.irc_effects.specs.Effects.{is_member}
-use Rattle.irc_effects.specs.Found.{users_who}
-use Rattle.irc_effects.specs.Room.{Room}
-use Rattle.irc_effects.specs.Lemmas.Rows.{found_also}
+use Rattle.irc_room_tables.specs.Effects.{is_member}
+use Rattle.irc_room_tables.specs.Found.{users_who}
+use Rattle.irc_room_tables.specs.Room.{Room}
+use Rattle.irc_room_tables.specs.Lemmas.Rows.{found_also}
 use Rattle.irc_shown.proofs.WhoSees.{members_chosen}
 use Rattle.irc_shown.proofs.viewers.members.Goals as goal
 

@@ -3,7 +3,7 @@ use Rattle.std.specs.List.{list_any}
 use Rattle.std.specs.FinMap.{values}
 use Rattle.irc_names.specs.Fold.{key}
 use Rattle.irc_room_tables.specs.Indexes.{joins_both}
-use Rattle.irc_effects.specs.Room.{Room}
+use Rattle.irc_room_tables.specs.Room.{Room}
 use Rattle.irc_shown.proofs.WhoSees.{sharers_among}
 use Rattle.irc_shown.proofs.viewers.names_sharing.Goals as goal
 

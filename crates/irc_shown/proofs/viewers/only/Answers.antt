@@ -1,9 +1,9 @@
 use Rattle.std.proofs.Common.{◌∙◌, ap, map, ◌++◌, option_to_list}
 use Rattle.irc_names.specs.Fold.{key, same}
 use Rattle.irc_names.specs.Tables.{row}
-use Rattle.irc_effects.specs.Found.{users_who}
-use Rattle.irc_effects.specs.Room.{Room}
-use Rattle.irc_effects.specs.Lemmas.FoundInTurn.{one_chosen}
+use Rattle.irc_room_tables.specs.Found.{users_who}
+use Rattle.irc_room_tables.specs.Room.{Room}
+use Rattle.irc_room_tables.specs.Lemmas.FoundInTurn.{one_chosen}
 use Rattle.irc_shown.proofs.viewers.only.Goals as goal
 
 pub returns : goal.returns

@@ -1,7 +1,7 @@
 use Rattle.std.proofs.Common.{◌∙◌, ap, map, not, filter}
 use Rattle.std.specs.FinMap.{values}
 use Rattle.irc_names.specs.Fold.{same}
-use Rattle.irc_effects.specs.Effects.{is_member}
+use Rattle.irc_room_tables.specs.Effects.{is_member}
 use Rattle.irc_shown.proofs.WhoSees.{chosen_now, chosen_twice}
 use Rattle.irc_shown.proofs.viewers.others.Goals as goal
 

@@ -1,9 +1,9 @@
 use Rattle.std.proofs.Common.{◌∙◌, ap, map, subst}
 use Rattle.irc_tables.specs.RowViews.{row_entry}
-use Rattle.irc_effects.specs.Found.{AreNamed}
-use Rattle.irc_effects.specs.Found.{users_under}
-use Rattle.irc_effects.specs.Room.{Room}
-use Rattle.irc_effects.specs.Lemmas.Rows.{found_also}
+use Rattle.irc_room_tables.specs.Found.{AreNamed}
+use Rattle.irc_room_tables.specs.Found.{users_under}
+use Rattle.irc_room_tables.specs.Room.{Room}
+use Rattle.irc_room_tables.specs.Lemmas.Rows.{found_also}
 use Rattle.irc_shown.proofs.WhoSees.{names_chosen, all_but_one}
 use Rattle.irc_shown.proofs.viewers.sharers.Goals as goal
 

@@ -1,6 +1,6 @@
 use Rattle.std.proofs.Common.{◌≡◌, map, take}
 use Rattle.irc_tables.specs.RowViews.{row_entry}
-use Rattle.irc_effects.specs.Found.{users_under}
+use Rattle.irc_room_tables.specs.Found.{users_under}
 use Rattle.irc_shown.proofs.viewers.users_of.Given as goal
 
 abbrev pub invariant-loop-row : goal.invariant-loop-row

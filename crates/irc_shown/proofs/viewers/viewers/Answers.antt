@@ -1,13 +1,13 @@
 use Rattle.std.specs.Prelude.{IfOk}
 use Rattle.std.proofs.Common.{◌≡◌, ◌∙◌, ℕ, Bool, List, refl, sym, ap, map, subst}
 use Rattle.irc_shown.specs.Loops.Viewing.{hears_text}
-use Rattle.irc_effects.specs.Found.{users_who}
+use Rattle.irc_room_tables.specs.Found.{users_who}
 use Rattle.arrayvec.specs.ArrayVec.{ArrayVec}
-use Rattle.irc_effects.specs.declared.effect.Target.{Target}
-use Rattle.irc_effects.specs.declared.effect.Target.TheVariants as target
-use Rattle.irc_effects.specs.declared.effect.Effect.TheVariants.{Say}
-use Rattle.irc_effects.specs.Room.{Room}
-use Rattle.irc_effects.specs.Seen.{sees}
+use Rattle.irc_room_tables.specs.effect.Target.{Target}
+use Rattle.irc_room_tables.specs.effect.Target.TheVariants as target
+use Rattle.irc_room_tables.specs.effect.Effect.TheVariants.{Say}
+use Rattle.irc_room_tables.specs.Room.{Room}
+use Rattle.irc_room_tables.specs.Seen.{sees}
 use Rattle.irc_shown.proofs.WhoSees.{nobody_chosen}
 use Rattle.irc_shown.proofs.viewers.viewers.Goals as goal
 

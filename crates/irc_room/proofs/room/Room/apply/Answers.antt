@@ -1,12 +1,12 @@
 use Rattle.std.proofs.Common.{◌∙◌, ap, sym, refl}
-use Rattle.irc_effects.specs.Applying.{Kept, room_fault, shown_here}
-use Rattle.irc_effects.specs.Effects.{brings_free, is_idle}
-use Rattle.irc_effects.specs.Room.{Room}
+use Rattle.irc_shown.specs.Applying.{Kept, room_fault, shown_here}
+use Rattle.irc_shown.specs.Effects.{brings_free, is_idle}
+use Rattle.irc_shown.specs.Room.{Room}
 use Rattle.irc_room.specs.Loops.HomeCount.{home_count}
 use Rattle.irc_shown.specs.Loops.Telling.{shown_at}
 use Rattle.irc_room.proofs.CountedUsers.{still_counted}
 use Rattle.irc_room.proofs.Refusals.{refused, served, kept_changed, kept_refused, idle_stays, not_done}
-use Rattle.irc_effects.specs.Lemmas.Rows.{not_none}
+use Rattle.irc_shown.specs.Lemmas.Rows.{not_none}
 use Rattle.irc_room.proofs.room.Room.apply.Goals as goal
 
 pub returns-in-Some-clause-applied : goal.returns-in-Some-clause-applied

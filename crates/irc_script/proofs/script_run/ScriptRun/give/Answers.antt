@@ -1,4 +1,4 @@
-use Rattle.irc_network.specs.Views.{item_of}
+use Rattle.irc_net.specs.NetworkViews.{item_of}
 use Rattle.irc_script.proofs.Moving.{given_played, refusal_played}
 use Rattle.irc_script.proofs.Playing.{put_as}
 use Rattle.irc_script.proofs.script_run.ScriptRun.give.Goals as goal
