@@ -1,4 +1,5 @@
 -- Lemmas, with their proofs, that the crates above cite too. No rule stands here.
+pub mod FewChanges
 pub mod FewRead
 pub mod LetterReading
 pub mod ModePieces
