@@ -1,3 +1,4 @@
 -- Words of this crate's code alone. No rule stands here.
-pub mod Numbered
 pub mod Branching
+pub mod Handshakes
+pub mod Numbered

@@ -1,7 +1,7 @@
 //! The ends of a server's links. What an end knows of the other, by the two lines with which that begins (RFC 2813 section 4.1):
 //!
 //! ```text
-//! fresh  --- PASS --->  password known  --- SERVER --->  met: the link counts
+//! Fresh  --- PASS --->  PasswordKnown  --- SERVER --->  Met: the link counts
 //! ```
 //!
 //! The end that calls writes its own two as the link is opened, and the end that is called as that SERVER comes. Until a link counts, an empty line is
@@ -9,26 +9,44 @@
 ghost use Rattle.std.specs.Prelude.{◌≡◌, Some};
 ghost use Rattle.std.specs.Option.{option_copied};
 ghost use Rattle.irc_links.specs.Ends.{fresh_end, is_met};
+ghost use Rattle.irc_links.specs.Loops.Handshakes.{far_in, password_in};
 
 use irc_handshake::Password;
 use irc_names::ServerName;
 use std::marker::Model;
+use std::mem;
+
+/// How far the handshake has come: the picture above.
+#[derive(Drop)]
+enum Handshake {
+    /// Nothing has come.
+    Fresh,
+    /// PASS has come, with this password.
+    PasswordKnown(Password),
+    /// SERVER has come: the link counts.
+    Met {
+        /// The password that was given, if any was.
+        password: Option<Password>,
+        /// The server that has named itself.
+        far: ServerName,
+    },
+}
 
 /// One end of an open link (RFC 2813 section 4.1).
 #[derive(Drop)]
 pub struct LinkEnd {
     starts: Option<ServerName>,
-    password: Option<Password>,
-    far: Option<ServerName>,
+    handshake: Handshake,
 }
 
 /// In a clause it is what this end knows of the other.
 impl Model for LinkEnd {
     ghost use Rattle.irc_links.specs.Ends.{End};
+    ghost use Rattle.irc_links.specs.Loops.Handshakes.{far_in, password_in};
 
     ghost Value = { End };
 
-    ghost view = { λ e. record { starts = e.starts; password = e.password; far = e.far } };
+    ghost view = { λ e. record { starts = e.starts; password = password_in e.handshake; far = far_in e.handshake } };
 }
 
 impl LinkEnd {
@@ -38,8 +56,7 @@ impl LinkEnd {
     {
         LinkEnd {
             starts,
-            password: None,
-            far: None,
+            handshake: Handshake::Fresh,
         }
     }
 
@@ -54,34 +71,72 @@ impl LinkEnd {
     pub fn password(&self) -> Option<&Password>
         ensures { option_copied result ≡ self.now.password }
     {
-        self.password.as_ref()
+        match &self.handshake {
+            Handshake::Fresh => None,
+            Handshake::PasswordKnown(password) => Some(password),
+            Handshake::Met { password, .. } => password.as_ref(),
+        }
     }
 
     /// The server at the other end, once it has named itself.
     pub fn far(&self) -> Option<&ServerName>
         ensures { option_copied result ≡ self.now.far }
     {
-        self.far.as_ref()
+        match &self.handshake {
+            Handshake::Met { far, .. } => Some(far),
+            _ => None,
+        }
     }
 
     /// Whether the server at the other end has named itself: from then on the link counts.
     pub fn is_met(&self) -> bool
         ensures { result ≡ is_met self.now }
     {
-        self.far.is_some()
+        matches!(self.handshake, Handshake::Met { .. })
     }
 
     /// The other end has given this password.
     pub fn take_password(&mut self, password: Password)
         ensures { self.new ≡ record self.old { password = Some password } }
     {
-        self.password = Some(password);
+        let before = mem::replace(&mut self.handshake, Handshake::Fresh);
+        self.handshake = before.with_password(password);
     }
 
     /// The server at the other end has named itself so.
     pub fn meet(&mut self, name: ServerName)
         ensures { self.new ≡ record self.old { far = Some name } }
     {
-        self.far = Some(name);
+        let before = mem::replace(&mut self.handshake, Handshake::Fresh);
+        self.handshake = before.with_far(name);
+    }
+}
+
+impl Handshake {
+    /// PASS comes.
+    fn with_password(self, password: Password) -> Self
+        ensures password { password_in result ≡ Some password }
+        ensures far { far_in result ≡ far_in self }
+    {
+        match self {
+            Handshake::Met { far, .. } => Handshake::Met {
+                password: Some(password),
+                far,
+            },
+            _ => Handshake::PasswordKnown(password),
+        }
+    }
+
+    /// SERVER comes.
+    fn with_far(self, far: ServerName) -> Self
+        ensures password { password_in result ≡ password_in self }
+        ensures far { far_in result ≡ Some far }
+    {
+        let password = match self {
+            Handshake::Fresh => None,
+            Handshake::PasswordKnown(password) => Some(password),
+            Handshake::Met { password, .. } => password,
+        };
+        Handshake::Met { password, far }
     }
 }
