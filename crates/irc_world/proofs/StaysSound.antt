@@ -386,11 +386,11 @@ module _ (tests : TestsTell) (between : LinkBetweenParts) (taken_out : LinkTaken
   step_stays_sound settings world (cut near far) sound is =
       parted_sound settings world near far sound taken_out over_link split_well (link_there tests settings world near far is)
 
-  items_stay_sound : (settings : List Setting) (items : List Item) (world : World) → IsSound settings world → AreTaken settings world items
-      → IsSound settings (after_items settings world items)
-  items_stay_sound settings [] world sound taken = sound
-  items_stay_sound settings (item ∷ items) world sound taken =
-      items_stay_sound settings items (step settings world item).world (step_stays_sound settings world item sound taken.now) taken.later
+items_stay_sound : StepStaysSound → (settings : List Setting) (items : List Item) (world : World) → IsSound settings world → AreTaken settings world items
+    → IsSound settings (after_items settings world items)
+items_stay_sound stays settings [] world sound taken = sound
+items_stay_sound stays settings (item ∷ items) world sound taken =
+    items_stay_sound stays settings items (step settings world item).world (stays settings world item sound taken.now) taken.later
 
-  pub world_is_sound : WorldIsSound
-  world_is_sound settings items taken = items_stay_sound settings items new_world (new_world_is_sound settings) taken
+pub world_is_sound : StepStaysSound → WorldIsSound
+world_is_sound stays settings items taken = items_stay_sound stays settings items new_world (new_world_is_sound settings) taken

@@ -38,14 +38,7 @@ pub fn step_stays_sound()
 pub fn world_is_sound()
     ensures { WorldIsSound }
 {
-    irc_relay::laws_of_forests::tests_tell();
-    irc_relay::laws_of_forests::link_between_parts();
-    irc_relay::laws_of_forests::link_taken_out();
-    irc_relay::laws_of_forests::joined_over_link();
-    irc_commands::laws::decided_is_possible();
-    irc_commands::laws::registering_is_possible();
-    irc_merge::laws::merge_is_well_formed();
-    irc_merge::laws::split_is_well_formed();
+    step_stays_sound();
 }
 
 /// A network of one server is that server: an item that is not refused is one that the server takes, it does the same to both, and each client receives the
@@ -196,13 +189,7 @@ pub fn step_keeps_matched()
     irc_relay::laws_of_forests::tests_tell();
     irc_relay::laws_of_forests::link_taken_out();
     irc_relay::laws_of_forests::joined_over_link();
-    irc_commands::laws::decided_is_possible();
-    irc_commands::laws::who_stays_is_user();
-    irc_commands::laws::who_is_closed_quits();
-    irc_commands::laws::registering_is_possible();
-    irc_commands::laws::registered_is_added();
-    irc_commands::laws::unregistered_changes_nothing();
-    irc_commands::laws::registered_stays();
+    irc_server::laws::users_come_and_go();
 }
 
 /// After any items of which none is refused, each registered client is a user of its part whose home is that client's, no two clients are one user,

@@ -2,6 +2,4 @@ use Rattle.irc_world.proofs.StaysSound.{world_is_sound}
 use Rattle.irc_world.proofs.laws.world_is_sound.Goals as goal
 
 pub returns : goal.returns
-returns c =
-    world_is_sound c.tests_tell.ensures c.link_between_parts.ensures c.link_taken_out.ensures c.joined_over_link.ensures c.decided_is_possible.ensures
-    c.registering_is_possible.ensures c.merge_is_well_formed.ensures c.split_is_well_formed.ensures
+returns c = world_is_sound c.step_stays_sound.ensures
