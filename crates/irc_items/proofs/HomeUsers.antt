@@ -27,7 +27,7 @@ use Rattle.irc_stage.specs.Handle.{clients_after, machine_after, renamed_in}
 use Rattle.irc_stage.specs.RoomMachine.{Clients, RoomMachine}
 use Rattle.irc_stage.specs.Lemmas.Numbers.{get-each}
 use Rattle.irc_world.specs.Homes.{HomesPass}
-use Rattle.irc_follow.proofs.UsersAfter.{NewPasses, pass_after}
+use Rattle.irc_world.proofs.HomesPassing.{NewPasses, pass_after}
 
 module _ (t : Name) where
   -- the user under a fold, if there is one, is of this server

@@ -25,3 +25,4 @@ pub mod BoSpeaks
 pub mod SmallWorldsProved
 pub mod LimitsHold
 pub mod RefusedAlone
+pub mod HomesPassing

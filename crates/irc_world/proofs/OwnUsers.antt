@@ -22,6 +22,7 @@ use Rattle.irc_stage.specs.declared.clients.Client.{Client}
 use Rattle.irc_stage.specs.declared.clients.Client.TheVariants.{Registering, Registered}
 use Rattle.irc_stage.specs.RoomMachine.{RoomMachine, client_of, with_client, without_client}
 use Rattle.irc_stage.specs.Handle.{Happening, connects, says, goes, Handled, handled, with_effect, stepped, all_stepped, unchanged, closing, client_after, user_decided, said_by, user_of, quits, lost_text}
+use Rattle.irc_world.proofs.HomesPassing.{NewPasses, pass_after}
 use Rattle.irc_world.specs.Homes.{HomesPass, ClientsBringOwnUsers}
 
 -- a step that is no effect adds nobody
@@ -41,56 +42,7 @@ none_added (act ∷ acts) none =
     ap (λ b. b || list_any adds_user acts) (adds_none act both.0) ∙ none_added acts both.1
 
 module _ (passes : List ℕ → Bool) where
-  abbrev AllPass : Table User → Type 0
-  AllPass users = (fold : List ℕ) (user : User) → row users fold ≡ Some user → passes user.home ≡ true
-
-  altered : (users : Table User) (fold : List ℕ) (change : Option User → Option User) → AllPass users
-      → ((user : User) → change (row users fold) ≡ Some user → passes user.home ≡ true) → AllPass (alter fold change users)
-  altered users fold change all new q user is = by (same_fold q fold) (sym (row-alter fold change users q) ∙ is)
-    where
-      by : (b : Bool) → cond b (change (row users fold)) (row users q) ≡ Some user → passes user.home ≡ true
-      by true here = new user here
-      by false here = all q user here
-
-  -- a user who is only renamed, or seen or not, has the home that it had
-  changed : (change : User → User) → ((user : User) → (change user).home ≡ user.home) → (o : Option User)
-      → ((user : User) → o ≡ Some user → passes user.home ≡ true) → (new : User) → option_map change o ≡ Some new → passes new.home ≡ true
-  changed change home None all new is = absurd (cc is)
-  changed change home (Some old) all new is =
-      ap (λ (u : User). passes u.home) (sym (same_some (change old) new is)) ∙ (ap passes (home old) ∙ all old refl)
-
-  put_elsewhere : (users : Table User) (old new nick : List ℕ) → AllPass users → (o : Option User) → row users old ≡ o
-      → AllPass (moved old new (with_nick nick) users)
-  put_elsewhere users old new nick all None here q user is = all q user (sym (row-moved_none old new (with_nick nick) users here q) ∙ is)
-  put_elsewhere users old new nick all (Some one) here q user is =
-      by (same_fold q new) (same_fold q old) (sym (row-moved old new (with_nick nick) users one here q) ∙ is)
-    where
-      by : (b c : Bool) → cond b (Some (with_nick nick one)) (cond c None (row users q)) ≡ Some user → passes user.home ≡ true
-      by true c there = ap (λ (u : User). passes u.home) (sym (same_some (with_nick nick one) user there)) ∙ all old one here
-      by false true there = absurd (cc there)
-      by false false there = all q user there
-
-  abbrev NewPasses : Effect → Type 0
-  NewPasses (AddUser user) = passes user.home ≡ true
-  NewPasses other = ⊤
-
-  effect_passes : (room : Room) (effect : Effect) → HomesPass passes room → NewPasses effect → HomesPass passes (after room effect)
-  unfolding after
-  effect_passes room (AddUser user) all new = altered room.users (key user.nick) (λ _. Some user) all
-      (λ one is. ap (λ (u : User). passes u.home) (sym (same_some user one is)) ∙ new)
-  effect_passes room (Rename nick new) all _ = put_elsewhere room.users (key nick) (key new) new all (row room.users (key nick)) refl
-  effect_passes room (Quit nick reason) all _ = altered room.users (key nick) (λ _. None) all (λ one is. absurd (cc is))
-  effect_passes room (Join nick channel op) all _ = all
-  effect_passes room (Part nick channel reason) all _ = all
-  effect_passes room (Kick by channel nick reason) all _ = all
-  effect_passes room (ChangeModes by channel changes) all _ = all
-  effect_passes room (SetTopic by channel topic) all _ = all
-  effect_passes room (Say by notice target words) all _ = all
-  effect_passes room (Invite by nick channel) all _ = all
-  effect_passes room (UserMode nick invisible) all _ = altered room.users (key nick) (option_map (with_invisible invisible)) all
-      (changed (with_invisible invisible) (λ user. refl) (row room.users (key nick)) (all (key nick)))
-
-  adds_nobody : (effect : Effect) → adds_user (Do effect) ≡ false → NewPasses effect
+  adds_nobody : (effect : Effect) → adds_user (Do effect) ≡ false → NewPasses passes effect
   adds_nobody (AddUser user) none = absurd (cc none)
   adds_nobody (Rename nick new) none = tt
   adds_nobody (Quit nick reason) none = tt
@@ -110,7 +62,7 @@ module _ (passes : List ℕ → Bool) where
   steps_pass conn name (Raw line ∷ acts) before all none = steps_pass conn name acts (stepped conn name (Raw line) before) all none
   steps_pass conn name (Do effect ∷ acts) before all none =
       let both = neither (adds_user (Do effect)) (list_any adds_user acts) none in
-      steps_pass conn name acts (with_effect effect before) (effect_passes before.machine.room effect all (adds_nobody effect both.0)) both.1
+      steps_pass conn name acts (with_effect effect before) (pass_after passes before.machine.room effect all (adds_nobody effect both.0)) both.1
 
   close_passes : (close : Bool) (conn : ℕ) (before : Handled) → HomesPass passes before.machine.room → HomesPass passes (closing close conn before).machine.room
   close_passes true conn before all = all
@@ -142,14 +94,14 @@ module _ (passes : List ℕ → Bool) where
             let first = comes machine.room machine.place pending message is in
             subst (λ acts. HomesPass passes (all_stepped conn given.pending.nick acts (unchanged now)).machine.room) (sym first.steps_are)
             (steps_pass conn given.pending.nick first.behind (with_effect (AddUser first.user) (unchanged now))
-            (effect_passes machine.room (AddUser first.user) all (ap passes first.is_home ∙ here)) (none_added first.behind first.no_more))
+            (pass_after passes machine.room (AddUser first.user) all (ap passes first.is_home ∙ here)) (none_added first.behind first.no_more))
         by false is = steps_pass conn given.pending.nick given.steps (unchanged now) all
             (none_added given.steps (stays machine.room machine.place pending message is))
     said_passes conn (Some (Registered nick)) message = user_passes conn (row machine.room.users (key nick)) message
 
     quits_pass : (nick : Option (List ℕ)) (before : Handled) → HomesPass passes before.machine.room → HomesPass passes (quits nick before).machine.room
     quits_pass None before all = all
-    quits_pass (Some nick) before all = effect_passes before.machine.room (Quit nick lost_text) all tt
+    quits_pass (Some nick) before all = pass_after passes before.machine.room (Quit nick lost_text) all tt
 
     handled_passes : (happening : Happening) → HomesPass passes (handled machine happening).machine.room
     unfolding handled
