@@ -9,7 +9,7 @@ use Rattle.irc_line.specs.Messages.{joined_text, line_text, prefix_text, prefix_
 use Rattle.irc_line.specs.Lemmas.CutLaws.{cut_all}
 use Rattle.irc_line.specs.Lemmas.Lengths.{length-joined_text, length-named}
 use Rattle.irc_names.specs.Names.{is_nick}
-use Rattle.irc_names.specs.Lemmas.RuleFacts.{nick-fits, channel-fits, server-fits}
+use Rattle.irc_rules.proofs.RuleFacts.{nick-fits, channel-fits, server-fits}
 use Rattle.irc_channels.specs.declared.flags.Flags.{Flags}
 use Rattle.irc_routes.specs.Info.{IsInfo}
 use Rattle.irc_link_words.specs.Words.{are_words}

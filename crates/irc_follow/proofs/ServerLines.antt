@@ -12,7 +12,7 @@ use Rattle.irc_line.specs.Laws.{WrittenIsRead, IsReadSoAlone}
 use Rattle.irc_line.specs.Messages.{IsPlain, Parsed, Written, joined_text, line_text, message_of, named, prefix_of, prefix_text}
 use Rattle.irc_line.specs.Reading.{read_of}
 use Rattle.irc_line.specs.Lemmas.Lengths.{length-joined_text, length-named, words_size}
-use Rattle.irc_names.specs.Lemmas.RuleFacts.{channel-fits, server-fits}
+use Rattle.irc_rules.proofs.RuleFacts.{channel-fits, server-fits}
 use Rattle.irc_names.specs.Fold.{key}
 use Rattle.irc_names.specs.Limits.{max_words}
 use Rattle.irc_names.specs.Names.{IsChannel, IsServer, is_channel, is_nick, is_server}

@@ -12,7 +12,7 @@ use Rattle.irc_line.specs.Reading.{read_of}
 use Rattle.irc_names.specs.Limits.{max_words}
 use Rattle.irc_names.specs.Names.{IsServer, is_nick, is_server}
 use Rattle.irc_names.specs.Spellings.{exactly_same}
-use Rattle.irc_names.specs.Lemmas.RuleFacts.{server-fits}
+use Rattle.irc_rules.proofs.RuleFacts.{server-fits}
 use Rattle.irc_room.specs.Laws.{NamesAreLineWords}
 use Rattle.irc_room.specs.Limits.{IsCarriedText}
 use Rattle.irc_room.specs.Lemmas.Rows.{is_some_map}

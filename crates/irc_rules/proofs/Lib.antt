@@ -1,3 +1,4 @@
 pub mod LengthsApart
 pub mod MaskSteps
 pub mod DigitSteps
+pub mod RuleFacts
