@@ -8,7 +8,6 @@ mod refusing;
 mod room;
 
 pub use irc_shown::{
-    By, Effect, ModeChanges, RoomFault, ShownLine, Target, examples as examples,
-    invitation_laws as invitation_laws, laws as laws,
+    By, Effect, ModeChanges, RoomFault, ShownLine, Target, examples, invitation_laws, laws,
 };
 pub use room::Room;

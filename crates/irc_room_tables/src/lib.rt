@@ -11,7 +11,6 @@ mod tables;
 pub use idle::is_idle;
 pub use indexed_channels::IndexedChannels;
 pub use irc_effects::{
-    By, Effect, ModeChanges, RoomFault, ShownLine, Target, examples as examples,
-    invitation_laws as invitation_laws, laws as laws,
+    By, Effect, ModeChanges, RoomFault, ShownLine, Target, examples, invitation_laws, laws,
 };
 pub use tables::Tables;

@@ -10,8 +10,8 @@ mod viewers;
 
 pub use effect_lines::effect_line;
 pub use irc_room_tables::{
-    By, Effect, IndexedChannels, ModeChanges, RoomFault, ShownLine, Tables, Target,
-    examples as examples, invitation_laws as invitation_laws, is_idle, laws as laws,
+    By, Effect, IndexedChannels, ModeChanges, RoomFault, ShownLine, Tables, Target, examples,
+    invitation_laws, is_idle, laws,
 };
 pub use mode_letters::push_changes;
 pub use showing::show;
