@@ -27,7 +27,8 @@ use Rattle.irc_line.specs.Lemmas.CutLaws.{cut_all}
 use Rattle.irc_wire.proofs.LinesBack.{by_nickname, channel_short, four_lengths, named_length, nick_short, viewer, wire_whole}
 use Rattle.irc_wire.proofs.ModesRead.{words_written}
 use Rattle.irc_wire.proofs.StoredNames.{channel_kept, channel_there}
-use Rattle.irc_wire.proofs.ModeWords.{letters_few, mode_words, worded_counted}
+use Rattle.irc_mode_words.specs.Lemmas.FewChanges.{letters_few}
+use Rattle.irc_wire.proofs.ModeWords.{mode_words, worded_counted}
 
 -- ---- lengths
 
