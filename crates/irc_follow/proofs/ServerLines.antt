@@ -51,7 +51,8 @@ use Rattle.irc_stage.specs.View.{End, View}
 use Rattle.irc_deeds.specs.Heard.{heard, of_met, opened}
 use Rattle.irc_wire.proofs.LinesBack.{carried_no_nul, command_plain, from_plain}
 use Rattle.irc_wire.proofs.ModesRead.{changes_again, changes_taken}
-use Rattle.irc_wire.proofs.ModeWords.{letters_few, mode_words, worded_counted, words_plain}
+use Rattle.irc_mode_words.specs.Lemmas.FewChanges.{letters_few}
+use Rattle.irc_wire.proofs.ModeWords.{mode_words, worded_counted, words_plain}
 use Rattle.irc_wire.proofs.NameKinds.{channel-for_channel}
 use Rattle.irc_follow.proofs.MemberLines.{AreNicks, all_nicks, members_back, members_no_nul}
 
