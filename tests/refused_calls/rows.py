@@ -87,7 +87,7 @@ def of_rooms():
     for call in ("users", "users_at a.net", "channels_of al", "member_nicks #c"):
         rows.append(("same", "hall", HALL, call))
     rows += [("same", "hall", HALL, f"audience {effect}") for effect in EFFECTS[1:]]
-    rows += [("same", "hall", HALL, f"write_line {effect}") for effect in EFFECTS if "mode" in effect and "umode" not in effect]
+    rows += [("none", "hall", HALL, f"write_line {effect}") for effect in EFFECTS if "mode" in effect and "umode" not in effect]
     told = [effect for effect in EFFECTS if "al bo" not in effect and "al ee" not in effect]
     rows += [("open", "hall", HALL, f"ways {effect}") for effect in [*told, "say al ce :hi", "invite al ce #c"]]
     rows.append(("open", "hall", HALL, "ways_met 1"))
