@@ -123,17 +123,6 @@ pub found_least : (rows : List ServerRow) (n : ℕ) → is_used_in rows n ≡ fa
 found_least rows n free from below = least_is_one rows first_token n (smallest_free_in rows) (record { free = free; from = from; below = below })
     (smallest_is_least rows)
 
-pub one_more_used : (rows : List ServerRow) (n : ℕ) → is_used_in rows n ≡ true → ((m : ℕ) → first_token ≤ m → m < n → is_used_in rows m ≡ true)
-    → (m : ℕ) → first_token ≤ m → m < n + 1 → is_used_in rows m ≡ true
-one_more_used rows n used below m from lt =
-    elim (nat_eq m n) as (λ b. nat_eq m n ≡ b → is_used_in rows m ≡ true) [
-      | true ↦ λ same. ap (is_used_in rows) ((Decides-eqb m n).0 same) ∙ used
-      | false ↦ λ other. below m from (still m n lt other)
-    ] refl
-  where
-    still : (m n : ℕ) → m < n + 1 → nat_eq m n ≡ false → m < n
-    still m n lt other = grind (arith, Decides-eqb m n)
-
 -- there are not as many servers as numbers
 pub not_all_used : (rows : List ServerRow) (n : ℕ) → first_token + length rows < n → ((m : ℕ) → first_token ≤ m → m < n → is_used_in rows m ≡ true) → ⊥
 not_all_used rows n many below =

@@ -1,13 +1,16 @@
 //! The servers that a server knows, and the numbers that stand for them on links.
 #![tactic(auto)]
 
+mod adding;
 mod fault;
 mod info;
 pub mod laws;
+mod numbers;
 mod own;
 mod routes;
 mod rows;
 mod server_row;
+mod tokens;
 
 pub use fault::RoutesFault;
 pub use info::Info;
