@@ -1,4 +1,4 @@
-pub mod Boxes
 pub mod Heads
-pub mod Renamings
-pub mod UserRows
+pub mod NumberedRows
+pub mod SeatMoves
+pub mod Seatings

@@ -1,9 +1,10 @@
--- The users of a room by nickname: a finite map whose keys are the folds of the nicknames (RFC 2812 sections 1.2.1 and 2.2).
-use Rattle.std.specs.Prelude.{ℕ, Bool, not, ◌&&◌, ◌||◌, List, nat_eq, is_some, is_none, if◌then◌else◌, refl, Option, Some, None, Result, IfOk, ◌≡◌, map}
+-- The users of a room by nickname: a finite map whose keys are the folds of the nicknames (RFC 2812 sections 1.2.1 and 2.2). Beside it their numbers.
+use Rattle.std.specs.Prelude.{ℕ, Bool, not, ◌&&◌, ◌||◌, List, nat_eq, is_some, is_none, if◌then◌else◌, refl, Option, Some, None, Result, IfOk, ◌≡◌, ◌≢◌, map}
 use Rattle.std.specs.Borrow.{Bor}
 use Rattle.std.specs.Global.{Vec}
 use Rattle.std.specs.Option.{option_map}
-use Rattle.std.specs.Coded.{Coded, code_by, coded×, coded_bool}
+use Rattle.std.specs.Coded.{Coded, code_by, coded×, coded_bool, coded_ℕ}
+use Rattle.std.specs.FinMap.{code}
 use Rattle.std.specs.Cmp.Lexicographic.{pointwise}
 use Rattle.irc_names.specs.Fold.{key, same}
 use Rattle.irc_names.specs.MaskLaws.{matches}
@@ -23,9 +24,35 @@ user_code =
     (λ p. record { nick = p.0; user = p.1.0; host = p.1.1.0; real = p.1.1.1.0; home = p.1.1.1.1.0; invisible = p.1.1.1.1.1 })
     (λ _. refl)
 
--- a user stands under the fold of its nickname
-abbrev pub entry : User → List ℕ × User
-entry user = (key user.nick, user)
+-- users by the folds of their nicknames, and by the same folds their numbers
+pub record NumberedUsers : Type 0 where
+  pub users : Table User
+  pub numbers : Table ℕ
+
+-- a table of users is stored by its names and their users
+abbrev pub users_code : Coded (Table User)
+users_code = code coded_name user_code
+
+-- users and their numbers are stored as the two tables
+abbrev pub numbered_code : Coded NumberedUsers
+numbered_code =
+    code_by (Table User × Table ℕ) (coded× users_code (code coded_name coded_ℕ)) (λ n. (n.users, n.numbers))
+    (λ p. record { users = p.0; numbers = p.1 })
+    (λ _. refl)
+
+-- a fold has a number just where it has a user, and two folds that have one number are one fold
+pub record IsNumbered (numbered : NumberedUsers) : Type 0 where
+  pub each : (fold : List ℕ) → is_some (row numbered.numbers fold) ≡ is_some (row numbered.users fold)
+  pub apart : (one other : List ℕ) (number : ℕ) → row numbered.numbers one ≡ Some number → row numbered.numbers other ≡ Some number → one ≡ other
+
+-- the user that has a number, or nothing where none has it
+pub record HasNumber (numbered : NumberedUsers) (number : ℕ) (found : Option User) : Type 0 where
+  pub theirs : (fold : List ℕ) → row numbered.numbers fold ≡ Some number → found ≡ row numbered.users fold
+  pub none : ((fold : List ℕ) → row numbered.numbers fold ≢ Some number) → found ≡ None
+
+-- every fold but that of a nickname has the number that it had
+abbrev pub OthersKeep : List ℕ → Table ℕ → Table ℕ → Type 0
+OthersKeep nick before after = (fold : List ℕ) → fold ≢ key nick → row after fold ≡ row before fold
 
 -- the user under another nickname
 abbrev pub with_nick : List ℕ → User → User
@@ -50,6 +77,10 @@ spelling_of table name = option_map (λ (user : User). user.nick) (row table (ke
 -- the user with a nickname under another
 abbrev pub moved_to : List ℕ → List ℕ → Table User → Table User
 moved_to nick new table = moved (key nick) (key new) (with_nick new) table
+
+-- the number of the user with a nickname under another
+abbrev pub number_moved : List ℕ → List ℕ → Table ℕ → Table ℕ
+number_moved nick new numbers = moved (key nick) (key new) (λ n. n) numbers
 
 -- whether another user than the one with the first nickname has the second
 abbrev pub is_taken : Table User → List ℕ → List ℕ → Bool

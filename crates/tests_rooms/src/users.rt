@@ -1,5 +1,7 @@
-//! Users by their server and by masks.
-use crate::script::{Row, Shown, Stage, append, script_holds, server, show_users, user};
+//! Users by their server, by masks and by their numbers.
+use crate::script::{
+    Row, Shown, Stage, append, append_word, nick, script_holds, server, show_users, user,
+};
 use irc_users::{UserName, Users, UsersFault};
 use std::alloc::Global;
 use std::process::Abort;
@@ -17,6 +19,29 @@ like 10.0.0.* = Alice [x
 like *.NET = Alice zed [x
 like *liddell = Alice
 like nobody =";
+
+/// `hold` notes the number of a user, `held` shows whether a user has it, and `at` who has it; `nick` gives a user another nickname, and `gone`
+/// takes one out.
+const NUMBERS: &str = "\
+user al one.net 10.0.0.1 Al =
+user bo one.net 10.0.0.2 Bo =
+hold bo =
+gone al =
+user cy one.net 10.0.0.3 Cy =
+nick bo aa =
+held aa = yes
+held cy = no
+at = aa
+gone AA =
+at =
+held cy = no";
+
+/// Users, and the number that one of them had.
+#[derive(Drop)]
+struct Held {
+    users: Users,
+    number: Option<usize>,
+}
 
 /// Shows those users that a row asks for.
 fn find(rt: &impl Abort, alloc: Global, users: &Users, row: Row<'_>, shown: &mut Shown) {
@@ -38,6 +63,48 @@ impl Stage for Users {
             _ => find(rt, alloc, self, row, shown),
         }
     }
+}
+
+/// Shows who has the number that was noted.
+fn show_at(held: &Held, shown: &mut Shown) {
+    let Some(number) = held.number else {
+        return;
+    };
+    match held.users.at(number) {
+        Some(user) => append_word(shown, b"", user.nick.as_bytes()),
+        None => {}
+    }
+}
+
+impl Stage for Held {
+    fn perform(&mut self, rt: &impl Abort, alloc: Global, row: Row<'_>, shown: &mut Shown) {
+        match row.verb {
+            "hold" => self.number = self.users.number(&nick(rt, row.first)),
+            "held" => {
+                let same = self.users.number(&nick(rt, row.first)) == self.number;
+                append_word(shown, b"", if same { b"yes" } else { b"no" });
+            }
+            "at" => show_at(self, shown),
+            "nick" => {
+                let _ = self
+                    .users
+                    .rename(&nick(rt, row.first), &nick(rt, row.second));
+            }
+            "gone" => {
+                let _ = self.users.remove(&nick(rt, row.first));
+            }
+            _ => self.users.perform(rt, alloc, row, shown),
+        }
+    }
+}
+
+#[test]
+fn a_user_keeps_its_number(rt: HostRuntime) {
+    let mut held = Held {
+        users: Users::new(rt.alloc()),
+        number: None,
+    };
+    assert!(rt; script_holds(&rt, rt.alloc(), &mut held, NUMBERS));
 }
 
 #[test]

@@ -1,12 +1,10 @@
-use Rattle.std.proofs.Common.{◌≡◌, ◌∙◌, ap, sym, length, map, arith}
-use Rattle.std.proofs.lemmas.List.{length-map}
+use Rattle.std.proofs.Common.{◌≡◌, ◌∙◌, ap, length, arith}
 use Rattle.std.specs.FinMap.{keys}
-use Rattle.irc_users.specs.Rosters.{boxed}
-use Rattle.irc_users.specs.UserTable.{entry}
-use Rattle.irc_tables.specs.Lemmas.RowsAsTable.{length-keys}
+use Rattle.irc_users.specs.UserTable.{NumberedUsers}
+use Rattle.irc_users.proofs.NumberedRows.{length-users}
 use Rattle.irc_users.proofs.users.Users.len.Goals as goal
 
 pub returns : goal.returns
 returns c =
-    let long : c.len.result ≡ length c.self.inside.rows.items = omega arith in
-    long ∙ sym (length-map c.self.inside.rows.items boxed) ∙ sym (length-keys entry (map boxed c.self.inside.rows.items) c.self.invariant.ordered) ∙ ap (λ t. length (keys t)) c.self.view_is
+    let long : c.len.result ≡ length c.self.inside.heads.items = omega arith in
+    long ∙ length-users _ _ c.self.invariant ∙ ap (λ (n : NumberedUsers). length (keys n.users)) c.self.view_is

@@ -1,15 +1,15 @@
-use Rattle.std.proofs.Common.{◌∙◌, ap, sym, subst, map}
-use Rattle.irc_tables.specs.FoldedRows.{table_of, IsInFoldedOrder}
-use Rattle.irc_users.specs.UserTable.{entry}
-use Rattle.irc_users.specs.Rosters.{boxed, head}
-use Rattle.irc_tables.specs.Lemmas.RowsAsTable.{nothing-sorted, nothing-table}
+use Rattle.std.proofs.Common.{◌∙◌, ap, Some}
+use Rattle.irc_users.specs.declared.users.Head.{Head}
+use Rattle.irc_users.specs.Rosters.{users_by, numbers_by, heads_in, sitting}
+use Rattle.irc_users.proofs.Heads.{each-empty, no_roster}
 use Rattle.irc_users.proofs.users.Users.new.Goals as goal
 
 pub invariant_of-result : goal.invariant_of-result
-invariant_of-result c = record {
-  ordered = subst (λ boxes. IsInFoldedOrder entry (map boxed boxes)) (sym c.new.ensures.items) (nothing-sorted entry);
-  beside = c.new-2.ensures.items ∙ ap (λ boxes. map head (map boxed boxes)) (sym c.new.ensures.items);
-}
+invariant_of-result c = no_roster _ _ c.new.ensures.empty c.new-2.ensures.items
 
-pub returns : goal.returns
-returns c = ap (λ boxes. table_of entry (map boxed boxes)) c.new.ensures.items ∙ nothing-table entry
+pub returns-clause-users : goal.returns-clause-users
+returns-clause-users c =
+    ap (λ heads. users_by (sitting c.new.result) (heads_in heads)) c.new-2.ensures.items ∙ each-empty (λ (h : Head). sitting c.new.result h.number)
+
+pub returns-clause-numbers : goal.returns-clause-numbers
+returns-clause-numbers c = ap (λ heads. numbers_by (heads_in heads)) c.new-2.ensures.items ∙ each-empty (λ (h : Head). Some h.number)

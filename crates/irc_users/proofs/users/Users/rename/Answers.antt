@@ -1,20 +1,30 @@
-use Rattle.std.proofs.Common.{◌≡◌, ◌∙◌, ap, sym, map, false, Some}
-use Rattle.irc_names.specs.Tables.{moved}
-use Rattle.irc_names.specs.Fold.{key}
-use Rattle.irc_tables.specs.FoldedRows.{table_of}
-use Rattle.irc_users.specs.UserTable.{entry, is_taken, with_nick}
-use Rattle.irc_users.specs.Rosters.{boxed}
-use Rattle.irc_users.proofs.Heads.{of_slice}
-use Rattle.irc_users.proofs.Renamings.{free_then, moved_in_steps}
+use Rattle.std.proofs.Common.{◌≡◌, ◌∙◌, ap, sym, rules, true, cond, not, Some, None}
+use Rattle.std.specs.Result.{result_err}
+use Rattle.irc_users.specs.declared.fault.RenameFault.TheVariants.{NoSuchUser}
+use Rattle.irc_users.specs.UserTable.{NumberedUsers, is_taken, rename_fault}
+use Rattle.irc_users.proofs.SeatMoves.{fault_so, taken_so}
 use Rattle.irc_users.proofs.users.Users.rename.Goals as goal
+use Rattle.irc_users.proofs.users.Users.rename.Goals.{then-respell, else-respell}
 
-pub put_back-requires-clause-free : goal.put_back-requires-clause-free
-put_back-requires-clause-free c =
-    let free : is_taken (table_of entry (map boxed c.self.inside.rows.items)) c.args.nick.now c.args.new.now ≡ false =
-    sym (c.if-is_taken.ensures _ (of_slice _ _ _ c.self.invariant c.deref.ensures.value)) in
-    free_then _ _ c.args.nick.now c.args.new.now _ free c.take_out.ensures.after c.copy.ensures
+pub returns-then-is_taken-clause-fault : goal.returns-then-is_taken-clause-fault
+returns-then-is_taken-clause-fault c =
+    let taken : is_taken c.args.self.now.users c.args.nick.now c.args.new.now ≡ true =
+    ap (λ (n : NumberedUsers). is_taken n.users c.args.nick.now c.args.new.now) (sym c.self.view_is)
+    ∙ sym (taken_so _ _ _ c.self.view_is c.self.invariant c.args.nick.now c.args.new.now _ _ c.deref.ensures.value c.is_taken.ensures) ∙ c.if-is_taken.true in
+    search (rules, taken)
 
-pub returns-clause-ok : goal.returns-clause-ok
-returns-clause-ok c =
-    moved_in_steps _ _ _ c.deref_mut.result.now c.args.nick.now c.args.new.now _ (ap Some c.deref_mut.ensures.value ∙ c.in-Some.ensures.value) c.take_out.ensures.after c.copy.ensures c.put_back.ensures.after
-    ∙ ap (moved (key c.args.nick.now) (key c.args.new.now) (with_nick c.args.new.now)) c.self.view_is
+pub respell-requires-clause-free : goal.respell-requires-clause-free
+respell-requires-clause-free c =
+    sym (taken_so _ _ _ c.self.view_is c.self.invariant c.args.nick.now c.args.new.now _ _ c.deref.ensures.value c.is_taken.ensures) ∙ c.if-is_taken.false
+
+pub returns-clause-fault : goal.returns-clause-fault
+returns-clause-fault c =
+    let free =
+    sym (taken_so _ _ _ c.self.view_is c.self.invariant c.args.nick.now c.args.new.now _ _ c.deref.ensures.value c.is_taken.ensures) ∙ c.if-is_taken.false in
+    let why : rename_fault c.args.self.now.users c.args.nick.now c.args.new.now ≡ cond (not c.respell.result) (Some NoSuchUser) None =
+    ap (λ (n : NumberedUsers). rename_fault n.users c.args.nick.now c.args.new.now) (sym c.self.view_is)
+    ∙ fault_so _ c.args.nick.now c.args.new.now c.respell.result free c.respell.ensures.there in
+    elim c.if-respell.branch [
+      | then-respell w ↦ ap result_err w.result-is ∙ sym (why ∙ ap (λ b. cond (not b) (Some NoSuchUser) None) w.if-respell.true)
+      | else-respell w ↦ ap result_err w.result-is ∙ sym (why ∙ ap (λ b. cond (not b) (Some NoSuchUser) None) w.if-respell.false)
+    ]

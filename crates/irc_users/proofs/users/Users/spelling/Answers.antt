@@ -1,23 +1,25 @@
-use Rattle.std.proofs.Common.{◌∙◌, ap, sym}
+use Rattle.std.proofs.Common.{◌∙◌, ap, sym, refl}
 use Rattle.std.specs.Option.{option_map}
 use Rattle.irc_names.specs.Fold.{key}
 use Rattle.irc_names.specs.Tables.{row}
+use Rattle.irc_tables.specs.Lemmas.RowsAsTable.{row-absent, row-stands}
 use Rattle.irc_users.specs.declared.user.User.{User}
 use Rattle.irc_users.specs.declared.users.Head.{Head}
-use Rattle.irc_users.specs.UserTable.{entry}
-use Rattle.irc_tables.specs.Lemmas.RowsAsTable.{row-absent}
-use Rattle.irc_users.proofs.Heads.{of_slice, head-there}
+use Rattle.irc_users.specs.UserTable.{NumberedUsers}
+use Rattle.irc_users.specs.Rosters.{head_entry, sitting}
+use Rattle.irc_users.proofs.Heads.{stands_among, belongs_among}
+use Rattle.irc_users.proofs.NumberedRows.{no_user, told_by}
 use Rattle.irc_users.proofs.users.Users.spelling.Goals as goal
 
 pub returns-in-Ok : goal.returns-in-Ok
 returns-in-Ok c =
-    let fold = key c.args.name.now in
-    let at = c.in-Ok.ensures _ (of_slice _ _ _ c.self.invariant c.deref.ensures.value) in
-    head-there (λ (h : Head). h.nick) _ _ fold c.in-Ok.place _ c.self.invariant at c.index.ensures
-    ∙ ap (λ table. option_map (λ (user : User). user.nick) (row table fold)) c.self.view_is
+    let at = stands_among _ _ (key c.args.name.now) c.in-Ok.place c.self.invariant.ordered c.deref.ensures.value c.in-Ok.ensures in
+    told_by (sitting c.self.inside.seats) _ c.self.invariant.seating (λ (h : Head). h.nick) (λ (user : User). user.nick) (λ _ _. refl) (key c.args.name.now) _
+    (row-stands head_entry _ (key c.args.name.now) c.in-Ok.place _ c.self.invariant.ordered at c.index.ensures)
+    ∙ ap (λ (n : NumberedUsers). option_map (λ (user : User). user.nick) (row n.users (key c.args.name.now))) c.self.view_is
 
 pub returns-in-Err : goal.returns-in-Err
 returns-in-Err c =
-    let gap = c.in-Err.ensures _ (of_slice _ _ _ c.self.invariant c.deref.ensures.value) in
-    sym (ap (λ table. option_map (λ (user : User). user.nick) (row table (key c.args.name.now))) (sym c.self.view_is)
-    ∙ ap (option_map (λ (user : User). user.nick)) (row-absent entry _ _ _ gap))
+    let gap = belongs_among _ _ (key c.args.name.now) c.in-Err.field-0 c.self.invariant.ordered c.deref.ensures.value c.in-Err.ensures in
+    sym (ap (λ (n : NumberedUsers). option_map (λ (user : User). user.nick) (row n.users (key c.args.name.now))) (sym c.self.view_is)
+    ∙ ap (option_map (λ (user : User). user.nick)) (no_user _ _ (key c.args.name.now) (row-absent head_entry _ _ _ gap)))

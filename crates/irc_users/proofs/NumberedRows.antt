@@ -1,0 +1,127 @@
+-- What the two tables of users answer, by their heads and by who sits where.
+use Rattle.std.proofs.Common.{◌≡◌, ◌≢◌, ℕ, ◌<◌, true, List, map, length, get_or, refl, sym, ◌∙◌, ap, subst, Option, Some, None, is_some, option_map}
+use Rattle.std.proofs.lemmas.List.{length-map, get_or_default}
+use Rattle.std.specs.FinMap.{entries, keys, values}
+use Rattle.std.specs.Option.{option_and_then, option_map_or}
+use Rattle.std.specs.Global.{Box}
+use Rattle.slab.specs.Slab.{Slab, get}
+use Rattle.irc_names.specs.Fold.{key}
+use Rattle.irc_names.specs.Tables.{Table, row, each}
+use Rattle.irc_names.specs.TableLaws.{row-each, each-alike, values-each}
+use Rattle.irc_tables.specs.FoldedRows.{IsInFoldedOrder, StandsAt}
+use Rattle.irc_tables.specs.Lemmas.RowsAsTable.{row-stands}
+use Rattle.irc_users.specs.declared.user.User.{User}
+use Rattle.irc_users.specs.declared.users.Head.{Head}
+use Rattle.irc_users.specs.UserTable.{NumberedUsers, IsNumbered, HasNumber}
+use Rattle.irc_users.specs.Rosters.{boxed, head, head_entry, heads_in, users_by, numbers_by, users_in, numbered, nobody, sitting, sitter, IsSeating, IsRoster}
+use Rattle.irc_users.proofs.Heads.{values-heads}
+use Rattle.irc_users.proofs.Seatings.{sitter_there, folds_one}
+
+module _ (sits : ℕ → Option User) (heads : Table Head) where
+  pub user_row : (fold : List ℕ) (h : Head) → row heads fold ≡ Some h → row (users_by sits heads) fold ≡ sits h.number
+  user_row fold h is = row-each (λ (k : Head). sits k.number) heads fold ∙ ap (option_and_then (λ (k : Head). sits k.number)) is
+
+  pub no_user : (fold : List ℕ) → row heads fold ≡ None → row (users_by sits heads) fold ≡ None
+  no_user fold none = row-each (λ (k : Head). sits k.number) heads fold ∙ ap (option_and_then (λ (k : Head). sits k.number)) none
+
+pub number_row : (heads : Table Head) (fold : List ℕ) (h : Head) → row heads fold ≡ Some h → row (numbers_by heads) fold ≡ Some h.number
+number_row heads fold h is = row-each (λ (k : Head). Some k.number) heads fold ∙ ap (option_and_then (λ (k : Head). Some k.number)) is
+
+pub no_number : (heads : Table Head) (fold : List ℕ) → row heads fold ≡ None → row (numbers_by heads) fold ≡ None
+no_number heads fold none = row-each (λ (k : Head). Some k.number) heads fold ∙ ap (option_and_then (λ (k : Head). Some k.number)) none
+
+-- whose number it is
+pub whose : (heads : Table Head) (fold : List ℕ) (n : ℕ) → row (numbers_by heads) fold ≡ Some n → (h : Head) × (row heads fold ≡ Some h) × (h.number ≡ n)
+whose heads fold n is = by_row (row heads fold) refl
+  where
+    by_row : (o : Option Head) → row heads fold ≡ o → (h : Head) × (row heads fold ≡ Some h) × (h.number ≡ n)
+    by_row None none = absurd (let e : None ≡ Some n = sym (no_number heads fold none) ∙ is in cc)
+    by_row (Some h) there = (h, there, (let e : Some h.number ≡ Some n = sym (number_row heads fold h there) ∙ is in cc))
+
+module _ (sits : ℕ → Option User) (heads : Table Head) (seating : IsSeating sits heads) where
+  known_by : (fold : List ℕ) (o : Option Head) → row heads fold ≡ o → is_some (row (users_by sits heads) fold) ≡ is_some o
+  known_by fold None none = ap is_some (no_user sits heads fold none)
+  known_by fold (Some h) there = ap is_some (user_row sits heads fold h there ∙ (sitter_there sits heads seating fold h there).1)
+
+  -- a fold has a user just where it has a head
+  pub known : (fold : List ℕ) → is_some (row (users_by sits heads) fold) ≡ is_some (row heads fold)
+  known fold = known_by fold (row heads fold) refl
+
+  numbered_by : (fold : List ℕ) (o : Option Head) → row heads fold ≡ o → is_some (row (numbers_by heads) fold) ≡ is_some o
+  numbered_by fold None none = ap is_some (no_number heads fold none)
+  numbered_by fold (Some h) there = ap is_some (number_row heads fold h there)
+
+  pub are_numbered : IsNumbered (record { users = users_by sits heads; numbers = numbers_by heads })
+  are_numbered = record {
+    each = λ fold. numbered_by fold (row heads fold) refl ∙ sym (known fold);
+    apart = λ one other n is also.
+        let w = whose heads one n is in
+        let v = whose heads other n also in
+        folds_one sits heads seating one other w.0 v.0 w.1 v.1 (w.2 ∙ sym v.2);
+  }
+
+  none_sits : (n : ℕ) → ((fold : List ℕ) → row (numbers_by heads) fold ≢ Some n) → (o : Option User) → sits n ≡ o → o ≡ None
+  none_sits n unheld None at = refl
+  none_sits n unheld (Some user) at = absurd (unheld (key user.nick) (number_row heads (key user.nick) (head n user) (seating.found n user at)))
+
+  -- who sits in a seat has its number
+  pub who_sits : (n : ℕ) → HasNumber (record { users = users_by sits heads; numbers = numbers_by heads }) n (sits n)
+  who_sits n = record {
+    theirs = λ fold is. let w = whose heads fold n is in ap sits (sym w.2) ∙ sym (user_row sits heads fold w.0 w.1);
+    none = λ nobody. none_sits n nobody (sits n) refl;
+  }
+
+  -- what a head tells is told of the user
+  pub told_by : {B : Type 0} (told : Head → B) (said : User → B) → ((m : ℕ) (user : User) → told (head m user) ≡ said user) → (fold : List ℕ) (h : Head)
+      → row heads fold ≡ Some h → Some (told h) ≡ option_map said (row (users_by sits heads) fold)
+  told_by told said same fold h there =
+      let s = sitter_there sits heads seating fold h there in
+      ap (λ k. Some (told k)) (sym s.2) ∙ ap Some (same h.number s.0) ∙ ap (option_map said) (sym (user_row sits heads fold h there ∙ s.1))
+
+-- ---- in folded order
+
+module _ (seats : Slab (Box User)) (heads : List Head) (roster : IsRoster seats heads) where
+  pub head_row : (place : ℕ) (h : Head) → place < length heads → h ≡ get_or heads place h → row (heads_in heads) (key h.nick) ≡ Some h
+  head_row place h within is =
+      row-stands head_entry heads (key h.nick) place h roster.ordered
+      (record { within = within; named = λ d. ap (λ (k : Head). key k.nick) (get_or_default heads place d h within ∙ sym is) }) is
+
+  sits_so : (fold : List ℕ) (h : Head) → row (heads_in heads) fold ≡ Some h → sitting seats h.number ≡ Some (sitter seats h)
+  sits_so fold h there = let s = sitter_there (sitting seats) (heads_in heads) roster.seating fold h there in
+      s.1 ∙ ap (λ o. Some (option_map_or (λ (user : User). user) o nobody)) (sym s.1)
+
+  total : users_in seats heads ≡ each (λ h. Some (sitter seats h)) (heads_in heads)
+  total = each-alike (λ (h : Head). sitting seats h.number) (λ h. Some (sitter seats h)) (heads_in heads) sits_so
+
+  pub values-users : values (users_in seats heads) ≡ map (sitter seats) heads
+  values-users = ap values total ∙ values-each (sitter seats) (heads_in heads) ∙ ap (map (sitter seats)) (values-heads heads roster.ordered)
+
+  pub length-users : length heads ≡ length (keys (users_in seats heads))
+  length-users =
+      sym (length-map heads (sitter seats)) ∙ ap length (sym values-users)
+      ∙ length-map (entries (users_in seats heads)) (λ e. e.1) ∙ sym (length-map (entries (users_in seats heads)) (λ e. e.0))
+
+  is_full : (o : Option (Box User)) (h : Head) → option_map (head h.number) (option_map boxed o) ≡ Some h → is_some o ≡ true
+  is_full None h e = cc
+  is_full (Some box) h e = refl
+
+  -- there is somebody in the seat of each head
+  pub seat_full : (place : ℕ) (h : Head) → place < length heads → h ≡ get_or heads place h → is_some (get seats h.number) ≡ true
+  seat_full place h within is = is_full (get seats h.number) h (roster.seating.seated (key h.nick) h (head_row place h within is))
+
+-- ---- at a place
+
+pub number_stands : (heads : List Head) (fold : List ℕ) (place : ℕ) (h : Head) → IsInFoldedOrder head_entry heads → StandsAt head_entry heads fold place → h ≡ get_or heads place h
+    → row (numbers_by (heads_in heads)) fold ≡ Some h.number
+number_stands heads fold place h ordered at is = number_row (heads_in heads) fold h (row-stands head_entry heads fold place h ordered at is)
+
+pub held_by : (seats : Slab (Box User)) (heads : List Head) (users : NumberedUsers) (n : ℕ) (found : Option User) → numbered seats heads ≡ users
+    → IsSeating (sitting seats) (heads_in heads) → sitting seats n ≡ found → HasNumber users n found
+held_by seats heads users n found view seating sits =
+    subst (λ o. HasNumber users n o) sits (subst (λ t. HasNumber t n (sitting seats n)) view (who_sits (sitting seats) (heads_in heads) seating n))
+
+-- the same of what stands in a slice of the heads
+pub seat_taken : (seats : Slab (Box User)) (heads slice : List Head) (place : ℕ) (h : Head) → IsRoster seats heads → slice ≡ heads → place < length slice → h ≡ get_or slice place h
+    → is_some (get seats h.number) ≡ true
+seat_taken seats heads slice place h roster same within is =
+    seat_full seats heads roster place h (subst (λ hs. place < length hs) same within) (is ∙ ap (λ hs. get_or hs place h) same)

@@ -1,0 +1,11 @@
+use Rattle.std.proofs.Common.{◌≡◌, length, ◌∙◌, ap, sym, subst, filter, List}
+use Rattle.std.specs.FinMap.{values}
+use Rattle.irc_users.specs.declared.user.User.{User}
+use Rattle.irc_users.specs.UserTable.{NumberedUsers, is_home}
+use Rattle.irc_users.proofs.NumberedRows.{values-users}
+use Rattle.irc_users.proofs.users.Users.home_count.Goals as goal
+
+pub returns : goal.returns
+returns c =
+    subst (λ (us : List User). c.homed_count.result ≡ length (filter (is_home c.args.home.now) us)) (sym (values-users _ _ c.self.invariant) ∙ ap (λ (n : NumberedUsers). values n.users) c.self.view_is)
+    c.homed_count.ensures

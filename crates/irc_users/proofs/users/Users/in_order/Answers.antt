@@ -1,0 +1,11 @@
+use Rattle.std.proofs.Common.{◌∙◌, ap, sym, subst, List}
+use Rattle.std.specs.FinMap.{values}
+use Rattle.irc_users.specs.declared.user.User.{User}
+use Rattle.irc_users.specs.UserTable.{FindsUsers, NumberedUsers}
+use Rattle.irc_users.proofs.NumberedRows.{values-users}
+use Rattle.irc_users.proofs.users.Users.in_order.Goals as goal
+
+pub returns : goal.returns
+returns c =
+    subst (λ (us : List User). FindsUsers c.all_of.result (us)) (sym (values-users _ _ c.self.invariant) ∙ ap (λ (n : NumberedUsers). values n.users) c.self.view_is)
+    c.all_of.ensures

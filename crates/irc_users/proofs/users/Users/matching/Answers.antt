@@ -1,0 +1,11 @@
+use Rattle.std.proofs.Common.{◌∙◌, ap, sym, subst, filter, List}
+use Rattle.std.specs.FinMap.{values}
+use Rattle.irc_users.specs.declared.user.User.{User}
+use Rattle.irc_users.specs.UserTable.{FindsUsers, NumberedUsers, is_found_by}
+use Rattle.irc_users.proofs.NumberedRows.{values-users}
+use Rattle.irc_users.proofs.users.Users.matching.Goals as goal
+
+pub returns : goal.returns
+returns c =
+    subst (λ (us : List User). FindsUsers c.matched_by.result (filter (is_found_by c.args.mask.now) us)) (sym (values-users _ _ c.self.invariant) ∙ ap (λ (n : NumberedUsers). values n.users) c.self.view_is)
+    c.matched_by.ensures
