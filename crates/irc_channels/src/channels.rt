@@ -4,7 +4,7 @@ ghost use Rattle.std.specs.Option.{option_copied, option_map, option_and_then};
 ghost use Rattle.std.specs.Result.{result_err};
 ghost use Rattle.std.specs.FinMap.{empty, entries};
 ghost use Rattle.irc_names.specs.Fold.{key};
-ghost use Rattle.irc_names.specs.Tables.{row, each};
+ghost use Rattle.irc_names.specs.Tables.{alter, row, each};
 ghost use Rattle.irc_tables.specs.RowViews.{row_entry};
 ghost use Rattle.irc_channels.specs.Channels.{adds_none, has_member, is_invited, left, without_user, renamed, invited_too, uninvited, with_topic, all_changed};
 ghost use Rattle.irc_channels.specs.ChannelTable.{entry_at, fault_at, joined_or_made, leaving_fault_at, members_in, Alters, GoesWellWhere, IsOwedOrMemory};
@@ -199,11 +199,28 @@ impl Channels {
         self.rows.change_each(&Renaming { nick, new });
     }
 
+    /// A member of one channel, or one invited to it, has another nickname. Where the channel is not there nothing changes. It takes no
+    /// memory.
+    pub fn rename_in(&mut self, nick: &Nick, new: &Nick, channel: &[u8])
+        ensures { self.new ≡ alter (key channel.now)
+            (option_and_then (λ c. Some (renamed (key nick.now) (key new.now) c))) self.old }
+    {
+        self.rows.change_at(channel, &Renaming { nick, new });
+    }
+
     /// A user is gone from all channels, and its invitations with it; each channel that it was the last member of ends. It takes no
     /// memory.
     pub fn remove_user(&mut self, nick: &Nick)
         ensures { self.new ≡ each (without_user (key nick.now)) self.old }
     {
         self.rows.change_each(&Forgetting { nick });
+    }
+
+    /// A user is gone from one channel, and its invitation with it; the channel ends where it has no member then. Where the channel is not
+    /// there nothing changes. It takes no memory.
+    pub fn remove_from(&mut self, nick: &Nick, channel: &[u8])
+        ensures { self.new ≡ alter (key channel.now) (option_and_then (without_user (key nick.now))) self.old }
+    {
+        self.rows.change_at(channel, &Forgetting { nick });
     }
 }

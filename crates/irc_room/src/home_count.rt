@@ -1,15 +1,13 @@
 //! How many users are connected to the server that keeps a room.
-ghost use Rattle.std.specs.Prelude.{◌≡◌, ◌+◌, Some, filter, length, map};
+ghost use Rattle.std.specs.Prelude.{◌≡◌, ◌+◌, Some};
 ghost use Rattle.irc_names.specs.Fold.{key};
 ghost use Rattle.irc_names.specs.Tables.{row};
-ghost use Rattle.irc_users.specs.Rosters.{boxed};
 ghost use Rattle.irc_users.specs.UserTable.{is_home};
 ghost use Rattle.irc_room.specs.Loops.HomeCount.{come, gone, home_count, one_of};
 
 use irc_names::{Nick, ServerName};
 use irc_shown::{Effect, Tables};
 use irc_users::User;
-use std::alloc::Global;
 
 /// How many of the users of a server stay through an effect: all, but for one that quits.
 pub(crate) fn staying(home: &ServerName, tables: &Tables, count: usize, effect: &Effect) -> usize
@@ -37,19 +35,6 @@ pub(crate) fn with_newcomer(
         Effect::AddUser(user) => staying + one_of(home, user),
         _ => staying,
     }
-}
-
-/// How many of some users are connected to a server.
-pub(crate) fn homed(home: &ServerName, users: &[Box<User, Global>]) -> usize
-    ensures { result ≡ length (filter (is_home home.now) (map boxed users.now)) }
-{
-    let mut count = 0;
-    for user in users {
-        if user.is_home(home) {
-            count += 1;
-        }
-    }
-    count
 }
 
 /// One, where the user with a nickname is there and connected to a server, or none.

@@ -9,7 +9,6 @@ ghost use Rattle.irc_names.specs.Fold.{key};
 ghost use Rattle.irc_names.specs.Limits.{max_channel};
 ghost use Rattle.irc_names.specs.Tables.{row};
 ghost use Rattle.irc_tables.specs.RowViews.{row_entry};
-ghost use Rattle.irc_users.specs.Rosters.{boxed};
 ghost use Rattle.irc_channels.specs.ChannelTable.{members_in};
 ghost use Rattle.irc_shown.specs.Applying.{Kept, Applied, IdleStays, ShowsHere, does};
 ghost use Rattle.irc_shown.specs.Effects.{brings_free};
@@ -18,7 +17,7 @@ ghost use Rattle.irc_shown.specs.Readers.{user_at, channel_at, channels_of, flag
 ghost use Rattle.irc_shown.specs.Room.{IsWellFormed};
 ghost use Rattle.irc_shown.specs.Seen.{changes_text, stored_channel, stored_nick, target_name};
 
-use crate::home_count::{homed, staying, with_newcomer};
+use crate::home_count::{staying, with_newcomer};
 use crate::performing::perform;
 use crate::refusing::{missing, refusal};
 use irc_channels::{Channel, Flags};
@@ -49,12 +48,12 @@ impl Model for Room {
     ghost use Rattle.irc_shown.specs.Applying.{Kept};
     ghost use Rattle.irc_room.specs.Loops.HomeCount.{IsCounted};
     ghost use Rattle.irc_room.specs.KeptCodes.{kept_code};
-    ghost use Rattle.irc_users.specs.contracts.users.Users.{the_row as users_row};
+    ghost use Rattle.irc_users.specs.UserTable.{users_code};
     ghost use Rattle.irc_channels.specs.contracts.channel.Channel.{the_row as channel_row};
 
     ghost Value = { Kept };
 
-    ghost coded = { kept_code users_row.coded channel_row.coded };
+    ghost coded = { kept_code users_code channel_row.coded };
 
     ghost view = { λ r. record { own = r.own; failed = r.failed; room = r.tables } };
 
@@ -140,7 +139,7 @@ impl Room {
     pub fn users(&self) -> Result<Vec<&User, Global>, AllocError>
         ensures { IfOk result (λ found. users_now found.items ≡ values self.now.room.users) }
     {
-        unboxed(self.tables.users.as_slice(), self.alloc)
+        self.tables.users.in_order()
     }
 
     /// The users that are connected to a server, in folded order of their nicknames.
@@ -167,7 +166,7 @@ impl Room {
         if self.own.as_bytes() == home.as_bytes() {
             self.at_home
         } else {
-            homed(home, self.tables.users.as_slice())
+            self.tables.users.home_count(home)
         }
     }
 
@@ -309,18 +308,6 @@ impl Room {
             }
         }
     }
-}
-
-/// The users in some boxes, in their order.
-fn unboxed(users: &[Box<User, Global>], alloc: Global) -> Result<Vec<&User, Global>, AllocError>
-    ensures { IfOk result (λ found. users_now found.items ≡ map boxed users.now) }
-{
-    let mut found = Vec::new(alloc);
-    for user in users {
-        let one: &User = user;
-        found.push(one)?;
-    }
-    Ok(found)
 }
 
 /// The flags of the user of a nickname in a channel.

@@ -10,28 +10,28 @@ use Rattle.irc_names.specs.TableLaws.{same_fold, one_fold, row-alter, row-each, 
 use Rattle.irc_channels.specs.declared.channel.Channel.{Channel}
 use Rattle.irc_channels.specs.declared.flags.Flags.{Flags}
 use Rattle.irc_modes.specs.declared.modes.ModeChange.{ModeChange}
-use Rattle.irc_channels.specs.Channels.{has_member, new_channel, joined, left, without_user, while_members, renamed, changed, all_changed}
+use Rattle.irc_channels.specs.Channels.{has_member, is_invited, new_channel, joined, left, without_user, while_members, renamed, changed, all_changed}
 use Rattle.irc_modes.specs.Modes.{is_nil}
 use Rattle.irc_users.specs.declared.user.User.{User}
 use Rattle.irc_effects.specs.declared.effect.Effect.{Effect}
 use Rattle.irc_effects.specs.declared.effect.Effect.TheVariants.{Rename}
 use Rattle.irc_effects.specs.Effects.{brings_free}
-use Rattle.irc_effects.specs.Room.{IsWellFormed}
-use Rattle.irc_room_tables.specs.Indexes.{Names, Index, is_among, stands, holds, Tells, Adds, Drops, IsFreeOf}
+use Rattle.irc_effects.specs.Room.{IsSoundRow, IsWellFormed}
+use Rattle.irc_room_tables.specs.Indexes.{Names, Index, is_among, stands, holds, AreInhabited, Tells, Adds, Drops, DropsWhere, IsFreeOf}
 use Rattle.irc_effects.specs.Lemmas.Rows.{some_key, if_true, alter_same}
 use Rattle.irc_room_tables.proofs.IndexChanges.{forgotten, stands-moved}
 use Rattle.irc_effects.specs.Lemmas.ModesKept.{letter_folk}
 
 -- ---- a test of the channels
 
-abbrev Test : Type 0
+abbrev pub Test : Type 0
 Test = List ℕ → Channel → Bool
 
 -- what it says of one channel, if there is one
-abbrev said : Test → List ℕ → Option Channel → Bool
+abbrev pub said : Test → List ℕ → Option Channel → Bool
 said test nick o = option_map_or (test nick) o false
 
-holds-alter : (test : Test) (name : List ℕ) (change : Option Channel → Option Channel) (channels : Table Channel) (n c : List ℕ)
+pub holds-alter : (test : Test) (name : List ℕ) (change : Option Channel → Option Channel) (channels : Table Channel) (n c : List ℕ)
     → holds test (alter name change channels) n c ≡ cond (same_fold c name) (said test n (change (row channels name))) (holds test channels n c)
 holds-alter test name change channels n c = ap (said test n) (row-alter name change channels c) ∙ by_test (same_fold c name)
   where
@@ -39,7 +39,7 @@ holds-alter test name change channels n c = ap (said test n) (row-alter name cha
     by_test true = refl
     by_test false = refl
 
-holds-each : (test : Test) (change : Channel → Option Channel) (channels : Table Channel) (n c : List ℕ)
+pub holds-each : (test : Test) (change : Channel → Option Channel) (channels : Table Channel) (n c : List ℕ)
     → holds test (each change channels) n c ≡ said test n (option_and_then change (row channels c))
 holds-each test change channels n c = ap (said test n) (row-each change channels c)
 
@@ -74,7 +74,7 @@ and_true : (b : Bool) → (b && true) ≡ b
 and_true true = refl
 and_true false = refl
 
-and_false : (b : Bool) → (b && false) ≡ false
+pub and_false : (b : Bool) → (b && false) ≡ false
 and_false true = refl
 and_false false = refl
 
@@ -106,24 +106,24 @@ module _ (test : Test) (index : Index) (name : List ℕ) (change : Option Channe
           ∙ sym (here n)
       by_name n c false two = ap (λ b. b || holds test channels n c) (and_false (same_fold n nick))
 
-  -- it holds of one nickname less
-  pub tells_dropped : (after : Index) (nick : List ℕ) → Drops index after nick name
-      → ((n : List ℕ) → said test n (change (row channels name)) ≡ (not (same_fold n nick) && holds test channels n name)) → Tells after (holds test (alter name change channels))
-  tells_dropped after nick drops here = record {
+  -- it holds of some nicknames less
+  pub tells_dropped : (after : Index) (gone : List ℕ → Bool) → DropsWhere gone index after name
+      → ((n : List ℕ) → said test n (change (row channels name)) ≡ (not (gone n) && holds test channels n name)) → Tells after (holds test (alter name change channels))
+  tells_dropped after gone drops here = record {
     at = λ n c.
         drops.at n c
-        ∙ ap (λ b. not (same_fold n nick && same_fold c name) && b) (tells.at n c)
+        ∙ ap (λ b. not (gone n && same_fold c name) && b) (tells.at n c)
         ∙ by_name n c (same_fold c name) refl
         ∙ sym (holds-alter test name change channels n c);
   }
     where
       by_name : (n c : List ℕ) (b : Bool) → same_fold c name ≡ b
-          → (not (same_fold n nick && b) && holds test channels n c) ≡ cond b (said test n (change (row channels name))) (holds test channels n c)
+          → (not (gone n && b) && holds test channels n c) ≡ cond b (said test n (change (row channels name))) (holds test channels n c)
       by_name n c true one =
-          ap (λ b. not b && holds test channels n c) (and_true (same_fold n nick))
-          ∙ ap (λ q. not (same_fold n nick) && holds test channels n q) (one_fold c name one)
+          ap (λ b. not b && holds test channels n c) (and_true (gone n))
+          ∙ ap (λ q. not (gone n) && holds test channels n q) (one_fold c name one)
           ∙ sym (here n)
-      by_name n c false two = ap (λ b. not b && holds test channels n c) (and_false (same_fold n nick))
+      by_name n c false two = ap (λ b. not b && holds test channels n c) (and_false (gone n))
 
 -- ---- members of one channel
 
@@ -158,7 +158,7 @@ joined_said nick name op None n =
     member_joined nick op (new_channel name) n ∙ ap (λ b. same_fold n nick || is_some b) (get-empty {X = Flags} fold_cmp n)
 
 -- a channel that ends has no member
-member_while : (channel : Channel) (n : List ℕ) → said has_member n (while_members channel) ≡ has_member n channel
+pub member_while : (channel : Channel) (n : List ℕ) → said has_member n (while_members channel) ≡ has_member n channel
 member_while channel n = by_test (is_nil (keys channel.members)) refl
   where
     out : is_nil (keys channel.members) ≡ true → (b : Bool) → has_member n channel ≡ b → false ≡ b
@@ -169,7 +169,7 @@ member_while channel n = by_test (is_nil (keys channel.members)) refl
     by_test true nil = out nil (has_member n channel) refl
     by_test false some = refl
 
-taken_out : {X : Type 0} (nick : List ℕ) (table : Table X) (n : List ℕ) → is_some (row (alter nick (λ _. None) table) n) ≡ (not (same_fold n nick) && is_some (row table n))
+pub taken_out : {X : Type 0} (nick : List ℕ) (table : Table X) (n : List ℕ) → is_some (row (alter nick (λ _. None) table) n) ≡ (not (same_fold n nick) && is_some (row table n))
 taken_out {X} nick table n = ap is_some (row-alter nick (λ _. None) table n) ∙ by_test (same_fold n nick)
   where
     by_test : (b : Bool) → is_some (cond b None (row table n)) ≡ (not b && is_some (row table n))
@@ -248,15 +248,18 @@ moved_row {X} nick new table n free = by_row (row table nick) refl
     by_row None none = ap is_some (row-moved_none nick new (λ x. x) table none n) ∙ by_none none (same_fold n new) (same_fold n nick) refl refl
 
 -- a user has another nickname in all of them
-pub tells_renamed : (before after : Index) (nick new : List ℕ) (channels : Table Channel) → Tells before (holds has_member channels) → IsFreeOf channels nick new
-    → after ≡ moved nick new (λ names. names) before → Tells after (holds has_member (each (λ channel. Some (renamed nick new channel)) channels))
-tells_renamed before after nick new channels tells free is = record {
+tells_moved : (test : Test) (before after : Index) (nick new : List ℕ) (channels : Table Channel) → Tells before (holds test channels)
+    → ((name : List ℕ) → holds test channels new name ≡ true → new ≡ nick)
+    → ((channel : Channel) (n : List ℕ) → (test new channel ≡ true → new ≡ nick)
+    → test n (renamed nick new channel) ≡ cond (same_fold n new) (test nick channel) (cond (same_fold n nick) false (test n channel)))
+    → after ≡ moved nick new (λ names. names) before → Tells after (holds test (each (λ channel. Some (renamed nick new channel)) channels))
+tells_moved test before after nick new channels tells free one is = record {
   at = λ n c.
-      stands-moved before after nick new is (λ q there. free.at q (sym (tells.at new q) ∙ there)) n c
+      stands-moved before after nick new is (λ q there. free q (sym (tells.at new q) ∙ there)) n c
       ∙ ap (λ b. cond (same_fold n new) b (cond (same_fold n nick) false (stands before n c))) (tells.at nick c)
-      ∙ ap (λ b. cond (same_fold n new) (holds has_member channels nick c) (cond (same_fold n nick) false b)) (tells.at n c)
-      ∙ by_row n (row channels c) (free.at c)
-      ∙ sym (holds-each has_member (λ channel. Some (renamed nick new channel)) channels n c);
+      ∙ ap (λ b. cond (same_fold n new) (holds test channels nick c) (cond (same_fold n nick) false b)) (tells.at n c)
+      ∙ by_row n (row channels c) (free c)
+      ∙ sym (holds-each test (λ channel. Some (renamed nick new channel)) channels n c);
 }
   where
     nothing : (a b : Bool) → cond a false (cond b false false) ≡ false
@@ -264,21 +267,31 @@ tells_renamed before after nick new channels tells free is = record {
     nothing false true = refl
     nothing false false = refl
 
-    by_row : (n : List ℕ) (o : Option Channel) → (said has_member new o ≡ true → new ≡ nick)
-        → cond (same_fold n new) (said has_member nick o) (cond (same_fold n nick) false (said has_member n o))
-        ≡ said has_member n (option_and_then (λ channel. Some (renamed nick new channel)) o)
+    by_row : (n : List ℕ) (o : Option Channel) → (said test new o ≡ true → new ≡ nick)
+        → cond (same_fold n new) (said test nick o) (cond (same_fold n nick) false (said test n o))
+        ≡ said test n (option_and_then (λ channel. Some (renamed nick new channel)) o)
     by_row n None free = nothing (same_fold n new) (same_fold n nick)
-    by_row n (Some channel) free = sym (moved_row nick new channel.members n free)
+    by_row n (Some channel) free = sym (one channel n free)
+
+pub tells_renamed : (before after : Index) (nick new : List ℕ) (channels : Table Channel) → Tells before (holds has_member channels) → IsFreeOf channels nick new
+    → after ≡ moved nick new (λ names. names) before → Tells after (holds has_member (each (λ channel. Some (renamed nick new channel)) channels))
+tells_renamed before after nick new channels tells free =
+    tells_moved has_member before after nick new channels tells free.member (λ channel n out. moved_row nick new channel.members n out)
+
+pub tells_reinvited : (before after : Index) (nick new : List ℕ) (channels : Table Channel) → Tells before (holds is_invited channels) → IsFreeOf channels nick new
+    → after ≡ moved nick new (λ names. names) before → Tells after (holds is_invited (each (λ channel. Some (renamed nick new channel)) channels))
+tells_reinvited before after nick new channels tells free =
+    tells_moved is_invited before after nick new channels tells free.invited (λ channel n out. moved_row nick new channel.invited n out)
 
 -- ---- where nobody is in any channel
 
-pub tells_empty : (index : Index) (channels : Table Channel) → index ≡ empty → channels ≡ empty → Tells index (holds has_member channels)
-tells_empty index channels none nothing = record {
+pub tells_empty : (test : Test) (index : Index) (channels : Table Channel) → index ≡ empty → channels ≡ empty → Tells index (holds test channels)
+tells_empty test index channels none nothing = record {
   at = λ n c.
       ap (λ i. stands i n c) none
       ∙ ap (is_among c) (get-empty {X = Names} fold_cmp n)
-      ∙ sym (ap (said has_member n) (get-empty {X = Channel} fold_cmp c))
-      ∙ ap (λ cs. holds has_member cs n c) (sym nothing);
+      ∙ sym (ap (said test n) (get-empty {X = Channel} fold_cmp c))
+      ∙ ap (λ cs. holds test cs n c) (sym nothing);
 }
 
 -- who joins a channel that it is in changes nothing
@@ -290,17 +303,24 @@ joined_already nick name op channels there = alter_same (key name) _ channels (b
     by_row None there = cc
     by_row (Some channel) there = ap Some (if_true (has_member nick channel) channel _ there)
 
--- in a well-formed room the nickname that a Rename brings is no other member's
+-- in a well-formed room the nickname that a Rename brings is no other member's, and nobody else is invited by it
 pub free_in_room : (users : Table User) (channels : Table Channel) (effect : Effect) (nick new : List ℕ) → IsWellFormed (record { users = users; channels = channels })
     → effect ≡ Rename nick new → brings_free (record { users = users; channels = channels }) effect ≡ true → IsFreeOf channels (key nick) (key new)
-free_in_room users channels effect nick new well is free = record { at = λ name there. by_row name (row channels name) refl there }
+free_in_room users channels effect nick new well is free = record {
+  member = λ name there. by_row has_member (λ fold channel sound. sound.members_known (key new)) name (row channels name) refl there;
+  invited = λ name there. by_row is_invited (λ fold channel sound. sound.invited_known (key new)) name (row channels name) refl there;
+}
   where
     by_test : (b : Bool) → same nick new ≡ b → is_some (row users (key new)) ≡ true → (not (is_some (row users (key new))) || b) ≡ true → key new ≡ key nick
     by_test true one there free = sym ((same-tells nick new).0 one)
     by_test false two there free = cc (there, free)
 
-    by_row : (name : List ℕ) (o : Option Channel) → row channels name ≡ o → said has_member (key new) o ≡ true → key new ≡ key nick
-    by_row name None at there = cc
-    by_row name (Some channel) at there =
-        by_test (same nick new) refl ((well.channels_sound name channel at).members_known (key new) there)
+    by_row : (test : Test) → ((fold : List ℕ) (channel : Channel) → IsSoundRow users fold channel → test (key new) channel ≡ true → is_some (row users (key new)) ≡ true)
+        → (name : List ℕ) (o : Option Channel) → row channels name ≡ o → said test (key new) o ≡ true → key new ≡ key nick
+    by_row test known name None at there = cc
+    by_row test known name (Some channel) at there =
+        by_test (same nick new) refl (known name channel (well.channels_sound name channel at) there)
         (ap (brings_free (record { users = users; channels = channels })) (sym is) ∙ free)
+
+pub inhabited_room : (users : Table User) (channels : Table Channel) → IsWellFormed (record { users = users; channels = channels }) → AreInhabited channels
+inhabited_room users channels well = record { at = λ name channel there. (well.channels_sound name channel there).some_member }

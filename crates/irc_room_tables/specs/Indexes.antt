@@ -1,13 +1,14 @@
 -- Names of channels by nickname: what the code keeps beside the table of channels, so that it need not look through all of them.
 use Rattle.std.specs.Prelude.{◌≡◌, ℕ, Bool, true, false, not, ◌&&◌, ◌||◌, is_some, Option, Some, None, List, [], map, filter, option_to_list, unwrap_or}
-use Rattle.std.specs.List.{flat_map}
+use Rattle.std.specs.List.{flat_map, list_any}
 use Rattle.std.specs.Option.{option_map, option_map_or}
-use Rattle.std.specs.FinMap.{entries}
+use Rattle.std.specs.FinMap.{entries, keys}
 use Rattle.irc_names.specs.Fold.{key}
 use Rattle.irc_names.specs.Tables.{Table, row, alter}
 use Rattle.irc_names.specs.TableLaws.{same_fold}
 use Rattle.irc_channels.specs.declared.channel.Channel.{Channel}
-use Rattle.irc_channels.specs.Channels.{has_member, joined, new_channel}
+use Rattle.irc_channels.specs.Channels.{has_member, is_invited, joined, new_channel}
+use Rattle.irc_modes.specs.Modes.{is_nil}
 
 -- some names, by their folds
 abbrev pub Names : Type 0
@@ -37,6 +38,25 @@ holds test channels nick name = option_map_or (test nick) (row channels name) fa
 -- whether a channel has both members
 abbrev pub joins_both : List ℕ → List ℕ → Channel → Bool
 joins_both one other channel = has_member one channel && has_member other channel
+
+-- whether a user is not invited to a channel
+abbrev pub is_uninvited : List ℕ → Channel → Bool
+is_uninvited nick channel = not (is_invited nick channel)
+
+-- whether nobody but a user is a member of a channel
+abbrev pub is_alone : List ℕ → Channel → Bool
+is_alone nick channel = is_nil (keys (alter nick (λ _. None) channel.members))
+
+-- whether somebody is invited to a channel that ends when a user is gone
+abbrev pub is_ended_with : List ℕ → List ℕ → Channel → Bool
+is_ended_with nick invited channel = is_alone nick channel && is_invited invited channel
+
+-- the folds of some entries, and whether one is among them
+abbrev pub folds_of : {V : Type 0} → List (List ℕ × V) → List (List ℕ)
+folds_of es = map (λ e. e.0) es
+
+abbrev pub is_named : List (List ℕ) → List ℕ → Bool
+is_named names name = list_any (same_fold name) names
 
 -- the names of the channels that a user is a member of, in folded order
 abbrev pub own_names : List ℕ → Table Channel → List (List ℕ × Unit {0})
@@ -79,10 +99,32 @@ pub record IsOpened (before after : Index) (nick : List ℕ) : Type 0 where
 pub record Adds (before after : Index) (nick name : List ℕ) : Type 0 where
   pub at : (n c : List ℕ) → stands after n c ≡ ((same_fold n nick && same_fold c name) || stands before n c)
 
--- one name less by one nickname
-pub record Drops (before after : Index) (nick name : List ℕ) : Type 0 where
-  pub at : (n c : List ℕ) → stands after n c ≡ (not (same_fold n nick && same_fold c name) && stands before n c)
+-- one name less by each nickname of which it is said
+pub record DropsWhere (gone : List ℕ → Bool) (before after : Index) (name : List ℕ) : Type 0 where
+  pub at : (n c : List ℕ) → stands after n c ≡ (not (gone n && same_fold c name) && stands before n c)
 
--- in no channel is there another user of this nickname
+-- one name less by one nickname
+abbrev pub Drops : Index → Index → List ℕ → List ℕ → Type 0
+Drops before after nick name = DropsWhere (λ n. same_fold n nick) before after name
+
+-- in no channel is there another user of this nickname, nor is another invited to one
 pub record IsFreeOf (channels : Table Channel) (nick new : List ℕ) : Type 0 where
-  pub at : (name : List ℕ) → holds has_member channels new name ≡ true → new ≡ nick
+  pub member : (name : List ℕ) → holds has_member channels new name ≡ true → new ≡ nick
+  pub invited : (name : List ℕ) → holds is_invited channels new name ≡ true → new ≡ nick
+
+-- each channel has a member
+pub record AreInhabited (channels : Table Channel) : Type 0 where
+  pub at : (name : List ℕ) (channel : Channel) → row channels name ≡ Some channel → is_nil (keys channel.members) ≡ false
+
+-- the names by each user's nickname are those of its channels, and of those that it is invited to
+pub record AreIndexed (channels : Table Channel) (of_members of_invited : Index) : Type 0 where
+  pub joined : Tells of_members (holds has_member channels)
+  pub invited : Tells of_invited (holds is_invited channels)
+
+-- whether another than a user is invited
+abbrev pub invited_beside : List ℕ → List ℕ → Channel → Bool
+invited_beside nick other channel = not (same_fold other nick) && is_invited other channel
+
+-- the names by all nicknames but one are those of the channels that the user is invited to
+abbrev pub TellsOfOthers : List ℕ → Table Channel → Index → Type 0
+TellsOfOthers nick channels index = Tells index (holds (invited_beside nick) channels)

@@ -21,3 +21,4 @@ pub use Rattle.irc_effects.specs.declared.fault
 pub use Rattle.irc_effects.specs.declared.shown_line
 pub mod Codes
 pub mod Indexes
+pub mod Loops

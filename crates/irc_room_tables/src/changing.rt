@@ -39,9 +39,9 @@ fn change(
     channels: &mut IndexedChannels,
     effect: &Effect,
 ) -> Result<(), AllocError>
-    requires well { IsWellFormed (room_of users.old channels.old) }
-    requires possible { IsPossible (room_of users.old channels.old) effect.now }
-    ensures ok { OnOk result (room_of users.new channels.new ≡ after (room_of users.old channels.old) effect.now) }
+    requires well { IsWellFormed (room_of users.old.users channels.old) }
+    requires possible { IsPossible (room_of users.old.users channels.old) effect.now }
+    ensures ok { OnOk result (room_of users.new.users channels.new ≡ after (room_of users.old.users channels.old) effect.now) }
     ensures refused { OnErr result ((users.new ≡ users.old) × (channels.new ≡ channels.old)) }
 {
     match effect {
@@ -81,8 +81,8 @@ fn change(
 
 /// Adds a user whose nickname is free.
 fn add(users: &mut Users, user: &User) -> Result<(), AllocError>
-    requires { row users.old (key user.now.nick) ≡ None }
-    ensures ok { OnOk result (users.new ≡ alter (key user.now.nick) (λ _. Some user.now) users.old) }
+    requires { row users.old.users (key user.now.nick) ≡ None }
+    ensures ok { OnOk result (users.new.users ≡ alter (key user.now.nick) (λ _. Some user.now) users.old.users) }
     ensures refused { OnErr result (users.new ≡ users.old) }
 {
     match users.add(user.copy()) {
@@ -94,8 +94,8 @@ fn add(users: &mut Users, user: &User) -> Result<(), AllocError>
 
 /// Gives a user that is there another nickname, which no other user has.
 fn rename(users: &mut Users, nick: &Nick, new: &Nick)
-    requires { rename_fault users.old nick.now new.now ≡ None }
-    ensures { users.new ≡ moved (key nick.now) (key new.now) (with_nick new.now) users.old }
+    requires { rename_fault users.old.users nick.now new.now ≡ None }
+    ensures { users.new.users ≡ moved (key nick.now) (key new.now) (with_nick new.now) users.old.users }
 {
     if users.rename(nick, new).is_err() {
         unreachable!();

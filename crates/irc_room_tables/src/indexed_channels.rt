@@ -1,4 +1,4 @@
-//! The channels of a room, and in which of them each user is.
+//! The channels of a room, and in which of them each user is, and to which it is invited.
 ghost use Rattle.std.specs.Prelude.{◌≡◌, Some, OnOk, OnErr, is_some, map};
 ghost use Rattle.std.specs.Option.{option_copied, option_map, option_and_then};
 ghost use Rattle.std.specs.FinMap.{empty, entries};
@@ -7,8 +7,9 @@ ghost use Rattle.irc_names.specs.Tables.{row, alter, each};
 ghost use Rattle.irc_tables.specs.RowViews.{row_entry};
 ghost use Rattle.irc_channels.specs.ChannelTable.{members_in};
 ghost use Rattle.irc_channels.specs.Channels.{has_member, left, without_user, renamed, invited_too, with_topic, all_changed};
-ghost use Rattle.irc_room_tables.specs.Indexes.{entry_at, holds, own_names, row_joined, with_row, IsFreeOf};
+ghost use Rattle.irc_room_tables.specs.Indexes.{entry_at, holds, is_uninvited, own_names, row_joined, with_row, AreInhabited, IsFreeOf};
 
+use crate::gone::{forget_if_alone, remove_from_each, rename_in_each, rows_of};
 use crate::name_index::NameIndex;
 use irc_channels::{Channel, Channels, ChannelsFault, Flags, Words};
 use irc_effects::ModeChanges;
@@ -17,11 +18,12 @@ use irc_tables::Row;
 use std::alloc::{AllocError, Global};
 use std::marker::Model;
 
-/// Channels, and by each user's nickname the names of those that it is a member of.
+/// Channels, and by each user's nickname the names of those that it is a member of, and of those that it is invited to.
 #[derive(Drop)]
 pub struct IndexedChannels {
     rows: Channels,
     joined: NameIndex,
+    invited: NameIndex,
 }
 
 /// In a clause it is the table of its channels, each under the fold of its name.
@@ -30,8 +32,7 @@ impl Model for IndexedChannels {
     ghost use Rattle.irc_tables.specs.FoldedRows.{coded_name};
     ghost use Rattle.irc_channels.specs.declared.channel.Channel.{Channel};
     ghost use Rattle.irc_channels.specs.contracts.channel.Channel.{the_row as channel_row};
-    ghost use Rattle.irc_channels.specs.Channels.{has_member};
-    ghost use Rattle.irc_room_tables.specs.Indexes.{Tells, holds};
+    ghost use Rattle.irc_room_tables.specs.Indexes.{AreIndexed};
     ghost use Rattle.std.specs.FinMap.{code};
 
     ghost Value = { Table Channel };
@@ -40,7 +41,7 @@ impl Model for IndexedChannels {
 
     ghost view = { λ channels. channels.rows };
 
-    ghost invariant = { λ channels. Tells channels.joined.rows (holds has_member channels.rows) };
+    ghost invariant = { λ channels. AreIndexed channels.rows channels.joined.rows channels.invited.rows };
 }
 
 impl IndexedChannels {
@@ -51,6 +52,7 @@ impl IndexedChannels {
         IndexedChannels {
             rows: Channels::new(alloc),
             joined: NameIndex::new(alloc),
+            invited: NameIndex::new(alloc),
         }
     }
 
@@ -116,9 +118,12 @@ impl IndexedChannels {
         }
         self.joined.add(nick, channel)?;
         match self.rows.join(nick, channel, op) {
-            Ok(()) => Ok(()),
+            Ok(()) => {
+                self.invited.remove(nick.as_bytes(), channel.as_bytes());
+                Ok(())
+            }
             Err(_) => {
-                self.joined.remove(nick.as_bytes(), channel);
+                self.joined.remove(nick.as_bytes(), channel.as_bytes());
                 Err(AllocError)
             }
         }
@@ -128,8 +133,12 @@ impl IndexedChannels {
     pub fn leave(&mut self, nick: &Nick, channel: &ChannelName)
         ensures { self.new ≡ alter (key channel.now) (option_and_then (left (key nick.now))) self.old }
     {
+        if !is_in(&self.rows, nick, channel) {
+            return;
+        }
+        forget_if_alone(&self.rows, &mut self.invited, nick, channel.as_bytes());
         leave(&mut self.rows, nick, channel);
-        self.joined.remove(nick.as_bytes(), channel);
+        self.joined.remove(nick.as_bytes(), channel.as_bytes());
     }
 
     /// A channel's modes change. Where the channel is not there nothing changes.
@@ -162,26 +171,51 @@ impl IndexedChannels {
         ensures ok { OnOk result (self.new ≡ with_row channel.now (invited_too (key nick.now)) self.old) }
         ensures refused { OnErr result (self.new ≡ self.old) }
     {
-        invite(&mut self.rows, nick, channel)
+        if !can_be_invited(&self.rows, nick, channel) {
+            return Ok(());
+        }
+        self.invited.add(nick, channel)?;
+        match invite(&mut self.rows, nick, channel) {
+            Ok(()) => Ok(()),
+            Err(_) => {
+                self.invited.remove(nick.as_bytes(), channel.as_bytes());
+                Err(AllocError)
+            }
+        }
     }
 
-    /// A user has another nickname, which no other member of a channel has, and its memberships and invitations with it. It takes
-    /// no memory.
+    /// A user has another nickname, which nobody else has who is in a channel or invited to one, and its memberships and invitations with
+    /// it. No other channel is looked at. It takes no memory.
     pub fn rename_member(&mut self, nick: &Nick, new: &Nick)
         requires { IsFreeOf self.old (key nick.now) (key new.now) }
         ensures { self.new ≡ each (λ c. Some (renamed (key nick.now) (key new.now) c)) self.old }
     {
-        self.rows.rename_member(nick, new);
+        rename_in_each(
+            &mut self.rows,
+            nick,
+            new,
+            self.joined.names(nick.as_bytes()),
+        );
+        rename_in_each(
+            &mut self.rows,
+            nick,
+            new,
+            self.invited.names(nick.as_bytes()),
+        );
         self.joined.rename(nick, new);
+        self.invited.rename(nick, new);
     }
 
-    /// A user is gone from all channels, and its invitations with it; each channel that it was the last member of ends. It takes no
-    /// memory.
+    /// A user is gone from all channels, and its invitations with it; each channel that it was the last member of ends. No other channel is
+    /// looked at. It takes no memory.
     pub fn remove_user(&mut self, nick: &Nick)
+        requires { AreInhabited self.old }
         ensures { self.new ≡ each (without_user (key nick.now)) self.old }
     {
-        self.rows.remove_user(nick);
-        self.joined.forget(nick);
+        let joined = self.joined.take(nick.as_bytes());
+        let invited = self.invited.take(nick.as_bytes());
+        remove_from_each(&mut self.rows, &mut self.invited, nick, rows_of(&joined));
+        remove_from_each(&mut self.rows, &mut self.invited, nick, rows_of(&invited));
     }
 }
 
@@ -191,6 +225,16 @@ fn is_in(channels: &Channels, nick: &Nick, channel: &ChannelName) -> bool
 {
     match channels.find(channel.as_bytes()) {
         Some(channel) => channel.has_member(nick),
+        None => false,
+    }
+}
+
+/// Whether there is a channel, and a user is not invited to it.
+fn can_be_invited(channels: &Channels, nick: &Nick, channel: &ChannelName) -> bool
+    ensures { result ≡ holds is_uninvited channels.now (key nick.now) (key channel.now) }
+{
+    match channels.find(channel.as_bytes()) {
+        Some(channel) => channel.invited.get(nick.as_bytes()).is_none(),
         None => false,
     }
 }

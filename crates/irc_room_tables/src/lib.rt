@@ -2,6 +2,7 @@
 #![tactic(auto)]
 
 mod changing;
+mod gone;
 mod idle;
 mod indexed_channels;
 mod name_index;

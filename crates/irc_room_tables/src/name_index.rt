@@ -62,17 +62,18 @@ impl NameIndex {
     }
 
     /// Takes a name by a nickname out; where it does not stand there nothing changes. It takes no memory.
-    pub fn remove(&mut self, nick: &[u8], name: &ChannelName)
+    pub fn remove(&mut self, nick: &[u8], name: &[u8])
         ensures { Drops self.old.rows self.new.rows (key nick.now) (key name.now) }
     {
         self.rows.change_at(nick, &Removing { name });
     }
 
-    /// Takes all names by a nickname out. It takes no memory.
-    pub fn forget(&mut self, nick: &Nick)
-        ensures { self.new.rows ≡ alter (key nick.now) (λ _. None) self.old.rows }
+    /// Takes all names by a nickname out, and gives them. It takes no memory.
+    pub fn take(&mut self, nick: &[u8]) -> Option<NameTable<()>>
+        ensures value { result ≡ row self.old.rows (key nick.now) }
+        ensures after { self.new.rows ≡ alter (key nick.now) (λ _. None) self.old.rows }
     {
-        self.rows.remove(nick.as_bytes());
+        self.rows.remove(nick)
     }
 
     /// Puts the names by a nickname by another. It takes no memory.
@@ -121,14 +122,14 @@ impl<'a> RowAttempt<NameTable<()>> for Adding<'a> {
 /// A name is taken out.
 #[derive(Drop)]
 struct Removing<'a> {
-    name: &'a ChannelName,
+    name: &'a [u8],
 }
 
 impl<'a> RowChange<NameTable<()>> for Removing<'a> {
     ghost changed = { λ removing names. Some (alter (key removing.name.now) (λ _. None) names) };
 
     fn change(&self, names: &mut NameTable<()>) -> bool {
-        names.remove(self.name.as_bytes());
+        names.remove(self.name);
         true
     }
 }

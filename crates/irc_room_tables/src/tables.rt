@@ -34,16 +34,16 @@ pub struct Tables {
 impl Model for Tables {
     ghost use Rattle.irc_room_tables.specs.Codes.{room_code};
     ghost use Rattle.irc_effects.specs.Room.{Room, IsWellFormed};
-    ghost use Rattle.irc_users.specs.contracts.users.Users.{the_row as users_row};
+    ghost use Rattle.irc_users.specs.UserTable.{users_code};
     ghost use Rattle.irc_channels.specs.contracts.channel.Channel.{the_row as channel_row};
 
     ghost Value = { Room };
 
-    ghost coded = { room_code users_row.coded channel_row.coded };
+    ghost coded = { room_code users_code channel_row.coded };
 
-    ghost view = { λ tables. record { users = tables.users; channels = tables.channels } };
+    ghost view = { λ tables. record { users = tables.users.users; channels = tables.channels } };
 
-    ghost invariant = { λ tables. IsWellFormed (record { users = tables.users; channels = tables.channels }) };
+    ghost invariant = { λ tables. IsWellFormed (record { users = tables.users.users; channels = tables.channels }) };
 }
 
 impl Tables {

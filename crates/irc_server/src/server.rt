@@ -35,14 +35,14 @@ impl Model for Server {
     ghost Value = { Option View };
 
     ghost use Rattle.std.specs.Coded.{coded_option};
-    ghost use Rattle.irc_users.specs.contracts.users.Users.{the_row as users_row};
+    ghost use Rattle.irc_users.specs.UserTable.{users_code};
     ghost use Rattle.irc_channels.specs.contracts.channel.Channel.{the_row as channel_row};
     ghost use Rattle.irc_routes.specs.contracts.routes.Routes.{the_row as routes_row};
     ghost use Rattle.irc_stage.specs.contracts.clients.Client.{the_row as client_row};
     ghost use Rattle.irc_stage.specs.Loops.Stage.{view_of, IsReady};
     ghost use Rattle.irc_server.specs.Served.{AreMatched};
 
-    ghost coded = { coded_option (view_code routes_row.coded client_row.coded users_row.coded channel_row.coded) };
+    ghost coded = { coded_option (view_code routes_row.coded client_row.coded users_code channel_row.coded) };
 
     ghost view = { λ s. if s.failed then None else Some (view_of s.stage) };
 

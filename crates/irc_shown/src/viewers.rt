@@ -164,7 +164,7 @@ fn users_of<'a>(
     users: &'a Users,
     rows: &[Row<Flags>],
 ) -> Result<Vec<&'a User, Global>, AllocError>
-    ensures { IfOk result (λ found. users_now found.items ≡ users_under users.now (map row_entry rows.now)) }
+    ensures { IfOk result (λ found. users_now found.items ≡ users_under users.now.users (map row_entry rows.now)) }
 {
     let mut found = Vec::new(alloc);
     let mut place = 0;
@@ -181,7 +181,7 @@ fn add_named<'a>(
     name: &[u8],
     found: &mut Vec<&'a User, Global>,
 ) -> Result<(), AllocError>
-    ensures { OnOk result (users_now found.new.items ≡ users_now found.old.items ++ user_named users.now name.now) }
+    ensures { OnOk result (users_now found.new.items ≡ users_now found.old.items ++ user_named users.now.users name.now) }
 {
     if let Some(user) = users.find_near(place, name) {
         found.push(user)?;

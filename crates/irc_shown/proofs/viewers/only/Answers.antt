@@ -8,7 +8,7 @@ use Rattle.irc_shown.proofs.viewers.only.Goals as goal
 
 pub returns : goal.returns
 returns c =
-    let users = c.tables.inside.users in
+    let users = c.tables.inside.users.users in
     c.in_ok-add_named.ensures
     ∙ ap (λ found. map (λ user. user.now) found ++ option_to_list (row users (key c.as_bytes.result.now))) c.new-found.ensures.items
     ∙ ap (λ name. option_to_list (row users (key name))) c.as_bytes.ensures.value

@@ -1,13 +1,11 @@
 use Rattle.std.proofs.Common.{sym, subst}
 use Rattle.irc_effects.specs.Effects.{IsPossible}
-use Rattle.irc_room_tables.specs.Codes.{room_of}
 use Rattle.irc_effects.specs.Room.{Room}
 use Rattle.irc_room_tables.proofs.KeptWell.{kept_well}
 use Rattle.irc_room_tables.proofs.tables.Tables.change.Goals as goal
 
 pub invariant_of-self : goal.invariant_of-self
 invariant_of-self c =
-    let old = room_of c.self.inside.users c.self.inside.channels in
-    let new = room_of c.change.new.users c.change.new.channels in
     let possible = subst (λ (room : Room). IsPossible room c.args.effect.now) (sym c.self.view_is) c.requires in
-    kept_well c.change.result old new c.args.effect.now c.self.invariant possible c.change.ensures.ok c.change.ensures.refused
+    kept_well c.change.result c.self.inside.users c.change.new.users c.self.inside.channels c.change.new.channels c.args.effect.now c.self.invariant possible
+    c.change.ensures.ok c.change.ensures.refused
