@@ -17,7 +17,7 @@ def of_tables():
     add("table_insert n{at} {at}", "table_insert new 7")
     add("map_insert n{letter} {at}", "map_insert nz 7", most=24)
     add("user_add n{at}", "user_add new")
-    for call in ("by_home a.net", "matching n*"):
+    for call in ("in_order", "by_home a.net", "matching n*"):
         add("user_add n{at}", call)
     for setup in ("channels_join n{at} #c", "channels_join al #c{at}"):
         for call in ("channels_join new #c", "channels_join new #new"):
