@@ -1,5 +1,6 @@
-//! What the scripts of `run` ask of `ircd sim`, in plain Rust: clients of one server register, join one channel, and say texts. It prints what `ircd sim` prints.
-use std::collections::{BTreeMap, HashMap};
+//! What the scripts of `run` and of `bench/one_user/run` ask of `ircd sim`, in plain Rust: clients of one server register, change nicknames, join and leave
+//! channels, invite, say texts and quit. It prints what `ircd sim` prints.
+use std::collections::{BTreeMap, BTreeSet, HashMap, HashSet};
 use std::io::{self, Read, Write};
 
 /// A write is made once so much is waiting.
@@ -16,6 +17,10 @@ struct Client {
     nick: Option<Vec<u8>>,
     user: Option<Vec<u8>>,
     registered: bool,
+    /// The folded names of the channels that it is in.
+    channels: BTreeSet<Vec<u8>>,
+    /// The folded names of the channels that it is invited to.
+    invited: HashSet<Vec<u8>>,
 }
 
 struct Member {
@@ -28,6 +33,8 @@ struct Channel {
     name: Vec<u8>,
     /// By folded nickname.
     members: BTreeMap<Vec<u8>, Member>,
+    /// The clients that are invited.
+    invited: HashSet<u64>,
 }
 
 /// A line read as a message, but for its prefix: the scripts give none.
@@ -175,7 +182,11 @@ impl<W: Write> Server<W> {
         match (message.command.to_ascii_uppercase().as_slice(), message.params.as_slice()) {
             (b"NICK", [nick]) if !registered => self.take_nick(from, nick),
             (b"USER", [user, _, _, _]) if !registered => self.take_user(from, user),
+            (b"NICK", [nick]) => self.rename(from, nick),
             (b"JOIN", [name]) => self.join(from, name),
+            (b"PART", [name]) => self.part(from, name),
+            (b"INVITE", [nick, name]) => self.invite(from, nick, name),
+            (b"QUIT", []) => self.quit(from),
             (b"PRIVMSG", [target, text]) => self.tell(from, target, text),
             _ => Err(io::Error::other("the scripts have no such line")),
         }
@@ -222,13 +233,112 @@ impl<W: Write> Server<W> {
         self.answer(from, b"422", &nick, &[b":MOTD File is missing"])
     }
 
+    /// A client's nickname.
+    fn nick(&self, client: u64) -> Vec<u8> {
+        self.clients[&client].nick.clone().unwrap_or_default()
+    }
+
+    /// Those who share a channel with a client, itself too where it is in one, in folded order.
+    fn near(&self, client: u64) -> BTreeMap<&[u8], u64> {
+        let own = self.clients[&client].channels.iter().map(|name| &self.channels[name]);
+        own.flat_map(|channel| &channel.members)
+            .map(|(folded, member)| (folded.as_slice(), member.client))
+            .collect()
+    }
+
+    fn rename(&mut self, from: u64, nick: &[u8]) -> io::Result<()> {
+        let old = self.nick(from);
+        let (before, now) = (fold(&old), fold(nick));
+        if self.users.contains_key(&now) {
+            return self.answer(from, b"433", &old, &[nick, b":Nickname is already in use"]);
+        }
+        let mut near = self.near(from);
+        near.insert(&before, from);
+        let viewers: Vec<u64> = near.into_values().collect();
+        let client = self.clients.get_mut(&from).expect("it is there");
+        let line = line_by(client, &old, &[b"NICK", nick]);
+        client.nick = Some(nick.to_vec());
+        for name in &client.channels {
+            let members = &mut self.channels.get_mut(name).expect("a channel of its own").members;
+            let member = members.remove(&before).expect("a member");
+            members.insert(now.clone(), Member { nick: nick.to_vec(), ..member });
+        }
+        self.users.remove(&before);
+        self.users.insert(now, from);
+        for viewer in viewers {
+            self.show(viewer, &line)?;
+        }
+        Ok(())
+    }
+
+    /// Takes a member out of a channel, which ends with its last.
+    fn take_out(&mut self, channel: &[u8], nick: &[u8]) {
+        let found = self.channels.get_mut(channel).expect("it is there");
+        found.members.remove(nick);
+        if !found.members.is_empty() {
+            return;
+        }
+        let ended = self.channels.remove(channel).expect("it is there");
+        for guest in ended.invited {
+            self.clients.get_mut(&guest).expect("it is there").invited.remove(channel);
+        }
+    }
+
+    fn part(&mut self, from: u64, name: &[u8]) -> io::Result<()> {
+        let (folded, nick) = (fold(name), self.nick(from));
+        let channel = &self.channels[&folded];
+        let line = line_by(&self.clients[&from], &nick, &[b"PART", &channel.name, &[b":", nick.as_slice()].concat()]);
+        let viewers: Vec<u64> = channel.members.values().map(|member| member.client).collect();
+        self.clients.get_mut(&from).expect("it is there").channels.remove(&folded);
+        self.take_out(&folded, &fold(&nick));
+        for viewer in viewers {
+            self.show(viewer, &line)?;
+        }
+        Ok(())
+    }
+
+    fn invite(&mut self, from: u64, nick: &[u8], name: &[u8]) -> io::Result<()> {
+        let (folded, by) = (fold(name), self.nick(from));
+        let guest = self.users[&fold(nick)];
+        let channel = self.channels.get_mut(&folded).expect("it is there");
+        channel.invited.insert(guest);
+        let line = line_by(&self.clients[&from], &by, &[b"INVITE", nick, &channel.name]);
+        let stored = channel.name.clone();
+        self.clients.get_mut(&guest).expect("it is there").invited.insert(folded);
+        self.answer(from, b"341", &by, &[&stored, nick])?;
+        self.show(guest, &line)
+    }
+
+    fn quit(&mut self, from: u64) -> io::Result<()> {
+        let nick = self.nick(from);
+        let viewers: Vec<u64> = self.near(from).into_values().filter(|&viewer| viewer != from).collect();
+        let client = self.clients.remove(&from).expect("it is there");
+        for name in &client.invited {
+            self.channels.get_mut(name).expect("it is there").invited.remove(&from);
+        }
+        for name in &client.channels {
+            self.take_out(name, &fold(&nick));
+        }
+        self.users.remove(&fold(&nick));
+        let line = line_by(&client, &nick, &[b"QUIT", &[b":", nick.as_slice()].concat()]);
+        for viewer in viewers {
+            self.show(viewer, &line)?;
+        }
+        self.show(from, &[b"ERROR :Closing link (", nick.as_slice(), b")"].concat())
+    }
+
     fn join(&mut self, from: u64, name: &[u8]) -> io::Result<()> {
-        let client = &self.clients[&from];
+        let folded = fold(name);
+        let client = self.clients.get_mut(&from).expect("it is there");
         let nick = client.nick.clone().unwrap_or_default();
-        let channel = self.channels.entry(fold(name)).or_insert_with(|| Channel {
+        client.channels.insert(folded.clone());
+        client.invited.remove(&folded);
+        let channel = self.channels.entry(folded).or_insert_with(|| Channel {
             name: name.to_vec(),
             members: BTreeMap::new(),
+            invited: HashSet::new(),
         });
+        channel.invited.remove(&from);
         let member = Member {
             client: from,
             nick: nick.clone(),
@@ -283,6 +393,8 @@ impl<W: Write> Server<W> {
                     nick: None,
                     user: None,
                     registered: false,
+                    channels: BTreeSet::new(),
+                    invited: HashSet::new(),
                 };
                 self.clients.insert(self.next, client);
                 self.next += 1;
