@@ -4,5 +4,7 @@ pub mod Limits
 pub mod Bans
 pub mod Letters
 pub mod ModesSet
+pub mod Joined
+pub mod Raised
 pub mod Loops
 pub mod Lemmas

@@ -1,9 +1,8 @@
 -- The text of a limit: the number that it is, and the limit that is read of it.
-use Rattle.std.proofs.Common.{◌≡◌, ℕ, ◌+◌, ◌-◌, ◌*◌, ◌^◌, ◌<◌, ◌≤◌, true, false, ◌&&◌, List, [], ◌∷◌, length, get_or, nat_eq, nat_le, fold, decimal, sym, ap, arith, rules}
+use Rattle.std.proofs.Common.{◌≡◌, ℕ, ◌+◌, ◌-◌, ◌*◌, ◌^◌, ◌<◌, ◌≤◌, true, ◌&&◌, List, length, nat_le, fold, decimal, arith, rules}
 use Rattle.std.proofs.lemmas.Bool.{and_from}
 use Rattle.std.proofs.lemmas.Bool.Decides.{nat_tests}
-use Rattle.std.proofs.lemmas.Fmt.{digits_decimal, digits_value-decimal, decimal-digits_value, length-decimal-le}
-use Rattle.std.proofs.lemmas.Slice.Eq.{bytes_eq-Decides}
+use Rattle.std.proofs.lemmas.Fmt.{digits_decimal, digits_value-decimal, length-decimal-le}
 use Rattle.std.proofs.lemmas.Str.Parse.{IsNumeralModel, numerals_by_fold}
 use Rattle.std.specs.List.{list_all}
 use Rattle.std.specs.Char.{is_ascii_digit}
@@ -13,7 +12,7 @@ use Rattle.irc_names.specs.Digits.{number_of}
 use Rattle.irc_modes.specs.Modes.{is_limit}
 use Rattle.irc_modes.specs.Limits.{max_limit, max_limit_digits}
 use Rattle.irc_modes.specs.ModesSet.{IsLimit}
-use Rattle.irc_modes.specs.Lemmas.LimitFacts.{limit-digits, limit-most}
+use Rattle.irc_modes.specs.Lemmas.LimitFacts.{limit-most}
 
 abbrev pub number_on : ℕ → List ℕ → ℕ
 number_on n digits = fold (λ m digit. 10 * m + (digit - 48)) n digits
