@@ -9,6 +9,7 @@ pub use Rattle.irc_rules.specs.Digits
 pub use Rattle.irc_rules.specs.Loops
 pub use Rattle.irc_rules.specs.Lemmas
 pub mod Greater
+pub mod GreaterLaws
 pub mod Spellings
 pub mod Tables
 pub mod TableLaws

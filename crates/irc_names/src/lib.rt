@@ -6,6 +6,7 @@ mod channel_name;
 mod exact;
 mod host;
 mod key;
+pub mod laws;
 mod nick;
 mod real_name;
 mod server_name;
