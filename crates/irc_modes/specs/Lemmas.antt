@@ -1,5 +1,6 @@
 -- Lemmas, with their proofs, that the crates above cite too. No rule stands here.
 pub mod BanPlaces
+pub mod BansByFold
 pub mod LimitFacts
 pub mod LimitText
 pub mod LimitsKept
