@@ -5,6 +5,7 @@ pub mod Bans
 pub mod Letters
 pub mod ModesSet
 pub mod Joined
+pub mod JoinedLaws
 pub mod Raised
 pub mod Loops
 pub mod Lemmas

@@ -3,6 +3,7 @@
 
 mod ban_changing;
 mod bans;
+pub mod laws;
 mod limit;
 mod mode_changing;
 mod mode_word;

@@ -9,9 +9,9 @@ use Rattle.std.specs.declared.cmp.Ordering.TheVariants.{Less, Equal, Greater}
 use Rattle.std.specs.Ordering.{is_lt, is_eq}
 use Rattle.std.specs.Cmp.Lexicographic.{nat_list_cmp_total}
 use Rattle.std.specs.FinMap as table
-use Rattle.std.specs.FinMap.{entries, entries_sorted, values, is_sorted, from_entries, from_sorted, get-entries, get-from_entries, get-from_sorted, entries-from_sorted}
+use Rattle.std.specs.FinMap.{entries, entries_sorted, values, is_sorted, from_sorted, get-entries, get-from_entries, get-from_sorted, entries-from_sorted}
 use Rattle.std.specs.FinMap.Entries.{below_all}
-use Rattle.irc_names.specs.Fold.{key, same, name_cmp}
+use Rattle.irc_names.specs.Fold.{key, same}
 use Rattle.irc_names.specs.FoldLaws.{same-ties}
 use Rattle.irc_names.specs.Tables.{Table, fold_cmp, row}
 use Rattle.irc_names.specs.TableLaws.{same_fold, same_fold-refl, one_fold, same_table}

@@ -1,0 +1,23 @@
+//! What holds of two channels' modes, joined. Each law is a function that does nothing, and its contract is the law: the check proves it, and a
+//! crate above may cite it.
+ghost use Rattle.irc_modes.specs.JoinedLaws.{JoinedAssociates, JoinedIsEven, JoinedIsWithinLimits, JoinedWithItself};
+
+/// Which of two is named first makes no difference, whatever their bans are.
+pub fn joined_is_even()
+    ensures { JoinedIsEven }
+{}
+
+/// Of three it makes no difference which two are joined first.
+pub fn joined_associates()
+    ensures { JoinedAssociates }
+{}
+
+/// Modes whose bans are in order, as those of every channel are, joined with themselves are what they are.
+pub fn joined_with_itself()
+    ensures { JoinedWithItself }
+{}
+
+/// Modes within limits are joined to modes within limits: their bans are masks in order, as many as both have.
+pub fn joined_is_within_limits()
+    ensures { JoinedIsWithinLimits }
+{}
