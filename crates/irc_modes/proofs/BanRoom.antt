@@ -10,7 +10,7 @@ use Rattle.irc_modes.specs.declared.modes.ModeChange.{ModeChange}
 use Rattle.irc_modes.specs.Bans.{before, rises}
 use Rattle.irc_modes.specs.Modes.{adds_ban, ban_mask, is_new, with_ban, without_ban}
 use Rattle.irc_modes.specs.Loops.ManyChanges.{bans_by_mask, ban_step}
-use Rattle.irc_modes.specs.Lemmas.BanPlaces.{Side, low, level, high, side, placed, is_placed, unchanged}
+use Rattle.irc_modes.specs.Lemmas.BanPlaces.{Side, low, level, high, side, placed, is_placed, put_over, unchanged}
 
 -- how many of the bans at the start are not there now
 abbrev pub gone : List (List ℕ) → List (List ℕ) → ℕ
@@ -208,29 +208,39 @@ new_le false l g ld gd is h = step l g ld gd is h
     step : (l g ld gd : ℕ) → ld ≡ suc l → gd + 0 ≤ g → ld + gd ≤ l + g + 1
     step l g ld gd is h = omega (arith, is, h)
 
+over_le : (l g lw ld gd e : ℕ) → ld ≡ suc lw → lw + 1 ≤ l → gd + 0 ≤ g → ld + gd ≤ l + g + e
+over_le l g lw ld gd e is h k = omega (arith, is, h, k)
+
 out_le : (l g ld gd e : ℕ) → ld + 1 ≤ l → gd ≤ g + 1 → ld + gd ≤ l + g + e
 out_le l g ld gd e h k = omega (arith, h, k)
+
+-- what is there with a mask
+any_with : (m x : List ℕ) (bans : List (List ℕ)) → rises bans ≡ true → list_any (same m) (with_ban x bans) ≡ (same m x || list_any (same m) bans)
+any_with m x bans rising = ap (list_any (same m)) (put_over x bans rising).is_put ∙ any_placed m x (without_ban x bans) ∙ by (same m x) refl
+  where
+    by : (test : Bool) → same m x ≡ test → (test || list_any (same m) (without_ban x bans)) ≡ (test || list_any (same m) bans)
+    by true is = refl
+    by false is = any_without x m bans (same-equivalence.symm x m ∙ is)
 
 -- what a mask that is set takes of the room
 set_takes : (start bans : List (List ℕ)) (x : List ℕ) → rises bans ≡ true
     → length (with_ban x bans) + gone start (with_ban x bans) ≤ length bans + gone start bans + cond (not (list_any (same x) start) && true) 1 0
-set_takes start bans x rising = by (list_any (same x) bans) refl
+set_takes start bans x rising = by (list_any (same x) bans) refl (shorter x bans)
   where
-    by : (test : Bool) → list_any (same x) bans ≡ test
+    keeps : (m : List ℕ) → list_any (same m) bans ≡ true → list_any (same m) (with_ban x bans) ≡ true
+    keeps m there = any_with m x bans rising ∙ or_right (same m x) (list_any (same m) bans) there
+
+    by : (test : Bool) → list_any (same x) bans ≡ test → length (without_ban x bans) + cond test 1 0 ≤ length bans
         → length (with_ban x bans) + gone start (with_ban x bans) ≤ length bans + gone start bans + cond (not (list_any (same x) start) && true) 1 0
-    by true there =
-        let is : with_ban x bans ≡ bans = rw (there) refl in
-        same_le (length bans) (gone start bans) (length (with_ban x bans)) (gone start (with_ban x bans)) (cond (not (list_any (same x) start) && true) 1 0)
-        (ap length is) (ap (gone start) is)
-    by false none =
-        let is = is_placed x bans rising none in
-        let has : (m : List ℕ) → list_any (same m) (with_ban x bans) ≡ (same m x || list_any (same m) bans) =
-        λ m. ap (list_any (same m)) is ∙ any_placed m x bans in
+    by true there less =
+        over_le (length bans) (gone start bans) (length (without_ban x bans)) (length (with_ban x bans)) (gone start (with_ban x bans))
+        (cond (not (list_any (same x) start) && true) 1 0)
+        (ap length (put_over x bans rising).is_put ∙ length_placed x (without_ban x bans)) less (fewer start bans (with_ban x bans) keeps)
+    by false none less =
         new_le (list_any (same x) start) (length bans) (gone start bans) (length (with_ban x bans)) (gone start (with_ban x bans))
-        (ap length is ∙ length_placed x bans)
-        (one_less x start bans (with_ban x bans) none
-        (λ m there. has m ∙ or_right (same m x) (list_any (same m) bans) there)
-        (has x ∙ ap (λ b. b || list_any (same x) bans) (same-equivalence.refl x)))
+        (ap length (is_placed x bans rising none) ∙ length_placed x bans)
+        (one_less x start bans (with_ban x bans) none keeps
+        (any_with x x bans rising ∙ ap (λ b. b || list_any (same x) bans) (same-equivalence.refl x)))
 
 -- what a mask that is taken out leaves
 take_leaves : (start bans : List (List ℕ)) (x : List ℕ) (e : ℕ) → rises start ≡ true
@@ -299,6 +309,22 @@ room_before start bans change changes capacity start_rises rising room adds =
         least (length (with_ban x bans)) (length bans) (gone start (with_ban x bans)) (length (filter (adds_ban start) changes)) capacity
         (ap length (is_placed x bans rising none) ∙ length_placed x bans) later
     by false (Some x) later new = let bad : false ≡ true = second_so (not (list_any (same x) bans)) false new in cc
+
+-- once the ban that is the same is out, there is room for one that is set
+pub room_once_out : (mask : List ℕ) (bans : List (List ℕ)) (capacity more : ℕ) → (list_any (same mask) bans ≡ false → length bans < capacity)
+    → length bans ≤ capacity → capacity ≤ more → length (without_ban mask bans) < more
+room_once_out mask bans capacity more room within grown = by (list_any (same mask) bans) refl (shorter mask bans)
+  where
+    less : (n l capacity more : ℕ) → n + 1 ≤ l → l ≤ capacity → capacity ≤ more → n < more
+    less n l capacity more h k r = omega (arith, h, k, r)
+
+    same_room : (n l capacity more : ℕ) → n + 0 ≤ l → l < capacity → capacity ≤ more → n < more
+    same_room n l capacity more h k r = omega (arith, h, k, r)
+
+    by : (test : Bool) → list_any (same mask) bans ≡ test → length (without_ban mask bans) + cond test 1 0 ≤ length bans
+        → length (without_ban mask bans) < more
+    by true there out = less (length (without_ban mask bans)) (length bans) capacity more out within grown
+    by false none out = same_room (length (without_ban mask bans)) (length bans) capacity more out (room none) grown
 
 -- ---- at the start
 

@@ -49,7 +49,7 @@ fn change_one(bans: &mut Vec<BanMask, Global>, change: &ModeChange)
     }
 }
 
-/// Sets a ban in its place, unless one that is the same under the fold is there, which keeps its spelling. There is room for it.
+/// Sets a ban in its place. One that is the same under the fold goes, so the new spelling is kept, and no room is taken.
 fn set(bans: &mut Vec<BanMask, Global>, mask: BanMask)
     requires ordered { IsBanList bans.old.items }
     requires room { list_any (same mask) bans.old.items ≡ false → vec_len bans.old < vec_capacity bans.old }
@@ -57,9 +57,7 @@ fn set(bans: &mut Vec<BanMask, Global>, mask: BanMask)
     ensures ordered { IsBanList bans.new.items }
     ensures capacity { vec_capacity bans.old ≤ vec_capacity bans.new }
 {
-    if has(bans, &mask) {
-        return;
-    }
+    take(bans, &mask);
     let place = place_of(bans, &mask);
     // There is room, so this cannot fail.
     let _ = bans.insert(place, mask);

@@ -225,21 +225,65 @@ found_any p xs = some_test (nat_lt (position_or_len p xs) (length xs)) (position
 
 -- ---- what the edits of a list of bans make
 
--- with a mask that is there the bans are what they were
-pub set_there : (mask : List ℕ) (bans : List (List ℕ)) → list_any (same mask) bans ≡ true → bans ≡ with_ban mask bans
-set_there mask bans there = rw (there) refl
+-- one that is taken out is not there
+pub taken_gone : (mask : List ℕ) (bans : List (List ℕ)) → list_any (same mask) (without_ban mask bans) ≡ false
+taken_gone mask [] = refl
+taken_gone mask (ban ∷ bans) = by (same mask ban) refl (taken_gone mask bans)
+  where
+    by : (test : Bool) → same mask ban ≡ test → list_any (same mask) (without_ban mask bans) ≡ false
+        → list_any (same mask) (cond (not test) (ban ∷ without_ban mask bans) (without_ban mask bans)) ≡ false
+    by true is rest = rest
+    by false is rest = ap (λ b. b || list_any (same mask) (without_ban mask bans)) is ∙ rest
 
-pub set_new : (mask : List ℕ) (bans : List (List ℕ)) → rises bans ≡ true → list_any (same mask) bans ≡ false
-    → insert bans (place mask bans) mask ≡ with_ban mask bans
-set_new mask bans rising none = let put = places mask bans rising none in rw (none) (put.is_insert ∙ sym put.is_parts)
+-- those before a mask, and those behind it, are not touched where it is taken out
+record Beside (mask : List ℕ) (bans : List (List ℕ)) : Type 0 where
+  low_stay : filter (λ ban. before ban mask) (without_ban mask bans) ≡ filter (λ ban. before ban mask) bans
+  high_stay : filter (before mask) (without_ban mask bans) ≡ filter (before mask) bans
 
-pub set_rises : (mask : List ℕ) (bans : List (List ℕ)) → rises bans ≡ true → list_any (same mask) bans ≡ false
-    → rises (insert bans (place mask bans) mask) ≡ true
-set_rises mask bans rising none = let put = places mask bans rising none in ap rises put.is_insert ∙ put.still_rises
+beside : (mask : List ℕ) (bans : List (List ℕ)) → Beside mask bans
+beside mask [] = record { low_stay = refl; high_stay = refl }
+beside mask (ban ∷ bans) = by (side mask ban) (beside mask bans)
+  where
+    by : Side mask ban → Beside mask bans → Beside mask (ban ∷ bans)
+    by (low lower not_high other) rest = record {
+      low_stay = rw (other, lower) (ap (λ xs. ban ∷ xs) rest.low_stay);
+      high_stay = rw (other, not_high) rest.high_stay;
+    }
+    by (level equal not_low not_high alike) rest = record {
+      low_stay = rw (alike, not_low) rest.low_stay;
+      high_stay = rw (alike, not_high) rest.high_stay;
+    }
+    by (high not_low higher other) rest = record {
+      low_stay = rw (other, not_low) rest.low_stay;
+      high_stay = rw (other, higher) (ap (λ xs. ban ∷ xs) rest.high_stay);
+    }
+
+-- a mask that is set is put in its place once the one that is the same is out
+pub record PutOver (mask : List ℕ) (bans : List (List ℕ)) : Type 0 where
+  pub is_put : with_ban mask bans ≡ placed mask (without_ban mask bans)
+  pub is_insert : insert (without_ban mask bans) (place mask (without_ban mask bans)) mask ≡ with_ban mask bans
+  pub still_rises : rises (with_ban mask bans) ≡ true
+
+pub put_over : (mask : List ℕ) (bans : List (List ℕ)) → rises bans ≡ true → PutOver mask bans
+put_over mask bans rising =
+    let rest = without_ban mask bans in
+    let put = places mask rest (rises-filter (λ ban. not (same mask ban)) bans rising) (taken_gone mask bans) in
+    let stay = beside mask bans in
+    let parts : with_ban mask bans ≡ placed mask rest =
+    (λ i. sym stay.low_stay i ++ mask ∷ sym stay.high_stay i) ∙ put.is_parts in
+    record {
+      is_put = parts;
+      is_insert = put.is_insert ∙ sym parts;
+      still_rises = ap rises parts ∙ put.still_rises;
+    }
 
 -- the bans with a mask that was not there
 pub is_placed : (mask : List ℕ) (bans : List (List ℕ)) → rises bans ≡ true → list_any (same mask) bans ≡ false → with_ban mask bans ≡ placed mask bans
-is_placed mask bans rising none = rw (none) ((places mask bans rising none).is_parts)
+is_placed mask bans rising none = (places mask bans rising none).is_parts
+
+-- bans stay in order with one more
+pub with_rises : (mask : List ℕ) (bans : List (List ℕ)) → rises bans ≡ true → rises (with_ban mask bans) ≡ true
+with_rises mask bans rising = (put_over mask bans rising).still_rises
 
 -- what is taken out, and what is left
 pub record TakenOut (mask : List ℕ) (bans : List (List ℕ)) (i : ℕ) : Type 0 where

@@ -1,8 +1,8 @@
 -- Changes leave modes within limits.
-use Rattle.std.proofs.Common.{◌≡◌, ℕ, Bool, true, false, cond, not, Option, Some, None, IfSome, List, [], ◌∷◌, ◌++◌, filter, refl, sym, ap, subst, ◌∙◌}
+use Rattle.std.proofs.Common.{◌≡◌, ℕ, Bool, true, false, cond, not, Option, Some, None, IfSome, List, [], ◌∷◌, filter, refl, sym, ap, subst, ◌∙◌}
 use Rattle.std.proofs.lemmas.Bool.{and_from}
 use Rattle.std.proofs.lemmas.List.Folds.{list_all-append}
-use Rattle.std.specs.List.{list_any, list_all}
+use Rattle.std.specs.List.{list_all}
 use Rattle.irc_names.specs.Fold.{same}
 use Rattle.irc_names.specs.Names.{is_key, is_ban_mask, IsKey}
 use Rattle.irc_modes.specs.declared.modes.Modes.{Modes}
@@ -13,7 +13,7 @@ use Rattle.irc_modes.specs.Bans.{IsBanList, rises, before}
 use Rattle.irc_names.specs.Digits.{number_of}
 use Rattle.irc_modes.specs.Modes.{is_limit, key_changed, limit_changed, with_ban, without_ban, ban_changed, bans_by_word, mode_changed, mode_step, modes_after}
 use Rattle.irc_modes.specs.ModesSet.{AreWithinLimits, IsLimit}
-use Rattle.irc_modes.specs.Lemmas.BanPlaces.{all_kept, places, rises-filter}
+use Rattle.irc_modes.specs.Lemmas.BanPlaces.{all_kept, with_rises, rises-filter}
 use Rattle.irc_modes.specs.Lemmas.LimitText.{limit_number}
 
 key_kept : (plus : Bool) (word before : Option (List ℕ)) → IfSome before IsKey → IfSome (key_changed plus word before) IsKey
@@ -40,7 +40,7 @@ record AreBans (bans : List (List ℕ)) : Type 0 where
   masks : list_all is_ban_mask bans ≡ true
 
 masks_with : (mask : List ℕ) (bans : List (List ℕ)) → is_ban_mask mask ≡ true → list_all is_ban_mask bans ≡ true
-    → list_all is_ban_mask (filter (λ ban. before ban mask) bans ++ mask ∷ filter (before mask) bans) ≡ true
+    → list_all is_ban_mask (with_ban mask bans) ≡ true
 masks_with mask bans is_mask masks =
     let low = filter (λ ban. before ban mask) bans in
     let high = filter (before mask) bans in
@@ -49,14 +49,10 @@ masks_with mask bans is_mask masks =
     (and_from (is_ban_mask mask) (list_all is_ban_mask high) is_mask (all_kept is_ban_mask (before mask) bans masks))
 
 with_kept : (mask : List ℕ) (bans : List (List ℕ)) → is_ban_mask mask ≡ true → AreBans bans → AreBans (with_ban mask bans)
-with_kept mask bans is_mask h = by (list_any (same mask) bans) refl
-  where
-    by : (test : Bool) → list_any (same mask) bans ≡ test
-        → AreBans (cond test bans (filter (λ ban. before ban mask) bans ++ mask ∷ filter (before mask) bans))
-    by true there = h
-    by false there =
-        let put = places mask bans h.in_order there in
-        record { in_order = ap rises put.is_parts ∙ put.still_rises; masks = masks_with mask bans is_mask h.masks }
+with_kept mask bans is_mask h = record {
+  in_order = with_rises mask bans h.in_order;
+  masks = masks_with mask bans is_mask h.masks;
+}
 
 without_kept : (mask : List ℕ) (bans : List (List ℕ)) → AreBans bans → AreBans (without_ban mask bans)
 without_kept mask bans h = record {
