@@ -127,13 +127,13 @@ ChangesWritten =
     → changes_words room (clear letter.Secret None ∷ clear letter.Ban (Some (codes "x!*@*")) ∷ set letter.Moderated None ∷ set letter.TopicLocked None ∷ [])
     ≡ codes "-sb+mt" ∷ codes "x!*@*" ∷ [])
 
--- a ban that is set once more in another case of letters stands once, as it was first spelled
+-- a ban that is set once more in another case of letters stands once, as it was last spelled
 abbrev pub BanStandsOnce : Type 0
 BanStandsOnce =
     of_channel (λ c. c.modes.bans)
     (room_after (two_members ++ ChangeModes (by.User (codes "foo")) (codes "#rust") (set letter.Ban (Some (codes "a[!*@*")) ∷ set letter.Ban (Some (codes "A{!*@*")) ∷ []) ∷ []))
     (codes "#rust")
-    ≡ Some (codes "a[!*@*" ∷ [])
+    ≡ Some (codes "A{!*@*" ∷ [])
 
 -- a channel that ended begins anew, as its new maker spells it: with no topic and no mode, and its maker for its operator
 abbrev pub ChannelMadeAnew : Type 0

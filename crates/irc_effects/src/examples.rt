@@ -85,7 +85,7 @@ pub fn changes_written()
     ensures { ChangesWritten }
 {}
 
-/// A ban that is set twice, in two cases of letters, stands once.
+/// A ban that is set twice, in two cases of letters, stands once, as it was last spelled.
 pub fn ban_stands_once()
     ensures { BanStandsOnce }
 {}

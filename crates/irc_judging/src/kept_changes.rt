@@ -171,7 +171,7 @@ fn ban_by(change: &ModeChange, mask: &BanMask, before: Option<BanMask>) -> Optio
         return before;
     }
     if change.plus {
-        Some(before.unwrap_or(word))
+        Some(word)
     } else {
         None
     }

@@ -8,7 +8,7 @@ use Rattle.irc_names.specs.Names.{is_ban_mask}
 use Rattle.irc_modes.specs.Bans.{before, rises}
 use Rattle.irc_modes.specs.Modes.{ban_changed, bans_by_word, mask_in, with_ban, without_ban}
 use Rattle.irc_modes.specs.Loops.ManyChanges.{bans_by_mask}
-use Rattle.irc_modes.specs.Lemmas.BanPlaces.{placed, places, is_placed, set_there, rises-filter, found_any, taken_out}
+use Rattle.irc_modes.specs.Lemmas.BanPlaces.{placed, is_placed, put_over, with_rises, taken_gone, rises-filter, found_any, taken_out}
 use Rattle.irc_judging.specs.Loops.KeptChanges.{ban_changed_to}
 use Rattle.irc_judging.specs.Laws.BansFound.{find_any, find_passes, any_alike}
 
@@ -76,42 +76,25 @@ find_without m w (ban ∷ bans) = by (same w ban) refl (find_without m w bans)
 
 -- ---- one change
 
-kept_there : (test : Bool) (w : List ℕ) (found : Option (List ℕ)) → (test ≡ true → is_some found ≡ true) → cond test (Some (unwrap_or found w)) found ≡ found
-kept_there true w None there = never (sym (there refl))
-kept_there true w (Some x) there = refl
-kept_there false w found there = refl
-
-new_there : (test : Bool) (w : List ℕ) (found : Option (List ℕ)) → (test ≡ true → is_some found ≡ false)
-    → cond test (Some (unwrap_or found w)) found ≡ cond test (Some w) found
-new_there true w None none = refl
-new_there true w (Some x) none = never (none refl)
-new_there false w found none = refl
-
 pub found_behind : (m : List ℕ) (plus : Bool) (mask : Option (List ℕ)) (bans : List (List ℕ)) → rises bans ≡ true
     → ban_changed_to m plus mask (find (same m) bans) ≡ find (same m) (bans_by_mask plus mask bans)
 found_behind m plus None bans rising = refl
 found_behind m false (Some w) bans rising = sym (find_without m w bans)
-found_behind m true (Some w) bans rising = by (list_any (same w) bans) refl
+found_behind m true (Some w) bans rising =
+    sym (
+        ap (find (same m)) (put_over w bans rising).is_put
+        ∙ find_placed m w (without_ban w bans) (taken_gone w bans)
+        ∙ ap (cond (same w m) (Some w)) (find_without m w bans)
+        ∙ by (same w m))
   where
-    some_found : same w m ≡ true → is_some (find (same m) bans) ≡ list_any (same w) bans
-    some_found alike = find_any (same m) bans ∙ sym (any_alike w m alike bans)
-
-    by : (test : Bool) → list_any (same w) bans ≡ test → cond (same w m) (Some (unwrap_or (find (same m) bans) w)) (find (same m) bans) ≡ find (same m) (with_ban w bans)
-    by true there =
-        kept_there (same w m) w (find (same m) bans) (λ alike. some_found alike ∙ there) ∙ ap (find (same m)) (set_there w bans there)
-    by false none =
-        new_there (same w m) w (find (same m) bans) (λ alike. some_found alike ∙ none)
-        ∙ sym (find_placed m w bans none)
-        ∙ ap (find (same m)) (sym (is_placed w bans rising none))
+    by : (test : Bool) → cond test (Some w) (cond test None (find (same m) bans)) ≡ cond test (Some w) (find (same m) bans)
+    by true = refl
+    by false = refl
 
 pub rises_behind : (plus : Bool) (mask : Option (List ℕ)) (bans : List (List ℕ)) → rises bans ≡ true → rises (bans_by_mask plus mask bans) ≡ true
 rises_behind plus None bans rising = rising
 rises_behind false (Some w) bans rising = rises-filter (λ ban. not (same w ban)) bans rising
-rises_behind true (Some w) bans rising = by (list_any (same w) bans) refl
-  where
-    by : (test : Bool) → list_any (same w) bans ≡ test → rises (with_ban w bans) ≡ true
-    by true there = ap rises (sym (set_there w bans there)) ∙ rising
-    by false none = ap rises (is_placed w bans rising none) ∙ (places w bans rising none).still_rises
+rises_behind true (Some w) bans rising = with_rises w bans rising
 
 -- ---- how many there are
 

@@ -19,7 +19,7 @@ use Rattle.irc_channels.specs.declared.channel.Channel.{Channel}
 use Rattle.irc_names.specs.Digits.{number_of}
 use Rattle.irc_modes.specs.Modes.{is_limit, key_changed, limit_changed, with_ban, ban_changed, bans_by_word, mode_changed}
 use Rattle.irc_channels.specs.Channels.{modes_changed, letter_changed, changed, all_changed}
-use Rattle.irc_modes.specs.Lemmas.BanPlaces.{places, set_there, is_placed, rises-filter}
+use Rattle.irc_modes.specs.Lemmas.BanPlaces.{with_rises, rises-filter}
 use Rattle.irc_effects.specs.Limits.{IsCarriedText, IsChannelWithin, IsBanCarried}
 
 both : (a b : Bool) → a ≡ true → b ≡ true → (a && b) ≡ true
@@ -43,23 +43,11 @@ record AreBans (bans : List (List ℕ)) : Type 0 where
   carried : list_all is_carried bans ≡ true
 
 all_with : (p : List ℕ → Bool) (mask : List ℕ) (bans : List (List ℕ)) → p mask ≡ true → list_all p bans ≡ true → list_all p (with_ban mask bans) ≡ true
-all_with p mask bans is all = by (list_any (same mask) bans)
-  where
-    by : (test : Bool)
-        → list_all p (if test then bans else filter (λ ban. before ban mask) bans ++ mask ∷ filter (before mask) bans) ≡ true
-    by true = all
-    by false =
-        list_all-append p (filter (λ ban. before ban mask) bans) (mask ∷ filter (before mask) bans)
-        ∙ both (list_all p (filter (λ ban. before ban mask) bans)) (list_all p (mask ∷ filter (before mask) bans))
-        (all_filter p (λ ban. before ban mask) bans all)
-        (both (p mask) (list_all p (filter (before mask) bans)) is (all_filter p (before mask) bans all))
-
-with_rises : (mask : List ℕ) (bans : List (List ℕ)) → rises bans ≡ true → rises (with_ban mask bans) ≡ true
-with_rises mask bans rising = by (list_any (same mask) bans) refl
-  where
-    by : (test : Bool) → list_any (same mask) bans ≡ test → rises (with_ban mask bans) ≡ true
-    by true there = ap rises (sym (set_there mask bans there)) ∙ rising
-    by false none = ap rises (is_placed mask bans rising none) ∙ (places mask bans rising none).still_rises
+all_with p mask bans is all =
+    list_all-append p (filter (λ ban. before ban mask) bans) (mask ∷ filter (before mask) bans)
+    ∙ both (list_all p (filter (λ ban. before ban mask) bans)) (list_all p (mask ∷ filter (before mask) bans))
+    (all_filter p (λ ban. before ban mask) bans all)
+    (both (p mask) (list_all p (filter (before mask) bans)) is (all_filter p (before mask) bans all))
 
 ban_kept : (plus : Bool) (mask : List ℕ) (bans : List (List ℕ)) → is_ban_mask mask ≡ true → is_carried mask ≡ true → AreBans bans
     → AreBans (ban_changed plus mask bans)

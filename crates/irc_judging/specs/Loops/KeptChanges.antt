@@ -1,5 +1,5 @@
 -- What is asked of a channel behind the changes that are made so far: each of them makes of the answer before it what is said here.
-use Rattle.std.specs.Prelude.{◌≡◌, ℕ, ◌+◌, ◌-◌, Bool, true, Option, Some, None, List, [], Result, OnOk, length, find, fold, unwrap_or, if◌then◌else◌}
+use Rattle.std.specs.Prelude.{◌≡◌, ℕ, ◌+◌, ◌-◌, Bool, true, Option, Some, None, List, [], Result, OnOk, length, find, fold, if◌then◌else◌}
 use Rattle.std.specs.declared.alloc.AllocError.{AllocError}
 use Rattle.std.specs.Option.{option_map}
 use Rattle.irc_names.specs.Fold.{key, same}
@@ -38,7 +38,7 @@ flags_by_all start changes nick = fold (flags_by nick) (row start.members (key n
 -- the ban that is the same as a mask
 abbrev pub ban_changed_to : List ℕ → Bool → Option (List ℕ) → Option (List ℕ) → Option (List ℕ)
 ban_changed_to mask plus None before = before
-ban_changed_to mask plus (Some word) before = if same word mask then (if plus then Some (unwrap_or before word) else None) else before
+ban_changed_to mask plus (Some word) before = if same word mask then (if plus then Some word else None) else before
 
 abbrev pub ban_by : List ℕ → Option (List ℕ) → ModeChange → Option (List ℕ)
 ban_by mask before change = ban_changed_to mask change.plus (ban_mask change.letter change.word) before

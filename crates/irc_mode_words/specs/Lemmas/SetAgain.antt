@@ -3,9 +3,8 @@ use Rattle.std.proofs.Common.{◌≡◌, ℕ, Bool, true, false, cond, ◌&&◌,
 use Rattle.std.proofs.lemmas.Bool.{and_from}
 use Rattle.std.proofs.lemmas.List.Folds.{list_all-append}
 use Rattle.std.proofs.lemmas.List.Sums.{fold-append}
-use Rattle.std.specs.List.{list_any, list_all}
+use Rattle.std.specs.List.{list_all}
 use Rattle.std.specs.Cmp.{first_so, second_so}
-use Rattle.irc_names.specs.Fold.{same}
 use Rattle.irc_names.specs.Names.{is_ban_mask, IsKey}
 use Rattle.irc_modes.specs.declared.modes.Modes.{Modes}
 use Rattle.irc_modes.specs.declared.modes.ModeChange.{ModeChange}
@@ -81,14 +80,13 @@ all_set i m n p t k l bans key limit =
 
 -- ---- the bans
 
--- where all bans stand before a mask, none stands after it, and none is the same
+-- where all bans stand before a mask, none stands after it
 record Behind (mask : List ℕ) (bans : List (List ℕ)) : Type 0 where
   all_low : filter (λ ban. before ban mask) bans ≡ bans
   none_high : filter (before mask) bans ≡ []
-  none_same : list_any (same mask) bans ≡ false
 
 behind : (mask : List ℕ) (bans : List (List ℕ)) → list_all (λ ban. before ban mask) bans ≡ true → Behind mask bans
-behind mask [] all = record { all_low = refl; none_high = refl; none_same = refl }
+behind mask [] all = record { all_low = refl; none_high = refl }
 behind mask (ban ∷ bans) all =
     by (side mask ban) (first_so (before ban mask) (list_all (λ b. before b mask) bans) all)
     (behind mask bans (second_so (before ban mask) (list_all (λ b. before b mask) bans) all))
@@ -99,15 +97,13 @@ behind mask (ban ∷ bans) all =
     by (low lower not_high other) first rest = record {
       all_low = rw (lower) (ap (λ xs. ban ∷ xs) rest.all_low);
       none_high = rw (not_high) rest.none_high;
-      none_same = rw (other) rest.none_same;
     }
 
 -- a mask that stands after all bans is put at their end
 put_last : (mask : List ℕ) (bans : List (List ℕ)) → list_all (λ ban. before ban mask) bans ≡ true → with_ban mask bans ≡ bans ++ mask ∷ []
 put_last mask bans all =
     let place = behind mask bans all in
-    ap (λ b. cond b bans (filter (λ ban. before ban mask) bans ++ mask ∷ filter (before mask) bans)) place.none_same
-    ∙ ap (λ front. front ++ mask ∷ filter (before mask) bans) place.all_low
+    ap (λ front. front ++ mask ∷ filter (before mask) bans) place.all_low
     ∙ ap (λ back. bans ++ mask ∷ back) place.none_high
 
 -- of bans in order those in front of one stand before it

@@ -20,6 +20,7 @@ use Rattle.irc_modes.specs.declared.modes.Privacy.{Privacy}
 use Rattle.irc_modes.specs.declared.modes.Privacy.TheVariants.{Public, Private, Secret}
 use Rattle.irc_names.specs.Digits.{number_of}
 use Rattle.irc_modes.specs.Modes.{is_limit, private_changed, secret_changed, with_ban, without_ban}
+use Rattle.irc_modes.specs.Lemmas.BanPlaces.{taken_gone}
 use Rattle.irc_channels.specs.Channels.{changed, all_changed}
 use Rattle.irc_mode_words.specs.ModeWords.{Asked, change, list, no_word, unknown, modes_read}
 use Rattle.irc_room.specs.effect.Effect.{Effect}
@@ -109,30 +110,12 @@ or_first false b is = cc
 
 -- a mask that is set is there
 set_there : (mask : List ℕ) (bans : List (List ℕ)) → list_any (same mask) (with_ban mask bans) ≡ true
-set_there mask bans = by (list_any (same mask) bans) refl
-  where
-    front : List (List ℕ)
-    front = filter (λ ban. is_lt (name_cmp ban mask)) bans
-
-    back : List (List ℕ)
-    back = filter (λ ban. is_lt (name_cmp mask ban)) bans
-
-    by : (test : Bool) → list_any (same mask) bans ≡ test → list_any (same mask) (cond test bans (front ++ mask ∷ back)) ≡ true
-    by true there = there
-    by false none =
-        list_any-append (same mask) front (mask ∷ back)
-        ∙ or_last (list_any (same mask) front) (same mask mask || list_any (same mask) back)
-        (or_first (same mask mask) (list_any (same mask) back) (same-equivalence.refl mask))
-
--- one that is taken away is not
-taken_gone : (mask : List ℕ) (bans : List (List ℕ)) → list_any (same mask) (without_ban mask bans) ≡ false
-taken_gone mask [] = refl
-taken_gone mask (ban ∷ bans) = by (same mask ban) refl (taken_gone mask bans)
-  where
-    by : (test : Bool) → same mask ban ≡ test → list_any (same mask) (without_ban mask bans) ≡ false
-        → list_any (same mask) (cond (not test) (ban ∷ without_ban mask bans) (without_ban mask bans)) ≡ false
-    by true is rest = rest
-    by false is rest = ap (λ b. b || list_any (same mask) (without_ban mask bans)) is ∙ rest
+set_there mask bans =
+    let front = filter (λ ban. is_lt (name_cmp ban mask)) bans in
+    let back = filter (λ ban. is_lt (name_cmp mask ban)) bans in
+    list_any-append (same mask) front (mask ∷ back)
+    ∙ or_last (list_any (same mask) front) (same mask mask || list_any (same mask) back)
+    (or_first (same mask mask) (list_any (same mask) back) (same-equivalence.refl mask))
 
 set_apart : (mask : List ℕ) (bans : List (List ℕ)) → is_ban_mask mask ≡ true → find (same mask) bans ≡ None
     → cond (is_ban_mask mask) (with_ban mask bans) bans ≢ bans
