@@ -2,6 +2,7 @@
 pub mod BanPlaces
 pub mod BansByFold
 pub mod JoinedBans
+pub mod FoundBans
 pub mod LimitFacts
 pub mod LimitText
 pub mod LimitsKept
