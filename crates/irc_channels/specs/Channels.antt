@@ -4,6 +4,7 @@ use Rattle.std.specs.List.{list_any}
 use Rattle.std.specs.Option.{option_map}
 use Rattle.std.specs.FinMap.{empty, keys}
 use Rattle.irc_names.specs.Fold.{key}
+use Rattle.irc_names.specs.Greater.{bytes_cmp, greater}
 use Rattle.irc_names.specs.Tables.{row, alter, moved}
 use Rattle.irc_channels.specs.declared.channel.Channel.{Channel}
 use Rattle.irc_channels.specs.declared.flags.Flags.{Flags}
@@ -64,6 +65,11 @@ uninvited nick channel = record channel { invited = alter nick (λ _. None) chan
 
 abbrev pub with_topic : List ℕ → Channel → Channel
 with_topic topic channel = record channel { topic = topic }
+
+-- The name is spelled as given, where that is greater by bytes (our own choice): two sides that have one
+-- channel in two spellings join it under the greater one.
+abbrev pub respelled : List ℕ → Channel → Channel
+respelled name channel = record channel { name = greater bytes_cmp channel.name name }
 
 -- The changes of modes (RFC 2811 section 4).
 

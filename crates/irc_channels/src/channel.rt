@@ -4,7 +4,7 @@ ghost use Rattle.std.specs.List.{list_any};
 ghost use Rattle.std.specs.FinMap.{keys};
 ghost use Rattle.irc_names.specs.Fold.{key};
 ghost use Rattle.irc_modes.specs.Modes.{adds_ban, is_nil};
-ghost use Rattle.irc_channels.specs.Channels.{new_channel, has_member, joined, left, without_user, renamed, invited_too, is_invited, uninvited, with_topic, all_changed};
+ghost use Rattle.irc_channels.specs.Channels.{new_channel, has_member, joined, left, without_user, renamed, invited_too, is_invited, uninvited, with_topic, respelled, all_changed};
 
 use crate::flags::Flags;
 use crate::member_changing::change_members;
@@ -17,7 +17,7 @@ use std::alloc::{AllocError, Global};
 /// A channel (RFC 2811 sections 2 to 4). In a table it stands under the fold of its name.
 #[derive(Drop)]
 pub struct Channel {
-    /// Its name, as its maker spelled it.
+    /// Its name, as its maker spelled it, or in the greater of two spellings that were joined.
     pub name: ChannelName,
     /// Its modes.
     pub modes: Modes,
@@ -124,6 +124,15 @@ impl Channel {
         ensures { self.new ≡ with_topic topic.now self.old }
     {
         self.topic = topic.copy();
+    }
+
+    /// The name is spelled as given, where that is greater by bytes; nothing else changes.
+    pub fn respell(&mut self, name: &ChannelName)
+        ensures { self.new ≡ respelled name.now self.old }
+    {
+        if self.name.as_bytes().cmp(name.as_bytes()).is_lt() {
+            self.name = name.copy();
+        }
     }
 
     /// Changes modes, of the channel and of its members, one after another. Only a ban that is added takes memory; where there is none

@@ -6,14 +6,15 @@ ghost use Rattle.std.specs.FinMap.{empty, entries};
 ghost use Rattle.irc_names.specs.Fold.{key};
 ghost use Rattle.irc_names.specs.Tables.{alter, row, each};
 ghost use Rattle.irc_tables.specs.RowViews.{row_entry};
-ghost use Rattle.irc_channels.specs.Channels.{adds_none, has_member, is_invited, left, without_user, renamed, invited_too, uninvited, with_topic, all_changed};
+ghost use Rattle.irc_channels.specs.Channels.{adds_none, has_member, is_invited, left, without_user, renamed, invited_too, uninvited, with_topic, respelled, all_changed};
 ghost use Rattle.irc_channels.specs.ChannelTable.{entry_at, fault_at, joined_or_made, leaving_fault_at, members_in, Alters, GoesWellWhere, IsOwedOrMemory};
 
 use crate::channel::Channel;
 use crate::fault::ChannelsFault;
 use crate::flags::Flags;
 use crate::row_changes::{
-    Changing, Forgetting, Inviting, Joining, Leaving, Renaming, TopicSetting, Uninviting,
+    Changing, Forgetting, Inviting, Joining, Leaving, Renaming, Respelling, TopicSetting,
+    Uninviting,
 };
 use crate::words::Words;
 use irc_modes::ModeChange;
@@ -161,6 +162,21 @@ impl Channels {
         }
         self.rows
             .change_at(channel.as_bytes(), &TopicSetting { topic });
+        Ok(())
+    }
+
+    /// A channel's name is spelled as given, where that is greater by bytes than the stored spelling:
+    /// whichever of the two was there first, the greater stays. It takes no memory.
+    pub fn respell(&mut self, channel: &ChannelName) -> Result<(), ChannelsFault>
+        ensures fault { result_err result ≡ fault_at self.old channel.now }
+        ensures ok { Alters result channel.now (option_map (respelled channel.now)) self.old self.new }
+        ensures refused { OnErr result (self.new ≡ self.old) }
+    {
+        if !self.has(channel) {
+            return Err(ChannelsFault::NoSuchChannel);
+        }
+        self.rows
+            .change_at(channel.as_bytes(), &Respelling { name: channel });
         Ok(())
     }
 

@@ -1,12 +1,12 @@
 //! What the calls on the channels do to one of them.
 ghost use Rattle.std.specs.Prelude.{Some};
 ghost use Rattle.irc_names.specs.Fold.{key};
-ghost use Rattle.irc_channels.specs.Channels.{adds_none, has_member, is_invited, joined, left, without_user, renamed, invited_too, uninvited, with_topic, all_changed};
+ghost use Rattle.irc_channels.specs.Channels.{adds_none, has_member, is_invited, joined, left, without_user, renamed, invited_too, uninvited, with_topic, respelled, all_changed};
 
 use crate::channel::Channel;
 use crate::words::Words;
 use irc_modes::ModeChange;
-use irc_names::Nick;
+use irc_names::{ChannelName, Nick};
 use irc_tables::{RowAttempt, RowChange};
 use std::alloc::AllocError;
 
@@ -113,6 +113,21 @@ impl<'a> RowChange<Channel> for TopicSetting<'a> {
 
     fn change(&self, channel: &mut Channel) -> bool {
         channel.set_topic(self.topic);
+        true
+    }
+}
+
+/// The name is spelled in the greater way of two.
+#[derive(Drop)]
+pub(crate) struct Respelling<'a> {
+    pub name: &'a ChannelName,
+}
+
+impl<'a> RowChange<Channel> for Respelling<'a> {
+    ghost changed = { λ respelling channel. Some (respelled respelling.name.now channel) };
+
+    fn change(&self, channel: &mut Channel) -> bool {
+        channel.respell(self.name);
         true
     }
 }
