@@ -1,5 +1,5 @@
 -- The examples, each by computing what the lists say.
-use Rattle.std.proofs.Common.{true, false, not, ◌||◌, Some, None, [], ◌∷◌, ◌++◌, refl, ap, is_some, codes}
+use Rattle.std.proofs.Common.{ℕ, true, false, not, ◌||◌, Some, None, List, [], ◌∷◌, ◌++◌, refl, ap, is_some, codes}
 use Rattle.irc_names.specs.Fold.{fold, fold_table}
 use Rattle.irc_names.specs.Names.{is_ban_mask}
 use Rattle.irc_line.specs.Bytes.{cut}
@@ -9,8 +9,8 @@ use Rattle.irc_modes.specs.declared.modes.ModeLetter.TheVariants as letter
 use Rattle.irc_effects.specs.declared.effect.By.TheVariants as by
 use Rattle.irc_effects.specs.declared.effect.Target.TheVariants as target
 use Rattle.irc_effects.specs.declared.effect.Effect.TheVariants.{AddUser, Rename, Quit, Join, Part, Kick, ChangeModes, SetTopic, Say, Invite}
-use Rattle.irc_effects.specs.Examples.{comes, somebody, two_members, set, clear, viewers_of, NickTakenByFold, OwnSpellingIsFree, RenameCarriesMembership, KickShownToKicked, InvitationGoneWithChannel, QuitHiddenFromDoer, SayShownToOthers, SecondMemberIsNoOperator, SecretStaysSecret, ChangesWritten, BanStandsOnce, ChannelMadeAnew, PartWrittenAsStored, JoinOnceMoreShowsNothing, EachSeesItsOwnServer, RenameShownOnce, JoinShownToAll, InviteToNoChannelIsToldOnly}
-use Rattle.irc_effects.specs.Lemmas.ExampleRooms.{user_is, member_is, flags_is, invited_is, part_is, channel_is, seen_is}
+use Rattle.irc_effects.specs.Examples.{comes, somebody, two_members, set, clear, viewers_of, NickTakenByFold, OwnSpellingIsFree, RenameCarriesMembership, KickShownToKicked, InvitationGoneWithChannel, QuitHiddenFromDoer, SayShownToOthers, SecondMemberIsNoOperator, SecretStaysSecret, ChangesWritten, BanStandsOnce, ChannelMadeAnew, GreaterSpellingStays, PartWrittenAsStored, JoinOnceMoreShowsNothing, EachSeesItsOwnServer, RenameShownOnce, JoinShownToAll, InviteToNoChannelIsToldOnly}
+use Rattle.irc_effects.specs.Lemmas.ExampleRooms.{user_is, member_is, flags_is, invited_is, part_is, channel_is, titled_part_is, seen_is}
 
 pub nick_taken_by_fold : NickTakenByFold
 unfolding fold fold_table
@@ -84,6 +84,14 @@ channel_made_anew =
       part_is (λ c. c.modes) anew (codes "#rust"),
       flags_is anew (codes "bar") (codes "#rust"),
       member_is anew (codes "foo") (codes "#rust"),
+    )
+
+pub greater_spelling_stays : GreaterSpellingStays
+unfolding fold fold_table
+greater_spelling_stays =
+    let made = λ (name : List ℕ). comes (codes "foo") ∷ Join (codes "foo") name true ∷ [] in (
+      titled_part_is (λ c. c.name) (made (codes "#Chat")) (codes "#chat") (codes "#CHAT"),
+      titled_part_is (λ c. c.name) (made (codes "#chat")) (codes "#Chat") (codes "#CHAT"),
     )
 
 pub part_written_as_stored : PartWrittenAsStored

@@ -6,7 +6,7 @@ use Rattle.irc_names.specs.Tables.{alter, each, moved}
 use Rattle.irc_users.specs.declared.user.User.{User}
 use Rattle.irc_users.specs.UserTable.{with_nick, with_invisible}
 use Rattle.irc_channels.specs.declared.channel.Channel.{Channel}
-use Rattle.irc_channels.specs.Channels.{new_channel, joined, left, without_user, renamed, invited_too, with_topic, all_changed}
+use Rattle.irc_channels.specs.Channels.{new_channel, joined, left, without_user, renamed, invited_too, with_topic, respelled, all_changed}
 use Rattle.irc_effects.specs.declared.effect.Effect.{Effect}
 use Rattle.irc_effects.specs.declared.effect.Effect.TheVariants.{AddUser, Rename, Quit, Join, Part, Kick, ChangeModes, SetTopic, Say, Invite, UserMode}
 use Rattle.irc_effects.specs.Room.{Room}
@@ -40,3 +40,8 @@ after room (Say by notice target text) = room
 -- an invitation to a channel that is not there is not kept (our own choice)
 after room (Invite by nick channel) = alter_channel channel (option_map (invited_too (key nick))) room
 after room (UserMode nick invisible) = alter_user nick (option_map (with_invisible invisible)) room
+
+-- The name of a channel is spelled as given, where that is greater by bytes. It is a step of a room that is no effect: nobody does
+-- it, and nobody is shown it.
+abbrev pub titled_by : List ℕ → Room → Room
+titled_by channel room = alter_channel channel (option_map (respelled channel)) room

@@ -20,7 +20,7 @@ use Rattle.irc_effects.specs.declared.effect.Effect.{Effect}
 use Rattle.irc_effects.specs.declared.effect.Effect.TheVariants.{AddUser, Rename, Quit, Join, Part, Kick, ChangeModes, SetTopic, Say, Invite}
 use Rattle.irc_effects.specs.Room.{Room}
 use Rattle.irc_effects.specs.Effects.{has_user, has_channel, is_member, brings_free}
-use Rattle.irc_effects.specs.After.{after}
+use Rattle.irc_effects.specs.After.{after, titled_by}
 use Rattle.irc_effects.specs.Laws.{no_room}
 use Rattle.irc_effects.specs.Seen.{Showing, seen, changes_words}
 
@@ -147,6 +147,13 @@ ChannelMadeAnew =
     × (of_channel (λ c. c.modes) anew (codes "#rust") ≡ Some no_modes)
     × (flags_of anew (codes "bar") (codes "#rust") ≡ Some (record { op = true; voice = false }))
     × (is_member anew (codes "foo") (codes "#rust") ≡ false)
+
+-- of two spellings of one channel the greater by bytes stays, whichever was there first: `c` is 0x63, and `C` 0x43
+abbrev pub GreaterSpellingStays : Type 0
+GreaterSpellingStays =
+    let spelled = λ (first second : List ℕ).
+    of_channel (λ c. c.name) (titled_by second (room_after (comes (codes "foo") ∷ Join (codes "foo") first true ∷ []))) (codes "#CHAT") in
+    (spelled (codes "#Chat") (codes "#chat") ≡ Some (codes "#chat")) × (spelled (codes "#chat") (codes "#Chat") ≡ Some (codes "#chat"))
 
 -- a Part is written as its user and its channel are stored, however they are spelled in it
 abbrev pub PartWrittenAsStored : Type 0

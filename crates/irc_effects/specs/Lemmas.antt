@@ -16,6 +16,7 @@ pub mod ListedSeen
 pub mod ModesKept
 pub mod ModesWithin
 pub mod OneViewer
+pub mod RespelledRooms
 pub mod Rows
 pub mod SendingAlike
 pub mod SoundRows

@@ -14,5 +14,6 @@ pub mod Invitations
 pub mod Viewers
 pub mod OtherInvitations
 pub mod SentAlike
+pub mod Respelled
 pub mod Found
 pub mod Lemmas

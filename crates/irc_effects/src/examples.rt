@@ -4,6 +4,7 @@ ghost use Rattle.irc_effects.specs.Examples.{
   ChangesWritten,
   ChannelMadeAnew,
   EachSeesItsOwnServer,
+  GreaterSpellingStays,
   InvitationGoneWithChannel,
   InviteToNoChannelIsToldOnly,
   JoinOnceMoreShowsNothing,
@@ -63,6 +64,11 @@ pub fn second_member_is_no_operator()
 /// A channel that ended with its last member begins anew, with its new maker for its operator.
 pub fn channel_made_anew()
     ensures { ChannelMadeAnew }
+{}
+
+/// Of two spellings of one channel that are joined the greater by bytes stays, whichever was there first.
+pub fn greater_spelling_stays()
+    ensures { GreaterSpellingStays }
 {}
 
 /// A Part is written with the stored spellings of its user and its channel.

@@ -2,6 +2,7 @@
 //! its contract is the law, as in `laws.rt`.
 ghost use Rattle.irc_effects.specs.Invitations.{HomeFollows, HomeIsWellFormed, HomeOfHome};
 ghost use Rattle.irc_effects.specs.OtherInvitations.{AlikeHaveAlike, AlikeStayAlike, AlikeTakeAlike, HomeIsAlike};
+ghost use Rattle.irc_effects.specs.Respelled.{AlikeAreRespelledAlike, HomeIsRespelled};
 ghost use Rattle.irc_effects.specs.SentAlike.{AlikeKeepLimits, AlikeSendAlike, HomeKnowsItsInvited};
 
 /// A server that keeps the invitations of its own users alone, and so does nothing upon an Invite of another server's user, has
@@ -53,4 +54,11 @@ pub fn alike_keep_limits()
 /// A server knows of each of its own users to which channels the user is invited.
 pub fn home_knows_its_invited()
     ensures { HomeKnowsItsInvited }
+{}
+
+/// A server that keeps the invitations of its own users alone has, once a channel's name was spelled in the greater of two ways, what it
+/// had with that name spelled so; and rooms that are alike but for who is invited are so then.
+pub fn home_is_respelled()
+    ensures home { HomeIsRespelled }
+    ensures alike { AlikeAreRespelledAlike }
 {}

@@ -19,6 +19,7 @@ ghost use Rattle.irc_effects.specs.Laws.{
   SentIsShownWhole,
   SentKeepsLimits,
 };
+ghost use Rattle.irc_effects.specs.Respelled.{AllElseStays, OneRowRespelled, RespelledIsWellFormed, RespelledIsWithinLimits, RespelledOnce};
 ghost use Rattle.irc_effects.specs.Viewers.{OneViewersLines};
 
 /// The room with nobody in it is well formed.
@@ -102,4 +103,14 @@ pub fn join_makes_channel()
 /// Among all that an effect shows, one user's lines are the one line that it shows to that user, or none.
 pub fn one_viewers_lines()
     ensures { OneViewersLines }
+{}
+
+/// A room in which a channel's name was spelled in the greater of two ways stays well formed, and within its limits by a spelling
+/// that keeps the rule of names. That name alone is another, and is so once: users, members and invitations stay as they were.
+pub fn one_name_is_respelled()
+    ensures well_formed { RespelledIsWellFormed }
+    ensures limits { RespelledIsWithinLimits }
+    ensures row { OneRowRespelled }
+    ensures all_else { AllElseStays }
+    ensures once { RespelledOnce }
 {}

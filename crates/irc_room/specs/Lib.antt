@@ -14,6 +14,7 @@ pub use Rattle.irc_shown.specs.Invitations
 pub use Rattle.irc_shown.specs.Viewers
 pub use Rattle.irc_shown.specs.OtherInvitations
 pub use Rattle.irc_shown.specs.SentAlike
+pub use Rattle.irc_shown.specs.Respelled
 pub use Rattle.irc_shown.specs.Found
 pub use Rattle.irc_shown.specs.Lemmas
 pub use Rattle.irc_shown.specs.effect

@@ -14,6 +14,7 @@ pub use Rattle.irc_effects.specs.Invitations
 pub use Rattle.irc_effects.specs.Viewers
 pub use Rattle.irc_effects.specs.OtherInvitations
 pub use Rattle.irc_effects.specs.SentAlike
+pub use Rattle.irc_effects.specs.Respelled
 pub use Rattle.irc_effects.specs.Found
 pub use Rattle.irc_effects.specs.Lemmas
 pub use Rattle.irc_effects.specs.declared.effect

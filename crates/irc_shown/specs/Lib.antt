@@ -14,6 +14,7 @@ pub use Rattle.irc_room_tables.specs.Invitations
 pub use Rattle.irc_room_tables.specs.Viewers
 pub use Rattle.irc_room_tables.specs.OtherInvitations
 pub use Rattle.irc_room_tables.specs.SentAlike
+pub use Rattle.irc_room_tables.specs.Respelled
 pub use Rattle.irc_room_tables.specs.Found
 pub use Rattle.irc_room_tables.specs.Lemmas
 pub use Rattle.irc_room_tables.specs.effect

@@ -9,10 +9,11 @@ use Rattle.irc_channels.specs.Channels.{is_invited}
 use Rattle.irc_effects.specs.declared.effect.Effect.{Effect}
 use Rattle.irc_effects.specs.Room.{Room}
 use Rattle.irc_effects.specs.Effects.{has_user, is_member}
+use Rattle.irc_effects.specs.After.{titled_by}
 use Rattle.irc_effects.specs.Seen.{seen}
 use Rattle.irc_effects.specs.Examples.{room_after, flags_of, of_channel, invited_to}
 use Rattle.irc_effects.specs.Lemmas.Listed.{map_itself, row_listed}
-use Rattle.irc_effects.specs.Lemmas.ListedRooms.{ListedChannel, ListedRoom, channel_of, room_of, list_after, all_listed, no_list}
+use Rattle.irc_effects.specs.Lemmas.ListedRooms.{ListedChannel, ListedRoom, channel_of, room_of, list_after, list_titled, all_listed, titled_listed, no_list}
 use Rattle.irc_effects.specs.Lemmas.ListedSeen.{IsInOrder, list_asked, list_seen, seen_listed, user_listed, channel_listed, member_asked}
 
 -- the lists that some effects make
@@ -55,6 +56,14 @@ invited_is effects nick name =
 pub part_is : {X : Type 0} (part : Channel → X) (effects : List Effect) (name : List ℕ)
     → of_channel part (room_after effects) name ≡ option_map part (option_map channel_of (find fold_cmp (key name) (list_room effects).channels))
 part_is part effects name = ap (option_map part) (channel_is effects name)
+
+-- the same once a channel's name was spelled in the greater of two ways
+pub titled_part_is : {X : Type 0} (part : Channel → X) (effects : List Effect) (spelled name : List ℕ)
+    → of_channel part (titled_by spelled (room_after effects)) name
+    ≡ option_map part (option_map channel_of (find fold_cmp (key name) (list_titled spelled (list_room effects)).channels))
+titled_part_is part effects spelled name =
+    ap (λ r. of_channel part r name) (ap (titled_by spelled) (made effects) ∙ titled_listed spelled (list_room effects))
+    ∙ ap (option_map part) (channel_listed (list_titled spelled (list_room effects)) (key name))
 
 pub seen_is : (effects : List Effect) (effect : Effect) → IsInOrder (list_room effects) → seen (room_after effects) effect ≡ list_seen (list_room effects) effect
 seen_is effects effect order = ap (λ r. seen r effect) (made effects) ∙ seen_listed (list_room effects) effect order

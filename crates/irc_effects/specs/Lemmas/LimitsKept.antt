@@ -28,7 +28,7 @@ use Rattle.irc_effects.specs.Lemmas.ModesWithin.{same_within, changes_within}
 
 -- ---- tables of which each row is something
 
-abbrev AllRows : {X : Type 0} → (X → Type 0) → Table X → Type 0
+abbrev pub AllRows : {X : Type 0} → (X → Type 0) → Table X → Type 0
 AllRows {X = X} P table = (fold : List ℕ) (x : X) → row table fold ≡ Some x → P x
 
 none_there : {X : Type 0} (P : X → Type 0) → AllRows P empty
@@ -51,7 +51,7 @@ there_altered {X = X} P fold change table all kept = one_altered P fold (option_
     by None at x is = not_none x is
     by (Some before) at x is = kept before x (all fold before at) is
 
-there_mapped : {X : Type 0} (P : X → Type 0) (fold : List ℕ) (change : X → X) (table : Table X) → AllRows P table
+pub there_mapped : {X : Type 0} (P : X → Type 0) (fold : List ℕ) (change : X → X) (table : Table X) → AllRows P table
     → ((before : X) → P before → P (change before)) → AllRows P (alter fold (option_map change) table)
 there_mapped {X = X} P fold change table all kept = one_altered P fold (option_map change) table all (by (row table fold) refl)
   where

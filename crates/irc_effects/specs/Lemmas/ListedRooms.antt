@@ -3,6 +3,7 @@ use Rattle.std.proofs.Common.{◌≡◌, ℕ, Bool, true, false, Option, Some, N
 use Rattle.std.specs.Option.{option_and_then}
 use Rattle.std.specs.FinMap.Entries.{find}
 use Rattle.irc_names.specs.Fold.{key}
+use Rattle.irc_names.specs.Greater.{bytes_cmp, greater}
 use Rattle.irc_names.specs.Tables.{Table, fold_cmp, alter}
 use Rattle.irc_users.specs.declared.user.User.{User}
 use Rattle.irc_users.specs.UserTable.{with_nick, with_invisible}
@@ -13,11 +14,11 @@ use Rattle.irc_modes.specs.declared.modes.ModeLetter.{ModeLetter}
 use Rattle.irc_modes.specs.declared.modes.ModeLetter.TheVariants as letter
 use Rattle.irc_channels.specs.declared.channel.Channel.{Channel}
 use Rattle.irc_modes.specs.Modes.{no_modes, is_nil, private_changed, secret_changed, key_changed, limit_changed, bans_changed}
-use Rattle.irc_channels.specs.Channels.{new_channel, has_member, while_members, joined, left, without_user, renamed, invited_too, with_topic, letter_changed, all_changed}
+use Rattle.irc_channels.specs.Channels.{new_channel, has_member, while_members, joined, left, without_user, renamed, invited_too, with_topic, respelled, letter_changed, all_changed}
 use Rattle.irc_effects.specs.declared.effect.Effect.{Effect}
 use Rattle.irc_effects.specs.declared.effect.Effect.TheVariants.{AddUser, Rename, Quit, Join, Part, Kick, ChangeModes, SetTopic, Say, Invite, UserMode}
 use Rattle.irc_effects.specs.Room.{Room}
-use Rattle.irc_effects.specs.After.{after}
+use Rattle.irc_effects.specs.After.{after, titled_by}
 use Rattle.irc_effects.specs.Lemmas.Rows.{is_some_map}
 use Rattle.irc_effects.specs.Lemmas.Listed.{map_itself, table_of, row_listed, alter_entry, alter_listed, each_entry, each_listed, move_entry, moved_listed, keys_listed}
 
@@ -80,6 +81,9 @@ list_invited nick c = record c { invited = alter_entry nick (λ _. Some tt) c.in
 
 abbrev list_topic : List ℕ → ListedChannel → ListedChannel
 list_topic topic c = record c { topic = topic }
+
+abbrev list_respelled : List ℕ → ListedChannel → ListedChannel
+list_respelled name c = record c { name = greater bytes_cmp c.name name }
 
 abbrev list_modes : (Modes → Modes) → ListedChannel → ListedChannel
 list_modes change c = record c { modes = change c.modes }
@@ -271,6 +275,13 @@ after_listed room (Say by notice target text) = refl
 after_listed room (Invite by nick name) = with_channels room _ _ (maps_listed name (invited_too (key nick)) (list_invited (key nick)) room (invited_listed (key nick)))
 after_listed room (UserMode nick invisible) =
     λ i. record (room_of room) { users = altered_plain (key nick) (option_map (with_invisible invisible)) room.users i }
+
+-- a channel's name spelled in the greater of two ways
+abbrev pub list_titled : List ℕ → ListedRoom → ListedRoom
+list_titled name room = alter_list_channel name (option_map (list_respelled name)) room
+
+pub titled_listed : (name : List ℕ) (room : ListedRoom) → titled_by name (room_of room) ≡ room_of (list_titled name room)
+titled_listed name room = with_channels room _ _ (maps_listed name (respelled name) (list_respelled name) room (λ c. refl))
 
 -- effects one after another
 pub all_listed : (room : ListedRoom) (effects : List Effect) → fold after (room_of room) effects ≡ room_of (fold list_after room effects)

@@ -46,7 +46,7 @@ there_altered room name change well kept = channel_altered room name (option_and
     by_row (Some before) at after is = kept before after (well.channels_sound (key name) before at) is
 
 -- a change of the row that is there which never ends the channel
-there_mapped : (room : Room) (name : List ℕ) (change : Channel → Channel) → IsWellFormed room
+pub there_mapped : (room : Room) (name : List ℕ) (change : Channel → Channel) → IsWellFormed room
     → ((before : Channel) → IsSoundRow room.users (key name) before → IsSoundRow room.users (key name) (change before))
     → IsWellFormed (alter_channel name (option_map change) room)
 there_mapped room name change well kept = channel_altered room name (option_map change) well (by_row (row room.channels (key name)) refl)
