@@ -1,9 +1,9 @@
-//! The tables of a room after an effect.
+//! The tables of a room after an effect, or once a channel was respelled.
 ghost use Rattle.std.specs.Prelude.{◌≡◌, Some, None, OnOk, OnErr};
 ghost use Rattle.irc_names.specs.Fold.{key};
 ghost use Rattle.irc_names.specs.Tables.{row, alter, moved};
 ghost use Rattle.irc_users.specs.UserTable.{rename_fault, with_nick};
-ghost use Rattle.irc_effects.specs.After.{after};
+ghost use Rattle.irc_effects.specs.After.{after, titled_by};
 ghost use Rattle.irc_effects.specs.Effects.{IsPossible};
 ghost use Rattle.irc_room_tables.specs.Codes.{room_of};
 ghost use Rattle.irc_effects.specs.Room.{IsWellFormed};
@@ -11,7 +11,7 @@ ghost use Rattle.irc_effects.specs.Room.{IsWellFormed};
 use crate::indexed_channels::IndexedChannels;
 use crate::tables::Tables;
 use irc_effects::Effect;
-use irc_names::Nick;
+use irc_names::{ChannelName, Nick};
 use irc_users::{User, Users, UsersFault};
 use std::alloc::{AllocError, Global};
 
@@ -26,6 +26,14 @@ impl Tables {
         ensures refused { OnErr result (self.new ≡ self.old) }
     {
         change(&mut self.users, &mut self.channels, effect)
+    }
+
+    /// A channel's name is spelled as given, where that is greater by bytes. Where the channel is not there
+    /// nothing changes. It takes no memory.
+    pub fn respell(&mut self, channel: &ChannelName)
+        ensures { self.new ≡ titled_by channel.now self.old }
+    {
+        self.channels.respell(channel);
     }
 }
 

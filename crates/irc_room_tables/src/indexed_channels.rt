@@ -6,7 +6,7 @@ ghost use Rattle.irc_names.specs.Fold.{key};
 ghost use Rattle.irc_names.specs.Tables.{row, alter, each};
 ghost use Rattle.irc_tables.specs.RowViews.{row_entry};
 ghost use Rattle.irc_channels.specs.ChannelTable.{members_in};
-ghost use Rattle.irc_channels.specs.Channels.{has_member, left, without_user, renamed, invited_too, with_topic, all_changed};
+ghost use Rattle.irc_channels.specs.Channels.{has_member, left, without_user, renamed, invited_too, with_topic, respelled, all_changed};
 ghost use Rattle.irc_room_tables.specs.Indexes.{entry_at, holds, is_uninvited, own_names, row_joined, with_row, AreInhabited, IsFreeOf};
 
 use crate::gone::{forget_if_alone, remove_from_each, rename_in_each, rows_of};
@@ -163,6 +163,14 @@ impl IndexedChannels {
         set_topic(&mut self.rows, channel, topic);
     }
 
+    /// A channel's name is spelled as given, where that is greater by bytes. Where the channel is not there
+    /// nothing changes. It takes no memory.
+    pub fn respell(&mut self, channel: &ChannelName)
+        ensures { self.new ≡ with_row channel.now (respelled channel.now) self.old }
+    {
+        respell(&mut self.rows, channel);
+    }
+
     /// A user is invited. Where the channel is not there nothing changes.
     ///
     /// # Errors
@@ -268,6 +276,13 @@ fn set_topic(channels: &mut Channels, channel: &ChannelName, topic: &Words)
     ensures { channels.new ≡ with_row channel.now (with_topic topic.now) channels.old }
 {
     let _ = channels.set_topic(channel, topic);
+}
+
+/// A channel's name is spelled in the greater of two ways. Where the channel is not there nothing changes.
+fn respell(channels: &mut Channels, channel: &ChannelName)
+    ensures { channels.new ≡ with_row channel.now (respelled channel.now) channels.old }
+{
+    let _ = channels.respell(channel);
 }
 
 /// A user is invited. Where the channel is not there nothing changes.
