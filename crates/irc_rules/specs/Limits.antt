@@ -1,9 +1,9 @@
 -- The limits of names and short texts, in bytes.
 use Rattle.std.specs.Prelude.{ℕ}
 
--- the longest nickname (RFC 2812 section 1.2.1)
+-- the longest nickname; our own choice (RFC 2812 section 1.2.1 has nine)
 abbrev pub max_nick : ℕ
-max_nick = 9
+max_nick = 30
 
 -- the longest channel name, with its # (RFC 2812 section 1.3)
 abbrev pub max_channel : ℕ

@@ -17,8 +17,8 @@ pub use rules::{is_ban_mask, is_channel, is_host, is_key, is_nick, is_server, is
 
 // How long names may be, in bytes. Each limit of the code stands here alone; the definitions have the same numbers in `specs/Limits.antt`.
 
-/// The longest nickname (RFC 2812, section 1.2.1).
-pub const MAX_NICK: usize = 9;
+/// The longest nickname (our own choice; RFC 2812, section 1.2.1 has nine).
+pub const MAX_NICK: usize = 30;
 
 /// The longest channel name, with its `#` (RFC 2812, section 1.3).
 pub const MAX_CHANNEL: usize = 50;
