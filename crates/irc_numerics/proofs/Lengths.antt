@@ -1,5 +1,5 @@
 -- How long the parts of a reply are.
-use Rattle.std.proofs.Common.{◌≡◌, ℕ, ◌+◌, ◌*◌, ◌^◌, ◌<◌, ◌≤◌, true, false, Option, Some, None, List, [], ◌∷◌, ◌++◌, map, length, refl, ap, arith, rules, length-append, lit≤, codes}
+use Rattle.std.proofs.Common.{◌≡◌, ℕ, ◌+◌, ◌-◌, ◌*◌, ◌^◌, ◌<◌, ◌≤◌, true, false, Option, Some, None, List, [], ◌∷◌, ◌++◌, map, length, refl, ap, arith, rules, length-append, lit≤, codes}
 use Rattle.std.specs.Prelude.{decimal, IfSome}
 use Rattle.std.specs.List.{AllByRecursion}
 use Rattle.std.proofs.lemmas.Fmt.{length-decimal-le}
@@ -8,15 +8,17 @@ use Rattle.irc_line.specs.Bytes.{space, colon, crlf}
 use Rattle.irc_line.specs.Messages.{joined_text, line_text, middle_text, last_text, prefix_text, prefix_of, named}
 use Rattle.irc_line.specs.Lemmas.CutLaws.{cut_all}
 use Rattle.irc_names.specs.Limits.{max_nick, max_channel, max_server}
+use Rattle.irc_numerics.specs.Limits.{max_names}
 use Rattle.irc_numerics.specs.declared.replies.Mark.{Mark}
 use Rattle.irc_numerics.specs.declared.replies.Mark.TheVariants.{Plain, Voiced, Operator}
+use Rattle.irc_numerics.specs.declared.replies.Visibility.{Visibility}
 use Rattle.irc_numerics.specs.declared.replies.Visibility.TheVariants.{Public, Private, Secret}
 use Rattle.irc_numerics.specs.declared.replies.Listed.{Listed}
 use Rattle.irc_numerics.specs.declared.replies.OnChannel.{OnChannel}
 use Rattle.irc_numerics.specs.declared.replies.Reply.{Reply}
 use Rattle.irc_numerics.specs.declared.replies.Reply.TheVariants.{Welcome, YourHost, Created, MyInfo, UserModeIs, LuserClient, LuserChannels, LuserMe, IsOn, WhoisUser, WhoisServer, EndOfWho, EndOfWhois, WhoisChannels, List as ListRow, ListEnd, ChannelModeIs, NoTopic, Topic, Inviting, WhoReply, NamReply, EndOfNames, BanList, EndOfBanList, NoSuchNick, NoSuchChannel, CannotSendToChan, TooManyChannels, TooManyTargets, NoOrigin, NoRecipient, NoTextToSend, UnknownCommand, NoMotd, NoNicknameGiven, ErroneousNickname, NicknameInUse, UserNotInChannel, NotOnChannel, UserOnChannel, NotRegistered, NeedMoreParams, AlreadyRegistered, KeySet, ChannelIsFull, UnknownMode, InviteOnlyChan, BannedFromChan, BadChannelKey, BanListFull, ChanOPrivsNeeded, UModeUnknownFlag, UsersDontMatch}
 use Rattle.irc_numerics.specs.Replies.{ReplyWords, reply_number, words, table, numbered, reply_parts, reply_name, spaced, in_a_row, mark_text, marked_nick, on_channel}
-use Rattle.irc_numerics.specs.Laws.{IsWithinLimits, IsWhole}
+use Rattle.irc_numerics.specs.Laws.{IsWithinLimits, IsWhole, NamesAreShort, uncut_reply}
 
 -- the words, each behind a space
 abbrev sizes : List (List ℕ) → ℕ
@@ -48,8 +50,12 @@ length-in_a_row (p ∷ ps) =
     let parts : length (p ++ in_a_row ps) ≡ length p + length (in_a_row ps) = length-append p (in_a_row ps) in
     omega arith
 
-row_fits : (digits : List ℕ) (ws ps : List (List ℕ)) → length digits + sizes ws + (2 + sizes ps) ≤ 435
-    → length digits + sizes ws + (2 + length (in_a_row ps)) ≤ 435
+-- what the longest server name and nickname, with a colon and two spaces, leave of a line
+abbrev most_said : ℕ
+most_said = max_line - (3 + max_server + max_nick)
+
+row_fits : (digits : List ℕ) (ws ps : List (List ℕ)) → length digits + sizes ws + (2 + sizes ps) ≤ most_said
+    → length digits + sizes ws + (2 + length (in_a_row ps)) ≤ most_said
 row_fits digits ws ps short = let row : length (in_a_row ps) ≤ sizes ps = length-in_a_row ps in omega arith
 
 digits : (n : ℕ) → n < 2 ^ 64 → length (decimal n) ≤ 20
@@ -60,21 +66,25 @@ length-mark_text Plain = lit≤ tt
 length-mark_text Voiced = lit≤ tt
 length-mark_text Operator = lit≤ tt
 
--- a list of entries, each with the space before it
+-- entries with a space between each two: one space fewer than entries
+between-fits : {A : Type 0} (entry : A → List ℕ) (most : ℕ) (x : A) (rest : List A)
+    → AllByRecursion (λ item. length (entry item) ≤ most) (x ∷ rest)
+    → length (spaced (map entry (x ∷ rest))) + 1 ≤ length (x ∷ rest) * (most + 1)
+between-fits entry most x [] fit = let first : length (entry x) ≤ most = fit.0 in omega arith
+between-fits entry most x (y ∷ rest) fit =
+    let first : length (entry x) ≤ most = fit.0 in
+    let later = between-fits entry most y rest fit.1 in
+    let parts = length-append (entry x) (space ∷ spaced (map entry (y ∷ rest))) in
+    omega arith
+
 spaced-fits : {A : Type 0} (entry : A → List ℕ) (most : ℕ) (items : List A) → AllByRecursion (λ item. length
     (entry item) ≤ most) items
     → length (spaced (map entry items)) ≤ length items * (most + 1)
 spaced-fits entry most [] fit = omega arith
-spaced-fits entry most (x ∷ []) fit = let first : length (entry x) ≤ most = fit.0 in omega arith
-spaced-fits entry most (x ∷ y ∷ rest) fit =
-    let first : length (entry x) ≤ most = fit.0 in
-    let later : length (spaced (map entry (y ∷ rest))) ≤ length (y ∷ rest) * (most + 1) = spaced-fits entry most
-    (y ∷ rest) fit.1 in
-    let parts = length-append (entry x) (space ∷ spaced (map entry (y ∷ rest))) in
-    omega arith
+spaced-fits entry most (x ∷ rest) fit = let row = between-fits entry most x rest fit in omega arith
 
 members_fit : (names : List Listed) → AllByRecursion (λ member. length member.nick ≤ max_nick) names → AllByRecursion
-    (λ member. length (marked_nick member) ≤ 10) names
+    (λ member. length (marked_nick member) ≤ 1 + max_nick) names
 members_fit [] fit = fit
 members_fit (x ∷ xs) fit =
     let nick : length x.nick ≤ max_nick = fit.0 in
@@ -93,7 +103,7 @@ places_fit (x ∷ xs) fit =
 
 -- what a reply within its limits says leaves room for the longest server name and nickname
 short : (reply : Reply) → IsWithinLimits reply → length (reply_number reply) + sizes ((words reply).middle) + last_size
-    ((words reply).last) ≤ 435
+    ((words reply).last) ≤ most_said
 unfolding reply_number words table
 short (Welcome nick user host) limits =
     row_fits (codes "001") []
@@ -142,17 +152,17 @@ short (WhoReply (Some place) user host server nick mark hops real) limits =
     (decimal hops ∷ codes " " ∷ real ∷ []) (omega (arith, digits hops limits.5, length-mark_text mark, limits.0))
 short (NamReply Public channel names) limits = omega (
   arith,
-  spaced-fits marked_nick 10 names
+  spaced-fits marked_nick (1 + max_nick) names
       (members_fit names limits.2),
 )
 short (NamReply Private channel names) limits = omega (
   arith,
-  spaced-fits marked_nick 10 names
+  spaced-fits marked_nick (1 + max_nick) names
       (members_fit names limits.2),
 )
 short (NamReply Secret channel names) limits = omega (
   arith,
-  spaced-fits marked_nick 10 names
+  spaced-fits marked_nick (1 + max_nick) names
       (members_fit names limits.2),
 )
 short (EndOfNames _) limits = absurd limits
@@ -217,5 +227,32 @@ within_limits_is_whole server nick reply server_fits nick_fits limits =
     let all = length-joined server name (reply_number reply) (words reply) in
     let name_fits = reply_name_fits nick nick_fits in
     let said_fits = short reply limits in
-    let line_fits : length (joined_text (reply_parts server name (reply_number reply) (words reply))) ≤ max_line = omega arith in
+    let line_fits : length (uncut_reply server nick reply) ≤ max_line = omega arith in
     record { fits = line_fits; uncut = ap (λ line. line ++ crlf) (cut_all _ line_fits) }
+
+-- ten names with their marks, and the spaces between them
+abbrev most_names : ℕ
+most_names = max_names * (max_nick + 2) - 1
+
+spaced_names : (names : List Listed) → length names ≤ max_names → AllByRecursion (λ member. length member.nick ≤ max_nick) names
+    → length (spaced (map marked_nick names)) ≤ most_names
+spaced_names [] few fit = lit≤ tt
+spaced_names (x ∷ rest) few fit = let row = between-fits marked_nick (1 + max_nick) x rest (members_fit (x ∷ rest) fit) in omega arith
+
+-- what a 353 says: three digits, the mark of a channel, the channel, and the names
+names_short : (visibility : Visibility) (channel : List ℕ) (names : List Listed) → IsWithinLimits (NamReply visibility channel names)
+    → length (reply_number (NamReply visibility channel names)) + sizes ((words (NamReply visibility channel names)).middle)
+    + last_size ((words (NamReply visibility channel names)).last) ≤ 3 + 2 + (1 + max_channel) + (2 + most_names)
+unfolding reply_number words table
+names_short Public channel names limits = omega (arith, spaced_names names limits.1 limits.2)
+names_short Private channel names limits = omega (arith, spaced_names names limits.1 limits.2)
+names_short Secret channel names limits = omega (arith, spaced_names names limits.1 limits.2)
+
+pub names_are_short : NamesAreShort
+unfolding numbered
+names_are_short server nick visibility channel names server_fits nick_fits limits =
+    let reply = NamReply visibility channel names in
+    let all = length-joined server (reply_name nick) (reply_number reply) (words reply) in
+    let name_fits = reply_name_fits nick nick_fits in
+    let said = names_short visibility channel names limits in
+    omega arith

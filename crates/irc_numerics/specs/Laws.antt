@@ -6,6 +6,8 @@ use Rattle.irc_line.specs.Bytes.{crlf}
 use Rattle.irc_line.specs.Messages.{joined_text}
 use Rattle.irc_names.specs.Limits.{max_nick, max_channel, max_host, max_server, max_key, max_ban_mask, max_user_name, max_real_name, max_words, max_info, max_created}
 use Rattle.irc_numerics.specs.Limits.{max_names, max_whois_channels, max_mode_letters}
+use Rattle.irc_numerics.specs.declared.replies.Listed.{Listed}
+use Rattle.irc_numerics.specs.declared.replies.Visibility.{Visibility}
 use Rattle.irc_numerics.specs.declared.replies.Reply.{Reply}
 use Rattle.irc_numerics.specs.declared.replies.Reply.TheVariants.{Welcome, YourHost, Created, MyInfo, UserModeIs, LuserClient, LuserChannels, LuserMe, IsOn, WhoisUser, WhoisServer, EndOfWho, EndOfWhois, WhoisChannels, List as ListRow, ListEnd, ChannelModeIs, NoTopic, Topic, Inviting, WhoReply, NamReply, EndOfNames, BanList, EndOfBanList, NoSuchNick, NoSuchChannel, CannotSendToChan, TooManyChannels, TooManyTargets, NoOrigin, NoRecipient, NoTextToSend, UnknownCommand, NoMotd, NoNicknameGiven, ErroneousNickname, NicknameInUse, UserNotInChannel, NotOnChannel, UserOnChannel, NotRegistered, NeedMoreParams, AlreadyRegistered, KeySet, ChannelIsFull, UnknownMode, InviteOnlyChan, BannedFromChan, BadChannelKey, BanListFull, ChanOPrivsNeeded, UModeUnknownFlag, UsersDontMatch}
 use Rattle.irc_numerics.specs.Replies.{reply_text, reply_name, reply_parts, reply_number, words}
@@ -77,14 +79,26 @@ IsWithinLimits (ChanOPrivsNeeded channel) = length channel ≤ max_channel
 IsWithinLimits UModeUnknownFlag = ⊤
 IsWithinLimits UsersDontMatch = ⊤
 
+-- the line of a reply, as long as it is
+abbrev pub uncut_reply : List ℕ → Option (List ℕ) → Reply → List ℕ
+uncut_reply server nick reply =
+    joined_text (reply_parts server (reply_name nick) (reply_number reply) (words reply))
+
 -- a line that holds the whole reply
 pub record IsWhole (server : List ℕ) (nick : Option (List ℕ)) (reply : Reply) : Type 0 where
-  pub fits : length (joined_text (reply_parts server (reply_name nick) (reply_number reply) (words reply))) ≤ max_line
-  pub uncut : reply_text server nick reply ≡ joined_text (reply_parts server (reply_name nick) (reply_number reply)
-      (words reply)) ++ crlf
+  pub fits : length (uncut_reply server nick reply) ≤ max_line
+  pub uncut : reply_text server nick reply ≡ uncut_reply server nick reply ++ crlf
 
 -- A reply within its limits, to a client with a nickname or without one, is written whole.
 abbrev pub WithinLimitsIsWhole : Type 0
 WithinLimitsIsWhole = (server : List ℕ) (nick : Option (List ℕ)) (reply : Reply) → length server ≤ max_server → IfSome nick
     (λ n. length n ≤ max_nick)
     → IsWithinLimits reply → IsWhole server nick reply
+
+-- The text of a 353 has at most 473 bytes: 154 of `:server 353 nick = #channel :`, and 319 of ten
+-- nicknames, each with its mark, and the nine spaces between them.
+abbrev pub NamesAreShort : Type 0
+NamesAreShort = (server : List ℕ) (nick : Option (List ℕ)) (visibility : Visibility)
+    (channel : List ℕ) (names : List Listed) → length server ≤ max_server
+    → IfSome nick (λ n. length n ≤ max_nick) → IsWithinLimits (NamReply visibility channel names)
+    → length (uncut_reply server nick (NamReply visibility channel names)) ≤ 473

@@ -3,7 +3,7 @@ use Rattle.std.specs.Prelude.{ℕ}
 
 -- the most nicknames in one 353; our own choice
 abbrev pub max_names : ℕ
-max_names = 30
+max_names = 10
 
 -- the most channels in one 319; our own choice
 abbrev pub max_whois_channels : ℕ

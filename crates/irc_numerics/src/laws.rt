@@ -1,7 +1,7 @@
 //! What holds of replies. Each law is a function that does nothing, and its contract is the law: the check proves it, and
 //! a crate above may cite it.
 ghost use Rattle.std.specs.Prelude.{◌≡◌};
-ghost use Rattle.irc_numerics.specs.Laws.{WithinLimitsIsWhole};
+ghost use Rattle.irc_numerics.specs.Laws.{NamesAreShort, WithinLimitsIsWhole};
 ghost use Rattle.irc_numerics.specs.Limits.{max_names, max_whois_channels, max_mode_letters};
 
 use crate::limits::{MAX_MODE_LETTERS, MAX_NAMES, MAX_WHOIS_CHANNELS};
@@ -11,6 +11,11 @@ use crate::limits::{MAX_MODE_LETTERS, MAX_NAMES, MAX_WHOIS_CHANNELS};
 /// reply that repeats a client's own words may be cut.
 pub fn within_limits_is_whole()
     ensures { WithinLimitsIsWhole }
+{}
+
+/// The longest of these lines: a 353 with [`MAX_NAMES`](crate::limits::MAX_NAMES) names has 473 bytes at most, and its CR LF.
+pub fn names_are_short()
+    ensures { NamesAreShort }
 {}
 
 /// The constants of [`limits`](crate::limits) are the numbers that the definitions name.

@@ -1,7 +1,7 @@
 //! The limits of a reply, each said once. Those of names stand in irc_names.
 
 /// The most nicknames in one 353 (our own choice).
-pub const MAX_NAMES: usize = 30;
+pub const MAX_NAMES: usize = 10;
 
 /// The most channels in one 319 (our own choice).
 pub const MAX_WHOIS_CHANNELS: usize = 5;
