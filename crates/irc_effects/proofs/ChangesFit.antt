@@ -6,6 +6,7 @@ use Rattle.std.specs.Cmp.{first_so, second_so}
 use Rattle.std.proofs.lemmas.List.Sums.{sum_by-cons}
 use Rattle.irc_line.specs.Lemmas.Lengths.{words_size}
 use Rattle.irc_names.specs.Fold.{key}
+use Rattle.irc_names.specs.Limits.{max_nick}
 use Rattle.irc_names.specs.Tables.{row}
 use Rattle.irc_rules.proofs.RuleFacts.{nick-fits, key-fits, ban_mask-fits}
 use Rattle.irc_users.specs.declared.user.User.{User}
@@ -26,8 +27,8 @@ parameter_short : (which : ModeLetter) (word : List ℕ) → is_parameter which 
 parameter_short letter.Key word is = let short : length word ≤ 23 = key-fits word is in omega (arith, short)
 parameter_short letter.Limit word is = let short : length word ≤ 5 = limit-few word (first_so (is_limit word) _ is) in omega (arith, short)
 parameter_short letter.Ban word is = ban_mask-fits word is
-parameter_short letter.Operator word is = let short : length word ≤ 9 = nick-fits word is in omega (arith, short)
-parameter_short letter.Voice word is = let short : length word ≤ 9 = nick-fits word is in omega (arith, short)
+parameter_short letter.Operator word is = let short : length word ≤ max_nick = nick-fits word is in omega (arith, short)
+parameter_short letter.Voice word is = let short : length word ≤ max_nick = nick-fits word is in omega (arith, short)
 parameter_short letter.InviteOnly word is = not_true is
 parameter_short letter.Moderated word is = not_true is
 parameter_short letter.NoOutside word is = not_true is

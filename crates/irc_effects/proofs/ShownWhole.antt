@@ -1,5 +1,5 @@
 -- The lines of effects that can be sent are not cut.
-use Rattle.std.proofs.Common.{◌≡◌, ℕ, ◌+◌, ◌≤◌, Bool, true, false, if◌then◌else◌, Option, Some, None, List, [], ◌∷◌, ◌++◌, length, codes, refl, sym, ap, subst, option_map, arith, lit≤}
+use Rattle.std.proofs.Common.{◌≡◌, ℕ, ◌+◌, ◌-◌, ◌≤◌, Bool, true, false, if◌then◌else◌, Option, Some, None, List, [], ◌∷◌, ◌++◌, length, codes, refl, sym, ap, subst, option_map, arith, lit≤}
 use Rattle.std.specs.Option.{option_map_or, IfSome}
 use Rattle.irc_line.specs.Limits.{max_line}
 use Rattle.irc_line.specs.Bytes.{crlf}
@@ -7,6 +7,7 @@ use Rattle.irc_line.specs.Messages.{Written, named, joined_text, line_text, pref
 use Rattle.irc_line.specs.Lemmas.CutLaws.{cut_all}
 use Rattle.irc_line.specs.Lemmas.Lengths.{words_size, last_size, length-joined_text, length-named, length-full}
 use Rattle.irc_names.specs.Fold.{key}
+use Rattle.irc_names.specs.Limits.{max_nick, max_host, max_user_name}
 use Rattle.irc_names.specs.Tables.{row}
 use Rattle.irc_rules.proofs.RuleFacts.{nick-fits, channel-fits, host-fits}
 use Rattle.irc_users.specs.declared.user.User.{User}
@@ -25,11 +26,11 @@ use Rattle.irc_effects.proofs.ChangesFit.{nick_as_stored, changes_short}
 
 -- ---- names as they are written
 
-nick_short : (room : Room) (nick : List ℕ) → IsWithinLimits room → IsStoredNick room nick → length (stored_nick room nick) ≤ 9
+nick_short : (room : Room) (nick : List ℕ) → IsWithinLimits room → IsStoredNick room nick → length (stored_nick room nick) ≤ max_nick
 nick_short room nick within is = by (row room.users (key nick)) refl is
   where
     by : (o : Option User) → row room.users (key nick) ≡ o → option_map (λ (user : User). user.nick) o ≡ Some nick
-        → length (option_map_or (λ (user : User). user.nick) o nick) ≤ 9
+        → length (option_map_or (λ (user : User). user.nick) o nick) ≤ max_nick
     by None at is = not_none nick is
     by (Some user) at is = nick-fits user.nick (within.users (key nick) user at).nick
 
@@ -56,12 +57,19 @@ channel_short room name within is = by (row room.channels (key name)) refl is
 
 -- ---- a user's line
 
-line_size : (all prefix body nick user host : ℕ) → all ≡ prefix + body → prefix ≡ nick + (user + (host + 4)) → nick ≤ 9 → user ≤ 10 → host ≤ 63 → body ≤ 424
-    → all ≤ 510
+-- what the longest prefix of a user leaves of a line, and what a command of seven letters leaves then
+abbrev behind_prefix : ℕ
+behind_prefix = max_line - (max_nick + (max_user_name + (max_host + 4)))
+
+abbrev behind_command : ℕ
+behind_command = behind_prefix - 7
+
+line_size : (all prefix body nick user host : ℕ) → all ≡ prefix + body → prefix ≡ nick + (user + (host + 4)) → nick ≤ max_nick → user ≤ max_user_name
+    → host ≤ max_host → body ≤ behind_prefix → all ≤ max_line
 line_size all prefix body nick user host all_is prefix_is nick_fits user_fits host_fits body_fits = omega arith
 
 from_user : (user : User) (command : List ℕ) (middle : List (List ℕ)) (last : Option (List ℕ)) → IsUserWithin user
-    → length command + (words_size middle + last_size last) ≤ 424
+    → length command + (words_size middle + last_size last) ≤ behind_prefix
     → IsWhole (record { sender = full_sender user; command = command; middle = middle; last = last })
 from_user user command middle last within short =
     line_size (length (joined_text (record { sender = full_sender user; command = command; middle = middle; last = last })))
@@ -72,7 +80,7 @@ from_user user command middle last within short =
     (nick-fits user.nick within.nick) within.name.fits (host-fits user.host within.host) short
 
 from_nick_whole : (room : Room) (nick command : List ℕ) (middle : List (List ℕ)) (last : Option (List ℕ)) → IsWithinLimits room
-    → length command ≤ 7 → words_size middle + last_size last ≤ 417 → IfSome (parts_of command middle last (from_nick room nick)) IsWhole
+    → length command ≤ 7 → words_size middle + last_size last ≤ behind_command → IfSome (parts_of command middle last (from_nick room nick)) IsWhole
 from_nick_whole room nick command middle last within command_short short = by (row room.users (key nick)) refl
   where
     by : (o : Option User) → row room.users (key nick) ≡ o → IfSome (parts_of command middle last (option_map full_sender o)) IsWhole
@@ -81,22 +89,22 @@ from_nick_whole room nick command middle last within command_short short = by (r
 
 -- ---- what stands behind the command
 
-no_more : (last : ℕ) → last ≤ 160 → 0 + (2 + last) ≤ 417
+no_more : (last : ℕ) → last ≤ 160 → 0 + (2 + last) ≤ behind_command
 no_more last last_short = omega arith
 
-one_word : (word last : ℕ) → word ≤ 50 → last ≤ 162 → (1 + word + 0) + last ≤ 417
+one_word : (word last : ℕ) → word ≤ 50 → last ≤ 162 → (1 + word + 0) + last ≤ behind_command
 one_word word last word_short last_short = omega arith
 
-two_words : (first second last : ℕ) → first ≤ 50 → second ≤ 50 → last ≤ 162 → (1 + first + (1 + second + 0)) + last ≤ 417
+two_words : (first second last : ℕ) → first ≤ 50 → second ≤ 50 → last ≤ 162 → (1 + first + (1 + second + 0)) + last ≤ behind_command
 two_words first second last first_short second_short last_short = omega arith
 
-many_words : (first words : ℕ) → first ≤ 50 → words ≤ 296 → (1 + first + words) + 0 ≤ 417
+many_words : (first words : ℕ) → first ≤ 50 → words ≤ 296 → (1 + first + words) + 0 ≤ behind_command
 many_words first words first_short words_short = omega arith
 
 text_short : (text : List ℕ) → IsCarriedText text → 2 + length text ≤ 162
 text_short text within = let fits : length text ≤ 160 = within.fits in omega (arith, fits)
 
-nick_in_line : (length : ℕ) → length ≤ 9 → length ≤ 50
+nick_in_line : (length : ℕ) → length ≤ max_nick → length ≤ 50
 nick_in_line length short = omega arith
 
 sign_short : (invisible : Bool) → length (if invisible then codes "+i" else codes "-i") ≤ 50
