@@ -32,7 +32,7 @@ use Rattle.irc_room.specs.Seen.{changes_words, names_member, stored_channel, sto
 use Rattle.irc_room.specs.Sendable.{IsSentChange, IsSentWord, IsStoredChannel, IsStoredNick}
 use Rattle.irc_link_words.specs.declared.fault.WireFault.TheVariants.{Parameters, BadToken, WrongDirection, BadName}
 use Rattle.irc_link_reader.specs.Means.{Checked, first_fault, of_either, read_by, user_mode_line}
-use Rattle.irc_wire.specs.ModesTaken.{AreSentOn, AreTold, OtherwiseWrittenIsRefused, TakenCanBeSentOn, TakenIsReadAgain, TakenIsReadByTheNext, TakenIsWrittenSo, WrittenChangesAreRead, mode_message, nothing, respelled, told}
+use Rattle.irc_wire.specs.ModesTaken.{AreSentOn, AreTold, OtherwiseWrittenIsRefused, TakenCanBeSentOn, TakenIsReadAgain, TakenIsReadByTheNext, TakenIsWrittenSo, WrittenChangesAreRead, mode_message, nothing, stored_changes, told}
 use Rattle.irc_link_reader.specs.Reader.{Reader, may_come}
 use Rattle.irc_link_words.specs.Words.{are_changes, are_members_named, changes_of, is_for_channel, is_mode_word, keeps_word, made, names_nick}
 use Rattle.irc_wire.proofs.IntroductionRead.{no_fault}
@@ -297,30 +297,30 @@ readable_so : IsKnownOfModes → (words : List (List ℕ)) → are_changes words
 readable_so below words taken worded = below.asked words (changes_of words) (some_asked (modes_read words) worded) (filled_so words taken)
 
 -- a word stays one of its letter where the room spells it
-respelled_fits : (room : Room) → IsWithinLimits room → (plus : Bool) (which : ModeLetter) (word : Option (List ℕ)) → word_fits plus which word ≡ true
+stored_fits : (room : Room) → IsWithinLimits room → (plus : Bool) (which : ModeLetter) (word : Option (List ℕ)) → word_fits plus which word ≡ true
     → word_fits plus which (if names_member which then option_map (stored_nick room) word else word) ≡ true
-respelled_fits room within plus letter.Operator None so = not_true so
-respelled_fits room within plus letter.Operator (Some word) so = nick_stays room word within so
-respelled_fits room within plus letter.Voice None so = not_true so
-respelled_fits room within plus letter.Voice (Some word) so = nick_stays room word within so
-respelled_fits room within plus letter.Key word so = so
-respelled_fits room within plus letter.Limit word so = so
-respelled_fits room within plus letter.Ban word so = so
-respelled_fits room within plus letter.InviteOnly word so = so
-respelled_fits room within plus letter.Moderated word so = so
-respelled_fits room within plus letter.NoOutside word so = so
-respelled_fits room within plus letter.TopicLocked word so = so
-respelled_fits room within plus letter.Private word so = so
-respelled_fits room within plus letter.Secret word so = so
+stored_fits room within plus letter.Operator None so = not_true so
+stored_fits room within plus letter.Operator (Some word) so = nick_stays room word within so
+stored_fits room within plus letter.Voice None so = not_true so
+stored_fits room within plus letter.Voice (Some word) so = nick_stays room word within so
+stored_fits room within plus letter.Key word so = so
+stored_fits room within plus letter.Limit word so = so
+stored_fits room within plus letter.Ban word so = so
+stored_fits room within plus letter.InviteOnly word so = so
+stored_fits room within plus letter.Moderated word so = so
+stored_fits room within plus letter.NoOutside word so = so
+stored_fits room within plus letter.TopicLocked word so = so
+stored_fits room within plus letter.Private word so = so
+stored_fits room within plus letter.Secret word so = so
 
 sent_on : IsKnownOfModes → (room : Room) (words : List (List ℕ)) → IsWithinLimits room → are_changes words ≡ true
     → list_all has_its_word (changes_of words) ≡ true → AreSentOn room words
 sent_on below room words within taken worded =
     let changes = changes_of words in
     let readable = readable_so below words taken worded in
-    let again = respelled room changes in
+    let again = stored_changes room changes in
     let readable_again = below.reworded_readable (written_word room) changes
-    (λ (c : ModeChange). respelled_fits room within c.plus c.letter c.word) readable in
+    (λ (c : ModeChange). stored_fits room within c.plus c.letter c.word) readable in
     let words_are : changes_words room changes ≡ changes_written again = below.reworded_written (written_word room) changes in
     record {
       readable = readable;
@@ -341,5 +341,5 @@ taken_is_read_by_the_next below room known reader next nick channel words effect
     ap (read_by next)
     (message_so (stored_nick room nick) (stored_nick room nick) (stored_channel room channel) (stored_channel room channel)
     (changes_words room (changes_of words)) (changes_words room (changes_of words)) refl refl refl)
-    ∙ read_so next (stored_nick room nick) (stored_channel room channel) (changes_words room (changes_of words)) (respelled room (changes_of words))
+    ∙ read_so next (stored_nick room nick) (stored_channel room channel) (changes_words room (changes_of words)) (stored_changes room (changes_of words))
     (nick_stays room nick within named) (channel_stays room channel within channel_is) there comes sent.taken sent.named sent.same

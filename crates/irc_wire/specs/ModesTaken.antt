@@ -77,8 +77,8 @@ TakenIsReadAgain = (words : List (List ℕ)) → are_changes words ≡ true
 -- ---- what was taken can be sent on
 
 -- changes with the nicknames in them spelled as a room has them, which is how it writes them
-abbrev pub respelled : Room → List ModeChange → List ModeChange
-respelled room changes = map (reworded (written_word room)) changes
+abbrev pub stored_changes : Room → List ModeChange → List ModeChange
+stored_changes room changes = map (reworded (written_word room)) changes
 
 -- what the words of a line that was taken say, written by a room
 pub record AreSentOn (room : Room) (words : List (List ℕ)) : Type 0 where
@@ -86,8 +86,8 @@ pub record AreSentOn (room : Room) (words : List (List ℕ)) : Type 0 where
   pub readable : AreReadable (changes_of words)
   -- what the room writes of them is taken again, and read as these changes
   pub taken : are_changes (changes_words room (changes_of words)) ≡ true
-  pub same : changes_of (changes_words room (changes_of words)) ≡ respelled room (changes_of words)
-  pub named : are_members_named (respelled room (changes_of words)) ≡ true
+  pub same : changes_of (changes_words room (changes_of words)) ≡ stored_changes room (changes_of words)
+  pub named : are_members_named (stored_changes room (changes_of words)) ≡ true
 
 -- Whatever its words are, a MODE line that is taken tells of changes that can be written again, and are read as the same.
 abbrev pub TakenCanBeSentOn : Type 0
@@ -101,4 +101,4 @@ TakenIsReadByTheNext = (room : Room) (known : Known) (reader next : Reader) (nic
     → IsWithinLimits room → IsNick nick → is_for_channel channel ≡ true → read_by reader (mode_message nick channel words) ≡ Ok effects
     → is_some (next.home (stored_nick room nick)) ≡ true → may_come next (stored_nick room nick) ≡ true
     → read_by next (message_of (wire room known (ChangeModes (by.User nick) channel (changes_of words))))
-    ≡ Ok (ChangeModes (by.User (stored_nick room nick)) (stored_channel room channel) (respelled room (changes_of words)) ∷ [])
+    ≡ Ok (ChangeModes (by.User (stored_nick room nick)) (stored_channel room channel) (stored_changes room (changes_of words)) ∷ [])
