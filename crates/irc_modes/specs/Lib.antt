@@ -7,5 +7,6 @@ pub mod ModesSet
 pub mod Joined
 pub mod JoinedLaws
 pub mod Raised
+pub mod RaisedLaws
 pub mod Loops
 pub mod Lemmas

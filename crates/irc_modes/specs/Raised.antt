@@ -7,7 +7,7 @@ use Rattle.std.specs.Option.{option_map_or}
 use Rattle.irc_names.specs.Fold.{same}
 use Rattle.irc_names.specs.Greater.{bytes_cmp}
 use Rattle.irc_names.specs.Digits.{number_of}
-use Rattle.irc_modes.specs.Modes.{is_limit, mode_step}
+use Rattle.irc_modes.specs.Modes.{is_limit, with_ban, mode_step}
 use Rattle.irc_modes.specs.declared.modes.Modes.{Modes}
 use Rattle.irc_modes.specs.declared.modes.ModeChange.{ModeChange}
 use Rattle.irc_modes.specs.declared.modes.ModeLetter.{ModeLetter}
@@ -47,3 +47,11 @@ abbrev pub raising : List ModeChange → Modes → List ModeChange
 raising [] modes = []
 raising (change ∷ changes) modes =
     if raises change.plus change.letter change.word modes then change ∷ raising changes (mode_step modes change) else raising changes modes
+
+-- a change is made where it raises something
+abbrev pub raise_step : Modes → ModeChange → Modes
+raise_step modes change = if raises change.plus change.letter change.word modes then mode_step modes change else modes
+
+-- a ban is set where none is the same under the fold, or one that is less by bytes
+abbrev pub raise_ban : List (List ℕ) → List ℕ → List (List ℕ)
+raise_ban bans mask = if is_above bytes_cmp mask (find (same mask) bans) then with_ban mask bans else bans
