@@ -1,6 +1,7 @@
 //! One room.
-ghost use Rattle.std.specs.Prelude.{◌≡◌, ◌≤◌, ◌++◌, false, true, Some, None, length, map, IfOk, if◌then◌else◌};
+ghost use Rattle.std.specs.Prelude.{◌≡◌, ◌≤◌, ◌++◌, false, true, Some, None, length, map, IfOk, OnOk, OnErr, if◌then◌else◌};
 ghost use Rattle.std.specs.Option.{option_copied};
+ghost use Rattle.std.specs.Result.{result_err};
 ghost use Rattle.std.specs.FinMap.{entries, values};
 ghost use Rattle.arrayvec.specs.ArrayVec.{array_vec_len};
 ghost use Rattle.irc_line.specs.Bytes.{cut};
@@ -10,7 +11,8 @@ ghost use Rattle.irc_names.specs.Limits.{max_channel};
 ghost use Rattle.irc_names.specs.Tables.{row};
 ghost use Rattle.irc_tables.specs.RowViews.{row_entry};
 ghost use Rattle.irc_channels.specs.ChannelTable.{members_in};
-ghost use Rattle.irc_shown.specs.Applying.{Kept, Applied, IdleStays, ShowsHere, does};
+ghost use Rattle.irc_shown.specs.After.{titled_by};
+ghost use Rattle.irc_shown.specs.Applying.{Kept, Applied, IdleStays, ShowsHere, does, respelling_fault};
 ghost use Rattle.irc_shown.specs.Effects.{brings_free};
 ghost use Rattle.irc_shown.specs.Laws.{no_room};
 ghost use Rattle.irc_shown.specs.Readers.{user_at, channel_at, channels_of, flags_at, is_invited_at, is_visible_at, nicks_in, rows_now, spelling_at, users_now, users_of, viewers_of};
@@ -307,6 +309,28 @@ impl Room {
                 Err(RoomFault::Memory)
             }
         }
+    }
+
+    /// A channel's name is spelled as given, where that is greater by bytes than the stored spelling: two sides
+    /// of a network that had one channel in two spellings join it under the greater one. It is no effect: nobody
+    /// does it, and nobody is shown anything. It takes no memory.
+    ///
+    /// # Errors
+    /// [`RoomFault::Failed`] where memory ran out before; [`RoomFault::NoSuchChannel`] where the channel is not
+    /// there. Nothing has changed then.
+    pub fn respell(&mut self, channel: &ChannelName) -> Result<(), RoomFault>
+        ensures fault { result_err result ≡ respelling_fault self.old channel.now }
+        ensures ok { OnOk result (self.new ≡ record self.old { room = titled_by channel.now self.old.room }) }
+        ensures refused { OnErr result (self.new ≡ self.old) }
+    {
+        if self.failed {
+            return Err(RoomFault::Failed);
+        }
+        if !self.tables.has_channel(channel) {
+            return Err(RoomFault::NoSuchChannel);
+        }
+        self.tables.respell(channel);
+        Ok(())
     }
 }
 
