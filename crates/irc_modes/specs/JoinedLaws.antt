@@ -1,5 +1,5 @@
--- What holds of two channels' modes, joined: sides of a network that join them in any order come to the same modes, and a side that
--- comes again changes nothing.
+-- What holds of two channels' modes, joined: in whichever order sides of a network join theirs,
+-- they come to the same modes, and a side that comes again changes nothing.
 use Rattle.std.proofs.Common.{◌≡◌, Bool, true, false, cond, Option, Some, None, IfSome, refl}
 use Rattle.std.proofs.Math.Bool.{or_self, or_comm, or_assoc}
 use Rattle.std.specs.declared.cmp.Ordering.{Ordering}
@@ -21,7 +21,8 @@ JoinedIsEven = (one other : Modes) → joined_modes one other ≡ joined_modes o
 
 -- nor does it which two of three are joined first
 abbrev pub JoinedAssociates : Type 0
-JoinedAssociates = (one next last : Modes) → joined_modes (joined_modes one next) last ≡ joined_modes one (joined_modes next last)
+JoinedAssociates = (one next last : Modes)
+    → joined_modes (joined_modes one next) last ≡ joined_modes one (joined_modes next last)
 
 -- modes whose bans are in order, joined with themselves, are what they are
 abbrev pub JoinedWithItself : Type 0
@@ -29,7 +30,8 @@ JoinedWithItself = (modes : Modes) → IsBanList modes.bans → joined_modes mod
 
 -- modes within limits are joined to modes within limits; there may be as many bans as both have
 abbrev pub JoinedIsWithinLimits : Type 0
-JoinedIsWithinLimits = (one other : Modes) → AreWithinLimits one → AreWithinLimits other → AreWithinLimits (joined_modes one other)
+JoinedIsWithinLimits = (one other : Modes) → AreWithinLimits one → AreWithinLimits other
+    → AreWithinLimits (joined_modes one other)
 
 -- ---- p and s
 
@@ -44,7 +46,8 @@ privacy-even Secret Public = refl
 privacy-even Secret Private = refl
 privacy-even Secret Secret = refl
 
-privacy-associates : (one next last : Privacy) → joined_privacy (joined_privacy one next) last ≡ joined_privacy one (joined_privacy next last)
+privacy-associates : (one next last : Privacy)
+    → joined_privacy (joined_privacy one next) last ≡ joined_privacy one (joined_privacy next last)
 privacy-associates Public next last = refl
 privacy-associates Private Public last = refl
 privacy-associates Private Private Public = refl
@@ -99,7 +102,8 @@ joined_with_itself modes rising = λ i. record {
 -- ---- limits
 
 -- what is so of both, where they are there, is so of the greater
-greater_so : {X : Type 0} (order : X → X → Ordering) (P : X → Type 0) (one other : Option X) → IfSome one P → IfSome other P → IfSome (greater_of order one other) P
+greater_so : {X : Type 0} (order : X → X → Ordering) (P : X → Type 0) (one other : Option X)
+    → IfSome one P → IfSome other P → IfSome (greater_of order one other) P
 greater_so order P None other so so_too = so_too
 greater_so order P (Some one) None so so_too = so
 greater_so order P (Some one) (Some other) so so_too = by (is_lt (order one other))

@@ -1,5 +1,5 @@
-//! What holds of the greater of two texts. Each law is a function that does nothing, and its contract is the law: the check proves it, and a
-//! crate above may cite it.
+//! What holds of the greater of two texts by their bytes. Each law is a function that does
+//! nothing, and its contract is the law: the check proves it, and a crate above may cite it.
 ghost use Rattle.irc_names.specs.GreaterLaws.{GreaterAssociates, GreaterIsEven, GreaterWithItself};
 
 /// Which of two texts is named first makes no difference.
