@@ -55,3 +55,7 @@ raise_step modes change = if raises change.plus change.letter change.word modes 
 -- a ban is set where none is the same under the fold, or one that is less by bytes
 abbrev pub raise_ban : List (List ℕ) → List ℕ → List (List ℕ)
 raise_ban bans mask = if is_above bytes_cmp mask (find (same mask) bans) then with_ban mask bans else bans
+
+-- a change, where it raises something
+abbrev pub raised_of : ModeChange → Modes → List ModeChange
+raised_of change modes = if raises change.plus change.letter change.word modes then change ∷ [] else []

@@ -41,11 +41,11 @@ fn change_one(bans: &mut Vec<BanMask, Global>, change: &ModeChange)
     ensures ordered { IsBanList bans.new.items }
     ensures capacity { vec_capacity bans.old ≤ vec_capacity bans.new }
 {
-    let Some(mask) = mask_of(change) else { return };
+    let Some(named) = mask_of(change) else { return };
     if change.plus {
-        set(bans, mask);
+        set(bans, named);
     } else {
-        take(bans, &mask);
+        take(bans, &named);
     }
 }
 

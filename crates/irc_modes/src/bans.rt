@@ -9,7 +9,7 @@ ghost use Rattle.irc_modes.specs.Loops.ManyChanges.{bans_after};
 
 use crate::ban_changing::{additions, change_all};
 use crate::modes::ModeChange;
-use irc_names::{BanMask, mask_matches};
+use irc_names::{BanMask, mask_matches, same};
 use std::alloc::{AllocError, Global};
 use std::marker::Model;
 
@@ -77,6 +77,18 @@ impl BanList {
         ensures { option_copied result ≡ find (same mask.now) self.now }
     {
         self.masks.iter().find(|ban| mask == *ban)
+    }
+
+    /// The ban that is the same as these bytes under the fold, as it is spelled here.
+    pub(crate) fn spelled(&self, bytes: &[u8]) -> Option<&BanMask>
+        ensures { option_copied result ≡ find (same bytes.now) self.now }
+    {
+        self.masks.iter().find(|ban| same(bytes, ban.as_bytes()))
+    }
+
+    /// What the list takes its memory from.
+    pub(crate) fn allocator(&self) -> Global {
+        *self.masks.allocator()
     }
 
     /// Whether some ban matches a text, as `nick!user@host`.

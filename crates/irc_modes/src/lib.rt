@@ -8,6 +8,7 @@ mod limit;
 mod mode_changing;
 mod mode_word;
 mod modes;
+mod raising;
 
 pub use bans::BanList;
 pub use irc_names::Key;
