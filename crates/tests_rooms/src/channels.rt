@@ -1,6 +1,8 @@
 //! Members, invitations and modes of channels (RFC 2811, sections 2 to 4).
 use crate::script::{channel, nick, room_holds};
-use irc_channels::Channels;
+use irc_channels::{Channels, ChannelsFault};
+use std::alloc::Global;
+use std::process::Abort;
 
 const MEMBERS: &str = "\
 user [x a.net h X =
@@ -79,6 +81,83 @@ mode * #c +l-l 7 = al :a.net MODE #c +l 7
 mode * #c -lk x = al :a.net MODE #c -lk x
 mode * #c +ii-i+m = al :a.net MODE #c +im
 mode * #c +vvvv al bo cy di = al :a.net MODE #c +vvv al bo cy";
+
+/// A channel that is spelled in the greater of two ways stays what it is but for its name.
+const RESPELLED: &str = "\
+user al a.net h Al =
+user bo a.net h Bo =
+user cy b.net h Cy =
+respell #chat = no channel
+state #chat = none
+make al #Chat = al :al!u@h JOIN #Chat
+join bo #chat = al bo :bo!u@h JOIN #Chat
+mode al #chat +mkv pw bo = al bo :al!u@h MODE #Chat +mkv pw bo
+topic bo #CHAT hi = al bo :bo!u@h TOPIC #Chat :hi
+invite al cy #chat = (cy)
+respell #CHAT =
+state #chat = #Chat +m pw :hi @al +bo ?cy
+respell #chat =
+state #CHAT = #chat +m pw :hi @al +bo ?cy
+respell #Chat =
+state #CHAT = #chat +m pw :hi @al +bo ?cy
+respell #cha = no channel
+state #cha = none
+users = al bo cy
+channels bo = #chat
+invited cy #CHAT = yes
+join cy #Chat = al bo (cy) :cy!u@h JOIN #chat
+part bo #Chat x = al bo (cy) :bo!u@h PART #chat :x
+quit al x = (cy)
+part cy #chat x = (cy)
+make bo #CHAT = bo :bo!u@h JOIN #CHAT
+state #chat = #CHAT + : @bo";
+
+/// The spelling that a channel was made in, the one that comes, and the greater of the two.
+static SPELLINGS: [[&str; 3]; 6] = [
+    ["#Chat", "#chat", "#chat"],
+    ["#chat", "#Chat", "#chat"],
+    ["#chat", "#chat", "#chat"],
+    ["#[a]", "#{A}", "#{A}"],
+    ["#{A}", "#[a]", "#{A}"],
+    ["#cHAT", "#ChAT", "#cHAT"],
+];
+
+/// Whether a channel that was made in the first spelling, and then spelled as the second where that is
+/// greater, has the third; and whether no other channel is spelled anew.
+fn is_spelled(rt: &impl Abort, alloc: Global, row: [&str; 3]) -> bool {
+    let [made, given, stays] = row;
+    let mut channels = Channels::new(alloc);
+    let joined = channels.join(&nick(rt, "al"), &channel(rt, made), true);
+    let other = channels.respell(&channel(rt, "#other"));
+    let respelled = channels.respell(&channel(rt, given));
+    joined.is_ok()
+        && other == Err(ChannelsFault::NoSuchChannel)
+        && respelled.is_ok()
+        && is_stored(&channels, made, stays)
+}
+
+/// Whether a channel is stored in a spelling.
+fn is_stored(channels: &Channels, name: &str, spelling: &str) -> bool {
+    match channels.find(name.as_bytes()) {
+        Some(found) => found.name.as_bytes() == spelling.as_bytes(),
+        None => false,
+    }
+}
+
+/// Whether each row holds.
+fn are_spelled(rt: &impl Abort, alloc: Global) -> bool {
+    let mut all = true;
+    for row in SPELLINGS {
+        all &= is_spelled(rt, alloc, row);
+    }
+    all
+}
+
+#[test]
+fn the_greater_spelling_stays(rt: HostRuntime) {
+    assert!(rt; are_spelled(&rt, rt.alloc()));
+    assert!(rt; room_holds(&rt, rt.alloc(), RESPELLED));
+}
 
 #[test]
 fn members_come_and_go(rt: HostRuntime) {

@@ -7,6 +7,7 @@
 //!   `part NICK CHANNEL TEXT`, `kick BY CHANNEL NICK`, `mode BY CHANNEL MODES`, `topic BY CHANNEL TEXT`, `say BY TARGET TEXT`,
 //!   `note BY TARGET TEXT`, `invite BY NICK CHANNEL`, `set NICK +i` and `set NICK -i` are the effects. Who makes a channel is its
 //!   operator. A `*` that changes modes or a topic is a server.
+//! - `respell CHANNEL` spells a channel's name as given, where that is greater by bytes; it shows nothing.
 //! - `state CHANNEL` shows its modes, key, limit and bans, its topic behind a `:`, its members with their marks, and who is
 //!   invited behind a `?`.
 //! - `users`, `home SERVER` and `channels NICK` show all users, those of a server, and the channels of one. `invited NICK CHANNEL` tells
@@ -295,6 +296,15 @@ fn show_invited(room: &Room, row: Row<'_>, shown: &mut Shown) {
     append_word(shown, b"", if invited { b"yes" } else { b"no" });
 }
 
+/// Spells a channel's name as given, where that is greater, and shows why not, if it is not.
+fn respell(room: &mut Room, channel: &ChannelName, shown: &mut Shown) {
+    match room.respell(channel) {
+        Ok(()) => {}
+        Err(RoomFault::NoSuchChannel) => append(shown, b" no channel"),
+        Err(_) => append(shown, b" failed"),
+    }
+}
+
 /// What scripts are run on.
 pub trait Stage {
     /// Does what a row says, and shows what comes of it.
@@ -312,6 +322,7 @@ impl Stage for Room {
             "home" => show_home(rt, alloc, self, row.first, shown),
             "invited" => show_invited(self, row, shown),
             "channels" => show_channels_of(alloc, self, row.first, shown),
+            "respell" => respell(self, &channel(rt, row.first), shown),
             _ => apply(alloc, self, &effect_of(rt, alloc, row), shown),
         }
     }
