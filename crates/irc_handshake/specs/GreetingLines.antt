@@ -1,5 +1,5 @@
 -- The two lines with which a link begins (RFC 2813 section 4.1); each end writes both:
---   PASS pw 0210010000 TREE|
+--   PASS pw 0210010001 TREE|
 --   SERVER a.net 1 1 :A
 use Rattle.std.specs.Prelude.{ℕ, Option, Some, None, List, [], ◌∷◌, codes}
 use Rattle.irc_line.specs.Messages.{Written, nobody}
@@ -8,7 +8,7 @@ use Rattle.irc_routes.specs.Known.{Known}
 -- The version that PASS tells of (RFC 2813 section 4.1.1): four digits of the protocol, and what else is agreed (our own choice). It stands here alone,
 -- and changes with what servers write to each other.
 abbrev pub version : List ℕ
-version = codes "0210010000"
+version = codes "0210010001"
 
 -- the name of what the servers agree on, without flags (RFC 2813 section 4.1.1; the name is our own choice)
 abbrev pub agreement : List ℕ

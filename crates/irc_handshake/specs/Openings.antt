@@ -2,9 +2,9 @@
 -- itself; reasons to close the link are looked for in the order UnknownCommand, Parameters, Order, UnknownPeer, Password, AlreadyKnown, Full.
 --
 -- Lines by a new link, as a.net reads them:
---   `PASS pw 0210010000 TREE|`      the password is pw
+--   `PASS pw 0210010001 TREE|`      the password is pw
 --   the same once more              Order
---   `PASS pw 0210010001 TREE|`      Parameters: that is another version. So it is of a password of 21 bytes, and with a word more or less
+--   `PASS pw 0210010000 TREE|`      Parameters: that is another version, as the one before ours. So it is of a password of 21 bytes, and with a word more or less
 --   `SERVER b.net 1 1 :B`           it is b.net; before a password it is Order
 --   `SERVER b.net 2 1 :B`           Parameters: whoever names itself is one link away, and has number 1
 --   `SERVER b 1 1 :B`               UnknownPeer: what is no server's name is no peer's

@@ -9,7 +9,7 @@ use crate::{AGREEMENT, VERSION};
 use irc_line::{Parts, Prefix, Text, write_message};
 use irc_routes::{Info, Routes};
 
-/// The first line of a link: `PASS pw 0210010000 TREE|` (RFC 2813 section 4.1.1).
+/// The first line of a link: `PASS pw 0210010001 TREE|` (RFC 2813 section 4.1.1).
 pub fn pass_text(password: &[u8]) -> Text
     ensures { result.items ≡ text (pass_parts password.now) }
 {

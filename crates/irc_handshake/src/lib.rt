@@ -13,7 +13,7 @@ pub use password::{Password, is_password};
 pub use peers::{not_taken, refusal};
 
 /// The version that PASS tells of (RFC 2813 section 4.1.1). It changes with what servers write to each other.
-pub const VERSION: &[u8] = b"0210010000";
+pub const VERSION: &[u8] = b"0210010001";
 
 /// The name of what servers agree on, without flags (RFC 2813 section 4.1.1; the name is our own choice).
 pub const AGREEMENT: &[u8] = b"TREE|";
