@@ -24,7 +24,7 @@ use Rattle.irc_room.specs.Lemmas.ListedRooms.{room_of, all_listed, no_list}
 use Rattle.irc_room.specs.Lemmas.ListedSeen.{user_listed, channel_listed}
 use Rattle.irc_room.specs.Lemmas.ExampleRooms.{list_room}
 use Rattle.irc_merge.specs.Deeds.{does, kills, tops}
-use Rattle.irc_merge.specs.Bursts.{in_lines, burst, home_passes}
+use Rattle.irc_merge.specs.Bursts.{in_lines, members_a_line, burst, home_passes}
 use Rattle.irc_merge.specs.BurstRead.{read_deed}
 use Rattle.irc_merge.specs.Merge.{merge}
 use Rattle.irc_merge.specs.MergeShown.{merge_shown}
@@ -44,8 +44,16 @@ channel_is_told =
 pub thirty_one_members : ThirtyOneMembers
 unfolding in_lines
 thirty_one_members members is =
-    ap (λ l. map length (first_chunks 30 (div_ceil l 30) members)) is
-    ∙ (λ i. length-take-le 30 members (omega (arith, is)) i ∷ (length-take 30 (drop 30 members) ∙ ap (min 30) (length-drop 30 members ∙ ap (λ l. l - 30) is)) i ∷ [])
+    let size = members_a_line in
+    let behind_one = drop size members in
+    let behind_two = drop size behind_one in
+    let behind_three = drop size behind_two in
+    let after_one : length behind_one ≡ 21 = length-drop size members ∙ ap (λ l. l - size) is in
+    let after_two : length behind_two ≡ 11 = length-drop size behind_one ∙ ap (λ l. l - size) after_one in
+    let after_three : length behind_three ≡ 1 = length-drop size behind_two ∙ ap (λ l. l - size) after_two in
+    ap (λ l. map length (first_chunks size (div_ceil l size) members)) is
+    ∙ (λ i. length-take-le size members (omega (arith, is)) i ∷ length-take-le size behind_one (omega (arith, after_one)) i
+    ∷ length-take-le size behind_two (omega (arith, after_two)) i ∷ (length-take size behind_three ∙ ap (min size) after_three) i ∷ [])
 
 pub channels_are_joined : ChannelsAreJoined
 unfolding fold fold_table cut line_text

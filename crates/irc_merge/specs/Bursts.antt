@@ -23,7 +23,7 @@ in_lines size xs = first_chunks size (div_ceil (length xs) size) xs
 
 -- how many members one NJOIN brings, and how many bans one MODE sets (our own choice)
 abbrev pub members_a_line : ℕ
-members_a_line = 30
+members_a_line = 10
 
 abbrev pub bans_a_line : ℕ
 bans_a_line = 3

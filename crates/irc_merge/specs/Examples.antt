@@ -50,9 +50,9 @@ ChannelIsTold =
     ∷ sets (codes "b.net") (codes "#c") (set letter.Ban (Some (codes "d!*@*")) ∷ [])
     ∷ tops (codes "b.net") (codes "#c") (codes "hello") ∷ []
 
--- thirty-one members are told in two lines: of thirty, and of one
+-- thirty-one members are told in four lines: three of ten, and one of one
 abbrev pub ThirtyOneMembers : Type 0
-ThirtyOneMembers = (members : List (List ℕ × Flags)) → length members ≡ 31 → map length (in_lines members_a_line members) ≡ 30 ∷ 1 ∷ []
+ThirtyOneMembers = (members : List (List ℕ × Flags)) → length members ≡ 31 → map length (in_lines members_a_line members) ≡ 10 ∷ 10 ∷ 10 ∷ 1 ∷ []
 
 -- al and an on a.net, bo and cy on b.net; al and bo have each made #c
 abbrev pub als_side : List Effect

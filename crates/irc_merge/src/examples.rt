@@ -6,7 +6,7 @@ pub fn channel_is_told()
     ensures { ChannelIsTold }
 {}
 
-/// Thirty-one members are told in two lines.
+/// Thirty-one members are told in four lines.
 pub fn thirty_one_members()
     ensures { ThirtyOneMembers }
 {}
