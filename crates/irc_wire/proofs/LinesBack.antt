@@ -197,7 +197,7 @@ unfolding is_channel
 channel_short [] is = grind (arith, nat_tests)
 channel_short (byte ∷ bytes) is = grind (arith, nat_tests)
 
-join_size : (all prefix middle name word : ℕ) → all ≡ prefix + (4 + (middle + 0)) → prefix ≡ name + 2 → middle ≡ word + 1 → name ≤ 9 → word ≤ 52 → all ≤ 510
+join_size : (all prefix middle name word : ℕ) → all ≡ prefix + (4 + (middle + 0)) → prefix ≡ name + 2 → middle ≡ word + 1 → name ≤ max_nick → word ≤ 52 → all ≤ 510
 join_size all prefix middle name word all_is prefix_is middle_is name_short word_short = omega arith
 
 join_whole : (name channel : List ℕ) (op : Bool) → length name ≤ max_nick → length channel ≤ max_channel

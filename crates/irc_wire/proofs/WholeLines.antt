@@ -7,6 +7,7 @@ use Rattle.std.proofs.lemmas.Fmt.{length-decimal-le}
 use Rattle.std.proofs.Common.{length-append}
 use Rattle.irc_line.specs.Bytes.{crlf}
 use Rattle.irc_line.specs.Messages.{joined_text, last_text, line_text, middle_text, nobody, prefix_text, text}
+use Rattle.irc_names.specs.Limits.{max_nick}
 use Rattle.irc_names.specs.Names.{fits, is_host, is_server}
 use Rattle.irc_users.specs.declared.user.User.{User}
 use Rattle.irc_modes.specs.declared.modes.ModeChange.{ModeChange}
@@ -70,13 +71,13 @@ mode_short true = lit≤ tt
 mode_short false = lit≤ tt
 
 six_words : (all one two three four five six a b c d e f : ℕ) → one ≡ 1 + a + two → two ≡ 1 + b + three → three ≡ 1 + c + four → four ≡ 1 + d + five
-    → five ≡ 1 + e + six → six ≡ 1 + f + 0 → a ≤ 9 → b ≤ 10 → c ≤ 10 → d ≤ 63 → e ≤ 10 → f ≤ 2 → (real : ℕ) → real ≤ 50
+    → five ≡ 1 + e + six → six ≡ 1 + f + 0 → a ≤ max_nick → b ≤ 10 → c ≤ 10 → d ≤ 63 → e ≤ 10 → f ≤ 2 → (real : ℕ) → real ≤ 50
     → all ≡ 0 + (4 + (one + suc (suc real))) → all ≤ 510
 six_words all one two three four five six a b c d e f one_is two_is three_is four_is five_is six_is a_fits b_fits c_fits d_fits e_fits f_fits real real_fits
     all_is =
     omega arith
 
-introduced_fits : (nick distance name host token mode real : List ℕ) → length nick ≤ 9 → length distance ≤ 10 → length name ≤ 10 → length host ≤ 63
+introduced_fits : (nick distance name host token mode real : List ℕ) → length nick ≤ max_nick → length distance ≤ 10 → length name ≤ 10 → length host ≤ 63
     → length token ≤ 10 → length mode ≤ 2 → length real ≤ 50
     → IsWhole (record { sender = nobody; command = codes "NICK"; middle = nick ∷ distance ∷ name ∷ host ∷ token ∷ mode ∷ []; last = Some real })
 introduced_fits nick distance name host token mode real nick_fits distance_fits name_fits host_fits token_fits mode_fits real_fits =
