@@ -1,9 +1,8 @@
 -- How long the words are that changes of modes are written as, where they are read again: at most eleven letters, three of them with a parameter.
-use Rattle.std.proofs.Common.{◌≡◌, ℕ, suc, ◌+◌, ◌*◌, ◌≤◌, Bool, true, false, cond, ◌++◌, if◌then◌else◌, Option, Some, None, List, [], ◌∷◌, length, nat_eq, is_some, refl, sym, subst, option_map, arith}
+use Rattle.std.proofs.Common.{◌≡◌, ℕ, ◌+◌, ◌*◌, ◌≤◌, Bool, true, false, cond, if◌then◌else◌, Option, Some, None, List, [], ◌∷◌, length, is_some, sym, subst, option_map, arith}
 use Rattle.std.specs.List.{list_all, filter_map, count_by, cons_option, AllByRecursion}
 use Rattle.std.specs.Option.{option_map_or, IfSome}
 use Rattle.std.specs.Cmp.{first_so, second_so}
-use Rattle.std.proofs.lemmas.List.Sums.{sum_by-cons}
 use Rattle.irc_line.specs.Lemmas.Lengths.{words_size}
 use Rattle.irc_names.specs.Fold.{key}
 use Rattle.irc_names.specs.Limits.{max_nick}

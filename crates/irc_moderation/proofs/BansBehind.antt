@@ -1,9 +1,8 @@
 -- What is found among bans, and how many there are, behind one change of them.
-use Rattle.std.proofs.Common.{◌≡◌, ℕ, ◌+◌, ◌-◌, Bool, true, false, cond, not, ◌||◌, Option, Some, None, List, [], ◌∷◌, length, find, unwrap_or, is_some, suc, refl, sym, ◌∙◌, ap, arith}
-use Rattle.std.specs.List.{list_any, position, remove}
+use Rattle.std.proofs.Common.{◌≡◌, ℕ, ◌+◌, ◌-◌, Bool, true, false, cond, not, Option, Some, None, List, [], ◌∷◌, length, find, is_some, suc, refl, sym, ◌∙◌, ap, arith}
+use Rattle.std.specs.List.{position, remove}
 use Rattle.std.proofs.lemmas.List.Edits.{length-remove}
 use Rattle.irc_names.specs.Fold.{same}
-use Rattle.irc_names.specs.FoldLaws.{same-equivalence}
 use Rattle.irc_names.specs.Names.{is_ban_mask}
 use Rattle.irc_modes.specs.Bans.{before, rises}
 use Rattle.irc_modes.specs.Modes.{ban_changed, bans_by_word, mask_in, with_ban, without_ban}

@@ -1,7 +1,6 @@
 -- All who see an effect, user by user, are those to whom it is shown.
 use Rattle.std.proofs.Common.{◌≡◌, ℕ, Bool, true, false, cond, Option, Some, None, List, [], ◌∷◌, refl, sym, ◌∙◌, ap, map, filter, filter_map, is_some, if◌then◌else◌, option_map}
 use Rattle.std.specs.List.{cons_option}
-use Rattle.std.specs.FinMap.{values}
 use Rattle.irc_users.specs.declared.user.User.{User}
 use Rattle.irc_effects.specs.declared.effect.Effect.{Effect}
 use Rattle.irc_effects.specs.Room.{Room}

@@ -1,12 +1,11 @@
 -- Changes of modes keep a channel's modes within their limits.
-use Rattle.std.proofs.Common.{◌≡◌, ℕ, ◌≤◌, Bool, true, false, ◌&&◌, if◌then◌else◌, Option, Some, None, List, [], ◌∷◌, ◌++◌, filter, cond, nat_le, refl, sym, ◌∙◌, ap, subst, arith}
-use Rattle.std.specs.List.{list_any, list_all, AllByRecursion}
+use Rattle.std.proofs.Common.{◌≡◌, ℕ, ◌≤◌, Bool, true, false, ◌&&◌, if◌then◌else◌, Option, Some, None, List, [], ◌∷◌, filter, cond, nat_le, refl, sym, ◌∙◌, ap, subst, arith}
+use Rattle.std.specs.List.{list_all, AllByRecursion}
 use Rattle.std.specs.Option.{IfSome}
 use Rattle.std.specs.Cmp.{first_so, second_so}
 use Rattle.std.proofs.lemmas.Bool.Decides.{nat_tests}
 use Rattle.std.proofs.lemmas.List.Folds.{list_all-append}
 use Rattle.irc_line.specs.Carried.{is_carried}
-use Rattle.irc_names.specs.Fold.{same}
 use Rattle.irc_names.specs.Names.{IsChannel, is_key, is_ban_mask, IsKey}
 use Rattle.irc_modes.specs.Bans.{before, rises}
 use Rattle.irc_modes.specs.Limits.{max_limit}
