@@ -2,7 +2,7 @@
 -- irc_wire says it.
 use Rattle.std.specs.Prelude.{◌≡◌, ◌≤◌, ℕ, true, List, length}
 use Rattle.std.specs.List.{list_all}
-use Rattle.irc_line.specs.Messages.{Written, text}
+use Rattle.irc_line.specs.Messages.{Written, joined_text, text}
 use Rattle.irc_names.specs.Names.{IsServer, IsNick, IsChannel, is_nick}
 use Rattle.irc_channels.specs.declared.flags.Flags.{Flags}
 use Rattle.irc_room.specs.Laws.{IsWhole, whole_text}
@@ -30,6 +30,13 @@ SquitFits = (server name words : List ℕ) → IsServer server → IsServer name
 
 abbrev pub KillFits : Type 0
 KillFits = (server nick : List ℕ) → IsServer server → IsNick nick → IsWhole (kill_parts server nick)
+
+-- The text of an NJOIN has at most 452 bytes: 123 of `:server NJOIN #channel :`, and 329 of ten
+-- nicknames, each with both marks, and the nine commas between them.
+abbrev pub MembersAreShort : Type 0
+MembersAreShort = (server channel : List ℕ) (members : List (List ℕ × Flags)) → IsServer server → IsChannel channel
+    → list_all (λ (member : List ℕ × Flags). is_nick member.0) members ≡ true → length members ≤ members_a_line
+    → length (joined_text (njoin_parts server channel members)) ≤ 452
 
 -- as many members as one line brings
 abbrev pub MembersFit : Type 0

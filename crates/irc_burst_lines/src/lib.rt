@@ -16,7 +16,7 @@ pub use njoin_line::{Member, njoin_text};
 pub use server_lines::{kill_text, server_text, squit_text, topic_text};
 
 /// How many members one NJOIN brings (our own choice).
-pub const MEMBERS_A_LINE: usize = 30;
+pub const MEMBERS_A_LINE: usize = 10;
 
 /// How many bans one MODE of a burst sets (our own choice).
 pub const BANS_A_LINE: usize = 3;

@@ -39,7 +39,7 @@ pub(crate) fn tell_channel(
     tell_topic(lines, server, &channel.name, &channel.topic)
 }
 
-/// Tells of members, thirty a line.
+/// Tells of members, ten a line.
 fn tell_members(
     lines: &mut Vec<Text, Global>,
     server: &ServerName,
