@@ -12,7 +12,7 @@
 --   `:b.net TOPIC #c :hello`               counts where #c is there and all its members are behind the link, else it means nothing
 --   `NICK al 1 u h 1 + :Al`                al is killed in the name of a.net, and the newcomer is not taken
 --   `:bo NICK al`                          both are killed, al first: the nicknames are in folded order
---   `PASS pw 0210010000 TREE|`             Order: it begins a link
+--   `PASS pw 0210010001 TREE|`             Order: it begins a link
 use Rattle.std.specs.Prelude.{ℕ, ◌+◌, Bool, true, false, not, ◌&&◌, ◌||◌, is_some, is_none, Option, Some, None, Result, Ok, Err, List, [], ◌∷◌, codes, length, map, nat_eq, nat_lt, nat_le, if◌then◌else◌}
 use Rattle.std.specs.List.{find, flat_map, list_all, slice_split}
 use Rattle.std.specs.Option.{option_map_or}

@@ -1,7 +1,7 @@
 -- What a line of a link is to the server, by what the end of that link knows (RFC 2813 sections 4.1 and 5).
 --
 -- a.net has the peer b.net with password pw. By a link that was opened to it:
---   `PASS pw 0210010000 TREE|`     the password is kept
+--   `PASS pw 0210010001 TREE|`     the password is kept
 --   `SERVER b.net 1 1 :B`          b.net is met: a.net answers PASS, SERVER and its burst
 --   ` `                            nothing: a line of spaces alone
 --   `FOO`                          UnknownCommand, before SERVER and afterwards

@@ -1,7 +1,7 @@
 -- What happens by a link of a server (RFC 2813 sections 4.1 and 5): it is opened, a line comes by it, it is lost.
 --
 -- a.net calls b.net by link 1, and c.net calls a.net by link 2; all keep the password pw for each other.
---   link 1 is opened to b.net      line_on 1 `PASS pw 0210010000 TREE|`, line_on 1 `SERVER a.net 1 1 :A`
+--   link 1 is opened to b.net      line_on 1 `PASS pw 0210010001 TREE|`, line_on 1 `SERVER a.net 1 1 :A`
 --   link 2 is opened by c.net      nothing
 --   PASS and SERVER of b.net       line_on 1 the burst of a.net
 --   PASS and SERVER of c.net       line_on 2 PASS, SERVER and the burst of a.net, b.net in it; then line_on 1 `:a.net SERVER c.net 2 3 :C`

@@ -77,7 +77,7 @@ pub fn said_modes_go_on()
     irc_room::laws::names_are_line_words();
 }
 
-/// So it does with an NJOIN of users of far servers, at most thirty of them.
+/// So it does with an NJOIN of users of far servers, at most ten of them.
 pub fn said_members_go_on()
     ensures { SaidMembersGoOn }
 {
