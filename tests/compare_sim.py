@@ -7,9 +7,9 @@ Not part of the gate. The scripts are those of generate.py, in turn plain, wild 
 damaged (one byte changed or a line put in, which often makes a bad script). model.py says what has to be printed, with which
 status, and with what on standard error. Another generator and another model can stand in their place: a folder with a `gen.py`
 and an `oracle.py`, named by the environment variable ORACLE. Then `gen.py SEED --servers 1 --no-settle` makes the scripts, in turn
-plain, with `--wild`, with `--clean` (no CR inside a line) and damaged, and `oracle.py --sim --upto=..` the answers.
+plain, with `--wild`, with `--clean` (no CR inside a line) and damaged, and `oracle.py --sim --upto=..` the answers; each WORD is given to all three of its programs.
 
-    ORACLE=/path/to/oracle python3 tests/compare_sim.py [--upto=channels] ..
+    ORACLE=/path/to/oracle python3 tests/compare_sim.py [--upto=channels] [--give=WORD] ..
 
 With K servers, more than one, a script is compared client by client: between each two answers to what is asked of the network (a refusal, or
 how many lines were taken) each client receives the same lines in the same order; these answers are the same; and the model sees to it
@@ -58,6 +58,7 @@ class Task(NamedTuple):
     program: str
     oracle: str | None
     upto: str
+    given: tuple
     servers: int
     in_order: bool
     pieces: bool
@@ -85,7 +86,7 @@ def made(task):
     if task.oracle:
         options = KINDS[kind] + ["--no-settle"] if task.servers == 1 else KINDS_OF_NETWORKS[kind]
         options = KINDS_OF_PIECES[task.seed % len(KINDS_OF_PIECES)] if task.pieces else options
-        command = [sys.executable, f"{task.oracle}/gen.py", str(task.seed), "--servers", str(task.servers), *options]
+        command = [sys.executable, f"{task.oracle}/gen.py", str(task.seed), "--servers", str(task.servers), *options, *task.given]
         script = subprocess.run(command, capture_output=True, timeout=SECONDS, check=True).stdout
         script = in_pieces(script, task.seed) if task.pieces else script
     else:
@@ -98,7 +99,7 @@ def answered(task, script):
     """What `ircd sim` has to answer to a script."""
     if not task.oracle:
         return model.answer(script)
-    return ran([sys.executable, f"{task.oracle}/oracle.py", "--sim"] + ([f"--upto={task.upto}"] if task.upto else []), script)
+    return ran([sys.executable, f"{task.oracle}/oracle.py", "--sim"] + ([f"--upto={task.upto}"] if task.upto else []) + list(task.given), script)
 
 
 def by_client(output):
@@ -126,7 +127,7 @@ def is_passed(task, script, found):
         names = [pathlib.Path(folder, name) for name in ("script", "output")]
         for name, text in zip(names, (script, found[1])):
             name.write_bytes(text)
-        done = ran([sys.executable, f"{task.oracle}/compare.py", *map(str, names)], b"")
+        done = ran([sys.executable, f"{task.oracle}/compare.py", *task.given, *map(str, names)], b"")
     return done[0] == 0, done
 
 
@@ -167,6 +168,7 @@ def main():
     parser.add_argument("--pieces", action="store_true", help="with ORACLE and several servers, deliver bytes by chance")
     parser.add_argument("--order", action="store_true", help="with several servers, compare the order of all lines")
     parser.add_argument("--upto", default="channels", help="with ORACLE, how far the program is built; empty: whole")
+    parser.add_argument("--give", action="append", default=[], metavar="WORD", help="with ORACLE, a word for each of its programs, as --give=--long-nicks")
     parser.add_argument("--program", default=str(REPOSITORY / "crates/ircd/out/ircd"))
     options = parser.parse_args()
     oracle = os.environ.get("ORACLE")
@@ -178,7 +180,7 @@ def main():
         sys.exit(f"no program {options.program}: ./ircd build makes it")
     start = time.monotonic()
     seeds = range(options.seed, options.seed + options.scripts)
-    tasks = [Task(options.program, oracle, options.upto, options.servers, options.order, options.pieces, seed) for seed in seeds]
+    tasks = [Task(options.program, oracle, options.upto, tuple(options.give), options.servers, options.order, options.pieces, seed) for seed in seeds]
     lines = differences = 0
     with multiprocessing.Pool(PROCESSES) as pool:
         for seed, count, difference in pool.imap(compared, tasks, chunksize=8):

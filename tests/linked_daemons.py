@@ -262,7 +262,7 @@ class Peer(Stream):
         super().__init__(network, network[server].links, window)
         self.name = name
         if greets:
-            self.says(f"PASS {password} 0210010000 TREE|", f"SERVER {name} 1 1 :A peer")
+            self.says(f"PASS {password} 0210010001 TREE|", f"SERVER {name} 1 1 :A peer")
 
     def __str__(self):
         return f"the peer {self.name}"
@@ -527,15 +527,16 @@ def liars(program):
     network, al, bo = with_peer(program)
     with network:
         true = network.peer("a.net", "w.net").linked()
-        greeting = f"PASS {PASSWORD} 0210010000 TREE|"
+        greeting = f"PASS {PASSWORD} 0210010001 TREE|"
         rows = {
-            "a wrong password": ["PASS wrong 0210010000 TREE|", "SERVER w.net 1 1 :W"],
+            "a wrong password": ["PASS wrong 0210010001 TREE|", "SERVER w.net 1 1 :W"],
             "a name that is no peer's": [greeting, "SERVER x.net 1 1 :X"],
             "a name that is linked": [greeting, "SERVER b.net 1 1 :B"],
             "a name that another peer has": [greeting, "SERVER w.net 1 1 :W"],
             "the name of the server itself": [greeting, "SERVER a.net 1 1 :A"],
             "no PASS": ["SERVER w.net 1 1 :W"],
             "another version": [f"PASS {PASSWORD} 0210 IRC|", "SERVER w.net 1 1 :W"],
+            "the version before": [f"PASS {PASSWORD} 0210010000 TREE|", "SERVER w.net 1 1 :W"],
             "a user before SERVER": [greeting, "NICK nn 1 u h 1 + :N"],
         }
         still_open = []
@@ -555,7 +556,7 @@ def doors(program):
     network, al, bo = with_peer(program)
     with network:
         lost_peer = Stream(network, network["a.net"].port)
-        lost_peer.says(f"PASS {PASSWORD} 0210010000 TREE|", "SERVER w.net 1 1 :W", "NICK ww 1 u h 1 + :W")
+        lost_peer.says(f"PASS {PASSWORD} 0210010001 TREE|", "SERVER w.net 1 1 :W", "NICK ww 1 u h 1 + :W")
         lost_peer.sees(" (421|451) .*")
         al.says("LUSERS")
         servers = al.sees(" 251 ")
@@ -670,7 +671,7 @@ def waiting(program):
                     taken.append(network.keep(door.accept()[0]))
                 else:
                     greeting += one.recv(65536)
-        return told("waiting", took < 1 and longest < 0.2 and is_under_way and greeting.startswith(b"PASS pw 0210010000 TREE|\r\nSERVER b.net 1 1 :"),
+        return told("waiting", took < 1 and longest < 0.2 and is_under_way and greeting.startswith(b"PASS pw 0210010001 TREE|\r\nSERVER b.net 1 1 :"),
                     f"ready in {took * 1000:.0f} ms, and answers within {longest * 1000:.1f} ms while its call is under way; the call that is taken at last greets")
 
 

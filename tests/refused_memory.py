@@ -33,7 +33,7 @@ def build(folder):
 
 def server_lines(name, user, channel):
     """What a server says that is linked: who it is, a server behind it, a user and a channel; later a text, a mode and a new nickname."""
-    return (f"PASS pw 0210010000 TREE|\r\nSERVER {name} 1 1 :Peer\r\n:{name} SERVER far.{name} 2 2 :Far\r\nNICK {user} 2 u far.example 2 + :User\r\n"
+    return (f"PASS pw 0210010001 TREE|\r\nSERVER {name} 1 1 :Peer\r\n:{name} SERVER far.{name} 2 2 :Far\r\nNICK {user} 2 u far.example 2 + :User\r\n"
             f":far.{name} NJOIN {channel} :@{user}\r\n:far.{name} MODE {channel} +nt\r\n:far.{name} TOPIC {channel} :a topic\r\n"
             f":{user} INVITE al {channel}\r\n:{user} NICK {user}x\r\n").encode()
 

@@ -10,7 +10,7 @@ const BATCH: usize = 65_536;
 const MAX_LINE: usize = 510;
 
 /// How many names stand in a 353.
-const NAMES_IN_LINE: usize = 30;
+const NAMES_IN_LINE: usize = 10;
 
 struct Client {
     host: Vec<u8>,

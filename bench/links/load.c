@@ -137,7 +137,7 @@ static void knows(int fd, int users) {
 static size_t bytes(int links, char *text, int *lines) {
     int fd = reach(links);
     size_t got = 0;
-    say(fd, "PASS pw 0210010000 TREE|\r\nSERVER b.net 1 1 :B\r\n");
+    say(fd, "PASS pw 0210010001 TREE|\r\nSERVER b.net 1 1 :B\r\n");
     for (struct pollfd p = {.fd = fd, .events = POLLIN}; poll(&p, 1, got ? 300 : 10000) == 1;) {
         ssize_t n = read(fd, text + got, BURST - got);
         if (n <= 0) fail("a peer is closed");

@@ -14,7 +14,7 @@ CROWD = 300             # drawn lines between two times at which a channel gets 
 FILL = 1000             # likewise, at which as many servers are told of as may be known
 LONG = b"w" * 470       # a text with which the line that clients see is cut
 
-NICKS = b"bo BO eve Eve cy dd foo[ FOO{ zed al AL ann ax n-1 n`2 ninechars".split()
+NICKS = b"bo BO eve Eve cy dd foo[ FOO{ zed al AL ann ax n-1 n`2 a-nickname-of-thirty-bytes-or_".split()
 CLIENTS = b"al ann ax bo eve".split()
 CHANNELS = b"#c #C #d #x[ #X{ #yy #z #".split()
 SERVERS = b"b.net c.net d.net e.net f.net g.net h.x-1 i. .j k.net".split()
@@ -37,11 +37,11 @@ WRONG_MODES = each(b"+,+bbbb 1 2 3 4,+bbb 1 2,+bbb 1 2 3 4,+ii,+i-i,+n+t,nt,+nt-
                    b"+b,+b :m,+s-s,+q,+i i,+o,+vovo bo bo bo bo,+p-s+p")
 WRONG_MODES += [[b""], [b"+k", b"a,b"], [b"+k", b"k" * 24], [b"+b", b"m" * 91], [b"+bb", b"m" * 90, b"m" * 90], [b"+o", b"m" * 90],
                 [b"+o", b"m" * 91], [b"+o", b""], [b"+o", b"bo al"], [b"+o", b":bo"]]
-WRONG_WORDS = (b"0 01 1 2 3 4294967294 4294967295 4294967296 99999999999 -1 1x 9d no.such.net Cap.net nodot tencharact zz #none #a,b &c #c: "
-               b"#c\x07 #c\x07o #c\x07oo bo!u@h + +i -i +ii i +o ++i +-i +x @+bo +@bo @bo, , +bo,@eve u! :h 0210010000 0210010001 TREE| pw pq pd "
+WRONG_WORDS = (b"0 01 1 2 3 4294967294 4294967295 4294967296 99999999999 -1 1x 9d no.such.net Cap.net nodot a-nickname-of-31-bytes-or-so_xy zz #none #a,b &c #c: "
+               b"#c\x07 #c\x07o #c\x07oo bo!u@h + +i -i +ii i +o ++i +-i +x @+bo +@bo @bo, , +bo,@eve u! :h 0210010001 0210010000 TREE| pw pq pd "
                b"a.net b.net c.net al").split(b" ")
 WRONG_WORDS += [b"", b"Nick Collision", b"Nick collision", b"#" + b"c" * 50, b"u" * 11, b"p" * 21, b"r" * 51, b"d" * 64, b"h" * 64, b"t" * 161,
-                b"s" * 59 + b".net", b",".join([b"bo"] * 30), b",".join([b"bo"] * 31)]
+                b"s" * 59 + b".net", b",".join([b"bo"] * 10), b",".join([b"bo"] * 11)]
 COMMANDS = (b"PASS SERVER SQUIT NICK QUIT JOIN PART KICK MODE TOPIC PRIVMSG NOTICE INVITE NJOIN KILL PING PONG ERROR USER 001 EOB nick Njoin "
             b"SERVERS PAS").split()
 
@@ -202,7 +202,7 @@ class Generator:
 
     def njoin(self, link, front):
         known = self.users_behind(link)
-        nicks = [self.pick(known if known and self.chance(0.8) else NICKS) for _ in range(self.pick((1, 1, 2, 3, 30)))]
+        nicks = [self.pick(known if known and self.chance(0.8) else NICKS) for _ in range(self.pick((1, 1, 2, 3, 10)))]
         return Words(front, b"NJOIN", self.a_channel(), b",".join(self.pick(MARKS) + nick for nick in nicks))
 
     def modes(self):

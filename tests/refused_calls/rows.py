@@ -136,12 +136,12 @@ def of_questions():
     return rows
 
 
-LINKED = ["opens 2", "hears 2 :PASS pw 0210010000 TREE|", "hears 2 :SERVER b.net 1 1 :B"]
+LINKED = ["opens 2", "hears 2 :PASS pw 0210010001 TREE|", "hears 2 :SERVER b.net 1 1 :B"]
 
 STAGE = [
     "apply 1 user al a.net", "seat 1 al", "apply 3 user bo a.net", "seat 3 bo", "apply 1 join al #c op", "apply 3 join bo #c", "apply 1 mode al #c +nb x!*@*",
     "apply 1 topic al #c :a topic", *LINKED, "hears 2 :NICK ce 1 u h 1 + :Ce", "hears 2 ::b.net SERVER e.net 2 2 :E", "hears 2 :NICK fe 2 u h 2 + :Fe",
-    "hears 2 ::b.net NJOIN #c :ce", "hears 2 ::e.net NJOIN #f :@fe", "opens 4", "hears 4 :PASS pq 0210010000 TREE|", "hears 4 :SERVER c.net 1 1 :C",
+    "hears 2 ::b.net NJOIN #c :ce", "hears 2 ::e.net NJOIN #f :@fe", "opens 4", "hears 4 :PASS pq 0210010001 TREE|", "hears 4 :SERVER c.net 1 1 :C",
 ]
 
 
@@ -167,7 +167,7 @@ def client(number, name, *lines):
     return [f"connect {number}"] + [f"say {number} :{line}" for line in (f"NICK {name}", f"USER u 0 * :{name}", *lines)]
 
 
-UP = ["up 2", "hear 2 :PASS pw 0210010000 TREE|", "hear 2 :SERVER b.net 1 1 :B"]
+UP = ["up 2", "hear 2 :PASS pw 0210010001 TREE|", "hear 2 :SERVER b.net 1 1 :B"]
 
 ALONE = [*client(1, "al", "JOIN #c", "MODE #c +nb x!*@*", "TOPIC #c :a topic"), *client(3, "bo", "JOIN #c")]
 
@@ -229,7 +229,7 @@ LOST = [
 
 TREE = [
     "client 1", "room 1 65536", "bytes 1 :NICK al`~USER u 0 * :Al`~JOIN #c`~", "called 2 b.net", "room 2 65536", "client 3", "bytes 3 :NICK cy`~",
-    "bytes 2 :PASS pw 0210010000 TREE|`~SERVER b.net 1 1 :B`~NICK b 1 u h 1 + :B`~:b.net NJOIN #c :@b`~", "bytes 1 :PRIVMSG #c :hi`~",
+    "bytes 2 :PASS pw 0210010001 TREE|`~SERVER b.net 1 1 :B`~NICK b 1 u h 1 + :B`~:b.net NJOIN #c :@b`~", "bytes 1 :PRIVMSG #c :hi`~",
     "bytes 2 ::b PRIVMSG #c :ho`~",
 ]
 
@@ -252,7 +252,7 @@ def of_engines():
 
 
 # what is written with ample memory to the connections of some engines: all that a client takes, and the greeting of a server that is called
-WRITTEN = [(PIECES, [":a.net 001", "", "", ""]), (CALLED, ["", "PASS pw 0210010000 TREE|^M^JSERVER a.net 1 1 :A^M^J", "", ""])]
+WRITTEN = [(PIECES, [":a.net 001", "", "", ""]), (CALLED, ["", "PASS pw 0210010001 TREE|^M^JSERVER a.net 1 1 :A^M^J", "", ""])]
 
 # the groups, by what each call is of
 GROUPS = {
