@@ -37,15 +37,17 @@ static BOTH: [&[u8]; 8] = [
     b":a.net TOPIC #m :hello\r\n",
 ];
 
-/// The link of a burst, and its lines, where 31 users of a.net are in #c: only the last two of the lines are looked at.
-static LAST_TWO: [&[u8]; 2] = [
-    b":a.net NJOIN #c :@n01,n02,n03,n04,n05,n06,n07,n08,n09,n10,n11,n12,n13,n14,n15,n16,n17,n18,n19,n20,n21,n22,n23,n24,n25,n26,n27,n28,n29,n30\r\n",
+/// The link of a burst, and its lines, where 31 users of a.net are in #c: only the last four of the lines are looked at.
+static LAST_FOUR: [&[u8]; 4] = [
+    b":a.net NJOIN #c :@n01,n02,n03,n04,n05,n06,n07,n08,n09,n10\r\n",
+    b":a.net NJOIN #c :n11,n12,n13,n14,n15,n16,n17,n18,n19,n20\r\n",
+    b":a.net NJOIN #c :n21,n22,n23,n24,n25,n26,n27,n28,n29,n30\r\n",
     b":a.net NJOIN #c :n31\r\n",
 ];
 
 /// The lines of servers, as they are written.
 static WRITTEN: [&[u8]; 6] = [
-    b"PASS pw 0210010000 TREE|\r\n",
+    b"PASS pw 0210010001 TREE|\r\n",
     b"SERVER a.net 1 1 :Test server\r\n",
     b":a.net SERVER b.net 2 2 :B\r\n",
     b":a.net SQUIT b.net :a.net b.net\r\n",
@@ -53,7 +55,9 @@ static WRITTEN: [&[u8]; 6] = [
     b":a.net NJOIN #c :@al,+bo,@+cy,dee\r\n",
 ];
 
-/// A server's name, a channel's, a mask of a ban, a text and a description, each as long as one may be.
+/// A nickname, a server's name, a channel's, a mask of a ban, a text and a description, each as long as one may be.
+static LONG_NICK: &[u8] = b"nnnnnnnnnnnnnnnnnnnnnnnnnnnnnn";
+
 static LONG_SERVER: &[u8] = b"sssssssssssssssssssssssssssssssssssssssssssssssssssssssssss.net";
 
 static LONG_CHANNEL: &[u8] = b"#ccccccccccccccccccccccccccccccccccccccccccccccccc";
@@ -68,7 +72,7 @@ static LONG_INFO: &[u8] = b"iiiiiiiiiiiiiiiiiiiiiiiiiiiiiiiiiiiiiiiiiiiiiiiiiiii
 
 /// How long the longest line of each kind is with its CR LF, and how it ends: none is cut.
 static LONGEST: [(usize, &[u8]); 7] = [
-    (44, b" 0210010000 TREE|\r\n"),
+    (44, b" 0210010001 TREE|\r\n"),
     (
         206,
         b".net 1 0 :iiiiiiiiiiiiiiiiiiiiiiiiiiiiiiiiiiiiiiiiiiiiiiiiiiiiiiiiiiiiiii\r\n",
@@ -77,8 +81,11 @@ static LONGEST: [(usize, &[u8]); 7] = [
         298,
         b" :wwwwwwwwwwwwwwwwwwwwwwwwwwwwwwwwwwwwwwwwwwwwwwwwwwwwwwwwwwwwwwwwwwwwwwwwwwwwwwwwwwwwwwwwwwwwwwwwwwwwwwwwwwwwwwwwwwwwwwwwwwwwwwwwwwwwwwwwwwwwwwwwwwwwwwwwwwwwwwww\r\n",
     ),
-    (97, b" nnnnnnnnn :Nick collision\r\n"),
-    (484, b",@+nnnnnnnnn,@+nnnnnnnnn\r\n"),
+    (118, b" nnnnnnnnnnnnnnnnnnnnnnnnnnnnnn :Nick collision\r\n"),
+    (
+        454,
+        b",@+nnnnnnnnnnnnnnnnnnnnnnnnnnnnnn,@+nnnnnnnnnnnnnnnnnnnnnnnnnnnnnn\r\n",
+    ),
     (
         400,
         b" +bbb bbbbbbbbbbbbbbbbbbbbbbbbbbbbbbbbbbbbbbbbbbbbbbbbbbbbbbbbbbbbbbbbbbbbbbbbbbbbbbbbbbbbbb!*@* bbbbbbbbbbbbbbbbbbbbbbbbbbbbbbbbbbbbbbbbbbbbbbbbbbbbbbbbbbbbbbbbbbbbbbbbbbbbbbbbbbbbbb!*@* bbbbbbbbbbbbbbbbbbbbbbbbbbbbbbbbbbbbbbbbbbbbbbbbbbbbbbbbbbbbbbbbbbbbbbbbbbbbbbbbbbbbbb!*@*\r\n",
@@ -159,7 +166,7 @@ fn furnish(rt: &impl Abort, alloc: Global, room: &mut Room) {
 /// 31 users who join #c, each with a number behind `n`.
 fn crowd(rt: &impl Abort, alloc: Global, room: &mut Room) {
     for number in 1..32_u32 {
-        let mut name: ArrayVec<u8, 9> = ArrayVec::new();
+        let mut name: ArrayVec<u8, 3> = ArrayVec::new();
         let _ = name.try_extend_from_slice(if number < 10 {
             b"n0".as_slice()
         } else {
@@ -209,12 +216,12 @@ fn another_neighbour_is_told_of_all(rt: HostRuntime) -> Result<(), Fail> {
 }
 
 #[test]
-fn thirty_one_members_are_told_in_two_lines(rt: HostRuntime) -> Result<(), Fail> {
+fn thirty_one_members_are_told_in_four_lines(rt: HostRuntime) -> Result<(), Fail> {
     let alloc = rt.alloc();
     let routes = routes(&rt, alloc)?;
     let mut room = Room::new(alloc, server(&rt, b"a.net"));
     crowd(&rt, alloc, &mut room);
-    assert!(rt; is_told(&room, &routes, 1, 31, &LAST_TWO));
+    assert!(rt; is_told(&room, &routes, 1, 31, &LAST_FOUR));
     Ok(())
 }
 
@@ -258,8 +265,8 @@ fn the_longest_lines_are_whole(rt: HostRuntime) -> Result<(), Fail> {
         pass_text(b"pppppppppppppppppppp"),
         server_text(&routes, &by, &by, &info),
         squit_text(&by, &by, &Words::cut(LONG_TEXT)),
-        kill_text(&by, &nick(&rt, b"nnnnnnnnn")),
-        njoin_text(&by, &to, &[member(b"nnnnnnnnn", true, true); 30]),
+        kill_text(&by, &nick(&rt, LONG_NICK)),
+        njoin_text(&by, &to, &[member(LONG_NICK, true, true); 10]),
         three_bans(&rt, alloc, LONG_MASK),
         topic_text(&by, &to, &Words::cut(LONG_TEXT)),
     ];

@@ -16,7 +16,7 @@ use std::test::Fail;
 type Row = (&'static [u8], &'static [u8]);
 
 /// bo is a user of b.net, who is in #o, al one of a.net, who is in #d.
-static ROWS: [Row; 41] = [
+static ROWS: [Row; 43] = [
     (b":b.net SERVER c.net 2 2 :C", b" server b.net c.net 2 2 C"),
     (b":b.net SERVER c.net 3 2 :C", b" parameters"),
     (b":b.net SERVER c.net 2 2 C x", b" parameters"),
@@ -29,8 +29,8 @@ static ROWS: [Row; 41] = [
     (b":b.net SERVER a.net 2 2 :A", b" known"),
     (b":b.net SERVER b.net 2 2 :B", b" known"),
     (b"SERVER c.net 1 1 :C", b" order"),
-    (b"PASS pw 0210010000 TREE|", b" order"),
-    (b"PASS pw 0210010000 TREE", b" parameters"),
+    (b"PASS pw 0210010001 TREE|", b" order"),
+    (b"PASS pw 0210010001 TREE", b" parameters"),
     (
         b":b.net SQUIT b.net :a.net b.net",
         b" lost b.net b.net a.net b.net",
@@ -48,6 +48,14 @@ static ROWS: [Row; 41] = [
     (b":b.net NJOIN #c :@BO,+al,zz", b" members b.net #c @ bo"),
     (b":b.net NJOIN #c :+bo", b" members b.net #c + bo"),
     (b":b.net NJOIN #c :@+bo,bo", b" members b.net #c @+ bo"),
+    (
+        b":b.net NJOIN #c :bo,bo,bo,bo,bo,bo,bo,bo,bo,bo",
+        b" members b.net #c . bo",
+    ),
+    (
+        b":b.net NJOIN #c :bo,bo,bo,bo,bo,bo,bo,bo,bo,bo,bo",
+        b" parameters",
+    ),
     (b":b.net NJOIN #o :@bo", b""),
     (b":b.net NJOIN #c", b" parameters"),
     (b":b.net NJOIN #c bo bo", b" parameters"),
@@ -115,7 +123,7 @@ static WORDS: [Row; 42] = [
 /// Lines of 510 bytes: what they begin with, the rest is `x`.
 static FILLED: [Row; 20] = [
     (b"FOO ", b" unknown"),
-    (b"PASS pw 0210010000 TREE|", b" parameters"),
+    (b"PASS pw 0210010001 TREE|", b" parameters"),
     (b"SERVER c.net 1 1 :", b" parameters"),
     (b":b.net SERVER c.net 2 2 :", b" parameters"),
     (b":b.net SERVER ", b" parameters"),

@@ -12,7 +12,7 @@ static BEFORE: [Step; 8] = [
     Step::Says(1, b"NICK al"),
     Step::Says(1, b"USER u 0 * :Al"),
     Step::IsCalled(8),
-    Step::Hears(8, b"PASS pq 0210010000 TREE|"),
+    Step::Hears(8, b"PASS pq 0210010001 TREE|"),
     Step::Hears(8, b"SERVER c.net 1 1 :C"),
     Step::Hears(8, b"NICK cy 1 u h 1 + :Cy"),
     Step::IsCalled(7),
@@ -20,14 +20,14 @@ static BEFORE: [Step; 8] = [
 
 /// b.net gives its password and its name.
 static GREETING: [Step; 2] = [
-    Step::Hears(7, b"PASS pw 0210010000 TREE|"),
+    Step::Hears(7, b"PASS pw 0210010001 TREE|"),
     Step::Hears(7, b"SERVER b.net 1 1 :B"),
 ];
 
 /// f.net is behind it, and al is in a channel with zo of b.net and ed of f.net.
 static CROWD: [Step; 7] = [
     Step::Says(1, b"JOIN #c"),
-    Step::Hears(7, b"PASS pw 0210010000 TREE|"),
+    Step::Hears(7, b"PASS pw 0210010001 TREE|"),
     Step::Hears(7, b"SERVER b.net 1 1 :B"),
     Step::Hears(7, b":b.net SERVER f.net 2 7 :F"),
     Step::Hears(7, b"NICK ed 2 u h 7 + :Ed"),
@@ -65,51 +65,51 @@ type Closing = (&'static [&'static [u8]], CloseReason);
 
 static IN_HANDSHAKE: [Closing; 18] = [
     (&[b"FOO"], CloseReason::UnknownCommand),
-    (&[b"PASS pw 0210010001 TREE|"], CloseReason::Parameters),
-    (&[b"PASS pw 0210010000"], CloseReason::Parameters),
+    (&[b"PASS pw 0210010000 TREE|"], CloseReason::Parameters),
+    (&[b"PASS pw 0210010001"], CloseReason::Parameters),
     (&[b"NICK al 1 u h 1 +"], CloseReason::Parameters),
     (&[b":b.net"], CloseReason::Parameters),
     (
-        &[b"PASS pw 0210010000 TREE|", b"SERVER b.net 2 1 :B"],
+        &[b"PASS pw 0210010001 TREE|", b"SERVER b.net 2 1 :B"],
         CloseReason::Parameters,
     ),
     (
-        &[b"PASS xx 0210010000 TREE|", b"SERVER b.net 1 1 :B"],
+        &[b"PASS xx 0210010001 TREE|", b"SERVER b.net 1 1 :B"],
         CloseReason::Password,
     ),
     (
-        &[b"PASS pq 0210010000 TREE|", b"SERVER b.net 1 1 :B"],
+        &[b"PASS pq 0210010001 TREE|", b"SERVER b.net 1 1 :B"],
         CloseReason::Password,
     ),
     (
-        &[b"PASS xx 0210010000 TREE|", b"SERVER c.net 1 1 :C"],
+        &[b"PASS xx 0210010001 TREE|", b"SERVER c.net 1 1 :C"],
         CloseReason::Password,
     ),
     (
-        &[b"PASS pw 0210010000 TREE|", b"SERVER x.net 1 1 :X"],
+        &[b"PASS pw 0210010001 TREE|", b"SERVER x.net 1 1 :X"],
         CloseReason::UnknownPeer,
     ),
     (
-        &[b"PASS pw 0210010000 TREE|", b"SERVER a.net 1 1 :A"],
+        &[b"PASS pw 0210010001 TREE|", b"SERVER a.net 1 1 :A"],
         CloseReason::UnknownPeer,
     ),
     (
-        &[b"PASS pw 0210010000 TREE|", b"SERVER nodot 1 1 :X"],
+        &[b"PASS pw 0210010001 TREE|", b"SERVER nodot 1 1 :X"],
         CloseReason::UnknownPeer,
     ),
     (
-        &[b"PASS pq 0210010000 TREE|", b"SERVER c.net 1 1 :C"],
+        &[b"PASS pq 0210010001 TREE|", b"SERVER c.net 1 1 :C"],
         CloseReason::AlreadyKnown,
     ),
     (&[b"SERVER b.net 1 1 :B"], CloseReason::Order),
     (
-        &[b"PASS pw 0210010000 TREE|", b"PASS pw 0210010000 TREE|"],
+        &[b"PASS pw 0210010001 TREE|", b"PASS pw 0210010001 TREE|"],
         CloseReason::Order,
     ),
     (
         &[
             b"   ",
-            b"PASS pw 0210010000 TREE|",
+            b"PASS pw 0210010001 TREE|",
             b"NICK bo 1 u h 1 + :Bo",
         ],
         CloseReason::Order,
@@ -150,14 +150,14 @@ static BEHIND_HANDSHAKE: [Closing; 31] = [
     (&[b":b.net SERVER a.net 2 2 :A"], CloseReason::AlreadyKnown),
     (&[b":b.net SERVER b.net 2 2 :B"], CloseReason::AlreadyKnown),
     (&[b":b.net SERVER c.net 2 2 :C"], CloseReason::AlreadyKnown),
-    (&[b"PASS pw 0210010000 TREE|"], CloseReason::Order),
+    (&[b"PASS pw 0210010001 TREE|"], CloseReason::Order),
     (&[b"SERVER b.net 1 1 :B"], CloseReason::Order),
     (&[b"SERVER d.net 1 1 :D"], CloseReason::Order),
 ];
 
 /// Where 256 servers are known.
 static FULL_IN_HANDSHAKE: [Closing; 1] = [(
-    &[b"PASS pw 0210010000 TREE|", b"SERVER b.net 1 1 :B"],
+    &[b"PASS pw 0210010001 TREE|", b"SERVER b.net 1 1 :B"],
     CloseReason::Full,
 )];
 
@@ -171,13 +171,13 @@ static TWICE: [Row; 2] = [
     // A number that b.net has given to a server.
     (
         &[
-            Step::Hears(7, b"PASS pw 0210010000 TREE|"),
+            Step::Hears(7, b"PASS pw 0210010001 TREE|"),
             Step::Hears(7, b"SERVER b.net 1 1 :B"),
             Step::Hears(7, b":b.net SERVER d.net 2 2 :D"),
             Step::Hears(7, b":b.net SERVER e.net 2 2 :E"),
         ],
         &[
-            Out::LinkLine(7, b"PASS pw 0210010000 TREE|"),
+            Out::LinkLine(7, b"PASS pw 0210010001 TREE|"),
             Out::LinkLine(7, b"SERVER a.net 1 1 :A"),
             Out::LinkLine(7, b":a.net SERVER c.net 2 2 :C"),
             Out::LinkLine(7, b"NICK al 1 u h 1 + :Al"),
@@ -192,17 +192,17 @@ static TWICE: [Row; 2] = [
     // A server by a second link, which is closed; its first one stays.
     (
         &[
-            Step::Hears(7, b"PASS pw 0210010000 TREE|"),
+            Step::Hears(7, b"PASS pw 0210010001 TREE|"),
             Step::Calls(6, b"b.net"),
-            Step::Hears(6, b"PASS pw 0210010000 TREE|"),
+            Step::Hears(6, b"PASS pw 0210010001 TREE|"),
             Step::Hears(7, b"SERVER b.net 1 1 :B"),
             Step::Hears(6, b"SERVER b.net 1 1 :B"),
             Step::Hears(7, b"NICK bo 1 u h 1 + :Bo"),
         ],
         &[
-            Out::LinkLine(6, b"PASS pw 0210010000 TREE|"),
+            Out::LinkLine(6, b"PASS pw 0210010001 TREE|"),
             Out::LinkLine(6, b"SERVER a.net 1 1 :A"),
-            Out::LinkLine(7, b"PASS pw 0210010000 TREE|"),
+            Out::LinkLine(7, b"PASS pw 0210010001 TREE|"),
             Out::LinkLine(7, b"SERVER a.net 1 1 :A"),
             Out::LinkLine(7, b":a.net SERVER c.net 2 2 :C"),
             Out::LinkLine(7, b"NICK al 1 u h 1 + :Al"),
@@ -220,7 +220,7 @@ static REFUSED: [(Step, ServerFault); 8] = [
     (Step::Calls(8, b"b.net"), ServerFault::LinkThere),
     (Step::Calls(7, b"x.net"), ServerFault::LinkThere),
     (
-        Step::Hears(9, b"PASS pw 0210010000 TREE|"),
+        Step::Hears(9, b"PASS pw 0210010001 TREE|"),
         ServerFault::NoSuchLink,
     ),
     (Step::Loses(1), ServerFault::NoSuchLink),

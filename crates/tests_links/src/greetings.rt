@@ -19,7 +19,7 @@ static ONE_CLIENT: [Step; 6] = [
 /// b.net is linked by 7, with aa.net behind it; bo is on b.net, cy on aa.net.
 static TWO_SERVERS: [Step; 7] = [
     Step::IsCalled(7),
-    Step::Hears(7, b"PASS pw 0210010000 TREE|"),
+    Step::Hears(7, b"PASS pw 0210010001 TREE|"),
     Step::Hears(7, b"SERVER b.net 1 1 :B"),
     Step::Hears(7, b":b.net SERVER aa.net 2 2 :Far"),
     Step::Hears(7, b"NICK bo 1 u h 1 + :Bo"),
@@ -33,18 +33,18 @@ static OF_NOBODY: [Row; 9] = [
     (
         &[
             Step::IsCalled(7),
-            Step::Hears(7, b"PASS pw 0210010000 TREE|"),
+            Step::Hears(7, b"PASS pw 0210010001 TREE|"),
         ],
         &[],
     ),
     (
         &[
             Step::IsCalled(7),
-            Step::Hears(7, b"PASS pw 0210010000 TREE|"),
+            Step::Hears(7, b"PASS pw 0210010001 TREE|"),
             Step::Hears(7, b"SERVER b.net 1 1 :B"),
         ],
         &[
-            Out::LinkLine(7, b"PASS pw 0210010000 TREE|"),
+            Out::LinkLine(7, b"PASS pw 0210010001 TREE|"),
             Out::LinkLine(7, b"SERVER a.net 1 1 :A"),
         ],
     ),
@@ -52,18 +52,18 @@ static OF_NOBODY: [Row; 9] = [
     (
         &[Step::Calls(7, b"c.net")],
         &[
-            Out::LinkLine(7, b"PASS pq 0210010000 TREE|"),
+            Out::LinkLine(7, b"PASS pq 0210010001 TREE|"),
             Out::LinkLine(7, b"SERVER a.net 1 1 :A"),
         ],
     ),
     (
         &[
             Step::Calls(7, b"b.net"),
-            Step::Hears(7, b"PASS pw 0210010000 TREE|"),
+            Step::Hears(7, b"PASS pw 0210010001 TREE|"),
             Step::Hears(7, b"SERVER b.net 1 1 :B"),
         ],
         &[
-            Out::LinkLine(7, b"PASS pw 0210010000 TREE|"),
+            Out::LinkLine(7, b"PASS pw 0210010001 TREE|"),
             Out::LinkLine(7, b"SERVER a.net 1 1 :A"),
         ],
     ),
@@ -78,11 +78,11 @@ static OF_NOBODY: [Row; 9] = [
             Step::IsCalled(7),
             Step::Connects(1),
             Step::Says(1, b"NICK al"),
-            Step::Hears(7, b"PASS pw 0210010000 TREE|"),
+            Step::Hears(7, b"PASS pw 0210010001 TREE|"),
             Step::Hears(7, b"SERVER b.net 1 1 :B"),
         ],
         &[
-            Out::LinkLine(7, b"PASS pw 0210010000 TREE|"),
+            Out::LinkLine(7, b"PASS pw 0210010001 TREE|"),
             Out::LinkLine(7, b"SERVER a.net 1 1 :A"),
         ],
     ),
@@ -90,11 +90,11 @@ static OF_NOBODY: [Row; 9] = [
     (
         &[
             Step::Calls(7, b"b.net"),
-            Step::Hears(7, b"PASS pq 0210010000 TREE|"),
+            Step::Hears(7, b"PASS pq 0210010001 TREE|"),
             Step::Hears(7, b"SERVER c.net 1 1 :C"),
         ],
         &[
-            Out::LinkLine(7, b"PASS pw 0210010000 TREE|"),
+            Out::LinkLine(7, b"PASS pw 0210010001 TREE|"),
             Out::LinkLine(7, b"SERVER a.net 1 1 :A"),
         ],
     ),
@@ -102,18 +102,18 @@ static OF_NOBODY: [Row; 9] = [
     (
         &[
             Step::IsCalled(7),
-            Step::Hears(7, b"PASS pw 0210010000 TREE|"),
+            Step::Hears(7, b"PASS pw 0210010001 TREE|"),
             Step::Hears(7, b"SERVER b.net 1 1 :B"),
             Step::IsCalled(9),
             Step::IsCalled(8),
-            Step::Hears(8, b"PASS pq 0210010000 TREE|"),
+            Step::Hears(8, b"PASS pq 0210010001 TREE|"),
             Step::Hears(8, b"SERVER c.net 1 1 :C"),
             Step::Hears(8, b":c.net SERVER far.net 2 4 :Far"),
         ],
         &[
-            Out::LinkLine(7, b"PASS pw 0210010000 TREE|"),
+            Out::LinkLine(7, b"PASS pw 0210010001 TREE|"),
             Out::LinkLine(7, b"SERVER a.net 1 1 :A"),
-            Out::LinkLine(8, b"PASS pq 0210010000 TREE|"),
+            Out::LinkLine(8, b"PASS pq 0210010001 TREE|"),
             Out::LinkLine(8, b"SERVER a.net 1 1 :A"),
             Out::LinkLine(8, b":a.net SERVER b.net 2 2 :B"),
             Out::LinkLine(7, b":a.net SERVER c.net 2 3 :C"),
@@ -126,11 +126,11 @@ static OF_ONE_CLIENT: [Row; 5] = [
     (
         &[
             Step::IsCalled(7),
-            Step::Hears(7, b"PASS pw 0210010000 TREE|"),
+            Step::Hears(7, b"PASS pw 0210010001 TREE|"),
             Step::Hears(7, b"SERVER b.net 1 1 :B"),
         ],
         &[
-            Out::LinkLine(7, b"PASS pw 0210010000 TREE|"),
+            Out::LinkLine(7, b"PASS pw 0210010001 TREE|"),
             Out::LinkLine(7, b"SERVER a.net 1 1 :A"),
             Out::LinkLine(7, b"NICK al 1 u h 1 + :Al"),
             Out::LinkLine(7, b":a.net NJOIN #c :@al"),
@@ -142,11 +142,11 @@ static OF_ONE_CLIENT: [Row; 5] = [
     (
         &[
             Step::Calls(7, b"b.net"),
-            Step::Hears(7, b"PASS pw 0210010000 TREE|"),
+            Step::Hears(7, b"PASS pw 0210010001 TREE|"),
             Step::Hears(7, b"SERVER b.net 1 1 :B"),
         ],
         &[
-            Out::LinkLine(7, b"PASS pw 0210010000 TREE|"),
+            Out::LinkLine(7, b"PASS pw 0210010001 TREE|"),
             Out::LinkLine(7, b"SERVER a.net 1 1 :A"),
             Out::LinkLine(7, b"NICK al 1 u h 1 + :Al"),
             Out::LinkLine(7, b":a.net NJOIN #c :@al"),
@@ -160,7 +160,7 @@ static OF_ONE_CLIENT: [Row; 5] = [
             Step::IsCalled(7),
             Step::Says(1, b"MODE al +i"),
             Step::Says(1, b"LUSERS"),
-            Step::Hears(7, b"PASS pw 0210010000 TREE|"),
+            Step::Hears(7, b"PASS pw 0210010001 TREE|"),
             Step::Hears(7, b"SERVER b.net 1 1 :B"),
             Step::Says(1, b"LUSERS"),
         ],
@@ -172,7 +172,7 @@ static OF_ONE_CLIENT: [Row; 5] = [
             ),
             Out::Line(1, b":a.net 254 al 1 :channels formed"),
             Out::Line(1, b":a.net 255 al :I have 1 clients and 0 servers"),
-            Out::LinkLine(7, b"PASS pw 0210010000 TREE|"),
+            Out::LinkLine(7, b"PASS pw 0210010001 TREE|"),
             Out::LinkLine(7, b"SERVER a.net 1 1 :A"),
             Out::LinkLine(7, b"NICK al 1 u h 1 +i :Al"),
             Out::LinkLine(7, b":a.net NJOIN #c :@al"),
@@ -190,7 +190,7 @@ static OF_ONE_CLIENT: [Row; 5] = [
     (
         &[
             Step::Calls(7, b"b.net"),
-            Step::Hears(7, b"PASS pw 0210010000 TREE|"),
+            Step::Hears(7, b"PASS pw 0210010001 TREE|"),
             Step::Hears(7, b"SERVER b.net 1 1 :B"),
             Step::Hears(7, b"NICK bo 1 u h 1 + :Bo"),
             Step::Hears(7, b"NICK cy 1 u h 1 + :Cy"),
@@ -199,7 +199,7 @@ static OF_ONE_CLIENT: [Row; 5] = [
             Step::Hears(7, b":b.net TOPIC #c :other"),
         ],
         &[
-            Out::LinkLine(7, b"PASS pw 0210010000 TREE|"),
+            Out::LinkLine(7, b"PASS pw 0210010001 TREE|"),
             Out::LinkLine(7, b"SERVER a.net 1 1 :A"),
             Out::LinkLine(7, b"NICK al 1 u h 1 + :Al"),
             Out::LinkLine(7, b":a.net NJOIN #c :@al"),
@@ -215,7 +215,7 @@ static OF_ONE_CLIENT: [Row; 5] = [
     (
         &[
             Step::IsCalled(7),
-            Step::Hears(7, b"PASS xx 0210010000 TREE|"),
+            Step::Hears(7, b"PASS xx 0210010001 TREE|"),
             Step::Hears(7, b"SERVER b.net 1 1 :B"),
             Step::Says(1, b"TOPIC #c :bye"),
         ],
@@ -231,11 +231,11 @@ static OF_TWO_SERVERS: [Row; 4] = [
     (
         &[
             Step::IsCalled(9),
-            Step::Hears(9, b"PASS pd 0210010000 TREE|"),
+            Step::Hears(9, b"PASS pd 0210010001 TREE|"),
             Step::Hears(9, b"SERVER d.net 1 1 :D"),
         ],
         &[
-            Out::LinkLine(9, b"PASS pd 0210010000 TREE|"),
+            Out::LinkLine(9, b"PASS pd 0210010001 TREE|"),
             Out::LinkLine(9, b"SERVER a.net 1 1 :A"),
             Out::LinkLine(9, b":a.net SERVER b.net 2 2 :B"),
             Out::LinkLine(9, b":b.net SERVER aa.net 3 3 :Far"),
@@ -249,7 +249,7 @@ static OF_TWO_SERVERS: [Row; 4] = [
     (
         &[
             Step::Calls(9, b"d.net"),
-            Step::Hears(9, b"PASS pd 0210010000 TREE|"),
+            Step::Hears(9, b"PASS pd 0210010001 TREE|"),
             Step::Hears(9, b"SERVER d.net 1 1 :D"),
             Step::Hears(9, b":d.net SERVER e.net 2 9 :E"),
             Step::Hears(9, b"NICK dee 2 u h 9 +i :Dee"),
@@ -261,7 +261,7 @@ static OF_TWO_SERVERS: [Row; 4] = [
             Step::Hears(9, b":d.net TOPIC #c :hello"),
         ],
         &[
-            Out::LinkLine(9, b"PASS pd 0210010000 TREE|"),
+            Out::LinkLine(9, b"PASS pd 0210010001 TREE|"),
             Out::LinkLine(9, b"SERVER a.net 1 1 :A"),
             Out::LinkLine(9, b":a.net SERVER b.net 2 2 :B"),
             Out::LinkLine(9, b":b.net SERVER aa.net 3 3 :Far"),
@@ -281,12 +281,12 @@ static OF_TWO_SERVERS: [Row; 4] = [
     (
         &[
             Step::Calls(9, b"d.net"),
-            Step::Hears(9, b"PASS pd 0210010000 TREE|"),
+            Step::Hears(9, b"PASS pd 0210010001 TREE|"),
             Step::Hears(9, b"SERVER d.net 1 1 :D"),
             Step::Hears(9, b":d.net NJOIN #c :@bo,zz"),
         ],
         &[
-            Out::LinkLine(9, b"PASS pd 0210010000 TREE|"),
+            Out::LinkLine(9, b"PASS pd 0210010001 TREE|"),
             Out::LinkLine(9, b"SERVER a.net 1 1 :A"),
             Out::LinkLine(9, b":a.net SERVER b.net 2 2 :B"),
             Out::LinkLine(9, b":b.net SERVER aa.net 3 3 :Far"),
@@ -301,16 +301,16 @@ static OF_TWO_SERVERS: [Row; 4] = [
         &[
             Step::Loses(7),
             Step::IsCalled(8),
-            Step::Hears(8, b"PASS pq 0210010000 TREE|"),
+            Step::Hears(8, b"PASS pq 0210010001 TREE|"),
             Step::Hears(8, b"SERVER c.net 1 1 :C"),
             Step::IsCalled(9),
-            Step::Hears(9, b"PASS pd 0210010000 TREE|"),
+            Step::Hears(9, b"PASS pd 0210010001 TREE|"),
             Step::Hears(9, b"SERVER d.net 1 1 :D"),
         ],
         &[
-            Out::LinkLine(8, b"PASS pq 0210010000 TREE|"),
+            Out::LinkLine(8, b"PASS pq 0210010001 TREE|"),
             Out::LinkLine(8, b"SERVER a.net 1 1 :A"),
-            Out::LinkLine(9, b"PASS pd 0210010000 TREE|"),
+            Out::LinkLine(9, b"PASS pd 0210010001 TREE|"),
             Out::LinkLine(9, b"SERVER a.net 1 1 :A"),
             Out::LinkLine(9, b":a.net SERVER c.net 2 2 :C"),
             Out::LinkLine(8, b":a.net SERVER d.net 2 3 :D"),

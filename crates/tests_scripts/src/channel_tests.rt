@@ -256,12 +256,14 @@ fn an_ended_channel_is_made_anew(rt: HostRuntime) {
 const CROWD: &str =
     "aa ab ac ad ae af ag ah ai aj ak al am an ao ap aq ar as at au av aw ax ay az ba bb bc bd be";
 
-/// A line names thirty members at most.
+/// A line names ten members at most.
 const THIRTY: &str = "\
 > say 1 PING x
 1 :a.net PONG a.net :x
 > say 1 NAMES #c
-1 :a.net 353 aa = #c :@aa ab ac ad ae af ag ah ai aj ak al am an ao ap aq ar as at au av aw ax ay az ba bb bc bd
+1 :a.net 353 aa = #c :@aa ab ac ad ae af ag ah ai aj
+1 :a.net 353 aa = #c :ak al am an ao ap aq ar as at
+1 :a.net 353 aa = #c :au av aw ax ay az ba bb bc bd
 1 :a.net 366 aa #c :End of NAMES list
 ";
 
@@ -269,7 +271,9 @@ const THIRTY_ONE: &str = "\
 > say 1 PING x
 1 :a.net PONG a.net :x
 > say 1 NAMES #c
-1 :a.net 353 aa = #c :@aa ab ac ad ae af ag ah ai aj ak al am an ao ap aq ar as at au av aw ax ay az ba bb bc bd
+1 :a.net 353 aa = #c :@aa ab ac ad ae af ag ah ai aj
+1 :a.net 353 aa = #c :ak al am an ao ap aq ar as at
+1 :a.net 353 aa = #c :au av aw ax ay az ba bb bc bd
 1 :a.net 353 aa = #c :be
 1 :a.net 366 aa #c :End of NAMES list
 ";
@@ -301,7 +305,7 @@ fn add_member(client: usize, nick: &str, script: &mut Vec<u8>) -> io::Result<()>
 }
 
 #[test]
-fn thirty_names_stand_in_a_line(rt: HostRuntime) {
+fn ten_names_stand_in_a_line(rt: HostRuntime) {
     let alloc = rt.alloc();
     assert!(rt; crowd_ends(alloc, 30, THIRTY) && crowd_ends(alloc, 31, THIRTY_ONE));
 }

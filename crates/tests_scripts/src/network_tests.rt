@@ -447,6 +447,84 @@ fn a_nickname_behind_another_server(rt: HostRuntime) {
     assert!(rt; prints_network(rt.alloc(), CLASH_BEHIND));
 }
 
+/// Nicknames of 30 bytes, the most: one is taken on the third server, changed to another, named in a mode and written to. While the link is lost a user of the second
+/// server takes it too, so both are killed as it is back.
+const LONG_NICKNAMES: &str = "\
+> say 1 JOIN #c
+1 :al!u@h JOIN #c
+1 :a.net 353 al = #c :@al
+1 :a.net 366 al #c :End of NAMES list
+> settle
+= 2
+> say 2 JOIN #c
+2 :bo!u@h JOIN #c
+2 :b.net 353 bo = #c :@al bo
+2 :b.net 366 bo #c :End of NAMES list
+> settle
+1 :bo!u@h JOIN #c
+= 2
+> say 3 JOIN #c
+3 :cy!u@h JOIN #c
+3 :c.net 353 cy = #c :@al bo cy
+3 :c.net 366 cy #c :End of NAMES list
+> settle
+2 :cy!u@h JOIN #c
+1 :cy!u@h JOIN #c
+= 2
+> say 3 NICK abcdefghijklmnopqrstuvwxyzabcd
+3 :cy!u@h NICK abcdefghijklmnopqrstuvwxyzabcd
+> settle
+2 :cy!u@h NICK abcdefghijklmnopqrstuvwxyzabcd
+1 :cy!u@h NICK abcdefghijklmnopqrstuvwxyzabcd
+= 2
+> say 3 NICK another-name_of-thirty-bytes-x
+3 :abcdefghijklmnopqrstuvwxyzabcd!u@h NICK another-name_of-thirty-bytes-x
+> settle
+2 :abcdefghijklmnopqrstuvwxyzabcd!u@h NICK another-name_of-thirty-bytes-x
+1 :abcdefghijklmnopqrstuvwxyzabcd!u@h NICK another-name_of-thirty-bytes-x
+= 2
+> say 1 MODE #c +o another-name_of-thirty-bytes-x
+1 :al!u@h MODE #c +o another-name_of-thirty-bytes-x
+> settle
+2 :al!u@h MODE #c +o another-name_of-thirty-bytes-x
+3 :al!u@h MODE #c +o another-name_of-thirty-bytes-x
+= 2
+> say 1 PRIVMSG another-name_of-thirty-bytes-x :hello
+> settle
+3 :al!u@h PRIVMSG another-name_of-thirty-bytes-x :hello
+= 2
+> cut b.net c.net
+2 :another-name_of-thirty-bytes-x!u@h QUIT :b.net c.net
+3 :al!u@h QUIT :c.net b.net
+3 :bo!u@h QUIT :c.net b.net
+> settle
+1 :another-name_of-thirty-bytes-x!u@h QUIT :b.net c.net
+= 1
+> say 2 NICK another-name_of-thirty-bytes-x
+2 :bo!u@h NICK another-name_of-thirty-bytes-x
+> settle
+1 :bo!u@h NICK another-name_of-thirty-bytes-x
+= 1
+> link b.net c.net
+> settle
+3 ERROR :Closing link (Killed (Nick collision))
+2 ERROR :Closing link (Killed (Nick collision))
+1 :another-name_of-thirty-bytes-x!u@h QUIT :Killed (Nick collision)
+= 14
+> say 2 PING x
+! 3
+> say 3 PING x
+! 3
+> say 1 NAMES #c
+1 :a.net 353 al = #c :@al
+1 :a.net 366 al #c :End of NAMES list
+";
+
+#[test]
+fn the_longest_nicknames_go_across_servers(rt: HostRuntime) {
+    assert!(rt; prints_behind(rt.alloc(), THREE, LONG_NICKNAMES));
+}
+
 /// A channel is told in five lines: its member, its modes, its bans, three at most in a line, and its topic.
 const BURST: &str = "\
 > server a.net

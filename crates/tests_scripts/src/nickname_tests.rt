@@ -11,17 +11,17 @@ const NICKNAMES: &str = "\
 1 :a.net 432 al 9 :Erroneous nickname
 > say 1 NICK al.b
 1 :a.net 432 al al.b :Erroneous nickname
-> say 1 NICK abcdefghij
-1 :a.net 432 al abcdefghij :Erroneous nickname
+> say 1 NICK abcdefghijklmnopqrstuvwxyzabcde
+1 :a.net 432 al abcdefghijklmnopqrstuvwxyzabcde :Erroneous nickname
 > say 1 NICK bo
 1 :a.net 433 al bo :Nickname is already in use
 > say 1 NICK BO
 1 :a.net 433 al BO :Nickname is already in use
 > say 1 NICK al
-> say 1 NICK abcdefghi
-1 :al!u@h NICK abcdefghi
+> say 1 NICK abcdefghijklmnopqrstuvwxyzabcd
+1 :al!u@h NICK abcdefghijklmnopqrstuvwxyzabcd
 > say 1 NICK foo[
-1 :abcdefghi!u@h NICK foo[
+1 :abcdefghijklmnopqrstuvwxyzabcd!u@h NICK foo[
 > say 2 NICK FOO{
 2 :a.net 433 bo FOO{ :Nickname is already in use
 > say 1 NICK FOO{

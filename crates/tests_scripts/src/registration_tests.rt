@@ -51,8 +51,8 @@ const BEFORE: &str = "\
 1 :a.net 431 * :No nickname given
 > say 1 NICK 9a
 1 :a.net 432 * 9a :Erroneous nickname
-> say 1 NICK abcdefghij
-1 :a.net 432 * abcdefghij :Erroneous nickname
+> say 1 NICK abcdefghijklmnopqrstuvwxyzabcde
+1 :a.net 432 * abcdefghijklmnopqrstuvwxyzabcde :Erroneous nickname
 > say 1 USER u 0 *
 1 :a.net 461 * USER :Not enough parameters
 > say 1 al PING x

@@ -15,7 +15,7 @@ pub(crate) static BEFORE: [Step; 6] = [
     Step::Room(8, 65536),
     Step::Bytes(
         8,
-        b"PASS pq 0210010000 TREE|\r
+        b"PASS pq 0210010001 TREE|\r
 SERVER c.net 1 1 :C\r
 NICK cy 1 u h 1 + :Cy\r
 :c.net NJOIN #c :cy\r
@@ -35,14 +35,14 @@ const AL_HEARD: &[u8] = b":a.net 001 al :Welcome to the Internet Relay Network a
 :cy!u@h JOIN #c\r
 ";
 
-const C_HEARD: &[u8] = b"PASS pq 0210010000 TREE|\r
+const C_HEARD: &[u8] = b"PASS pq 0210010001 TREE|\r
 SERVER a.net 1 1 :Test server\r
 NICK al 1 u h 1 + :Al\r
 :a.net NJOIN #c :@al\r
 ";
 
 /// What comes by 7 right behind the line that closes it: were it taken, b.net would be linked, or al killed.
-const MORE: &[u8] = b"PASS pw 0210010000 TREE|\r
+const MORE: &[u8] = b"PASS pw 0210010001 TREE|\r
 SERVER b.net 1 1 :B\r
 :b.net KILL al :Nick collision\r
 ";
@@ -85,14 +85,14 @@ static STRANGER: Scene = Scene {
 /// a.net calls.
 static CALLED: Scene = Scene {
     happens: &[Step::Called(7), Step::Room(7, 65536)],
-    to_b: b"PASS pw 0210010000 TREE|\r
+    to_b: b"PASS pw 0210010001 TREE|\r
 SERVER a.net 1 1 :Test server\r
 ",
     to_c: b"",
     to_al: ARE_TWO,
 };
 
-pub(crate) const B_HEARS: &[u8] = b"PASS pw 0210010000 TREE|\r
+pub(crate) const B_HEARS: &[u8] = b"PASS pw 0210010001 TREE|\r
 SERVER a.net 1 1 :Test server\r
 :a.net SERVER c.net 2 2 :C\r
 NICK al 1 u h 1 + :Al\r
@@ -100,7 +100,7 @@ NICK cy 2 u h 2 + :Cy\r
 :a.net NJOIN #c :@al,cy\r
 ";
 
-pub(crate) const B_GREETS: &[u8] = b"PASS pw 0210010000 TREE|\r
+pub(crate) const B_GREETS: &[u8] = b"PASS pw 0210010001 TREE|\r
 SERVER b.net 1 1 :B\r
 ";
 
@@ -165,11 +165,11 @@ NICK zo 2 u h 3 + :Zo\r
 /// Lines that close the link of who has not named itself: for UnknownCommand, Parameters, Order, UnknownPeer, Password and AlreadyKnown.
 static IN_HANDSHAKE: [&[u8]; 6] = [
     b"FOO\r\n",
-    b"PASS pw 0210010001 TREE|\r\n",
+    b"PASS pw 0210010000 TREE|\r\n",
     b"SERVER b.net 1 1 :B\r\n",
-    b"PASS pw 0210010000 TREE|\r\nSERVER x.net 1 1 :X\r\n",
-    b"PASS xx 0210010000 TREE|\r\nSERVER b.net 1 1 :B\r\n",
-    b"PASS pq 0210010000 TREE|\r\nSERVER c.net 1 1 :C\r\n",
+    b"PASS pw 0210010001 TREE|\r\nSERVER x.net 1 1 :X\r\n",
+    b"PASS xx 0210010001 TREE|\r\nSERVER b.net 1 1 :B\r\n",
+    b"PASS pq 0210010001 TREE|\r\nSERVER c.net 1 1 :C\r\n",
 ];
 
 /// Lines of b.net that close its link: for UnknownCommand, Parameters twice, BadToken, WrongDirection, BadName, AlreadyKnown and Order.

@@ -7,7 +7,7 @@ use std::alloc::Global;
 const CLIENT_ROOM: usize = 4096;
 
 /// What a.net says first to a server that it calls: 57 bytes.
-const GREETING: &[u8] = b"PASS pw 0210010000 TREE|\r
+const GREETING: &[u8] = b"PASS pw 0210010001 TREE|\r
 SERVER a.net 1 1 :Test server\r
 ";
 
@@ -58,7 +58,7 @@ static CUT_SHORT: [Step; 9] = [
     Step::Room(2, 65536),
     Step::Bytes(
         2,
-        b"PASS pw 0210010000 TREE|\r\nSERVER b.net 1 1 :B\r\nNICK b 1 u h 1 + :B\r\n:b.net NJOIN #c :@b",
+        b"PASS pw 0210010001 TREE|\r\nSERVER b.net 1 1 :B\r\nNICK b 1 u h 1 + :B\r\n:b.net NJOIN #c :@b",
     ),
     Step::Bytes(1, b"WHOIS b\r\n"),
     Step::End(2),
@@ -93,7 +93,7 @@ fn an_end_within_a_line_is_the_end_of_the_link(rt: HostRuntime) {
 static STRANGER: [Step; 3] = [
     Step::Linked(2),
     Step::Room(2, 65536),
-    Step::Bytes(2, b"PASS pw 0210010000 TREE|\r\nSERVER z.net 1 1 :Z\r\n"),
+    Step::Bytes(2, b"PASS pw 0210010001 TREE|\r\nSERVER z.net 1 1 :Z\r\n"),
 ];
 
 fn is_turned_away(alloc: Global) -> bool {

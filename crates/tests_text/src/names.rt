@@ -23,8 +23,8 @@ is nick a9
 is nick `a-]
 is nick []\\`_^{|
 is nick }
-is nick abcdefghi
-no nick abcdefghij
+is nick abcdefghijklmnopqrstuvwxyzabcd
+no nick abcdefghijklmnopqrstuvwxyzabcde
 no nick 9a
 no nick -a
 no nick a.b

@@ -391,6 +391,49 @@ fn shows_names(
     says(given, "al", &reply, line)
 }
 
+/// A nickname, a server's name and a channel's, each as long as one may be.
+static LONG_NICK: &[u8] = b"nnnnnnnnnnnnnnnnnnnnnnnnnnnnnn";
+
+static LONG_SERVER: &[u8] = b"sssssssssssssssssssssssssssssssssssssssssssssssssssssssssss.net";
+
+static LONG_CHANNEL: &[u8] = b"#ccccccccccccccccccccccccccccccccccccccccccccccccc";
+
+/// How long the longest 353 is, and how it ends.
+static LONGEST: (usize, &[u8]) = (
+    473,
+    b" @nnnnnnnnnnnnnnnnnnnnnnnnnnnnnn @nnnnnnnnnnnnnnnnnnnnnnnnnnnnnn",
+);
+
+/// Whether ten members with the longest nicknames are written whole.
+fn longest_names_are_whole(alloc: Global, by: &ServerName, nick: &Nick, to: ChannelName) -> bool {
+    let mut names = ArrayVec::new();
+    for _ in 0..10 {
+        let _ = names.try_push(Listed {
+            mark: Mark::Operator,
+            nick: nick.copy(),
+        });
+    }
+    let Ok(names) = NameList::new(alloc, names) else {
+        return false;
+    };
+    let reply = Reply::NamReply {
+        visibility: Visibility::Public,
+        channel: to,
+        names,
+    };
+    let text = reply_line(by, Some(nick), &reply);
+    let line = body(&text);
+    line.len() == LONGEST.0 && line.ends_with(LONGEST.1)
+}
+
+#[test]
+fn the_longest_names_are_whole(rt: HostRuntime) {
+    let nick = Nick::read(LONG_NICK).expect(&rt, "a nickname");
+    let by = ServerName::read(LONG_SERVER).expect(&rt, "a server's name");
+    let to = ChannelName::read(LONG_CHANNEL).expect(&rt, "a channel's name");
+    assert!(rt; longest_names_are_whole(rt.alloc(), &by, &nick, to));
+}
+
 /// Whether bo, perhaps on a channel, is written as this line.
 fn shows_user(given: &Named, channel: Option<ChannelName>, mark: Mark, line: &str) -> bool {
     let reply = Reply::WhoReply {
