@@ -7,6 +7,7 @@ use Rattle.irc_line.specs.Carried.{IsCarried}
 use Rattle.irc_line.specs.Limits.{max_line}
 use Rattle.irc_line.specs.Messages.{Written, full, full_name, joined_text}
 use Rattle.irc_names.specs.Fold.{key}
+use Rattle.irc_names.specs.Limits.{max_nick}
 use Rattle.irc_names.specs.Names.{is_nick, is_channel}
 use Rattle.irc_names.specs.Tables.{row}
 use Rattle.irc_rules.proofs.RuleFacts.{nick-fits, channel-fits, host-fits}
@@ -48,7 +49,7 @@ line_length nick user host command to text =
 left_fits : (front : ℕ) (words : List ℕ) → front ≤ max_line → front + length (take (max_line - front) words) ≤ max_line
 left_fits front words fits = let taken = length-take (max_line - front) words in omega (arith, taken, fits)
 
-cut_to_fit : (nick user host command to words : List ℕ) → length nick ≤ 9 → length user ≤ 10 → length host ≤ 63 → length command ≤ 7 → length to ≤ 50
+cut_to_fit : (nick user host command to words : List ℕ) → length nick ≤ max_nick → length user ≤ 10 → length host ≤ 63 → length command ≤ 7 → length to ≤ 50
     → length (joined_text (parts_of nick user host command to
     (take (max_line - length (joined_text (parts_of nick user host command to []))) words))) ≤ max_line
 cut_to_fit nick user host command to words nick_fits user_fits host_fits command_fits to_fits =
@@ -70,7 +71,7 @@ said_fits me within verb.Notice to words fits =
     (lit≤ tt) fits
 
 pub nick_is_short : (bytes : List ℕ) → is_nick bytes ≡ true → length bytes ≤ 50
-nick_is_short bytes is = let fits : length bytes ≤ 9 = nick-fits bytes is in omega (arith, fits)
+nick_is_short bytes is = let fits : length bytes ≤ max_nick = nick-fits bytes is in omega (arith, fits)
 
 pub channel_is_short : (bytes : List ℕ) → is_channel bytes ≡ true → length bytes ≤ 50
 channel_is_short = channel-fits
