@@ -66,8 +66,8 @@ uninvited nick channel = record channel { invited = alter nick (λ _. None) chan
 abbrev pub with_topic : List ℕ → Channel → Channel
 with_topic topic channel = record channel { topic = topic }
 
--- The name is spelled as given, where that is greater by bytes (our own choice): two sides that have one
--- channel in two spellings join it under the greater one.
+-- The name is spelled as given, where that is greater by bytes (our own choice): two sides that
+-- have one channel in two spellings join it under the greater one.
 abbrev pub respelled : List ℕ → Channel → Channel
 respelled name channel = record channel { name = greater bytes_cmp channel.name name }
 

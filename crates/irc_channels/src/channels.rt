@@ -165,11 +165,13 @@ impl Channels {
         Ok(())
     }
 
-    /// A channel's name is spelled as given, where that is greater by bytes than the stored spelling:
-    /// whichever of the two was there first, the greater stays. It takes no memory.
+    /// A channel's name is spelled as given, where that is greater by bytes than the stored
+    /// spelling. So of two spellings the greater stays, whichever was there first. It takes no
+    /// memory.
     pub fn respell(&mut self, channel: &ChannelName) -> Result<(), ChannelsFault>
         ensures fault { result_err result ≡ fault_at self.old channel.now }
-        ensures ok { Alters result channel.now (option_map (respelled channel.now)) self.old self.new }
+        ensures ok { Alters result channel.now (option_map (respelled channel.now))
+            self.old self.new }
         ensures refused { OnErr result (self.new ≡ self.old) }
     {
         if !self.has(channel) {

@@ -41,7 +41,7 @@ after room (Say by notice target text) = room
 after room (Invite by nick channel) = alter_channel channel (option_map (invited_too (key nick))) room
 after room (UserMode nick invisible) = alter_user nick (option_map (with_invisible invisible)) room
 
--- The name of a channel is spelled as given, where that is greater by bytes. It is a step of a room that is no effect: nobody does
--- it, and nobody is shown it.
+-- The name of a channel is spelled as given, where that is greater by bytes. It is a step of a
+-- room that is no effect: nobody does it, and nobody is shown it.
 abbrev pub titled_by : List ℕ → Room → Room
 titled_by channel room = alter_channel channel (option_map (respelled channel)) room

@@ -35,7 +35,10 @@ room_fault kept effect = if kept.failed then Some Failed else missing_fault kept
 
 -- why a channel's name is not spelled anew, if it is not: in the same order
 abbrev pub respelling_fault : Kept → List ℕ → Option RoomFault
-respelling_fault kept channel = if kept.failed then Some Failed else (if has_channel kept.room channel then None else Some NoSuchChannel)
+respelling_fault kept channel =
+    if kept.failed then Some Failed
+    else (if has_channel kept.room channel then None
+    else Some NoSuchChannel)
 
 -- whether an effect does anything: a room that has not failed does not refuse it, and it is not idle
 abbrev pub does : Room → Effect → Bool

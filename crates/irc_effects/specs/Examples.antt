@@ -148,12 +148,15 @@ ChannelMadeAnew =
     × (flags_of anew (codes "bar") (codes "#rust") ≡ Some (record { op = true; voice = false }))
     × (is_member anew (codes "foo") (codes "#rust") ≡ false)
 
--- of two spellings of one channel the greater by bytes stays, whichever was there first: `c` is 0x63, and `C` 0x43
+-- of two spellings of one channel the greater by bytes stays, whichever was there first: `c` is
+-- 0x63, and `C` 0x43
 abbrev pub GreaterSpellingStays : Type 0
 GreaterSpellingStays =
-    let spelled = λ (first second : List ℕ).
-    of_channel (λ c. c.name) (titled_by second (room_after (comes (codes "foo") ∷ Join (codes "foo") first true ∷ []))) (codes "#CHAT") in
-    (spelled (codes "#Chat") (codes "#chat") ≡ Some (codes "#chat")) × (spelled (codes "#chat") (codes "#Chat") ≡ Some (codes "#chat"))
+    let made = λ (name : List ℕ).
+    room_after (comes (codes "foo") ∷ Join (codes "foo") name true ∷ []) in
+    let spelled = λ (room : Room). of_channel (λ c. c.name) room (codes "#CHAT") in
+    (spelled (titled_by (codes "#chat") (made (codes "#Chat"))) ≡ Some (codes "#chat"))
+    × (spelled (titled_by (codes "#Chat") (made (codes "#chat"))) ≡ Some (codes "#chat"))
 
 -- a Part is written as its user and its channel are stored, however they are spelled in it
 abbrev pub PartWrittenAsStored : Type 0

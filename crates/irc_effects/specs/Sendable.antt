@@ -26,7 +26,7 @@ use Rattle.irc_effects.specs.Seen.{full_sender, names_member}
 abbrev pub IsStoredNick : Room → List ℕ → Type 0
 IsStoredNick room nick = option_map (λ (user : User). user.nick) (row room.users (key nick)) ≡ Some nick
 
--- the name of a channel that is there, spelled as its maker spelled it
+-- the name of a channel that is there, spelled as it is stored
 abbrev pub IsStoredChannel : Room → List ℕ → Type 0
 IsStoredChannel room name = option_map (λ (channel : Channel). channel.name) (row room.channels (key name)) ≡ Some name
 

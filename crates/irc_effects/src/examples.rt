@@ -66,7 +66,7 @@ pub fn channel_made_anew()
     ensures { ChannelMadeAnew }
 {}
 
-/// Of two spellings of one channel that are joined the greater by bytes stays, whichever was there first.
+/// Of two spellings of one channel the greater by bytes stays, whichever was there first.
 pub fn greater_spelling_stays()
     ensures { GreaterSpellingStays }
 {}

@@ -56,8 +56,9 @@ pub fn home_knows_its_invited()
     ensures { HomeKnowsItsInvited }
 {}
 
-/// A server that keeps the invitations of its own users alone has, once a channel's name was spelled in the greater of two ways, what it
-/// had with that name spelled so; and rooms that are alike but for who is invited are so then.
+/// Once a channel's name was spelled in the greater of two ways, a server that keeps the
+/// invitations of its own users alone has what it had, with that name spelled so; and rooms that
+/// are alike but for who is invited are so then.
 pub fn home_is_respelled()
     ensures home { HomeIsRespelled }
     ensures alike { AlikeAreRespelledAlike }

@@ -19,7 +19,13 @@ ghost use Rattle.irc_effects.specs.Laws.{
   SentIsShownWhole,
   SentKeepsLimits,
 };
-ghost use Rattle.irc_effects.specs.Respelled.{AllElseStays, OneRowRespelled, RespelledIsWellFormed, RespelledIsWithinLimits, RespelledOnce};
+ghost use Rattle.irc_effects.specs.Respelled.{
+  AllElseStays,
+  OneRowRespelled,
+  RespelledIsWellFormed,
+  RespelledIsWithinLimits,
+  RespelledOnce,
+};
 ghost use Rattle.irc_effects.specs.Viewers.{OneViewersLines};
 
 /// The room with nobody in it is well formed.
@@ -105,8 +111,9 @@ pub fn one_viewers_lines()
     ensures { OneViewersLines }
 {}
 
-/// A room in which a channel's name was spelled in the greater of two ways stays well formed, and within its limits by a spelling
-/// that keeps the rule of names. That name alone is another, and is so once: users, members and invitations stay as they were.
+/// A room in which a channel's name was spelled in the greater of two ways is well formed, and
+/// within its limits by a spelling that keeps the rule of names. That name alone is another, and
+/// is so once: users, members and invitations are as they were.
 pub fn one_name_is_respelled()
     ensures well_formed { RespelledIsWellFormed }
     ensures limits { RespelledIsWithinLimits }

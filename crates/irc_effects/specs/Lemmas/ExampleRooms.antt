@@ -58,12 +58,14 @@ pub part_is : {X : Type 0} (part : Channel → X) (effects : List Effect) (name 
 part_is part effects name = ap (option_map part) (channel_is effects name)
 
 -- the same once a channel's name was spelled in the greater of two ways
-pub titled_part_is : {X : Type 0} (part : Channel → X) (effects : List Effect) (spelled name : List ℕ)
-    → of_channel part (titled_by spelled (room_after effects)) name
-    ≡ option_map part (option_map channel_of (find fold_cmp (key name) (list_titled spelled (list_room effects)).channels))
-titled_part_is part effects spelled name =
-    ap (λ r. of_channel part r name) (ap (titled_by spelled) (made effects) ∙ titled_listed spelled (list_room effects))
-    ∙ ap (option_map part) (channel_listed (list_titled spelled (list_room effects)) (key name))
+pub titled_part_is : {X : Type 0} (part : Channel → X) (effects : List Effect)
+    (given name : List ℕ) → let room = list_titled given (list_room effects) in
+    of_channel part (titled_by given (room_after effects)) name
+    ≡ option_map part (option_map channel_of (find fold_cmp (key name) room.channels))
+titled_part_is part effects given name =
+    ap (λ r. of_channel part r name)
+    (ap (titled_by given) (made effects) ∙ titled_listed given (list_room effects))
+    ∙ ap (option_map part) (channel_listed (list_titled given (list_room effects)) (key name))
 
 pub seen_is : (effects : List Effect) (effect : Effect) → IsInOrder (list_room effects) → seen (room_after effects) effect ≡ list_seen (list_room effects) effect
 seen_is effects effect order = ap (λ r. seen r effect) (made effects) ∙ seen_listed (list_room effects) effect order

@@ -280,8 +280,11 @@ after_listed room (UserMode nick invisible) =
 abbrev pub list_titled : List ℕ → ListedRoom → ListedRoom
 list_titled name room = alter_list_channel name (option_map (list_respelled name)) room
 
-pub titled_listed : (name : List ℕ) (room : ListedRoom) → titled_by name (room_of room) ≡ room_of (list_titled name room)
-titled_listed name room = with_channels room _ _ (maps_listed name (respelled name) (list_respelled name) room (λ c. refl))
+pub titled_listed : (name : List ℕ) (room : ListedRoom)
+    → titled_by name (room_of room) ≡ room_of (list_titled name room)
+titled_listed name room =
+    with_channels room _ _
+    (maps_listed name (respelled name) (list_respelled name) room (λ c. refl))
 
 -- effects one after another
 pub all_listed : (room : ListedRoom) (effects : List Effect) → fold after (room_of room) effects ≡ room_of (fold list_after room effects)
