@@ -311,16 +311,18 @@ impl Room {
         }
     }
 
-    /// A channel's name is spelled as given, where that is greater by bytes than the stored spelling: two sides
-    /// of a network that had one channel in two spellings join it under the greater one. It is no effect: nobody
-    /// does it, and nobody is shown anything. It takes no memory.
+    /// A channel's name is spelled as given, where that is greater by bytes than the stored
+    /// spelling: two sides of a network that had one channel in two spellings join it under the
+    /// greater one. It is no effect: nobody does it, and nobody is shown anything. It takes no
+    /// memory.
     ///
     /// # Errors
-    /// [`RoomFault::Failed`] where memory ran out before; [`RoomFault::NoSuchChannel`] where the channel is not
-    /// there. Nothing has changed then.
+    /// [`RoomFault::Failed`] where memory ran out before; [`RoomFault::NoSuchChannel`] where the
+    /// channel is not there. Nothing has changed then.
     pub fn respell(&mut self, channel: &ChannelName) -> Result<(), RoomFault>
         ensures fault { result_err result ≡ respelling_fault self.old channel.now }
-        ensures ok { OnOk result (self.new ≡ record self.old { room = titled_by channel.now self.old.room }) }
+        ensures ok { OnOk result
+            (self.new ≡ record self.old { room = titled_by channel.now self.old.room }) }
         ensures refused { OnErr result (self.new ≡ self.old) }
     {
         if self.failed {

@@ -28,8 +28,8 @@ impl Tables {
         change(&mut self.users, &mut self.channels, effect)
     }
 
-    /// A channel's name is spelled as given, where that is greater by bytes. Where the channel is not there
-    /// nothing changes. It takes no memory.
+    /// A channel's name is spelled as given, where that is greater by bytes. Where the channel is
+    /// not there nothing changes. It takes no memory.
     pub fn respell(&mut self, channel: &ChannelName)
         ensures { self.new ≡ titled_by channel.now self.old }
     {

@@ -163,8 +163,8 @@ impl IndexedChannels {
         set_topic(&mut self.rows, channel, topic);
     }
 
-    /// A channel's name is spelled as given, where that is greater by bytes. Where the channel is not there
-    /// nothing changes. It takes no memory.
+    /// A channel's name is spelled as given, where that is greater by bytes. Where the channel is
+    /// not there nothing changes. It takes no memory.
     pub fn respell(&mut self, channel: &ChannelName)
         ensures { self.new ≡ with_row channel.now (respelled channel.now) self.old }
     {
@@ -278,7 +278,8 @@ fn set_topic(channels: &mut Channels, channel: &ChannelName, topic: &Words)
     let _ = channels.set_topic(channel, topic);
 }
 
-/// A channel's name is spelled in the greater of two ways. Where the channel is not there nothing changes.
+/// A channel's name is spelled in the greater of two ways. Where the channel is not there nothing
+/// changes.
 fn respell(channels: &mut Channels, channel: &ChannelName)
     ensures { channels.new ≡ with_row channel.now (respelled channel.now) channels.old }
 {

@@ -122,8 +122,8 @@ static SPELLINGS: [[&str; 3]; 6] = [
     ["#cHAT", "#ChAT", "#cHAT"],
 ];
 
-/// Whether a channel that was made in the first spelling, and then spelled as the second where that is
-/// greater, has the third; and whether no other channel is spelled anew.
+/// Whether a channel that was made in the first spelling, and then spelled as the second where
+/// that is greater, has the third; and whether a channel that is not there is refused.
 fn is_spelled(rt: &impl Abort, alloc: Global, row: [&str; 3]) -> bool {
     let [made, given, stays] = row;
     let mut channels = Channels::new(alloc);

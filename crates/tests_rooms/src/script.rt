@@ -7,7 +7,8 @@
 //!   `part NICK CHANNEL TEXT`, `kick BY CHANNEL NICK`, `mode BY CHANNEL MODES`, `topic BY CHANNEL TEXT`, `say BY TARGET TEXT`,
 //!   `note BY TARGET TEXT`, `invite BY NICK CHANNEL`, `set NICK +i` and `set NICK -i` are the effects. Who makes a channel is its
 //!   operator. A `*` that changes modes or a topic is a server.
-//! - `respell CHANNEL` spells a channel's name as given, where that is greater by bytes; it shows nothing.
+//! - `respell CHANNEL` spells a channel's name as given, where that is greater by bytes; nobody
+//!   is shown anything.
 //! - `state CHANNEL` shows its modes, key, limit and bans, its topic behind a `:`, its members with their marks, and who is
 //!   invited behind a `?`.
 //! - `users`, `home SERVER` and `channels NICK` show all users, those of a server, and the channels of one. `invited NICK CHANNEL` tells

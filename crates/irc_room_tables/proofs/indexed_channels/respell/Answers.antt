@@ -8,4 +8,5 @@ use Rattle.irc_room_tables.proofs.indexed_channels.respell.Goals as goal
 pub returns : goal.returns
 returns c =
     either_way c.respell.result _ _ _ c.respell.ensures.ok c.respell.ensures.refused
-    (λ fault is. alter_same (key c.args.channel.now) _ _ (absent_stays (respelled c.args.channel.now) _ fault (sym is ∙ c.respell.ensures.fault)))
+    (λ fault is. alter_same (key c.args.channel.now) _ _
+    (absent_stays (respelled c.args.channel.now) _ fault (sym is ∙ c.respell.ensures.fault)))
