@@ -4,6 +4,8 @@
 #[cfg(test)]
 mod channels;
 #[cfg(test)]
+mod raising;
+#[cfg(test)]
 mod relay;
 #[cfg(test)]
 mod room;

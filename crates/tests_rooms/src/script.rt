@@ -87,7 +87,7 @@ pub fn user(rt: &impl Abort, row: Row<'_>) -> User {
 }
 
 /// The changes that the words of a MODE ask for.
-fn changes(alloc: Global, words: &str) -> ModeChanges {
+pub fn changes(alloc: Global, words: &str) -> ModeChanges {
     let mut params: ArrayVec<&[u8], 15> = ArrayVec::new();
     for word in words.split(' ') {
         let _ = params.try_push(word.as_bytes());
@@ -237,7 +237,8 @@ fn append_if(shown: &mut Shown, flag: bool, letter: &[u8]) {
     }
 }
 
-fn show_modes(modes: &Modes, shown: &mut Shown) {
+/// Shows the flags, the key, the limit and the bans.
+pub fn show_modes(modes: &Modes, shown: &mut Shown) {
     append(shown, b" +");
     append_if(shown, modes.invite_only, b"i");
     append_if(shown, modes.moderated, b"m");
