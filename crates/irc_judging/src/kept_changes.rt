@@ -170,11 +170,7 @@ fn ban_by(change: &ModeChange, mask: &BanMask, before: Option<BanMask>) -> Optio
     if !same(word.as_bytes(), mask.as_bytes()) {
         return before;
     }
-    if change.plus {
-        Some(word)
-    } else {
-        None
-    }
+    if change.plus { Some(word) } else { None }
 }
 
 /// The mask that a change of a ban names; none where it changes no ban.

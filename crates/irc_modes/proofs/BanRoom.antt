@@ -215,10 +215,13 @@ out_le : (l g ld gd e : ℕ) → ld + 1 ≤ l → gd ≤ g + 1 → ld + gd ≤ l
 out_le l g ld gd e h k = omega (arith, h, k)
 
 -- what is there with a mask
-any_with : (m x : List ℕ) (bans : List (List ℕ)) → rises bans ≡ true → list_any (same m) (with_ban x bans) ≡ (same m x || list_any (same m) bans)
-any_with m x bans rising = ap (list_any (same m)) (put_over x bans rising).is_put ∙ any_placed m x (without_ban x bans) ∙ by (same m x) refl
+any_with : (m x : List ℕ) (bans : List (List ℕ)) → rises bans ≡ true
+    → list_any (same m) (with_ban x bans) ≡ (same m x || list_any (same m) bans)
+any_with m x bans rising = ap (list_any (same m)) (put_over x bans rising).is_put
+    ∙ any_placed m x (without_ban x bans) ∙ by (same m x) refl
   where
-    by : (test : Bool) → same m x ≡ test → (test || list_any (same m) (without_ban x bans)) ≡ (test || list_any (same m) bans)
+    by : (test : Bool) → same m x ≡ test
+        → (test || list_any (same m) (without_ban x bans)) ≡ (test || list_any (same m) bans)
     by true is = refl
     by false is = any_without x m bans (same-equivalence.symm x m ∙ is)
 
@@ -227,20 +230,25 @@ set_takes : (start bans : List (List ℕ)) (x : List ℕ) → rises bans ≡ tru
     → length (with_ban x bans) + gone start (with_ban x bans) ≤ length bans + gone start bans + cond (not (list_any (same x) start) && true) 1 0
 set_takes start bans x rising = by (list_any (same x) bans) refl (shorter x bans)
   where
-    keeps : (m : List ℕ) → list_any (same m) bans ≡ true → list_any (same m) (with_ban x bans) ≡ true
+    keeps : (m : List ℕ) → list_any (same m) bans ≡ true
+        → list_any (same m) (with_ban x bans) ≡ true
     keeps m there = any_with m x bans rising ∙ or_right (same m x) (list_any (same m) bans) there
 
-    by : (test : Bool) → list_any (same x) bans ≡ test → length (without_ban x bans) + cond test 1 0 ≤ length bans
+    by : (test : Bool) → list_any (same x) bans ≡ test
+        → length (without_ban x bans) + cond test 1 0 ≤ length bans
         → length (with_ban x bans) + gone start (with_ban x bans) ≤ length bans + gone start bans + cond (not (list_any (same x) start) && true) 1 0
     by true there less =
-        over_le (length bans) (gone start bans) (length (without_ban x bans)) (length (with_ban x bans)) (gone start (with_ban x bans))
+        over_le (length bans) (gone start bans) (length (without_ban x bans))
+        (length (with_ban x bans)) (gone start (with_ban x bans))
         (cond (not (list_any (same x) start) && true) 1 0)
-        (ap length (put_over x bans rising).is_put ∙ length_placed x (without_ban x bans)) less (fewer start bans (with_ban x bans) keeps)
+        (ap length (put_over x bans rising).is_put ∙ length_placed x (without_ban x bans)) less
+        (fewer start bans (with_ban x bans) keeps)
     by false none less =
         new_le (list_any (same x) start) (length bans) (gone start bans) (length (with_ban x bans)) (gone start (with_ban x bans))
         (ap length (is_placed x bans rising none) ∙ length_placed x bans)
         (one_less x start bans (with_ban x bans) none keeps
-        (any_with x x bans rising ∙ ap (λ b. b || list_any (same x) bans) (same-equivalence.refl x)))
+        (any_with x x bans rising
+        ∙ ap (λ b. b || list_any (same x) bans) (same-equivalence.refl x)))
 
 -- what a mask that is taken out leaves
 take_leaves : (start bans : List (List ℕ)) (x : List ℕ) (e : ℕ) → rises start ≡ true
@@ -311,9 +319,11 @@ room_before start bans change changes capacity start_rises rising room adds =
     by false (Some x) later new = let bad : false ≡ true = second_so (not (list_any (same x) bans)) false new in cc
 
 -- once the ban that is the same is out, there is room for one that is set
-pub room_once_out : (mask : List ℕ) (bans : List (List ℕ)) (capacity more : ℕ) → (list_any (same mask) bans ≡ false → length bans < capacity)
+pub room_once_out : (mask : List ℕ) (bans : List (List ℕ)) (capacity more : ℕ)
+    → (list_any (same mask) bans ≡ false → length bans < capacity)
     → length bans ≤ capacity → capacity ≤ more → length (without_ban mask bans) < more
-room_once_out mask bans capacity more room within grown = by (list_any (same mask) bans) refl (shorter mask bans)
+room_once_out mask bans capacity more room within grown =
+    by (list_any (same mask) bans) refl (shorter mask bans)
   where
     less : (n l capacity more : ℕ) → n + 1 ≤ l → l ≤ capacity → capacity ≤ more → n < more
     less n l capacity more h k r = omega (arith, h, k, r)
@@ -321,10 +331,13 @@ room_once_out mask bans capacity more room within grown = by (list_any (same mas
     same_room : (n l capacity more : ℕ) → n + 0 ≤ l → l < capacity → capacity ≤ more → n < more
     same_room n l capacity more h k r = omega (arith, h, k, r)
 
-    by : (test : Bool) → list_any (same mask) bans ≡ test → length (without_ban mask bans) + cond test 1 0 ≤ length bans
+    by : (test : Bool) → list_any (same mask) bans ≡ test
+        → length (without_ban mask bans) + cond test 1 0 ≤ length bans
         → length (without_ban mask bans) < more
-    by true there out = less (length (without_ban mask bans)) (length bans) capacity more out within grown
-    by false none out = same_room (length (without_ban mask bans)) (length bans) capacity more out (room none) grown
+    by true there out = less (length (without_ban mask bans))
+        (length bans) capacity more out within grown
+    by false none out = same_room (length (without_ban mask bans)) (length bans) capacity more out
+        (room none) grown
 
 -- ---- at the start
 

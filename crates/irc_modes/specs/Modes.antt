@@ -61,9 +61,12 @@ limit_changed true (Some word) before = if is_limit word then Some (number_of wo
 limit_changed true None before = before
 limit_changed false word before = None
 
--- The bans with this mask in its place in folded order. It takes the place of one that is the same under the fold.
+-- The bans with this mask in its place in folded order. It takes the place of one that is the same
+-- under the fold.
 abbrev pub with_ban : List ℕ → List (List ℕ) → List (List ℕ)
-with_ban mask bans = filter (λ ban. is_lt (name_cmp ban mask)) bans ++ mask ∷ filter (λ ban. is_lt (name_cmp mask ban)) bans
+with_ban mask bans =
+    filter (λ ban. is_lt (name_cmp ban mask)) bans
+    ++ mask ∷ filter (λ ban. is_lt (name_cmp mask ban)) bans
 
 abbrev pub without_ban : List ℕ → List (List ℕ) → List (List ℕ)
 without_ban mask bans = filter (λ ban. not (same mask ban)) bans

@@ -50,12 +50,15 @@ raising (change ∷ changes) modes =
 
 -- a change is made where it raises something
 abbrev pub raise_step : Modes → ModeChange → Modes
-raise_step modes change = if raises change.plus change.letter change.word modes then mode_step modes change else modes
+raise_step modes change =
+    if raises change.plus change.letter change.word modes then mode_step modes change else modes
 
 -- a ban is set where none is the same under the fold, or one that is less by bytes
 abbrev pub raise_ban : List (List ℕ) → List ℕ → List (List ℕ)
-raise_ban bans mask = if is_above bytes_cmp mask (find (same mask) bans) then with_ban mask bans else bans
+raise_ban bans mask =
+    if is_above bytes_cmp mask (find (same mask) bans) then with_ban mask bans else bans
 
 -- a change, where it raises something
 abbrev pub raised_of : ModeChange → Modes → List ModeChange
-raised_of change modes = if raises change.plus change.letter change.word modes then change ∷ [] else []
+raised_of change modes =
+    if raises change.plus change.letter change.word modes then change ∷ [] else []

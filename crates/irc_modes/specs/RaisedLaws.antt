@@ -1,5 +1,5 @@
--- What is raised of all that another side tells of a channel's modes, in whatever lines it tells it, makes them both sides' modes joined.
--- Of what a side has itself nothing is raised.
+-- What is raised of all that another side tells of a channel's modes, in whatever lines it tells it,
+-- makes them both sides' modes joined. Of what a side has itself nothing is raised.
 use Rattle.std.proofs.Common.{◌≡◌, List, [], ◌∷◌, ◌++◌, fold, sym, ap, ◌∙◌, refl}
 use Rattle.std.proofs.lemmas.List.Sums.{fold-append}
 use Rattle.std.specs.List.{flat_map}
@@ -23,12 +23,15 @@ line_raised modes line = modes_after (raising line modes) modes
 
 -- the changes of a line, judged one after another, are made one after another
 abbrev pub RaisedInTurn : Type 0
-RaisedInTurn = (line : List ModeChange) (modes : Modes) → line_raised modes line ≡ fold raise_step modes line
+RaisedInTurn = (line : List ModeChange) (modes : Modes)
+    → line_raised modes line ≡ fold raise_step modes line
 
 -- all of them, in any lines
 abbrev pub RaisedIsJoined : Type 0
-RaisedIsJoined = (lines : List (List ModeChange)) (modes other : Modes) → IsBanList modes.bans → AreWithinLimits other
-    → flat_map (λ line. line) lines ≡ told other → fold line_raised modes lines ≡ joined_modes modes other
+RaisedIsJoined = (lines : List (List ModeChange)) (modes other : Modes) → IsBanList modes.bans
+    → AreWithinLimits other
+    → flat_map (λ line. line) lines ≡ told other
+    → fold line_raised modes lines ≡ joined_modes modes other
 
 -- of a side's own modes nothing is raised
 abbrev pub NothingRaised : Type 0
@@ -36,7 +39,8 @@ NothingRaised = (modes : Modes) → AreWithinLimits modes → raising (told mode
 
 -- ---- their proofs
 
-lines_in_turn : (lines : List (List ModeChange)) (modes : Modes) → fold line_raised modes lines ≡ fold raise_step modes (flat_map (λ line. line) lines)
+lines_in_turn : (lines : List (List ModeChange)) (modes : Modes)
+    → fold line_raised modes lines ≡ fold raise_step modes (flat_map (λ line. line) lines)
 lines_in_turn [] modes = refl
 lines_in_turn (line ∷ lines) modes =
     lines_in_turn lines (line_raised modes line)
@@ -45,7 +49,8 @@ lines_in_turn (line ∷ lines) modes =
 
 pub raised_is_joined : RaisedIsJoined
 raised_is_joined lines modes other rising within are =
-    lines_in_turn lines modes ∙ ap (fold raise_step modes) are ∙ all_raised modes other rising within
+    lines_in_turn lines modes ∙ ap (fold raise_step modes) are
+    ∙ all_raised modes other rising within
 
 pub nothing_raised : NothingRaised
 nothing_raised = none_raised

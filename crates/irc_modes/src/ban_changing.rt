@@ -49,7 +49,8 @@ fn change_one(bans: &mut Vec<BanMask, Global>, change: &ModeChange)
     }
 }
 
-/// Sets a ban in its place. One that is the same under the fold goes, so the new spelling is kept, and no room is taken.
+/// Sets a ban in its place. One that is the same under the fold goes: the new spelling is kept, and no
+/// room is taken.
 fn set(bans: &mut Vec<BanMask, Global>, mask: BanMask)
     requires ordered { IsBanList bans.old.items }
     requires room { list_any (same mask) bans.old.items ≡ false → vec_len bans.old < vec_capacity bans.old }

@@ -1,4 +1,5 @@
-//! Which changes of a channel's modes raise something: those that a server makes of what another side tells of the channel.
+//! Which changes of a channel's modes raise something: those that a server makes of what another side
+//! tells of the channel.
 ghost use Rattle.std.specs.Prelude.{◌≡◌, [], ◌∷◌, ◌++◌, true, IfOk, OnOk};
 ghost use Rattle.std.specs.Option.{option_copied};
 ghost use Rattle.std.specs.Ordering.{is_lt};
@@ -12,8 +13,10 @@ use std::alloc::{AllocError, Global};
 use std::slice;
 
 impl Modes {
-    /// Of changes one after another those that raise something, each judged by the modes as those before it would leave them. It
-    /// changes nothing here, and fails only where there is no memory for the answer or for the modes that it tries them on.
+    /// Of changes one after another those that raise something, each judged by the modes as those
+    /// before it would leave them: what is not set, a greater key, limit or spelling of a ban. It
+    /// changes nothing here, and fails only where there is no memory for the answer or for the modes
+    /// that it tries them on.
     pub fn raising(&self, changes: &[ModeChange]) -> Result<Vec<ModeChange, Global>, AllocError>
         ensures { IfOk result (λ raised. raised.items ≡ raising changes.now self.now) }
     {
@@ -51,7 +54,8 @@ fn note(raised: &mut Vec<ModeChange, Global>, change: ModeChange) -> Result<(), 
     }
 }
 
-/// Whether a change raises something. What is taken away counts always, and so does a mode of a member.
+/// Whether a change raises something. What is taken away counts always, and so does a mode of a
+/// member.
 fn raises(change: &ModeChange, modes: &Modes) -> bool
     ensures { result ≡ raises change.now.plus change.now.letter change.now.word modes.now }
 {

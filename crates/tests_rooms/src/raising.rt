@@ -1,9 +1,11 @@
-//! Modes of two sides of one channel: what of each side's modes is raised in the other's, and that both have the same then.
+//! Modes of two sides of one channel: what of each side's modes is raised in the other's, and that
+//! both have the same then.
 use crate::script::{Shown, append, append_word, changes, show_modes};
 use irc_modes::{ModeChange, Modes};
 use std::alloc::Global;
 
-/// The modes of two sides, and what comes of them. Several lines of one side stand behind one another with a `;` between them.
+/// The modes of two sides, and what comes of them. Several lines of one side stand behind one another
+/// with a `;` between them.
 struct Sides {
     one: &'static str,
     other: &'static str,
@@ -98,8 +100,8 @@ static SIDES: [Sides; 10] = [
     },
 ];
 
-/// Modes, a line of changes on them, and those of it that raise something: each is judged behind those before it. What is taken
-/// away counts always, and so does a mode of a member.
+/// Modes, a line of changes on them, and those of it that raise something: each is judged behind
+/// those before it. What is taken away counts always, and so does a mode of a member.
 static LINES: [(&str, &str, &str); 6] = [
     ("+b A!*@*", "+bb a!*@* A!*@*", " +b a!*@*"),
     ("+k m", "+o-k bo m", " +o-k bo m"),

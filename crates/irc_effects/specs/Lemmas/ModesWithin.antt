@@ -44,9 +44,11 @@ record AreBans (bans : List (List ℕ)) : Type 0 where
 all_with : (p : List ℕ → Bool) (mask : List ℕ) (bans : List (List ℕ)) → p mask ≡ true → list_all p bans ≡ true → list_all p (with_ban mask bans) ≡ true
 all_with p mask bans is all =
     list_all-append p (filter (λ ban. before ban mask) bans) (mask ∷ filter (before mask) bans)
-    ∙ both (list_all p (filter (λ ban. before ban mask) bans)) (list_all p (mask ∷ filter (before mask) bans))
+    ∙ both (list_all p (filter (λ ban. before ban mask) bans))
+    (list_all p (mask ∷ filter (before mask) bans))
     (all_filter p (λ ban. before ban mask) bans all)
-    (both (p mask) (list_all p (filter (before mask) bans)) is (all_filter p (before mask) bans all))
+    (both (p mask) (list_all p (filter (before mask) bans)) is
+    (all_filter p (before mask) bans all))
 
 ban_kept : (plus : Bool) (mask : List ℕ) (bans : List (List ℕ)) → is_ban_mask mask ≡ true → is_carried mask ≡ true → AreBans bans
     → AreBans (ban_changed plus mask bans)

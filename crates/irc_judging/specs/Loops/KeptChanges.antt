@@ -38,7 +38,8 @@ flags_by_all start changes nick = fold (flags_by nick) (row start.members (key n
 -- the ban that is the same as a mask
 abbrev pub ban_changed_to : List ℕ → Bool → Option (List ℕ) → Option (List ℕ) → Option (List ℕ)
 ban_changed_to mask plus None before = before
-ban_changed_to mask plus (Some word) before = if same word mask then (if plus then Some word else None) else before
+ban_changed_to mask plus (Some word) before =
+    if same word mask then (if plus then Some word else None) else before
 
 abbrev pub ban_by : List ℕ → Option (List ℕ) → ModeChange → Option (List ℕ)
 ban_by mask before change = ban_changed_to mask change.plus (ban_mask change.letter change.word) before

@@ -226,18 +226,22 @@ found_any p xs = some_test (nat_lt (position_or_len p xs) (length xs)) (position
 -- ---- what the edits of a list of bans make
 
 -- one that is taken out is not there
-pub taken_gone : (mask : List ℕ) (bans : List (List ℕ)) → list_any (same mask) (without_ban mask bans) ≡ false
+pub taken_gone : (mask : List ℕ) (bans : List (List ℕ))
+    → list_any (same mask) (without_ban mask bans) ≡ false
 taken_gone mask [] = refl
 taken_gone mask (ban ∷ bans) = by (same mask ban) refl (taken_gone mask bans)
   where
-    by : (test : Bool) → same mask ban ≡ test → list_any (same mask) (without_ban mask bans) ≡ false
-        → list_any (same mask) (cond (not test) (ban ∷ without_ban mask bans) (without_ban mask bans)) ≡ false
+    by : (test : Bool) → same mask ban ≡ test
+        → list_any (same mask) (without_ban mask bans) ≡ false
+        → list_any (same mask) (cond (not test) (ban ∷ without_ban mask bans)
+        (without_ban mask bans)) ≡ false
     by true is rest = rest
     by false is rest = ap (λ b. b || list_any (same mask) (without_ban mask bans)) is ∙ rest
 
 -- those before a mask, and those behind it, are not touched where it is taken out
 record Beside (mask : List ℕ) (bans : List (List ℕ)) : Type 0 where
-  low_stay : filter (λ ban. before ban mask) (without_ban mask bans) ≡ filter (λ ban. before ban mask) bans
+  low_stay : filter (λ ban. before ban mask) (without_ban mask bans)
+      ≡ filter (λ ban. before ban mask) bans
   high_stay : filter (before mask) (without_ban mask bans) ≡ filter (before mask) bans
 
 beside : (mask : List ℕ) (bans : List (List ℕ)) → Beside mask bans
@@ -261,13 +265,15 @@ beside mask (ban ∷ bans) = by (side mask ban) (beside mask bans)
 -- a mask that is set is put in its place once the one that is the same is out
 pub record PutOver (mask : List ℕ) (bans : List (List ℕ)) : Type 0 where
   pub is_put : with_ban mask bans ≡ placed mask (without_ban mask bans)
-  pub is_insert : insert (without_ban mask bans) (place mask (without_ban mask bans)) mask ≡ with_ban mask bans
+  pub is_insert : insert (without_ban mask bans) (place mask (without_ban mask bans)) mask
+      ≡ with_ban mask bans
   pub still_rises : rises (with_ban mask bans) ≡ true
 
 pub put_over : (mask : List ℕ) (bans : List (List ℕ)) → rises bans ≡ true → PutOver mask bans
 put_over mask bans rising =
     let rest = without_ban mask bans in
-    let put = places mask rest (rises-filter (λ ban. not (same mask ban)) bans rising) (taken_gone mask bans) in
+    let put = places mask rest (rises-filter (λ ban. not (same mask ban)) bans rising)
+    (taken_gone mask bans) in
     let stay = beside mask bans in
     let parts : with_ban mask bans ≡ placed mask rest =
     (λ i. sym stay.low_stay i ++ mask ∷ sym stay.high_stay i) ∙ put.is_parts in
@@ -282,7 +288,8 @@ pub is_placed : (mask : List ℕ) (bans : List (List ℕ)) → rises bans ≡ tr
 is_placed mask bans rising none = (places mask bans rising none).is_parts
 
 -- bans stay in order with one more
-pub with_rises : (mask : List ℕ) (bans : List (List ℕ)) → rises bans ≡ true → rises (with_ban mask bans) ≡ true
+pub with_rises : (mask : List ℕ) (bans : List (List ℕ)) → rises bans ≡ true
+    → rises (with_ban mask bans) ≡ true
 with_rises mask bans rising = (put_over mask bans rising).still_rises
 
 -- what is taken out, and what is left

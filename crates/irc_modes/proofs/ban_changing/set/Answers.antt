@@ -11,17 +11,22 @@ use Rattle.irc_modes.proofs.ban_changing.set.Goals as goal
 has_room : (c : goal.After-insert) → vec_len c.take.new.bans < vec_capacity c.take.new.bans
 has_room c =
     let bans = c.args.bans.now in
-    let left = room_once_out c.args.mask bans.items (vec_capacity bans) (vec_capacity c.take.new.bans)
-    (λ none. let room = c.requires.room none in omega (arith, room, bans.ok.0)) (omega (arith, bans.ok.0, bans.ok.1)) c.take.ensures.capacity in
+    let left = room_once_out c.args.mask bans.items (vec_capacity bans)
+    (vec_capacity c.take.new.bans)
+    (λ none. let room = c.requires.room none in omega (arith, room, bans.ok.0))
+    (omega (arith, bans.ok.0, bans.ok.1)) c.take.ensures.capacity in
     omega (arith, left, c.take.new.bans.ok.0, ap length c.take.ensures.value)
 
-is_with : (c : goal.After-insert) → c.insert.new.self.items ≡ with_ban c.args.mask c.args.bans.now.items
+is_with : (c : goal.After-insert)
+    → c.insert.new.self.items ≡ with_ban c.args.mask c.args.bans.now.items
 is_with c =
     let mask = c.args.mask in
     let bans = c.take.new.bans.items in
     c.insert.ensures.items
-    ∙ ap (λ found. cond found (insert bans c.place_of-place.result mask) bans) (c.insert.ensures.succeeds (has_room c))
-    ∙ ap (λ i. insert bans i mask) (c.place_of-place.ensures.value ∙ ap (place mask) c.deref.ensures.value)
+    ∙ ap (λ found. cond found (insert bans c.place_of-place.result mask) bans)
+    (c.insert.ensures.succeeds (has_room c))
+    ∙ ap (λ i. insert bans i mask)
+    (c.place_of-place.ensures.value ∙ ap (place mask) c.deref.ensures.value)
     ∙ ap (λ bans. insert bans (place mask bans) mask) c.take.ensures.value
     ∙ (put_over mask c.args.bans.now.items c.requires.ordered).is_insert
 
@@ -29,4 +34,5 @@ pub returns-clause-value : goal.returns-clause-value
 returns-clause-value c = is_with c
 
 pub returns-clause-ordered : goal.returns-clause-ordered
-returns-clause-ordered c = ap rises (is_with c) ∙ with_rises c.args.mask c.args.bans.now.items c.requires.ordered
+returns-clause-ordered c = ap rises (is_with c)
+    ∙ with_rises c.args.mask c.args.bans.now.items c.requires.ordered
