@@ -29,12 +29,14 @@ pub record PeerTold : Type 0 where
   pub name : Option (List ℕ)
   pub password : Option (List ℕ)
   pub connect : Option (List ℕ)
+  pub retry : Option ℤ
 
 abbrev pub peer_at : Members → PeerTold
 peer_at table = record {
   name = text_at (codes "name") table;
   password = text_at (codes "password") table;
   connect = text_at (codes "connect") table;
+  retry = integer_at (codes "retry") table;
 }
 
 abbrev pub peer_told : PeerSettings → PeerTold
@@ -42,6 +44,7 @@ peer_told peer = record {
   name = Some (string_bytes peer.name);
   password = Some (string_bytes peer.password);
   connect = option_map string_bytes peer.connect;
+  retry = option_map pos peer.retry;
 }
 
 -- the settings are what the document has at their keys
@@ -53,6 +56,8 @@ pub record Tells (document : Members) (settings : Settings) : Type 0 where
   pub client_room : integer_at (codes "client_room") document ≡ Some (pos settings.client_room)
   pub link_room : integer_at (codes "link_room") document ≡ Some (pos settings.link_room)
   pub listen_links : text_at (codes "listen_links") document ≡ option_map string_bytes settings.listen_links
+  pub connections_per_address :
+      integer_at (codes "connections_per_address") document ≡ option_map pos settings.connections_per_address
   pub peers : map peer_at (tables_at (codes "peer") document) ≡ map peer_told settings.peers.items
 
 -- whether a text is a configuration: a TOML document with the keys that it has to have, and no others

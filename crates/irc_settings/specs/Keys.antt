@@ -1,5 +1,5 @@
 -- The keys that a configuration may have, and what may stand at each (our own choice).
-use Rattle.std.specs.Prelude.{ℕ, ℤ, pos, negsuc, nat_le, Bool, true, false, not, ◌&&◌, is_some, List, [], ◌∷◌, codes}
+use Rattle.std.specs.Prelude.{ℕ, ℤ, pos, negsuc, nat_le, Bool, true, false, not, ◌&&◌, ◌||◌, is_some, List, [], ◌∷◌, codes}
 use Rattle.std.specs.List.{list_any, list_all}
 use Rattle.std.specs.Str.{bytes_eq}
 use Rattle.std.specs.Option.{option_map_or}
@@ -65,11 +65,26 @@ is_in_form keys table = list_all (is_known_key keys) (keys_in table) && list_all
 
 -- the keys of a table `peer`: a server that may be linked to
 abbrev pub peer_keys : List Key
-peer_keys = needed (codes "name") text ∷ needed (codes "password") text ∷ optional (codes "connect") text ∷ []
+peer_keys =
+    needed (codes "name") text ∷ needed (codes "password") text
+    ∷ optional (codes "connect") text ∷ optional (codes "retry") (integer 1 3600) ∷ []
+
+-- whether a table has something at a key
+abbrev pub has_key : List ℕ → Members → Bool
+has_key key table = is_some (get_member key table)
+
+-- whether a server that is called again is one that is called
+abbrev pub retries_calls_alone : Members → Bool
+retries_calls_alone table = not (has_key (codes "retry") table) || has_key (codes "connect") table
+
+-- whether a table is one `peer`
+abbrev pub is_peer : Members → Bool
+is_peer table = is_in_form peer_keys table && retries_calls_alone table
 
 -- the keys of the document
 abbrev pub server_keys : List Key
 server_keys =
     needed (codes "name") text ∷ needed (codes "info") text ∷ needed (codes "created") text ∷ needed (codes "listen") text
     ∷ needed (codes "client_room") (integer 512 1048576) ∷ needed (codes "link_room") (integer 512 16777216)
-    ∷ optional (codes "listen_links") text ∷ optional (codes "peer") (tables (is_in_form peer_keys)) ∷ []
+    ∷ optional (codes "listen_links") text ∷ optional (codes "connections_per_address") (integer 1 65535)
+    ∷ optional (codes "peer") (tables is_peer) ∷ []

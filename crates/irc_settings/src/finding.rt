@@ -5,7 +5,7 @@ ghost use Rattle.std.specs.Str.{bytes_eq};
 ghost use Rattle.std.specs.BTreeMap.{keys};
 ghost use Rattle.toml.specs.Data.{get_member};
 ghost use Rattle.toml.specs.View.{view, table_view};
-ghost use Rattle.irc_settings.specs.Loops.Finding.{FindsOptionalText, FindsRoom, FindsText, ReadsAsRoom, ReadsAsText, is_allowed, view_now};
+ghost use Rattle.irc_settings.specs.Loops.Finding.{FindsOptionalNumber, FindsOptionalText, FindsRoom, FindsText, ReadsAsNumber, ReadsAsRoom, ReadsAsText, is_allowed, view_now};
 
 use crate::{LEAST_ROOM, SettingsFault};
 use std::alloc::Global;
@@ -94,6 +94,36 @@ fn room_in(value: &Value, most: usize) -> Result<usize, SettingsFault>
     };
     match usize::try_from(number) {
         Ok(room) if LEAST_ROOM <= room && room <= most => Ok(room),
+        _ => Err(SettingsFault::BadConfiguration),
+    }
+}
+
+/// The number at a key that may be left out, from 1 to `most`.
+///
+/// # Errors
+/// Where something else than such a number is there.
+pub(crate) fn optional_number(
+    table: &Table,
+    key: &str,
+    most: u16,
+) -> Result<Option<u16>, SettingsFault>
+    ensures { FindsOptionalNumber key.now most (table_view table.now) result }
+{
+    match value_at(table, key) {
+        Some(value) => number_in(value, most).map(Some),
+        None => Ok(None),
+    }
+}
+
+/// The number that a value is.
+fn number_in(value: &Value, most: u16) -> Result<u16, SettingsFault>
+    ensures { ReadsAsNumber most (view value.now) result }
+{
+    let Some(number) = value.as_integer() else {
+        return Err(SettingsFault::BadConfiguration);
+    };
+    match u16::try_from(number) {
+        Ok(number) if 1 <= number && number <= most => Ok(number),
         _ => Err(SettingsFault::BadConfiguration),
     }
 }

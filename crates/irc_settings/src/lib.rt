@@ -17,3 +17,9 @@ pub const MOST_CLIENT_ROOM: usize = 1_048_576;
 
 /// The most bytes that may wait for a link (our own choice).
 pub const MOST_LINK_ROOM: usize = 16_777_216;
+
+/// The most seconds after which a server is called again: an hour (our own choice).
+pub const MOST_RETRY: u16 = 3_600;
+
+/// The most connections that one address may be allowed: one for each of its ports.
+pub const MOST_CONNECTIONS: u16 = 65_535;

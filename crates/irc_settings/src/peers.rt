@@ -1,15 +1,16 @@
 //! The servers that may be linked to.
 ghost use Rattle.std.specs.Prelude.{◌≡◌, ◌++◌, ◌∷◌, [], OnOk, map};
 ghost use Rattle.toml.specs.View.{view, table_view};
+ghost use Rattle.irc_settings.specs.Keys.{retries_calls_alone};
 ghost use Rattle.irc_settings.specs.Loops.Finding.{FindsPeers, ReadsAsPeer, ReadsAsPeers, ReadsEachPeer, ReadsPeer};
 
-use crate::finding::{has_only, optional_text, text, value_at};
-use crate::{PeerSettings, SettingsFault};
+use crate::finding::{has_only, optional_number, optional_text, text, value_at};
+use crate::{MOST_RETRY, PeerSettings, SettingsFault};
 use std::alloc::{AllocError, Global};
 use toml::{Table, Value};
 
 /// The keys of a table `peer`.
-const PEER_KEYS: [&str; 3] = ["name", "password", "connect"];
+const PEER_KEYS: [&str; 4] = ["name", "password", "connect", "retry"];
 
 /// What the tables `peer` tell; nothing where there are none.
 ///
@@ -73,9 +74,20 @@ fn peer_of(alloc: Global, table: &Table) -> Result<PeerSettings, SettingsFault>
     if !has_only(table, &PEER_KEYS) {
         return Err(SettingsFault::BadConfiguration);
     }
+    if !retries_calls_alone(table) {
+        return Err(SettingsFault::BadConfiguration);
+    }
     Ok(PeerSettings {
         name: text(alloc, table, "name")?,
         password: text(alloc, table, "password")?,
         connect: optional_text(alloc, table, "connect")?,
+        retry: optional_number(table, "retry", MOST_RETRY)?,
     })
+}
+
+/// Whether a server that is called again is one that is called.
+fn retries_calls_alone(table: &Table) -> bool
+    ensures { result ≡ retries_calls_alone (table_view table.now) }
+{
+    value_at(table, "retry").is_none() || value_at(table, "connect").is_some()
 }

@@ -3,14 +3,14 @@ ghost use Rattle.toml.specs.View.{table_view};
 ghost use Rattle.irc_settings.specs.Configuration.{AreSettingsOf};
 ghost use Rattle.irc_settings.specs.Loops.Finding.{IsParsedAs, ReadsSettings};
 
-use crate::finding::{has_only, optional_text, room, text};
+use crate::finding::{has_only, optional_number, optional_text, room, text};
 use crate::peers::peers;
-use crate::{MOST_CLIENT_ROOM, MOST_LINK_ROOM, SettingsFault};
+use crate::{MOST_CLIENT_ROOM, MOST_CONNECTIONS, MOST_LINK_ROOM, SettingsFault};
 use std::alloc::Global;
 use toml::Table;
 
 /// The keys of the document.
-const SERVER_KEYS: [&str; 8] = [
+const SERVER_KEYS: [&str; 9] = [
     "name",
     "info",
     "created",
@@ -18,6 +18,7 @@ const SERVER_KEYS: [&str; 8] = [
     "client_room",
     "link_room",
     "listen_links",
+    "connections_per_address",
     "peer",
 ];
 
@@ -38,6 +39,8 @@ pub struct Settings {
     pub link_room: usize,
     /// The address at which it listens for links, if it does.
     pub listen_links: Option<String>,
+    /// How many clients may be connected from one address, if there is a limit: 1 to [`MOST_CONNECTIONS`].
+    pub connections_per_address: Option<u16>,
     /// The servers that may be linked to: the tables `peer`, in order.
     pub peers: Vec<PeerSettings, Global>,
 }
@@ -51,10 +54,13 @@ pub struct PeerSettings {
     pub password: String,
     /// The address at which it is called, if it is called.
     pub connect: Option<String>,
+    /// After how many seconds it is called again, if it is: 1 to [`crate::MOST_RETRY`]. Only a server that is called has it.
+    pub retry: Option<u16>,
 }
 
 /// Reads a configuration file: a TOML document with the keys that [`Settings`] and [`PeerSettings`] have as fields, and no others.
-/// Only `listen_links`, `peer` and a peer's `connect` may be left out. Names, passwords and addresses are any texts here.
+/// Only `listen_links`, `connections_per_address`, `peer` and a peer's `connect` and `retry` may be left out. A peer with `retry` has
+/// `connect` too. Names, passwords and addresses are any texts here.
 ///
 /// # Errors
 /// Where the text is no such document; where memory runs out, which may come first.
@@ -91,6 +97,11 @@ fn settings_in(alloc: Global, document: &Table) -> Result<Settings, SettingsFaul
         created: text(alloc, document, "created")?,
         listen: text(alloc, document, "listen")?,
         listen_links: optional_text(alloc, document, "listen_links")?,
+        connections_per_address: optional_number(
+            document,
+            "connections_per_address",
+            MOST_CONNECTIONS,
+        )?,
         peers: peers(alloc, document)?,
     })
 }

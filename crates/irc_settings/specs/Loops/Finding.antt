@@ -9,7 +9,7 @@ use Rattle.toml.specs.declared.value.Value.{Value}
 use Rattle.std.specs.BTreeMap.{BTreeMap}
 use Rattle.std.specs.declared.alloc.Global.{Global}
 use Rattle.irc_settings.specs.Configuration.{Tells, integer_at, peer_at, peer_told, tables_at, tables_in, text_at}
-use Rattle.irc_settings.specs.Keys.{integer, is_in_form, is_kept, is_of_kind, is_table, needed, optional, peer_keys, server_keys, tables, text}
+use Rattle.irc_settings.specs.Keys.{integer, is_in_form, is_kept, is_of_kind, is_peer, is_table, needed, optional, server_keys, tables, text}
 use Rattle.irc_settings.specs.declared.settings.PeerSettings.{PeerSettings}
 use Rattle.irc_settings.specs.declared.settings.Settings.{Settings}
 use denote.Ref.{Bor}
@@ -46,6 +46,10 @@ ReadsAsText value = FindsValue (is_some (as_str value)) (λ found. as_str value 
 abbrev pub ReadsAsRoom : ℕ → Data → Result ℕ SettingsFault → Type 0
 ReadsAsRoom most value = FindsValue (is_of_kind (integer 512 most) value) (λ found. as_integer value ≡ Some (pos found))
 
+-- a number from 1 to so many
+abbrev pub ReadsAsNumber : ℕ → Data → Result ℕ SettingsFault → Type 0
+ReadsAsNumber most value = FindsValue (is_of_kind (integer 1 most) value) (λ found. as_integer value ≡ Some (pos found))
+
 -- ---- what stands at a key
 
 -- a text that has to be there
@@ -60,28 +64,32 @@ FindsOptionalText key table = FindsValue (is_kept table (optional key text)) (λ
 abbrev pub FindsRoom : List ℕ → ℕ → Members → Result ℕ SettingsFault → Type 0
 FindsRoom key most table = FindsValue (is_kept table (needed key (integer 512 most))) (λ found. integer_at key table ≡ Some (pos found))
 
+-- a number that may be left out, from 1 to so many
+abbrev pub FindsOptionalNumber : List ℕ → ℕ → Members → Result (Option ℕ) SettingsFault → Type 0
+FindsOptionalNumber key most table = FindsValue (is_kept table (optional key (integer 1 most))) (λ found. integer_at key table ≡ option_map pos found)
+
 -- ---- peers
 
 -- a table tells of a peer, and so does a value that is such a table
 abbrev pub ReadsPeer : Members → Result PeerSettings SettingsFault → Type 0
-ReadsPeer table = FindsValue (is_in_form peer_keys table) (λ found. peer_at table ≡ peer_told found)
+ReadsPeer table = FindsValue (is_peer table) (λ found. peer_at table ≡ peer_told found)
 
 abbrev pub ReadsAsPeer : Data → Result PeerSettings SettingsFault → Type 0
-ReadsAsPeer value = FindsValue (is_table (is_in_form peer_keys) value) (λ found. option_map peer_at (as_table value) ≡ Some (peer_told found))
+ReadsAsPeer value = FindsValue (is_table is_peer value) (λ found. option_map peer_at (as_table value) ≡ Some (peer_told found))
 
 -- each of these values is such a table
 abbrev pub ReadsEachPeer : List Data → Result (Vec PeerSettings Global) SettingsFault → Type 0
 ReadsEachPeer values =
-    FindsValue (list_all (is_table (is_in_form peer_keys)) values) (λ found. map peer_at (filter_map as_table values) ≡ map peer_told found.items)
+    FindsValue (list_all (is_table is_peer) values) (λ found. map peer_at (filter_map as_table values) ≡ map peer_told found.items)
 
 -- a value is an array of such tables
 abbrev pub ReadsAsPeers : Data → Result (Vec PeerSettings Global) SettingsFault → Type 0
-ReadsAsPeers value = FindsValue (is_of_kind (tables (is_in_form peer_keys)) value) (λ found. map peer_at (tables_in value) ≡ map peer_told found.items)
+ReadsAsPeers value = FindsValue (is_of_kind (tables is_peer) value) (λ found. map peer_at (tables_in value) ≡ map peer_told found.items)
 
 -- the array of such tables at the key `peer`, which may be left out
 abbrev pub FindsPeers : Members → Result (Vec PeerSettings Global) SettingsFault → Type 0
 FindsPeers table =
-    FindsValue (is_kept table (optional (codes "peer") (tables (is_in_form peer_keys))))
+    FindsValue (is_kept table (optional (codes "peer") (tables is_peer)))
     (λ found. map peer_at (tables_at (codes "peer") table) ≡ map peer_told found.items)
 
 -- ---- the document

@@ -18,6 +18,7 @@ returns c =
       c.in_ok-room.ensures.0,
       c.in_ok-room-2.ensures.0,
       c.in_ok-optional_text.ensures.0,
+      c.in_ok-optional_number.ensures.0,
       c.in_ok-peers.ensures.0,
     ) in (
       all_kept server_keys c.args.document.now.entries (sym c.has_only.ensures ∙ search rules) kept,
@@ -29,6 +30,7 @@ returns c =
         client_room = c.in_ok-room.ensures.1;
         link_room = c.in_ok-room-2.ensures.1;
         listen_links = c.in_ok-optional_text.ensures.1;
+        connections_per_address = c.in_ok-optional_number.ensures.1;
         peers = c.in_ok-peers.ensures.1;
       },
     )
