@@ -15,6 +15,8 @@ pub struct Callee {
     pub name: ServerName,
     /// Where it listens for servers.
     pub address: SocketAddr,
+    /// After how many seconds it is called again, if it is.
+    pub retry: Option<u16>,
 }
 
 /// A call that has begun, by its place among those that were asked for.

@@ -33,10 +33,11 @@ IsAddress (Some text) (Some address) = IsSocketText text address
 IsAddress None (Some address) = ⊥
 IsAddress (Some text) None = ⊥
 
--- a peer is called by its name, at the address that is written for that
+-- a peer is called by its name, at the address that is written for that, and again after so many seconds as are set, if they are
 pub record IsCallee (peer : PeerSettings) (callee : Callee) : Type 0 where
   pub name : callee.name ≡ string_bytes peer.name
   pub address : IsAddress (option_map string_bytes peer.connect) (Some callee.address)
+  pub retry : callee.retry ≡ peer.retry
 
 -- the peers that have an address for it are called, in order, each once, and no other is
 pub data AreCalled : List PeerSettings → List Callee → Type 0 where
@@ -67,7 +68,8 @@ pub record Configures (settings : Settings) (config : Config) : Type 0 where
   pub created : config.own.created.items ≡ string_bytes settings.created
   pub peers : map known_peer config.peers.items ≡ map peer_set settings.peers.items
 
--- The server is made of the settings, without clients; where it listens, whom it calls and how much may wait is theirs.
+-- The server is made of the settings, without clients; where it listens, whom it calls, and again when, how many connections an address may have and how much
+-- may wait is theirs.
 pub record IsSetUp (settings : Settings) (setup : Setup) : Type 0 where
   pub config : Config
   pub configures : Configures settings config
@@ -76,6 +78,7 @@ pub record IsSetUp (settings : Settings) (setup : Setup) : Type 0 where
   pub clients : IsSocketText (string_bytes settings.listen) setup.clients
   pub links : IsAddress (option_map string_bytes settings.listen_links) setup.links
   pub called : AreCalled settings.peers.items setup.callees.items
+  pub connections_per_address : setup.connections_per_address ≡ settings.connections_per_address
   pub client_room : setup.client_room ≡ settings.client_room
   pub link_room : setup.link_room ≡ settings.link_room
 

@@ -24,6 +24,8 @@ pub struct Setup {
     pub links: Option<SocketAddr>,
     /// The servers that it calls, in the order of its peers.
     pub callees: Vec<Callee, Global>,
+    /// How many clients may be connected from one address, if there is a limit.
+    pub connections_per_address: Option<u16>,
     /// How many bytes may wait for a client.
     pub client_room: usize,
     /// How many bytes may wait for a link.
@@ -51,6 +53,7 @@ fn set_up(alloc: Global, settings: &Settings) -> Result<Setup, Stop>
         clients: address(settings.listen.as_str())?,
         links: optional_address(settings.listen_links.as_ref())?,
         server: Server::new(alloc, config(alloc, settings)?)?,
+        connections_per_address: settings.connections_per_address,
         client_room: settings.client_room,
         link_room: settings.link_room,
     })
@@ -129,7 +132,11 @@ fn callee_of(peer: &PeerSettings) -> Result<Option<Callee>, Stop>
     match optional_address(peer.connect.as_ref())? {
         Some(address) => {
             let name = server_name(peer.name.as_str())?;
-            Ok(Some(Callee { name, address }))
+            Ok(Some(Callee {
+                name,
+                address,
+                retry: peer.retry,
+            }))
         }
         None => Ok(None),
     }

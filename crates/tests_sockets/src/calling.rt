@@ -25,7 +25,13 @@ fn listens(rt: &HostRuntime) -> Option<MioWire> {
 fn calls(rt: &HostRuntime, name: &[u8], address: SocketAddr) -> Option<MioWire> {
     let name = ServerName::read(name)?;
     let mut callees = Vec::new(rt.alloc());
-    callees.push(Callee { name, address }).ok()?;
+    callees
+        .push(Callee {
+            name,
+            address,
+            retry: None,
+        })
+        .ok()?;
     MioWire::listen(rt, rt.alloc(), loopback()?, None, callees).ok()
 }
 

@@ -33,6 +33,7 @@ returns c = record {
   links = found_in c.as_ref.result c.args.settings.now.listen_links (Ok c.in_ok-optional_address.field-0) c.as_ref.ensures.value
       c.in_ok-optional_address.ensures;
   called = subst (λ peers. AreCalled peers c.in_ok-callees.field-0.items) c.deref.ensures.value c.in_ok-callees.ensures;
+  connections_per_address = refl;
   client_room = refl;
   link_room = refl;
 }
