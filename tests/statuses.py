@@ -4,7 +4,8 @@
     python3 tests/statuses.py [--program PATH]
 
 Not part of the gate. The rows are those of README.md: 0 where the work was done, 2 wrong words, 3 bad script or bad configuration, 4 where the program
-failed. It prints each row that differs, and how many there are; the status is 1 where one differs.
+failed. Then it gives configurations, good ones and such as break one rule of docs/ircd.8 each, to the program and to `ircd-check`: both have to take the
+same ones, and `ircd-check` has to name the key. It prints each row that differs, and how many there are; the status is 1 where one differs.
 """
 
 import argparse
@@ -42,6 +43,68 @@ connect = "127.0.0.1:1"
 """
 
 NO_TEXT = b"\xff"
+
+# a good configuration, key by key, and a good peer
+OWN = {"name": '"a.net"', "info": '"Test server"', "created": '"2024-01-01"', "listen": '"127.0.0.1:0"', "client_room": "4096", "link_room": "8192"}
+PEER = {"name": '"b.net"', "password": '"pw"'}
+
+
+def written(own, *peers, behind=""):
+    """A configuration of these keys and peers. A key whose value is None is left out."""
+    tables = "".join("[[peer]]\n" + lines_of(peer) for peer in peers)
+    return lines_of(own) + behind + tables
+
+
+def lines_of(keys):
+    return "".join(f"{key} = {value}\n" for key, value in keys.items() if value is not None)
+
+
+def with_own(key, value):
+    return written(OWN | {key: value})
+
+
+def with_peer(**keys):
+    return written(OWN, PEER | keys)
+
+
+# files that are taken
+GOOD = [
+    written(OWN), with_peer(), with_own("name", '"a.b-3.' + 57 * "c" + '"'), with_own("info", '""'), with_own("info", '"' + 31 * "\u00e9" + 'x"'),
+    with_own("created", '"x"'), with_own("created", '"' + 30 * "x" + '"'), with_own("listen", '"[::1]:0"'), with_own("listen_links", '"127.0.0.1:00"'),
+    with_own("client_room", "512"), with_own("client_room", "1_048_576"), with_own("link_room", "0x200"), with_own("link_room", "16777216"),
+    with_own("connections_per_address", "1"), with_own("connections_per_address", "65535"), with_own("peer", "[]"),
+    with_own("peer", '[{name = "b.net", password = "pw"}, {\n  name = "c.net", # the other\n  password = "\\x70w",\n}]'),
+    with_peer(password='"!"'), with_peer(password='"' + 19 * "~" + ':"'), with_peer(connect='"127.0.0.1:1"', retry="1"),
+    with_peer(connect='"[::ffff:127.0.0.1%0]:01"', retry="3600"), written(OWN, PEER, PEER | {"name": '"c.net"'}),
+]
+
+# the key or peer that is to be named, and a file that is refused
+BAD = [
+    *[(key, with_own(key, None)) for key in OWN],
+    *[(key, with_own(key, "3")) for key in ("name", "info", "created", "listen", "listen_links")],
+    *[(key, with_own(key, '"4096"')) for key in ("client_room", "link_room", "connections_per_address")],
+    ("name", with_own("name", '"anet"')), ("name", with_own("name", '"A.net"')), ("name", with_own("name", '"a.' + 62 * "b" + '"')),
+    ("info", with_own("info", '"' + 32 * "\u00e9" + '"')), ("info", with_own("info", '"two\\nlines"')), ("created", with_own("created", '""')),
+    ("created", with_own("created", "2024-01-01")), ("created", with_own("created", '"' + 31 * "x" + '"')),
+    ("listen", with_own("listen", '"localhost:0"')), ("listen", with_own("listen", '"127.0.0.1"')), ("listen", with_own("listen", '"127.0.0.1:65536"')),
+    ("listen", with_own("listen", '"127.0.0.01:0"')), ("listen", with_own("listen", '"::1:0"')), ("listen", with_own("listen", '"[1::2::3]:0"')),
+    ("listen_links", with_own("listen_links", '"*:0"')),
+    ("client_room", with_own("client_room", "511")), ("client_room", with_own("client_room", "1048577")), ("client_room", with_own("client_room", "4096.0")),
+    ("client_room", with_own("client_room", "true")), ("link_room", with_own("link_room", "511")), ("link_room", with_own("link_room", "16777217")),
+    ("connections_per_address", with_own("connections_per_address", "0")), ("connections_per_address", with_own("connections_per_address", "65536")),
+    ("port", with_own("port", "6667")), ("password", with_own("password", '"pw"')), ("Name", with_own("Name", '"a.net"')),
+    ("peer", with_own("peer", "3")), ("peer", with_own("peer", "[3]")), ("peer", written(OWN, behind="[peer]\n" + lines_of(PEER))),
+    ("peer 1: name", with_peer(name=None)), ("peer 1: name", with_peer(name="3")), ("peer 1: name", with_peer(name='"bnet"')),
+    ("peer 1: name", with_peer(name='"a.net"')), ("peer 2: name", written(OWN, PEER, PEER)),
+    ("peer 1: password", with_peer(password=None)), ("peer 1: password", with_peer(password="3")), ("peer 1: password", with_peer(password='""')),
+    ("peer 1: password", with_peer(password='":pw"')), ("peer 1: password", with_peer(password='"p w"')),
+    ("peer 1: password", with_peer(password='"' + 21 * "x" + '"')),
+    ("peer 1: connect", with_peer(connect="3")), ("peer 1: connect", with_peer(connect='"b.net:1"')),
+    ("peer 1: retry", with_peer(connect='"127.0.0.1:1"', retry="0")), ("peer 1: retry", with_peer(connect='"127.0.0.1:1"', retry="3601")),
+    ("peer 1: retry", with_peer(connect='"127.0.0.1:1"', retry='"1"')), ("peer 1: retry", with_peer(retry="1")),
+    ("peer 1: listen_links", with_peer(listen_links='"127.0.0.1:0"')), ("peer 1: port", with_peer(port="1")),
+    ("it is no TOML", written(OWN) + "client_room\n"), ("it is no TOML", written(OWN) + 'name = "a.net"\n'),
+]
 
 
 def rows(free, taken, links_free, links_taken):
@@ -89,6 +152,26 @@ def is_lost(program):
     return True
 
 
+def judged(program, checker, path, text):
+    """The statuses of the program and of the checker for a configuration, and what the latter says of it."""
+    path.write_text(text, encoding="utf-8")
+    served = subprocess.run([program, "serve", str(path), "0"], capture_output=True, timeout=SECONDS, check=False)
+    checked = subprocess.run([sys.executable, str(checker), str(path)], capture_output=True, timeout=SECONDS, check=False, text=True)
+    return served.returncode, checked.returncode, [line.removeprefix(f"{path}: ") for line in checked.stderr.splitlines()]
+
+
+def is_misjudged(program, checker, path, key, text):
+    """Whether the program or the checker takes a file that is bad, or refuses one that is good (those without a key), or the checker names
+    another key, or more than that one. The difference is printed."""
+    served, checked, faults = judged(program, checker, path, text)
+    status = 0 if key is None else 3
+    named = [fault for fault in faults if not (key and fault.startswith(f"{key}: "))]
+    if (served, checked, bool(faults), named) == (status, status, key is not None, []):
+        return False
+    print(f"the program ends with {served} and the checker with {checked} and {faults}, wanted {status} of {key}:\n{text}")
+    return True
+
+
 def main():
     parser = argparse.ArgumentParser(description="Looks at statuses and texts of the built program.")
     parser.add_argument("--program", default=str(REPOSITORY / "crates/ircd/out/ircd"))
@@ -109,7 +192,10 @@ def main():
             files.append(str(path))
         runs = rows(*files)
         differences = sum(differs(program, row) for row in runs) + is_lost(program)
-    print(f"{len(runs) + 1} runs, {differences} differences")
+        path = pathlib.Path(folder, "judged.toml")
+        judgements = [(None, text) for text in GOOD] + BAD
+        differences += sum(is_misjudged(program, REPOSITORY / "ircd-check", path, key, text) for key, text in judgements)
+    print(f"{len(runs) + 1} runs, {len(judgements)} configurations, {differences} differences")
     return 1 if differences else 0
 
 
