@@ -1,3 +1,4 @@
+pub mod Crowds
 pub mod Fronts
 pub mod Gathering
 pub mod HeldBack

@@ -1,12 +1,14 @@
-//! Whose turn is next, and how much one takes: rounds, gathered writes, paces, what was read, and who is held back. Nothing here knows a socket.
+//! Whose turn is next, and how much one takes: rounds, gathered writes, paces, what was read, who is held back, and who is let in. Nothing here knows a socket.
 #![tactic(auto)]
 
+mod crowd;
 mod holding;
 mod pace;
 mod rest;
 mod round;
 mod waiting;
 
+pub use crowd::Crowd;
 pub use holding::{Held, Holding};
 pub use pace::Pace;
 pub use rest::{Rest, front_of};
