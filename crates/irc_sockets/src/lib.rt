@@ -4,6 +4,7 @@
 mod calls;
 mod door;
 mod host;
+mod keep_alive;
 mod mio_wire;
 mod socket;
 mod sockets;

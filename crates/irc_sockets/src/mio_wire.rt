@@ -6,6 +6,7 @@ ghost use Rattle.irc_sockets.specs.Listening.{ListensAt};
 use crate::calls::{Callee, Calls};
 use crate::door::Door;
 use crate::host::host_of;
+use crate::keep_alive::ask_after;
 use crate::sockets::Sockets;
 use irc_outbox::{Got, IoFault, Ready, Wire};
 use irc_turns::Round;
@@ -220,6 +221,7 @@ impl MioWire {
     fn admit(&mut self, stream: TcpStream, is_client: bool) -> Option<u64> {
         // lines are short, and each is to go out at once; a socket that cannot be told so serves too
         let _set = stream.set_nodelay(true);
+        ask_after(&stream);
         let number = self.sockets.add(stream, is_client)?;
         if self.register(number).is_none() {
             self.sockets.remove(number);
