@@ -5,9 +5,11 @@ mod calls;
 mod door;
 mod host;
 mod keep_alive;
+mod listening;
 mod mio_wire;
 mod socket;
 mod sockets;
 
 pub use calls::Callee;
+pub use listening::Listening;
 pub use mio_wire::MioWire;

@@ -7,14 +7,15 @@ use crate::calls::{Callee, Calls};
 use crate::door::Door;
 use crate::host::host_of;
 use crate::keep_alive::ask_after;
+use crate::listening::Listening;
 use crate::sockets::Sockets;
 use irc_outbox::{Got, IoFault, Ready, Wire};
-use irc_turns::Round;
+use irc_turns::{Crowd, Round};
 use mio::net::TcpStream;
 use mio::{Events, Interest, Poll, Token};
 use std::alloc::Global;
 use std::io;
-use std::net::{Net, SocketAddr};
+use std::net::{IpAddr, Net, SocketAddr};
 use std::time::Duration;
 
 /// How many milliseconds one call of `ready` waits at most.
@@ -48,6 +49,7 @@ pub struct MioWire {
     links: Option<Door>,
     calls: Calls,
     sockets: Sockets,
+    crowd: Crowd,
     round: Round,
 }
 
@@ -60,17 +62,16 @@ impl MioWire {
     pub fn listen<T: Net>(
         net: &T,
         alloc: Global,
-        clients: SocketAddr,
-        links: Option<SocketAddr>,
+        listening: Listening,
         callees: Vec<Callee, Global>,
     ) -> io::Result<Self>
-        ensures listens { IfOk result (λ wire. ListensAt clients links wire) }
+        ensures listens { IfOk result (λ wire. ListensAt listening wire) }
         ensures callees { IfOk result (λ wire. wire.calls.asked ≡ callees) }
     {
         let poll = Poll::new(net)?;
         let events = Events::with_capacity(alloc, EVENTS)?;
-        let clients = Door::open(net, clients, poll.registry(), Token(CLIENTS))?;
-        let links = match links {
+        let clients = Door::open(net, listening.clients, poll.registry(), Token(CLIENTS))?;
+        let links = match listening.links {
             Some(address) => Some(Door::open(net, address, poll.registry(), Token(LINKS))?),
             None => None,
         };
@@ -82,6 +83,7 @@ impl MioWire {
             links,
             calls,
             sockets: Sockets::new(alloc),
+            crowd: Crowd::new(alloc, listening.connections_per_address),
             round: Round::new(),
         })
     }
@@ -193,12 +195,26 @@ impl MioWire {
         }
     }
 
-    /// The report of a new client. Where there is no memory, or no number, for it, it is closed unreported.
+    /// The report of a new client. Where there is no memory, or no number, for it, or too many are connected from its address, it is closed
+    /// unreported.
     fn client(&mut self) -> Option<Ready> {
         let (stream, address) = self.clients.accept()?;
         let host = host_of(address.ip())?;
-        let number = self.admit(stream, true)?;
+        let number = self.admit_client(stream, address.ip())?;
         Some(Ready::Client(number, host))
+    }
+
+    /// Takes a connection of a client in, if its address may have one more.
+    fn admit_client(&mut self, stream: TcpStream, address: IpAddr) -> Option<u64> {
+        if !self.crowd.lets_in(address) {
+            return None;
+        }
+        let number = self.admit(stream, true)?;
+        if !self.crowd.note(number, address) {
+            self.sockets.remove(number as usize);
+            return None;
+        }
+        Some(number)
     }
 
     /// The report of a server that has connected, likewise.
@@ -293,6 +309,7 @@ impl Wire for MioWire {
 
     fn close(&mut self, conn: u64) {
         self.sockets.remove(conn as usize);
+        self.crowd.forget(conn);
         self.wake_doors();
     }
 }

@@ -13,6 +13,7 @@ use Rattle.irc_server.specs.Configuring.{config_fault, made_view}
 use Rattle.irc_stage.specs.View.{KnownPeer, known_peer}
 use Rattle.irc_engine.specs.Turning.{EngineView, IsNew, Turns}
 use Rattle.irc_sockets.specs.declared.calls.Callee.{Callee}
+use Rattle.irc_sockets.specs.declared.listening.Listening.{Listening}
 use Rattle.irc_sockets.specs.declared.mio_wire.MioWire.{MioWire}
 use Rattle.irc_sockets.specs.Listening.{ListensAt}
 use Rattle.irc_endings.specs.declared.fault.Stop.{Stop}
@@ -114,11 +115,16 @@ IsReadSetup text (Err Failed) = ⊤
 IsReadSetup text (Err Usage) = ⊥
 IsReadSetup text (Err (BadScript line)) = ⊥
 
+-- where a server that was set up is to listen, and how many connections an address may have there
+abbrev pub listening_of : Setup → Listening
+listening_of setup =
+    record { clients = setup.clients; links = setup.links; connections_per_address = setup.connections_per_address }
+
 -- An engine is open: it has served nobody, its server is the one that was set up, an outbox has room for as much as was set up, and its wire listens where that
 -- was, and calls whom that was to call.
 pub record IsOpened (setup : Setup) (engine : EngineView MioWire) : Type 0 where
   pub wire : MioWire
-  pub listens : ListensAt setup.clients setup.links wire
+  pub listens : ListensAt (listening_of setup) wire
   pub callees : wire.calls.asked ≡ setup.callees
   pub is_new : IsNew setup.server wire setup.client_room setup.link_room engine
 

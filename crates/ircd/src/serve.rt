@@ -8,7 +8,7 @@ use crate::setup::{Setup, read_setup};
 use irc_endings::{Stop, say_ready};
 use irc_engine::Engine;
 use irc_outbox::Wire;
-use irc_sockets::MioWire;
+use irc_sockets::{Listening, MioWire};
 use std::alloc::Global;
 use std::fs::{Files, read_to_string};
 use std::io::{ErrorKind, Write};
@@ -63,7 +63,12 @@ fn serve_text<T: Net, W: Write>(
 fn open<T: Net>(net: &T, alloc: Global, setup: Setup) -> Result<Engine<MioWire>, Stop>
     ensures { Opens setup result }
 {
-    let Ok(wire) = MioWire::listen(net, alloc, setup.clients, setup.links, setup.callees) else {
+    let listening = Listening {
+        clients: setup.clients,
+        links: setup.links,
+        connections_per_address: setup.connections_per_address,
+    };
+    let Ok(wire) = MioWire::listen(net, alloc, listening, setup.callees) else {
         return Err(Stop::Failed);
     };
     let engine = Engine::new(

@@ -1,24 +1,29 @@
 //! Wires of TCP sockets that call each other.
 use irc_names::ServerName;
 use irc_outbox::{Got, Ready, Wire};
-use irc_sockets::{Callee, MioWire};
+use irc_sockets::{Callee, Listening, MioWire};
 use std::alloc::Global;
 use std::net::{SocketAddr, TcpListener};
 
 /// How often a wire is asked for a report that has to come. It waits at most 100 ms each time.
-const TIMES: u64 = 50;
+pub(crate) const TIMES: u64 = 50;
 
 /// How often one is asked from which no report may come.
-const IDLE_TIMES: u64 = 3;
+pub(crate) const IDLE_TIMES: u64 = 3;
 
-fn loopback() -> Option<SocketAddr> {
+pub(crate) fn loopback() -> Option<SocketAddr> {
     "127.0.0.1:0".parse::<SocketAddr>().ok()
 }
 
 /// A wire that listens for clients and for links.
 fn listens(rt: &HostRuntime) -> Option<MioWire> {
     let free = loopback()?;
-    MioWire::listen(rt, rt.alloc(), free, Some(free), Vec::new(rt.alloc())).ok()
+    let listening = Listening {
+        clients: free,
+        links: Some(free),
+        connections_per_address: None,
+    };
+    MioWire::listen(rt, rt.alloc(), listening, Vec::new(rt.alloc())).ok()
 }
 
 /// A wire that calls a server of this name there.
@@ -32,11 +37,16 @@ fn calls(rt: &HostRuntime, name: &[u8], address: SocketAddr) -> Option<MioWire> 
             retry: None,
         })
         .ok()?;
-    MioWire::listen(rt, rt.alloc(), loopback()?, None, callees).ok()
+    let listening = Listening {
+        clients: loopback()?,
+        links: None,
+        connections_per_address: None,
+    };
+    MioWire::listen(rt, rt.alloc(), listening, callees).ok()
 }
 
 /// The next thing that a wire reports, so many times asked; nothing where it stays idle.
-fn reported(wire: &mut MioWire, times: u64) -> Option<Ready> {
+pub(crate) fn reported(wire: &mut MioWire, times: u64) -> Option<Ready> {
     for _time in 0..times {
         match wire.ready() {
             Ok(Ready::Idle) => (),

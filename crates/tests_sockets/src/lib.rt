@@ -8,6 +8,8 @@ mod calls;
 #[cfg(test)]
 mod conversation;
 #[cfg(test)]
+mod crowd;
+#[cfg(test)]
 mod cut_short;
 #[cfg(test)]
 mod failing;

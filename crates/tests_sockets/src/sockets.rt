@@ -1,7 +1,7 @@
 //! An engine over TCP sockets of this process.
 use crate::server::server;
 use irc_engine::Engine;
-use irc_sockets::MioWire;
+use irc_sockets::{Listening, MioWire};
 use std::alloc::Global;
 use std::io::{Read, Write};
 use std::net::{Shutdown, SocketAddr, TcpStream};
@@ -23,8 +23,12 @@ const TURNS: u64 = 20;
 
 /// A wire that listens on a free port of an address.
 fn listens(rt: &HostRuntime, address: &str) -> Option<MioWire> {
-    let address = address.parse::<SocketAddr>().ok()?;
-    MioWire::listen(rt, rt.alloc(), address, None, Vec::new(rt.alloc())).ok()
+    let listening = Listening {
+        clients: address.parse::<SocketAddr>().ok()?,
+        links: None,
+        connections_per_address: None,
+    };
+    MioWire::listen(rt, rt.alloc(), listening, Vec::new(rt.alloc())).ok()
 }
 
 /// A socket that has connected there, and said some lines.
