@@ -3,7 +3,7 @@
 # A nickname is on both sides before the links are made; then all meet in one room, talk, set a topic and modes, kick and change a name; the middle daemon is killed, and started
 # again; at last the third one is killed. Each screen has to show what the others do, and whom a link takes away or brings back.
 # The configurations are examples/network/*.toml with a digit before each port, so that clients are at 16661 to 16663 (PORTS is another digit: 2, as the system gives those from
-# 32768 on to whoever calls). One thing differs: b.net calls both others, so that there are people on both sides before a link, and so that starting it again makes both links.
+# 32768 on to whoever calls). b.net calls both others, so there are people on both sides before a link, and starting it again makes both links.
 #
 # tests/real_network.sh PROGRAM. PROGRAM is crates/ircd/out/ircd, which `./ircd build` makes. Clients that are missing are installed by apt-get.
 # Exit status: 0 where every screen showed what it had to, 1 where one did not; each `FAIL` names the client and what it does not show.
@@ -21,9 +21,6 @@ room='#den'
 for server in a b c; do
     sed "s/:\([67]66[0-9]\)\"/:$ports\1\"/" "$top/examples/network/$server.toml" >"$work/$server.toml"
 done
-sed -i -e '/^connect/d' -e "s/^listen = .*/&\nlisten_links = \"127.0.0.1:${ports}7663\"/" "$work/c.toml"
-# the last peer of b.net is c.net
-echo "connect = \"127.0.0.1:${ports}7663\"" >>"$work/b.toml"
 
 kills() { { kill -9 "$1"; wait "$1"; } 2>/dev/null; }
 
