@@ -10,8 +10,10 @@
   storm    1,000 clients who all join one channel at once: processor time a JOIN, beside a bare relay's, and a lone text's to as many
   slow     one client that floods another who reads slowly: that one is kept, and the one who floods is slowed
   many     ten who flood one who reads slowly: what happens to it is told, and nobody else waits
-  dear     one client that asks what is dear without end: another is answered soon
+  dear     one client that asks what is dear without end, in lines that end in LF and in such as end in CR alone: another is answered soon
   burst    300 questions in one packet, by one who reads: each is answered
+  crowd    more connections from one address than the file allows: these are closed, and as one leaves another is let in
+  probed   the system asks after each client
 
 tests/hostile_sockets.py [PART ..]. The program is crates/ircd/out/ircd (`./ircd build` makes it), or what IRCD names.
 Exit status: 0 where every part held, 1 where one did not.
@@ -35,7 +37,7 @@ FILES_OF_THE_DAEMON = 64
 class Daemon:
     """A running `ircd serve`."""
 
-    def __init__(self, room=65536, files=None):
+    def __init__(self, room=65536, files=None, more=""):
         with socket.socket() as free:
             free.bind(("127.0.0.1", 0))
             self.port = free.getsockname()[1]
@@ -43,7 +45,7 @@ class Daemon:
         path = os.path.join(self.folder.name, "server.toml")
         with open(path, "w", encoding="ascii") as file:
             file.write(f'name = "a.net"\ninfo = "Hostile use"\ncreated = "2024-01-01"\nlisten = "127.0.0.1:{self.port}"\n'
-                       f"client_room = {room}\nlink_room = 65536\n")
+                       f"client_room = {room}\nlink_room = 65536\n{more}")
 
         def limit():
             if files is not None:
@@ -482,10 +484,10 @@ def many():
 
 ASKER = """
 s = person(b"ask")
-line = sys.argv[2].encode()
+line, end = sys.argv[2].encode(), b"\\r" if sys.argv[3] == "CR" else b"\\r\\n"
 print("ready", flush=True)
 s.setblocking(False)
-lines = [b"NICK ask%d\\r\\n" % number if line == b"NICK" else line + b"\\r\\n" for number in range(400)]
+lines = [(b"NICK ask%d" % number if line == b"NICK" else line) + end for number in range(400)]
 unsent = b""
 while True:
     readable, writable, _ = select.select([s], [s], [])
@@ -497,9 +499,9 @@ while True:
 """
 
 
-def beside(daemon, line, others):
+def beside(daemon, line, ending, others):
     """The longest and the median seconds that a PING takes beside one that says a line without end."""
-    asker = as_process(ASKER, daemon.port, line)
+    asker = as_process(ASKER, daemon.port, line, ending)
     try:
         asker.stdout.readline()
         times = []
@@ -520,11 +522,11 @@ def dear():
         for number, other in enumerate(others):
             other.sendall(b"JOIN " + b",".join(b"#%d" % (number * 10 + place) for place in range(10)) + b"\r\n")
             wait_for(other, b" 366 p%d #%d " % (number, number * 10 + 9))
-        for line in ("WHO *~*", "NICK"):
-            longest, median = beside(daemon, line, others)
+        for line, ending in (("WHO *~*", "CR LF"), ("NICK", "CR LF"), ("WHO *~*", "CR")):
+            longest, median = beside(daemon, line, ending, others)
             held = told("dear", longest < 0.025 and daemon.is_running(),
-                        f"among 3,000 users in 30,000 channels, beside one who sends {line} without end, a PING takes {median * 1000:.1f} ms (median), "
-                        f"{longest * 1000:.1f} ms (longest)") and held
+                        f"among 3,000 users in 30,000 channels, beside one who sends {line} and {ending} without end, a PING takes {median * 1000:.1f} ms "
+                        f"(median), {longest * 1000:.1f} ms (longest)") and held
     return held
 
 
@@ -538,8 +540,45 @@ def burst():
         return told("burst", count == 300, f"of 300 questions in one packet {count} are answered, by {len(read)} bytes")
 
 
+def is_let_in(daemon, source):
+    """Whether one more from an address is served, and its connection."""
+    client = daemon.connect(source)
+    try:
+        client.sendall(b"PING x\r\n")
+        return bool(client.recv(100)), client
+    except ConnectionError:
+        return False, client
+
+
+def crowd():
+    with Daemon(more="connections_per_address = 3\n") as daemon:
+        first = [is_let_in(daemon, "127.0.0.1") for _ in range(3)]
+        beyond = [is_let_in(daemon, "127.0.0.1")[0] for _ in range(5)]
+        others = [is_let_in(daemon, f"127.0.0.{number}")[0] for number in range(2, 7)]
+        first[0][1].close()
+        end, again = time.monotonic() + 5, False
+        while not again and time.monotonic() < end:
+            again, _kept = is_let_in(daemon, "127.0.0.1")
+        full = is_let_in(daemon, "127.0.0.1")[0]
+        held = all(served for served, _ in first) and not any(beyond) and all(others) and again and not full
+        return told("crowd", held and daemon.is_running(),
+                    f"of eight from one address {sum(served for served, _ in first)} and then {sum(beyond)} are served where three are allowed, of five from "
+                    f"others {sum(others)}; as one leaves the next is {'let in' if again else 'NOT let in'}, and {'one too many' if full else 'no other'}")
+
+
+def probed():
+    with Daemon() as daemon:
+        clients = [daemon.person(f"k{number}") for number in range(5)]
+        table = subprocess.run(["ss", "-Htno", "state", "established", f"sport = :{daemon.port}"], capture_output=True, text=True, check=True).stdout
+        count = table.count("timer:(keepalive,")
+        for client in clients:
+            client.close()
+        return told("probed", count == 5, f"of 5 clients the system asks after {count}")
+
+
 PARTS = {"flood": flood, "unread": unread, "lagging": lagging, "files": files, "backlog": backlog, "idle": idle,
-         "storm": storm, "slow": slow, "many": many, "dear": dear, "burst": burst}
+         "storm": storm, "slow": slow, "many": many, "dear": dear, "burst": burst,
+         "crowd": crowd, "probed": probed}
 
 
 def main():

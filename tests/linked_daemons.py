@@ -15,12 +15,19 @@
   reset    a peer whose connection is torn down in the middle of a line is a lost link
   waiting  a call that is under way holds up nobody, and is a link once it is answered
   refused  servers that cannot be reached are passed over
-  files    the three files of examples/network, on other ports, are a network of three
+  files    the three files of examples/network, on other ports, are a network of three, and are again when any of them was killed and started
+  late     a server that comes a second after it was called is called again, and linked
+  again    the middle one is killed thirty times and started again, while people talk: each time it is called again, and all rooms are alike then
+  crossing two that call each other at once behind a delay are linked each time, and stay so
+  ring     three of which each two are to be linked: all know each other, and then no link is lost
+  flooding a client that floods another server without end is slowed: the link stays, and nobody else waits, on this machine and over a slow line
+  probed   the system asks after both ends of a link
 
 tests/linked_daemons.py PROGRAM [PART ..]. PROGRAM is crates/ircd/out/ircd, which `./ircd build` makes.
 Exit status: 0 where every part held, 1 where one did not.
 """
 import os
+import queue
 import random
 import re
 import select
@@ -28,6 +35,7 @@ import socket
 import subprocess
 import sys
 import tempfile
+import threading
 import time
 
 TOP = os.path.dirname(os.path.dirname(os.path.abspath(__file__)))
@@ -62,23 +70,32 @@ class Daemon:
         self.text = None
         self.process = None
 
-    def knows(self, name, calls=None):
-        """May be linked to a server of this name, and calls it at this port."""
-        self.peers.append((name, calls))
+    def knows(self, name, calls=None, retry=None):
+        """May be linked to a server of this name, and calls it at this port, and again after so many seconds."""
+        self.peers.append((name, calls, retry))
 
     def configuration(self):
         text = (f'name = "{self.name}"\ninfo = "Linked"\ncreated = "2024-01-01"\nlisten = "127.0.0.1:{self.port}"\n'
                 f'listen_links = "127.0.0.1:{self.links}"\nclient_room = {self.rooms[0]}\nlink_room = {self.rooms[1]}\n')
-        for name, calls in self.peers:
+        for name, calls, retry in self.peers:
             text += f'[[peer]]\nname = "{name}"\npassword = "{PASSWORD}"\n'
             if calls is not None:
                 text += f'connect = "127.0.0.1:{calls}"\n'
+            if retry is not None:
+                text += f"retry = {retry}\n"
         return text
 
-    def start(self):
+    def begin(self):
+        """Starts, and is not waited for."""
         with open(self.path, "w", encoding="ascii") as file:
             file.write(self.text or self.configuration())
         self.process = subprocess.Popen([self.program, "serve", self.path], stdout=subprocess.PIPE)
+
+    def start(self):
+        self.begin()
+        return self.is_ready()
+
+    def is_ready(self):
         if self.process.stdout.readline() != b"ready\n":
             raise OSError(f"{self.name} does not say ready")
         return self
@@ -101,14 +118,14 @@ class Daemon:
 
 
 class Network:
-    """Daemons, and all sockets to them. Of each pair in `calls` the first calls the second."""
+    """Daemons, and all sockets to them. Of each pair in `calls` the first calls the second, and again after so many seconds."""
 
-    def __init__(self, program, names, calls, **rooms):
+    def __init__(self, program, names, calls, retry=None, **rooms):
         self.folder = tempfile.TemporaryDirectory()
         self.sockets = []
         self.daemons = {name: Daemon(program, self.folder.name, name, **rooms) for name in names}
         for caller, called in calls:
-            self.daemons[caller].knows(called, self.daemons[called].links)
+            self.daemons[caller].knows(called, self.daemons[called].links, retry)
             self.daemons[called].knows(caller)
 
     def __getitem__(self, name):
@@ -136,10 +153,10 @@ class Network:
         """A server that is none, which has called one of the daemons."""
         return Peer(self, server, name, **how)
 
-    def see_all(self, server, count):
+    def see_all(self, server, count, seconds=SECONDS):
         """Waits until a server counts so many servers."""
         probe = self.person(server, f"p{len(self.sockets)}")
-        end = time.monotonic() + SECONDS
+        end = time.monotonic() + seconds
         while time.monotonic() < end:
             probe.says("LUSERS")
             if f" {count} servers" in probe.sees(r" 251 "):
@@ -706,10 +723,280 @@ def files(program):
         network.see_all("a.net", 3)
         al, cy = network.person("a.net", "al").joins("#den"), network.person("c.net", "cy").joins("#den")
         al.sees("^:cy![^ ]+ JOIN #den$")
-        return told("files", network.all_run() and len(used) == 5, "al of a.net and cy of c.net are in one room")
+        for name in network.daemons:
+            network[name].kill()
+            network[name].start()
+            network.see_all("a.net", 3)
+            network.see_all("c.net", 3)
+        return told("files", network.all_run() and len(used) == 5,
+                    "al of a.net and cy of c.net are in one room; each of the three was killed and started again, and all were linked again")
 
 
-PARTS = [people, clash, lost, burst, wild, deaf, small, liars, doors, silent, knocking, reset, waiting, refused, files]
+def late(program):
+    with Network(program, ["a.net", "b.net"], [("b.net", "a.net")], retry=2) as network:
+        network["b.net"].start()
+        time.sleep(1)
+        network["a.net"].start()
+        start = time.monotonic()
+        network.see_all("b.net", 2)
+        took = time.monotonic() - start
+        return told("late", 0.5 < took < 5 and network.all_run(), f"who comes a second after it was called, to be called again after two, is linked {took:.2f} s later")
+
+
+class Talk(threading.Thread):
+    """Some who talk in a channel until they are stopped."""
+
+    def __init__(self, people, channel):
+        super().__init__(daemon=True)
+        self.people = people
+        self.channel = channel
+        self.lines = 0
+        self.is_over = False
+
+    def run(self):
+        while not self.is_over:
+            for person in self.people:
+                person.says(f"PRIVMSG {self.channel} :{self.lines}")
+                person.is_open()
+                self.lines += 1
+            time.sleep(0.005)
+
+    def ends(self):
+        self.is_over = True
+        self.join()
+
+
+def room_at(network, server, channel):
+    """Who is in a channel, its modes and its topic, as a server shows them to somebody who looks."""
+    viewer = network.person(server, f"v{len(network.sockets)}")
+    viewer.says(f"NAMES {channel}", f"MODE {channel}", f"LIST {channel}")
+    names = []
+    while not (line := viewer.sees(" (353|366) ")).split()[1] == "366":
+        names += line.rsplit(":", 1)[1].split()
+    modes = viewer.sees(" 324 ").split(f" {channel} ")[1]
+    row = viewer.sees(" 322 ").split(f" {channel} ")[1]
+    viewer.leaves()
+    return sorted(names), modes, row
+
+
+ROUNDS = 30
+
+
+def again(program):
+    with Network(program, ["a.net", "b.net", "c.net"], [("a.net", "b.net"), ("c.net", "b.net")], retry=1) as network:
+        for name in network.daemons:
+            network[name].start()
+        network.see_all("a.net", 3)
+        al, cy = network.person("a.net", "al").joins("#den"), network.person("c.net", "cy").joins("#den")
+        al.sees("^:cy![^ ]+ JOIN #den$")
+        al.says("MODE #den +tl 40", "TOPIC #den :tea at four")
+        cy.sees(" TOPIC #den ")
+        talkers = [network.person(server, f"{server[0]}{number}").joins("#den") for number in range(4) for server in ("a.net", "c.net")]
+        talk = Talk(talkers, "#den")
+        talk.start()
+        unlike, longest = 0, 0.0
+        try:
+            for number in range(ROUNDS):
+                network["b.net"].kill()
+                network.see_all("a.net", 1)
+                network["b.net"].start()
+                start = time.monotonic()
+                for server in network.daemons:
+                    network.see_all(server, 3)
+                longest = max(longest, time.monotonic() - start)
+                bo = network.person("b.net", f"bo{number}").joins("#den")
+                al.sees(f"^:bo{number}![^ ]+ JOIN #den$")
+                cy.sees(f"^:bo{number}![^ ]+ JOIN #den$")
+                rooms = [room_at(network, server, "#den") for server in network.daemons]
+                unlike += len(rooms[0][0]) != 11 or rooms[1:] != rooms[:1] * 2
+                bo.is_open()
+        finally:
+            talk.ends()
+        return told("again", unlike == 0 and network.all_run() and talk.lines > 1000,
+                    f"the middle one was killed {ROUNDS} times under {talk.lines} texts, and known to all again after {longest:.2f} s at most; rooms unlike: {unlike}")
+
+
+class Line(threading.Thread):
+    """A line between two servers: takes calls at a port of its own, and hands on what is sent either way, so many seconds later, and no more than so
+    many bytes a second."""
+
+    def __init__(self, network, target, delay=0.0, rate=None):
+        super().__init__(daemon=True)
+        self.door = network.keep(socket.create_server(("127.0.0.1", 0)))
+        self.port = self.door.getsockname()[1]
+        self.network = network
+        self.target = target
+        self.delay = delay
+        self.rate = rate
+        self.start()
+
+    def run(self):
+        while True:
+            try:
+                near = self.network.keep(self.door.accept()[0])
+                far = self.network.keep(socket.create_connection(("127.0.0.1", self.target)))
+            except OSError:
+                if self.door.fileno() < 0:
+                    return
+                near.close()
+                continue
+            for source, sink in ((near, far), (far, near)):
+                pieces = queue.Queue(64)
+                threading.Thread(target=self.reads, args=(source, pieces), daemon=True).start()
+                threading.Thread(target=self.writes, args=(sink, pieces), daemon=True).start()
+
+    def reads(self, source, pieces):
+        data = b"-"
+        while data:
+            try:
+                data = source.recv(16384)
+            except OSError:
+                data = b""
+            if self.rate:
+                time.sleep(len(data) / self.rate)
+            pieces.put((time.monotonic() + self.delay, data))
+
+    def writes(self, sink, pieces):
+        data = b"-"
+        while data:
+            due, data = pieces.get()
+            time.sleep(max(0.0, due - time.monotonic()))
+            try:
+                if data:
+                    sink.sendall(data)
+                else:
+                    sink.shutdown(socket.SHUT_RDWR)
+            except OSError:
+                pass
+
+
+def crossing(program):
+    longest = 0.0
+    for _ in range(20):
+        with Network(program, ["a.net", "b.net"], []) as network:
+            for caller, called in (("a.net", "b.net"), ("b.net", "a.net")):
+                network[caller].knows(called, Line(network, network[called].links, delay=0.02).port, retry=1)
+            for server in network.daemons:
+                network[server].begin()
+            for server in network.daemons:
+                network[server].is_ready()
+            start = time.monotonic()
+            network.see_all("a.net", 2, seconds=10)
+            network.see_all("b.net", 2, seconds=10)
+            longest = max(longest, time.monotonic() - start)
+            al, bo = network.person("a.net", "al").joins("#den"), network.person("b.net", "bo").joins("#den")
+            al.sees("^:bo![^ ]+ JOIN #den$")
+            time.sleep(2)
+            if not are_well(network, al, bo):
+                return told("crossing", False, "a link that was there was lost")
+    return told("crossing", longest < 10, f"two that call each other behind 20 ms were linked 20 times, after {longest:.2f} s at most, and stayed so")
+
+
+def ring(program):
+    """Each of the first two is linked to the other before the third one, which calls both, is there."""
+    for number in range(10):
+        with Network(program, ["a.net", "b.net", "c.net"], []) as network:
+            for caller, called in (("b.net", "a.net"), ("c.net", "a.net"), ("c.net", "b.net")):
+                network[caller].knows(called, Line(network, network[called].links, delay=0.02).port, retry=1)
+                network[called].knows(caller)
+            network["a.net"].start()
+            network["b.net"].start()
+            network.see_all("a.net", 2)
+            network["c.net"].start()
+            for _ in range(3):
+                # what is known at one moment may be lost by a second way that is told of then
+                for server in network.daemons:
+                    network.see_all(server, 3)
+                time.sleep(1)
+            people_there = [network.person(server, server[0] + "u").joins("#den") for server in network.daemons]
+            time.sleep(4)
+            for one in people_there:
+                one.answers()
+            if any(one.times(" QUIT ") for one in people_there):
+                return told("ring", False, f"in start {number + 1} a link was lost again")
+    return told("ring", True, "ten times the third of three that calls both others was linked, all knew each other, and no link was lost again")
+
+
+CLIENT = """
+import socket, sys
+s = socket.create_connection(("127.0.0.1", int(sys.argv[1])))
+s.sendall(b"NICK %s\\r\\nUSER u 0 * :x\\r\\n" % sys.argv[2].encode())
+read = b""
+while b" 422 " not in read:
+    read += s.recv(65536)
+print("ready", flush=True)
+"""
+
+READER = CLIENT + """
+while s.recv(1 << 20):
+    pass
+"""
+
+FLOODER = CLIENT + """
+line = b"PRIVMSG reader :" + b"x" * 400 + b"\\r\\n"
+while True:
+    s.sendall(line * 50)
+"""
+
+
+def as_process(code, *words):
+    """A client that is a process of its own, so that it does not share this one's time."""
+    process = subprocess.Popen([sys.executable, "-c", code, *map(str, words)], stdout=subprocess.PIPE, stderr=subprocess.DEVNULL)
+    process.stdout.readline()
+    return process
+
+
+def flooded(program, seconds, rate):
+    """The longest that others wait beside a flood to another server, and whether the link is never lost meanwhile."""
+    with Network(program, ["a.net", "b.net"], [], client_room=524288, link_room=1048576) as network:
+        network["b.net"].knows("a.net", Line(network, network["a.net"].links, rate=rate).port if rate else network["a.net"].links)
+        network["a.net"].knows("b.net")
+        for server in network.daemons:
+            network[server].start()
+        network.see_all("a.net", 2)
+        al, bo = network.person("a.net", "al").joins("#den"), network.person("b.net", "bo").joins("#den")
+        al.sees("^:bo![^ ]+ JOIN #den$")
+        clients = [as_process(READER, network["b.net"].port, "reader"), as_process(FLOODER, network["a.net"].port, "flooder")]
+        longest, end = 0.0, time.monotonic() + seconds
+        try:
+            while time.monotonic() < end:
+                time.sleep(0.05)
+                longest = max(longest, al.answers(), bo.answers())
+            is_flooding = all(client.poll() is None for client in clients)
+        finally:
+            for client in clients:
+                client.kill()
+                client.wait()
+                client.stdout.close()
+        al.says("LUSERS")
+        is_linked = " 2 servers" in al.sees(" 251 ") and not al.times(" QUIT ") and not bo.times(" QUIT ")
+        return longest, is_flooding and is_linked and network.all_run()
+
+
+def flooding(program):
+    held = True
+    for seconds, rate in ((30, None), (30, 1_250_000)):
+        longest, is_linked = flooded(program, seconds, rate)
+        held = told("flooding", is_linked and longest < 0.025,
+                    f"behind {seconds} s of a flood over a link {'of 1.25 MB/s' if rate else 'on this machine'} that link is {'there' if is_linked else 'LOST'}; "
+                    f"others waited {longest * 1000:.1f} ms at most") and held
+    return held
+
+
+def probed(program):
+    with Network(program, ["a.net", "b.net"], [("b.net", "a.net")]) as network:
+        for server in network.daemons:
+            network[server].start()
+        network.see_all("a.net", 2)
+        port = network["a.net"].links
+        table = subprocess.run(["ss", "-Htno", "state", "established", f"( sport = :{port} or dport = :{port} )"],
+                               capture_output=True, text=True, check=True).stdout.splitlines()
+        count = sum("timer:(keepalive," in row for row in table)
+        return told("probed", len(table) == 2 and count == 2, f"of two ends of a link the system asks after {count}")
+
+
+PARTS = [people, clash, lost, burst, wild, deaf, small, liars, doors, silent, knocking, reset, waiting, refused, files, late, again, crossing, ring,
+         flooding, probed]
 
 
 def holds(part, program):
