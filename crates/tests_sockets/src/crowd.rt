@@ -18,11 +18,7 @@ fn listens(rt: &HostRuntime, connections_per_address: Option<u16>) -> Option<Mio
 }
 
 /// So many sockets that have connected there.
-fn connected(
-    rt: &HostRuntime,
-    wire: &MioWire,
-    count: usize,
-) -> Option<Vec<TcpStream, Global>> {
+fn connected(rt: &HostRuntime, wire: &MioWire, count: usize) -> Option<Vec<TcpStream, Global>> {
     let address = wire.address().ok()?;
     let mut sockets = Vec::with_capacity(rt.alloc(), count).ok()?;
     for _socket in 0..count {
