@@ -1,12 +1,31 @@
--- The front of bytes that is so many lines.
-use Rattle.std.specs.Prelude.{ℕ, zero, suc, max, List, [], ◌++◌, length}
-use Rattle.std.specs.Io.BufRead.{take_through, drop_through}
+-- The front of bytes that is so many lines, as the protocol's lines are.
+use Rattle.std.specs.Prelude.{◌≡◌, ◌≤◌, ◌<◌, ℕ, Bool, true, false, ◌||◌, max, min, nat_lt, List, length, take, get_or}
+use Rattle.irc_line.specs.Bytes.{is_line_end}
+use Rattle.irc_line.specs.Lines.{lines}
 
--- the first so many lines of some bytes, each with its newline, as far as they go: the last may have none
-abbrev pub first_lines : ℕ → List ℕ → List ℕ
-first_lines zero bytes = []
-first_lines (suc n) bytes = take_through 10 bytes ++ first_lines n (drop_through 10 bytes)
+-- how many lines end in so many of the first bytes
+abbrev pub lines_in : List ℕ → ℕ → ℕ
+lines_in bytes count = length (lines (take count bytes))
 
--- how many bytes so many lines are, of which there is one at least
-abbrev pub front_length : ℕ → List ℕ → ℕ
-front_length lines bytes = length (first_lines (max lines 1) bytes)
+-- whether the byte at a place is of the front of so many lines, of which there is one at least: fewer have ended before it, or it ends a line
+-- itself, be it an empty one
+abbrev pub is_in_front : ℕ → List ℕ → ℕ → Bool
+is_in_front wanted bytes place = nat_lt (lines_in bytes place) (max wanted 1) || is_line_end (get_or bytes place 0)
+
+-- so many bytes are the front of so many lines: all up to the first that is none of it
+pub record IsFront (wanted : ℕ) (bytes : List ℕ) (count : ℕ) : Type 0 where
+  pub within : count ≤ length bytes
+  pub in_front : (place : ℕ) → place < count → is_in_front wanted bytes place ≡ true
+  pub behind : count < length bytes → is_in_front wanted bytes count ≡ false
+
+-- so many bytes are what a buffer has room for of the front of so many lines
+pub record GivesLines (wanted room : ℕ) (bytes : List ℕ) (count : ℕ) : Type 0 where
+  pub front : ℕ
+  pub is_front : IsFront wanted bytes front
+  pub given : count ≡ min front room
+
+-- so many lines have ended in just so many bytes; or fewer in all
+pub record EndsLines (wanted : ℕ) (bytes : List ℕ) (count : ℕ) : Type 0 where
+  pub within : count ≤ length bytes
+  pub before : (place : ℕ) → place < count → lines_in bytes place < wanted
+  pub ended : count < length bytes → lines_in bytes count ≡ wanted

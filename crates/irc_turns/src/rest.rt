@@ -1,7 +1,11 @@
 //! Bytes that were read and wait for their turn.
-ghost use Rattle.std.specs.Prelude.{◌≡◌, ◌≤◌, ◌++◌, true, false, min, nat_eq, [], take, drop, length};
-ghost use Rattle.irc_turns.specs.Fronts.{front_length};
+ghost use Rattle.std.specs.Prelude.{◌≡◌, ◌-◌, ◌≤◌, ◌++◌, true, false, nat_eq, [], take, drop, length};
+ghost use Rattle.std.specs.List.{prefix_len};
+ghost use Rattle.irc_line.specs.Bytes.{is_line_end};
+ghost use Rattle.irc_line.specs.Framed.{found_in};
+ghost use Rattle.irc_turns.specs.Fronts.{EndsLines, GivesLines, IsFront};
 
+use irc_line::{Framer, Line, laws};
 use std::alloc::Global;
 use std::marker::Model;
 
@@ -52,9 +56,9 @@ impl Rest {
         self.bytes.extend_from_slice(bytes).is_ok()
     }
 
-    /// Gives so many lines on, as far as they fit, to the front of a buffer, and tells how many bytes they are.
+    /// Gives so many lines on, as far as they fit, to the front of a buffer, and tells how many bytes they are: as [`front_of`] counts them.
     pub fn give(&mut self, buffer: &mut [u8], lines: usize) -> usize
-        ensures count { result ≡ min (front_length lines self.old) (length buffer.old) }
+        ensures count { GivesLines lines (length buffer.old) self.old result }
         ensures given { buffer.new ≡ take result self.old ++ drop result buffer.old }
         ensures left { self.new ≡ drop result self.old }
     {
@@ -86,18 +90,49 @@ impl Rest {
     }
 }
 
-/// How many bytes at the front are so many lines, or one, or all where they are fewer.
+/// How many bytes at the front are so many lines, or one, or all where they are fewer. Lines are those of the protocol: a CR and an LF end one each,
+/// and where no byte, or a NUL, stands before that it counts for nothing. All line ends behind the last line are of it.
 pub fn front_of(bytes: &[u8], lines: usize) -> usize
-    ensures within { result ≤ length bytes.now }
-    ensures front { result ≡ front_length lines bytes.now }
+    ensures { IsFront lines bytes.now result }
 {
+    laws::pieces_complete_the_same();
+    let ended = ended_at(bytes, lines.max(1));
+    ended + ends_in_front(&bytes[ended..])
+}
+
+/// Where so many lines have ended; behind all bytes, where they are fewer.
+fn ended_at(bytes: &[u8], lines: usize) -> usize
+    ensures { EndsLines lines bytes.now result }
+{
+    let mut framer = Framer::new();
+    let mut used = 0;
     let mut left = lines;
+    while used < bytes.len() && left > 0 {
+        let (more, line) = framer.take(&bytes[used..]);
+        used += more;
+        left = less_one(left, &line);
+    }
+    used
+}
+
+/// One less where a line was found.
+fn less_one(left: usize, line: &Option<Line>) -> usize
+    ensures { result ≡ left - length (found_in line.now) }
+{
+    match line {
+        Some(_) => left.saturating_sub(1),
+        None => left,
+    }
+}
+
+/// How many line ends stand in front.
+fn ends_in_front(bytes: &[u8]) -> usize
+    ensures within { result ≤ length bytes.now }
+    ensures ends { result ≡ prefix_len is_line_end bytes.now }
+{
     for (place, byte) in bytes.iter().enumerate() {
-        if *byte == b'\n' {
-            left = left.saturating_sub(1);
-            if left == 0 {
-                return place + 1;
-            }
+        if *byte != b'\r' && *byte != b'\n' {
+            return place;
         }
     }
     bytes.len()
