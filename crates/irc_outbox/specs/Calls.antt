@@ -17,6 +17,10 @@ pub data Call : Type 0 where
 abbrev pub Adds : {W : Type 0} → (W → List Call → Type 0) → W → Call → W → Type 0
 Adds is_after old call new = (calls : List Call) → is_after old calls → is_after new (calls ++ call ∷ [])
 
+-- Whatever calls the wire may have answered before, it may have answered just these now.
+abbrev pub Keeps : {W : Type 0} → (W → List Call → Type 0) → W → W → Type 0
+Keeps is_after old new = (calls : List Call) → is_after old calls → is_after new calls
+
 -- the bytes that a read put into a buffer
 abbrev pub bytes_got : Result Got IoFault → List ℕ → List ℕ
 bytes_got (Ok (Bytes n)) buffer = take n buffer

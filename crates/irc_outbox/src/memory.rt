@@ -486,7 +486,7 @@ impl Wire for MemoryWire {
         }
     }
 
-    fn write(&mut self, conn: u64, bytes: &[u8]) -> Result<usize, IoFault> {
+    fn write(&mut self, conn: u64, bytes: &[u8], _behind: usize) -> Result<usize, IoFault> {
         if fails_now(&mut self.fars, conn, Way::Out) {
             return Err(IoFault::Failed);
         }
@@ -496,4 +496,10 @@ impl Wire for MemoryWire {
     fn close(&mut self, conn: u64) {
         shut(&mut self.fars, conn);
     }
+
+    fn would_call(&self) -> Option<&ServerName> {
+        None
+    }
+
+    fn know(&mut self, _is_known: bool, _yields: bool) {}
 }

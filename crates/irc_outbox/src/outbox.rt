@@ -71,7 +71,9 @@ impl Outbox {
     pub fn write_some<W: Wire>(&mut self, wire: &mut W, conn: u64) -> Result<usize, IoFault>
         ensures { WritesSome W.is_after conn self.old wire.old result self.new wire.new }
     {
-        let taken = wire.write(conn, self.front())?;
+        let front = self.front();
+        let behind = self.bytes.len().saturating_sub(front.len());
+        let taken = wire.write(conn, front, behind)?;
         self.take_off(taken);
         Ok(taken)
     }

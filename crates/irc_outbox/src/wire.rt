@@ -1,6 +1,6 @@
 //! What carries bytes, as sockets do: it tells what is ready, reads, writes and closes.
 ghost use Rattle.std.specs.Prelude.{List, ◌≤◌, length, IfOk};
-ghost use Rattle.irc_outbox.specs.Calls.{Call, asks, read_into, writes, closes, Adds, FitsIn};
+ghost use Rattle.irc_outbox.specs.Calls.{Call, asks, read_into, writes, closes, Adds, FitsIn, Keeps};
 
 use irc_names::{Host, ServerName};
 use thiserror::Error;
@@ -59,15 +59,25 @@ pub trait Wire {
         ensures account { Adds is_after self.old (read_into conn buffer.old result buffer.new) self.new }
         ensures within { FitsIn result (length buffer.old) };
 
-    /// Writes bytes to a connection, from their front on, and tells how many it took: 0 where it takes none yet.
+    /// Writes bytes to a connection, from their front on, and tells how many it took: 0 where it takes none yet. So many more wait `behind` them,
+    /// which is for a device that slows whoever fills one: it is no part of the account.
     ///
     /// # Errors
     /// Where the device failed in this call: it took none.
-    fn write(&mut self, conn: u64, bytes: &[u8]) -> Result<usize, IoFault>
+    fn write(&mut self, conn: u64, bytes: &[u8], behind: usize) -> Result<usize, IoFault>
         ensures account { Adds is_after self.old (writes conn bytes.now result) self.new }
         ensures within { IfOk result (λ n. n ≤ length bytes.now) };
 
     /// Closes a connection.
     fn close(&mut self, conn: u64)
         ensures { Adds is_after self.old (closes conn) self.new };
+
+    /// The server that the device would call, if it would call one. Whether that server is known here is to be told by [`Wire::know`], before
+    /// `ready` is asked again.
+    fn would_call(&self) -> Option<&ServerName>;
+
+    /// Tells whether the server that the device would call is known here, by any way: if it is, it is not called. This side yields where the other
+    /// one should call first. It is no part of the account.
+    fn know(&mut self, is_known: bool, yields: bool)
+        ensures { Keeps is_after self.old self.new };
 }

@@ -1,6 +1,5 @@
 -- What a socket is asked, what is told of it, and what a turn leaves of it.
 use Rattle.std.specs.Prelude.{ℕ, Bool, true, false, not, ◌&&◌, ◌||◌, nat_eq, nat_lt, if◌then◌else◌, Option, None, Result, Ok, Err, [], length}
-use Rattle.std.specs.Option.{is_some}
 use Rattle.std.specs.declared.io.ErrorKind.{ErrorKind}
 use Rattle.std.specs.declared.io.ErrorKind.TheVariants as kind
 use Rattle.irc_outbox.specs.declared.wire.Got.{Got}
@@ -10,7 +9,7 @@ use Rattle.irc_outbox.specs.declared.wire.IoFault.TheVariants as fault
 use Rattle.mio.specs.Event.{is_readable, is_writable, is_error, is_read_closed}
 use Rattle.mio.specs.declared.event.event.Event.{Event}
 use Rattle.mio.specs.declared.net.stream.TcpStream.{TcpStream}
-use Rattle.irc_turns.specs.Gathering.{nothing_waits}
+use Rattle.irc_turns.specs.Gathering.{nothing_waits, much_for}
 use Rattle.irc_turns.specs.Pacing.{at_first, at_rest, behind_turn}
 use Rattle.irc_sockets.specs.declared.socket.Mark.{Mark}
 use Rattle.irc_sockets.specs.declared.socket.Socket.{Socket}
@@ -24,7 +23,6 @@ new_socket stream is_client serial = record {
   is_readable = false;
   is_full = false;
   is_behind = false;
-  has_lagged = false;
   is_ending = false;
   is_queued = false;
   is_held = false;
@@ -42,13 +40,13 @@ new_socket stream is_client serial = record {
 abbrev pub is_asked : Socket → Bool
 is_asked socket = socket.is_readable && not (socket.is_client && (socket.is_held || socket.is_behind))
 
--- it takes bytes, and some wait, or may: of one that once took less than it was given they may lie in two pieces
+-- it takes bytes, and some wait
 abbrev pub may_take_more : Socket → Bool
-may_take_more socket = not socket.is_full && (socket.has_lagged || nat_lt 0 socket.waiting.bytes)
+may_take_more socket = not socket.is_full && nat_lt 0 socket.waiting.bytes
 
--- a client that takes no bytes, and for whom more than 8,192 wait
+-- it takes no bytes, and more wait for it than may for a client or for a link
 abbrev pub is_stuck : Socket → Bool
-is_stuck socket = socket.is_client && (socket.is_full && nat_lt 8192 socket.waiting.bytes)
+is_stuck socket = socket.is_full && nat_lt (much_for socket.is_client) socket.waiting.bytes
 
 -- ---- what the system tells of it
 
@@ -74,11 +72,11 @@ told_event socket event = record socket {
 
 -- ---- its turns
 
--- its pace goes by the turn where something of it is left; whom it has filled is known until it fills another
+-- its pace goes by the turn where something of it is left; whom it has filled is known until its next turn
 abbrev pub turn_over : Socket → ℕ → ℕ → Option Mark → Socket
 turn_over socket answered shown filled = record socket {
   pace = if nat_eq 0 (length socket.rest) then socket.pace else behind_turn socket.pace answered shown;
-  fills = if is_some filled then filled else socket.fills;
+  fills = filled;
 }
 
 abbrev pub held_back : Socket → Socket
@@ -113,6 +111,6 @@ unread error socket = record socket { may_have_more = is_interrupted error }
 abbrev pub unwritten_as : ErrorKind → Result ℕ IoFault
 unwritten_as error = if is_for_now error then Ok 0 else Err fault.Failed
 
--- it has lagged; one that would have to wait is full
+-- it is behind; one that would have to wait is full
 abbrev pub unwritten : ErrorKind → Socket → Socket
-unwritten error socket = record socket { has_lagged = true; is_behind = true; is_full = socket.is_full || is_blocked error }
+unwritten error socket = record socket { is_behind = true; is_full = socket.is_full || is_blocked error }

@@ -1,6 +1,6 @@
 //! A wire of TCP sockets.
 ghost use Rattle.std.specs.Prelude.{◌≡◌, ⊤, ◌≤◌, length, IfOk};
-ghost use Rattle.irc_outbox.specs.Calls.{Call, asks, reads, writes, closes, bytes_got, Adds, FitsIn};
+ghost use Rattle.irc_outbox.specs.Calls.{Call, asks, reads, writes, closes, bytes_got, Adds, FitsIn, Keeps};
 ghost use Rattle.irc_sockets.specs.Listening.{ListensAt};
 
 use crate::calls::{Callee, Calls};
@@ -9,6 +9,7 @@ use crate::host::host_of;
 use crate::keep_alive::ask_after;
 use crate::listening::Listening;
 use crate::sockets::Sockets;
+use irc_names::ServerName;
 use irc_outbox::{Got, IoFault, Ready, Wire};
 use irc_turns::{Crowd, Round};
 use mio::net::TcpStream;
@@ -302,9 +303,10 @@ impl Wire for MioWire {
             .read(conn as usize, buffer, self.round.arrivals)
     }
 
-    fn write(&mut self, conn: u64, bytes: &[u8]) -> Result<usize, IoFault> {
+    fn write(&mut self, conn: u64, bytes: &[u8], behind: usize) -> Result<usize, IoFault> {
         self.round.may_wait = self.has_next_turn();
-        self.sockets.write(conn as usize, bytes, &mut self.round)
+        self.sockets
+            .write(conn as usize, bytes, behind, &mut self.round)
     }
 
     fn close(&mut self, conn: u64) {
@@ -312,4 +314,10 @@ impl Wire for MioWire {
         self.crowd.forget(conn);
         self.wake_doors();
     }
+
+    fn would_call(&self) -> Option<&ServerName> {
+        None
+    }
+
+    fn know(&mut self, _is_known: bool, _yields: bool) {}
 }

@@ -30,8 +30,6 @@ pub(crate) struct Socket {
     pub is_full: bool,
     /// Whether the last write took less than it was given.
     is_behind: bool,
-    /// Whether one ever did. What waits for it may since lie in two pieces, of which a write gives one.
-    has_lagged: bool,
     /// Whether the system has told that no more bytes will come behind those that are there: it tells that once.
     is_ending: bool,
     /// Whether it stands in the queue.
@@ -46,7 +44,7 @@ pub(crate) struct Socket {
     rest: Rest,
     pace: Pace,
     pub waiting: Waiting,
-    /// Somebody whose outbox it has filled.
+    /// Somebody whose outbox it has filled in its last turn.
     pub fills: Option<Mark>,
 }
 
@@ -63,7 +61,6 @@ impl Socket {
             is_readable: false,
             is_full: false,
             is_behind: false,
-            has_lagged: false,
             is_ending: false,
             is_queued: false,
             is_held: false,
@@ -103,14 +100,14 @@ impl Socket {
     pub fn may_take_more(&self) -> bool
         ensures { result ≡ may_take_more self.now }
     {
-        !self.is_full && (self.has_lagged || self.waiting.is_some())
+        !self.is_full && self.waiting.is_some()
     }
 
-    /// Whether much waits for it, and it takes nothing. A link is never: nobody is to be slow here since another server is.
+    /// Whether it takes nothing, and much waits for it.
     pub fn is_stuck(&self) -> bool
         ensures { result ≡ is_stuck self.now }
     {
-        self.is_client && self.is_full && self.waiting.is_much()
+        self.is_full && self.waiting.is_much(self.is_client)
     }
 
     /// Gives what is left of the last read, or reads again. It is readable where something is left then.
@@ -179,7 +176,7 @@ impl Socket {
         }
     }
 
-    /// A turn is over in which it was read, was answered so many bytes, and had so many put out to others; and has filled somebody's outbox, or
+    /// A turn is over in which it was read, was answered so many bytes, and had so many put out to others; and has added to a full outbox, or
     /// has not.
     pub fn end_turn(&mut self, answered: usize, shown: usize, filled: Option<Mark>)
         ensures { self.new ≡ turn_over self.old answered shown filled }
@@ -187,9 +184,7 @@ impl Socket {
         if !self.rest.is_empty() {
             self.pace.note(answered, shown);
         }
-        if filled.is_some() {
-            self.fills = filled;
-        }
+        self.fills = filled;
     }
 
     /// It is held back, and begins anew then.
@@ -208,20 +203,26 @@ impl Socket {
         self.is_held = false;
     }
 
-    /// Writes, or puts that off where another turn follows soon.
+    /// Writes, or puts that off where another turn follows soon. So many bytes wait in all.
     ///
     /// # Errors
     /// Where the socket failed.
-    pub fn write(&mut self, bytes: &[u8], turn: u64, may_wait: bool) -> Result<usize, IoFault>
+    pub fn write(
+        &mut self,
+        bytes: &[u8],
+        all: usize,
+        turn: u64,
+        may_wait: bool,
+    ) -> Result<usize, IoFault>
         ensures { IfOk result (λ count. count ≤ length bytes.now) }
     {
-        let is_put_off = may_wait && !self.is_behind && self.waiting.is_put_off(turn, bytes.len());
+        let is_put_off = may_wait && !self.is_behind && self.waiting.is_put_off(turn, all);
         if self.is_full || is_put_off {
-            self.waiting.note(turn, bytes.len(), bytes.len());
+            self.waiting.note(turn, all, all);
             return Ok(0);
         }
         let taken = self.write_now(bytes)?;
-        self.waiting.note(turn, bytes.len(), bytes.len() - taken);
+        self.waiting.note(turn, all, all.saturating_sub(taken));
         Ok(taken)
     }
 
@@ -232,7 +233,6 @@ impl Socket {
             Ok(count) => {
                 self.is_full = count < bytes.len();
                 self.is_behind = self.is_full;
-                self.has_lagged |= self.is_full;
                 Ok(count)
             }
             Err(error) => self.unwritten(error.kind()),
@@ -245,7 +245,6 @@ impl Socket {
         ensures result { result ≡ unwritten_as kind }
         ensures socket { self.new ≡ unwritten kind self.old }
     {
-        self.has_lagged = true;
         self.is_behind = true;
         match kind {
             ErrorKind::WouldBlock => {

@@ -161,7 +161,7 @@ impl Sockets {
     }
 
     /// Writes to a socket, or puts that off. One that took less than all is full, and is not tried again before the system tells that it takes
-    /// bytes. Who is next to be reported waits for nothing, so that there is room for its answers.
+    /// bytes. Who is next to be reported waits for nothing, so that there is room for its answers. So many bytes more wait behind these.
     ///
     /// # Errors
     /// Where the socket failed, or is none.
@@ -169,6 +169,7 @@ impl Sockets {
         &mut self,
         number: usize,
         bytes: &[u8],
+        behind: usize,
         round: &mut Round,
     ) -> Result<usize, IoFault>
         ensures { IfOk result (λ count. count ≤ length bytes.now) }
@@ -177,8 +178,9 @@ impl Sockets {
         let Some(socket) = self.by_number.get_mut(number) else {
             return Err(IoFault::Failed);
         };
-        let more = socket.waiting.more(bytes.len());
-        let taken = socket.write(bytes, round.turn, round.may_wait && !is_next);
+        let all = bytes.len().saturating_add(behind);
+        let more = socket.waiting.more(all);
+        let taken = socket.write(bytes, all, round.turn, round.may_wait && !is_next);
         round.note_write(number, more, socket.is_stuck());
         // where it failed, what others are told of that was put into their outboxes behind the writes of this turn
         round.has_more |= taken.is_err() || socket.may_take_more();
@@ -188,7 +190,7 @@ impl Sockets {
         taken
     }
 
-    /// A turn is over. A client that was read in it may have filled somebody's outbox.
+    /// A turn is over. A client that was read in it may have added to a full outbox.
     pub fn end_turn(&mut self, round: &Round)
         ensures { self.new ≡ turn_ended round.now round.now.reader self.old }
     {

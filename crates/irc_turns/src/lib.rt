@@ -5,6 +5,8 @@ mod crowd;
 mod holding;
 mod pace;
 mod rest;
+mod retries;
+mod retry;
 mod round;
 mod waiting;
 
@@ -12,5 +14,7 @@ pub use crowd::Crowd;
 pub use holding::{Held, Holding};
 pub use pace::Pace;
 pub use rest::{Rest, front_of};
+pub use retries::Retries;
+pub use retry::Retry;
 pub use round::Round;
 pub use waiting::Waiting;

@@ -1,15 +1,17 @@
 //! What waits for a socket that was put off.
 ghost use Rattle.std.specs.Prelude.{◌≡◌, ◌-◌, nat_lt};
-ghost use Rattle.irc_turns.specs.Gathering.{nothing_waits, is_put_off, waits_behind};
+ghost use Rattle.irc_turns.specs.Gathering.{nothing_waits, is_put_off, much_for, waits_behind};
 
 use std::marker::Model;
 
 /// So many bytes are written at once, so that nobody's outbox fills by the wait.
 const MANY: usize = 4096;
 
-/// So much waits for somebody where whoever adds to it is held back. It is what lies in one piece that shows, which may be no more than a part
-/// of a small outbox: so it is a quarter of the smallest that is any use.
+/// So much waits for a client where whoever adds to it is held back: a quarter of the smallest outbox that is any use.
 const MUCH: usize = 8192;
+
+/// So much waits for a link where whoever adds to it is held back. A link takes what all who are behind it are told, and the bursts of others.
+const MUCH_OF_LINK: usize = 262_144;
 
 /// How many turns without anything new a write waits at most: as many as cost no more than it does.
 const PATIENCE: u64 = 16;
@@ -20,7 +22,7 @@ const LONGEST: u64 = 64;
 /// What waits for a socket.
 #[derive(Drop)]
 pub struct Waiting {
-    /// How many bytes did behind the last turn, as far as they lay in one piece.
+    /// How many bytes did behind the last turn.
     bytes: usize,
     /// The last turn in which there were more.
     grown_at: u64,
@@ -62,11 +64,15 @@ impl Waiting {
         self.bytes > 0
     }
 
-    /// Whether so much waits that whoever adds to it is held back.
-    pub fn is_much(&self) -> bool
-        ensures { result ≡ nat_lt 8192 self.now.bytes }
+    /// Whether so much waits, for a client or for a link, that whoever adds to it is held back.
+    pub fn is_much(&self, is_client: bool) -> bool
+        ensures { result ≡ nat_lt (much_for is_client) self.now.bytes }
     {
-        self.bytes > MUCH
+        if is_client {
+            self.bytes > MUCH
+        } else {
+            self.bytes > MUCH_OF_LINK
+        }
     }
 
     /// Whether a write of so many bytes waits in this turn. The first behind a pause does not.

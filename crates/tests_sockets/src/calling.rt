@@ -89,9 +89,9 @@ fn is_link_at_both_ends(rt: &HostRuntime) -> Option<bool> {
     let near = linked(&mut caller, Some(b"b.net".as_slice()))?;
     let far = linked(&mut called, None)?;
     Some(
-        caller.write(near, b"PASS\r\n") == Ok(6)
+        caller.write(near, b"PASS\r\n", 0) == Ok(6)
             && hears(&mut called, far, b"PASS\r\n")
-            && called.write(far, b"SERVER\r\n") == Ok(8)
+            && called.write(far, b"SERVER\r\n", 0) == Ok(8)
             && hears(&mut caller, near, b"SERVER\r\n"),
     )
 }

@@ -221,8 +221,8 @@ fn answers(wire: &mut MemoryWire, call: &Call) -> bool {
         Call::GivesLater(conn) => gives_nothing(wire, *conn, Ok(Got::Later)),
         Call::GivesEnd(conn) => gives_nothing(wire, *conn, Ok(Got::End)),
         Call::FailsToGive(conn) => gives_nothing(wire, *conn, Err(IoFault::Failed)),
-        Call::Takes(conn, bytes, count) => wire.write(*conn, bytes) == Ok(*count),
-        Call::FailsToTake(conn) => wire.write(*conn, b"ab") == Err(IoFault::Failed),
+        Call::Takes(conn, bytes, count) => wire.write(*conn, bytes, 0) == Ok(*count),
+        Call::FailsToTake(conn) => wire.write(*conn, b"ab", 0) == Err(IoFault::Failed),
         Call::Closes(conn) => {
             wire.close(*conn);
             wire.closed(*conn)

@@ -1,8 +1,9 @@
 //! A wire in memory that is lent to an engine, so that it can be looked at behind the engine's turns.
 ghost use Rattle.std.specs.Prelude.{⊤, ◌≤◌, length, IfOk};
-ghost use Rattle.irc_outbox.specs.Calls.{Call, asks, reads, writes, closes, bytes_got, Adds, FitsIn};
+ghost use Rattle.irc_outbox.specs.Calls.{Call, asks, reads, writes, closes, bytes_got, Adds, FitsIn, Keeps};
 
 use arrayvec::ArrayVec;
+use irc_names::ServerName;
 use irc_outbox::{Got, IoFault, MemoryWire, Ready, Wire};
 
 /// Whom an engine has closed, one after another, as far as there is room.
@@ -27,12 +28,20 @@ impl<'a> Wire for Lent<'a> {
         self.wire.read(conn, buffer)
     }
 
-    fn write(&mut self, conn: u64, bytes: &[u8]) -> Result<usize, IoFault> {
-        self.wire.write(conn, bytes)
+    fn write(&mut self, conn: u64, bytes: &[u8], behind: usize) -> Result<usize, IoFault> {
+        self.wire.write(conn, bytes, behind)
     }
 
     fn close(&mut self, conn: u64) {
         let _noted = self.closings.try_push(conn);
         self.wire.close(conn)
+    }
+
+    fn would_call(&self) -> Option<&ServerName> {
+        self.wire.would_call()
+    }
+
+    fn know(&mut self, is_known: bool, yields: bool) {
+        self.wire.know(is_known, yields)
     }
 }

@@ -1,0 +1,98 @@
+-- When a server is called again.
+use Rattle.std.specs.Prelude.{ℕ, Bool, true, false, not, ◌&&◌, ◌-◌, ◌*◌, min, nat_eq, nat_le, nat_lt, if◌then◌else◌, Option, Some, None, is_none, is_some, List, length, ◌+◌, set}
+use Rattle.std.specs.List.{slice_get, list_any}
+use Rattle.irc_turns.specs.declared.retry.Retry.{Retry}
+use Rattle.irc_turns.specs.declared.retries.Retries.{Retries}
+
+-- one that is called after so many milliseconds again, or once, and was not called yet
+abbrev pub not_called : Option ℕ → Retry
+not_called after = record {
+  after = after;
+  is_calling = false;
+  link = None;
+  comers = 0;
+  has_crossed = false;
+  since = None;
+}
+
+abbrev pub call_begun : Retry → ℕ → Retry
+call_begun row comers = record row { is_calling = true; link = None; comers = comers; since = None }
+
+abbrev pub call_reached : Retry → ℕ → Retry
+call_reached row link = record row { is_calling = false; link = Some link }
+
+-- a call that has failed, or its link that has ended: it may have crossed another where a server has connected meanwhile
+abbrev pub call_ended : Retry → ℕ → Retry
+call_ended row comers = record row { has_crossed = not (nat_eq row.comers comers); is_calling = false; link = None; since = None }
+
+-- no call is under way, and no link of one is open
+abbrev pub is_free : Retry → Bool
+is_free row = not row.is_calling && is_none row.link
+
+-- so long is waited, and twice as long by who yields behind a call that has crossed another, as far as a number goes
+abbrev pub wait_after : ℕ → Bool → ℕ
+wait_after after yields = if yields then min (after * 2) 18446744073709551615 else after
+
+-- whether it is called again at all, and was seen unknown for that long
+abbrev pub has_waited : Option ℕ → Option ℕ → Bool → ℕ → Bool
+has_waited None since yields now = false
+has_waited (Some after) None yields now = false
+has_waited (Some after) (Some since) yields now = nat_le (wait_after after yields) (now - since)
+
+-- it is to be called: it is free, not known, and was so for long enough
+abbrev pub is_due : Retry → ℕ → Bool → Bool → Bool
+is_due row now is_known yields = (is_free row && not is_known) && has_waited row.after row.since (row.has_crossed && yields) now
+
+-- since when it is unknown: since now, where it was not so far
+abbrev pub unknown_since : Option ℕ → ℕ → Bool → Option ℕ
+unknown_since since now false = None
+unknown_since None now true = Some now
+unknown_since (Some since) now true = Some since
+
+-- what is known of it then; where it is known, no call has crossed another any more
+abbrev pub seen : Retry → ℕ → Bool → Retry
+seen row now is_known = record row {
+  since = unknown_since row.since now (is_free row && not is_known);
+  has_crossed = row.has_crossed && not is_known;
+}
+
+-- ---- all of them
+
+abbrev pub row_changed_if : (Retry → Retry) → ℕ → List Retry → Option Retry → List Retry
+row_changed_if change place rows None = rows
+row_changed_if change place rows (Some row) = set rows place (change row)
+
+-- the one at a place, if there is one, is changed
+abbrev pub row_changed : (Retry → Retry) → ℕ → List Retry → List Retry
+row_changed change place rows = row_changed_if change place rows (slice_get rows place)
+
+-- the place behind another, all round
+abbrev pub place_behind : ℕ → ℕ → ℕ
+place_behind place count = if nat_lt (place + 1) count then place + 1 else 0
+
+-- one that is called again at all, where no call of it is under way or open
+abbrev pub may_be_called : Option Retry → Bool
+may_be_called None = false
+may_be_called (Some row) = is_some row.after && is_free row
+
+-- whether it is to be called
+abbrev pub is_due_at : Option Retry → ℕ → Bool → Bool → Bool
+is_due_at None now is_known yields = false
+is_due_at (Some row) now is_known yields = is_due row now is_known yields
+
+-- whether none was called again within the last second
+abbrev pub is_apart : Option ℕ → ℕ → Bool
+is_apart None now = true
+is_apart (Some called_at) now = nat_le 1000 (now - called_at)
+
+-- whether a row is of a link
+abbrev pub is_of_link : ℕ → Retry → Bool
+is_of_link link row = is_some_link link row.link
+  where
+    is_some_link : ℕ → Option ℕ → Bool
+    is_some_link link None = false
+    is_some_link link (Some other) = nat_eq other link
+
+-- so many milliseconds more, of which no more is told than that they are as many as a number can be
+abbrev pub later_by : ℕ → ℕ → ℕ
+later_by now waited = min (now + waited) 18446744073709551615

@@ -1,0 +1,154 @@
+//! The servers that are called, and which of them is due.
+ghost use Rattle.std.specs.Prelude.{◌≡◌, ◌++◌, ◌∷◌, [], ◌&&◌, None, Some, if◌then◌else◌, length, OnOk, is_some};
+ghost use Rattle.std.specs.List.{list_any, position, slice_get};
+ghost use Rattle.irc_turns.specs.Rounds.{arrivals_after};
+
+use crate::retry::Retry;
+use std::alloc::{AllocError, Global};
+
+/// How many milliseconds are between two calls that are made again at least: the one is to be known, with all that are behind it, before the
+/// next is judged.
+const APART: u64 = 1000;
+
+/// The servers that are called, by their places.
+#[derive(Drop)]
+pub struct Retries {
+    pub rows: Vec<Retry, Global>,
+    /// The place that was looked at last.
+    pub at: usize,
+    /// How many milliseconds have passed in waits that nothing has ended, so at least so many.
+    pub passed: u64,
+    /// When one was called again last.
+    pub called_at: Option<u64>,
+    /// How many servers have connected.
+    pub comers: u64,
+}
+
+impl Retries {
+    ghost use Rattle.irc_turns.specs.Retries.{not_called, row_changed, place_behind, may_be_called, is_due_at, is_apart, is_of_link, later_by, seen, call_begun, call_reached, call_ended};
+
+    /// None.
+    pub fn new(alloc: Global) -> Self
+        ensures rows { result.rows.items ≡ [] }
+        ensures passed { result.passed ≡ 0 }
+        ensures called { result.called_at ≡ None }
+    {
+        Retries {
+            rows: Vec::new(alloc),
+            at: 0,
+            passed: 0,
+            called_at: None,
+            comers: 0,
+        }
+    }
+
+    /// One more, which is called again after so many milliseconds, or once.
+    ///
+    /// # Errors
+    /// Where memory runs out.
+    pub fn add(&mut self, after: Option<u64>) -> Result<(), AllocError>
+        ensures { OnOk result (self.new.rows.items ≡ self.old.rows.items ++ not_called after ∷ []) }
+    {
+        match self.rows.push(Retry::new(after)) {
+            Ok(()) => Ok(()),
+            Err(_) => Err(AllocError),
+        }
+    }
+
+    /// So many milliseconds have passed in a wait that nothing has ended.
+    pub fn pass(&mut self, waited: u64)
+        ensures { self.new ≡ record self.old { passed = later_by self.old.passed waited } }
+    {
+        self.passed = self.passed.saturating_add(waited);
+    }
+
+    /// A server has connected.
+    pub fn come(&mut self)
+        ensures { self.new ≡ record self.old { comers = arrivals_after self.old.comers } }
+    {
+        self.comers = self.comers.wrapping_add(1);
+    }
+
+    /// Whether some server is waited for.
+    pub fn are_waiting(&self) -> bool
+        ensures { result ≡ list_any (λ row. is_some row.since) self.now.rows.items }
+    {
+        self.rows.iter().any(|row| row.since.is_some())
+    }
+
+    /// Goes on to the next place, and tells it if the server there may be called again.
+    pub fn next(&mut self) -> Option<usize>
+        ensures at { self.new ≡ record self.old { at = place_behind self.old.at (length self.old.rows.items) } }
+        ensures result { is_some result ≡ may_be_called (slice_get self.old.rows.items self.new.at) }
+    {
+        let behind = self.at.saturating_add(1);
+        self.at = if behind < self.rows.len() { behind } else { 0 };
+        let row = self.rows.get(self.at)?;
+        (row.after.is_some() && row.is_free()).then_some(self.at)
+    }
+
+    /// Takes in whether the server at a place is known. It may be that it is to be called now; this side may have to yield.
+    pub fn see(&mut self, place: usize, is_known: bool, yields: bool) -> bool
+        ensures due { result ≡ (is_due_at (slice_get self.old.rows.items place) self.old.passed is_known yields && is_apart self.old.called_at self.old.passed) }
+        ensures rows { self.new.rows.items ≡ row_changed (λ row. seen row self.old.passed is_known) place self.old.rows.items }
+        ensures called { self.new.called_at ≡ self.old.called_at }
+        ensures passed { self.new.passed ≡ self.old.passed }
+    {
+        let is_apart = self.is_apart();
+        let now = self.passed;
+        match self.rows.get_mut(place) {
+            Some(row) => row.see(now, is_known, yields) && is_apart,
+            None => false,
+        }
+    }
+
+    /// Whether none was called again within the last second.
+    fn is_apart(&self) -> bool
+        ensures { result ≡ is_apart self.now.called_at self.now.passed }
+    {
+        match self.called_at {
+            Some(called_at) => self.passed.saturating_sub(called_at) >= APART,
+            None => true,
+        }
+    }
+
+    /// The server at a place is called: the first time, or again.
+    pub fn begin(&mut self, place: usize, is_again: bool)
+        ensures rows { self.new.rows.items ≡ row_changed (λ row. call_begun row self.old.comers) place self.old.rows.items }
+        ensures called { self.new.called_at ≡ (if is_again then Some self.old.passed else self.old.called_at) }
+    {
+        if is_again {
+            self.called_at = Some(self.passed);
+        }
+        let comers = self.comers;
+        if let Some(row) = self.rows.get_mut(place) {
+            row.begin(comers);
+        }
+    }
+
+    /// The call of the server at a place is through, and is a link of this number now.
+    pub fn reach(&mut self, place: usize, link: u64)
+        ensures { self.new.rows.items ≡ row_changed (λ row. call_reached row link) place self.old.rows.items }
+    {
+        if let Some(row) = self.rows.get_mut(place) {
+            row.reach(link);
+        }
+    }
+
+    /// The call of the server at a place has failed, or its link has ended.
+    pub fn end(&mut self, place: usize)
+        ensures { self.new.rows.items ≡ row_changed (λ row. call_ended row self.old.comers) place self.old.rows.items }
+    {
+        let comers = self.comers;
+        if let Some(row) = self.rows.get_mut(place) {
+            row.end(comers);
+        }
+    }
+
+    /// The place of the server that was called, and whose link has this number.
+    pub fn place_of(&self, link: u64) -> Option<usize>
+        ensures { result ≡ position (is_of_link link) self.now.rows.items }
+    {
+        self.rows.iter().position(|row| row.link == Some(link))
+    }
+}
