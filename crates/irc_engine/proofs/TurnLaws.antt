@@ -2,7 +2,7 @@
 use Rattle.std.proofs.Common.{◌≡◌, ℕ, ◌<◌, false, IsErrAnd, Result, Ok, Err, OnOk, List, ◌⊎◌, inl, inr, sym, subst}
 use Rattle.irc_outbox.specs.declared.wire.Ready.{Ready}
 use Rattle.irc_outbox.specs.declared.wire.Ready.TheVariants.{Idle, Writable}
-use Rattle.irc_outbox.specs.Calls.{Call, asks, Adds}
+use Rattle.irc_outbox.specs.Calls.{Call, asks, Adds, Keeps}
 use Rattle.irc_engine.specs.declared.engine.Core.{Core}
 use Rattle.irc_engine.specs.declared.engine.Rooms.{Rooms}
 use Rattle.irc_engine.specs.declared.engine.EngineFault.{EngineFault}
@@ -11,6 +11,11 @@ use Rattle.irc_engine.specs.Loops.Connections.{IsMarkedAt, KeepsNotes}
 use Rattle.irc_engine.specs.Loops.Moments.{moment_of}
 use Rattle.irc_engine.proofs.RunLaws.{ran_none}
 use Rattle.irc_engine.specs.Turning.{EngineView, Taken, takes_it, runs_out, Turned, takes_turn, wants_memory, Turns, Runs, stopped}
+
+-- a call behind something that is no call
+pub kept_then : {W : Type 0} (is_after : W → List Call → Type 0) (old between new : W) (call : Call) → Keeps is_after old between
+    → Adds is_after between call new → Adds is_after old call new
+kept_then is_after old between new call keeps adds calls after = adds calls (keeps calls after)
 
 module _ {W : Type 0} (is_after : W → List Call → Type 0) (old new : EngineView W) (ready : Ready) (asked : W) where
   pub turned_from : (result : Result (Unit {0}) EngineFault) → old.failed ≡ false → Adds is_after old.now.wire (asks (Ok ready)) asked

@@ -1,7 +1,8 @@
 //! An engine: one server over a wire.
 ghost use Rattle.std.specs.Prelude.{◌≡◌, ◌≤◌, true, Ok, [], ◌∷◌, length, IfOk, OnOk};
+ghost use Rattle.irc_outbox.specs.Calls.{Keeps};
 ghost use Rattle.irc_engine.specs.Loops.Counts.{count_of};
-ghost use Rattle.irc_engine.specs.Loops.Moments.{came, engine_view, moment_of, passed_on, AsksFor, HearsFrom, IsNobodyNoted, KeepsOrder, KeepsTold, Spans};
+ghost use Rattle.irc_engine.specs.Loops.Moments.{came, engine_view, knows_at, yields_at, moment_of, passed_on, AsksFor, HearsFrom, IsNobodyNoted, KeepsOrder, KeepsTold, Spans};
 ghost use Rattle.irc_engine.specs.Loops.Connections.{KeepsMarks, KeepsNotes};
 ghost use Rattle.irc_engine.specs.Running.{AllTold, Answers, AsksOnce, Does, Flushes, PassesOn, RanOn, Reads, Starts, TellsLosses};
 ghost use Rattle.irc_engine.specs.Turning.{brings_nothing, HasFailed, IsNew, Runs, Taken, Turned};
@@ -11,6 +12,7 @@ use crate::connections::{Connections, take_lowest};
 use crate::kind::Kind;
 use irc_batch::Batch;
 use irc_line::Line;
+use irc_names::{ServerName, compare};
 use irc_outbox::{Got, IoFault, Ready, Wire};
 use irc_server::{Event, Server, ServerFault};
 use std::alloc::{AllocError, Global};
@@ -115,6 +117,7 @@ impl<W: Wire> Engine<W> {
         if self.failed {
             return Err(EngineFault::Failed);
         }
+        tell_known(&mut self.core.connections.wire, &self.core.server);
         match self.core.connections.wire.ready() {
             Ok(ready) => self.take(ready),
             Err(_) => Err(EngineFault::Device),
@@ -302,6 +305,37 @@ impl<W: Wire> Core<W> {
             self.tell_losses()?;
         }
         Ok(())
+    }
+}
+
+/// Tells a wire whether the server that it would call is known, if it would call one. Of two that call each other the one with the lesser name yields.
+fn tell_known<W: Wire>(wire: &mut W, server: &Server)
+    ensures { Keeps W.is_after wire.old wire.new }
+{
+    if let Some(name) = wire.would_call() {
+        let is_known = knows(server, name);
+        let yields = yields_to(server, name);
+        wire.know(is_known, yields);
+    }
+}
+
+/// Whether a server knows another, by any way, or is that one. One for which memory ran out calls nobody any more.
+fn knows(server: &Server, name: &ServerName) -> bool
+    ensures { result ≡ knows_at server.now name.now }
+{
+    match server.routes() {
+        Some(routes) => routes.is_known(name.as_bytes()),
+        None => true,
+    }
+}
+
+/// Whether a server's name is less than another's.
+fn yields_to(server: &Server, name: &ServerName) -> bool
+    ensures { result ≡ yields_at server.now name.now }
+{
+    match server.routes() {
+        Some(routes) => compare(routes.name().as_bytes(), name.as_bytes()).is_lt(),
+        None => true,
     }
 }
 

@@ -1,12 +1,14 @@
 //! Calls of other servers.
-ghost use Rattle.std.specs.Prelude.{◌≡◌, IfOk};
+ghost use Rattle.std.specs.Prelude.{◌≡◌, IfOk, OnOk};
 
 use irc_names::ServerName;
+use irc_turns::Retries;
 use mio::net::TcpStream;
 use mio::{Interest, Registry, Token};
 use std::alloc::{AllocError, Global};
 use std::io::ErrorKind;
 use std::net::{Net, SocketAddr};
+use std::{io, net};
 
 /// A server that is to be called.
 #[derive(Drop)]
@@ -15,7 +17,7 @@ pub struct Callee {
     pub name: ServerName,
     /// Where it listens for servers.
     pub address: SocketAddr,
-    /// After how many seconds it is called again, if it is.
+    /// For how many seconds it is unknown at least before it is called again; none where it is called once.
     pub retry: Option<u16>,
 }
 
@@ -33,7 +35,10 @@ enum Standing {
     Failed,
 }
 
-/// Calls of other servers, each made once.
+/// What a wire was opened with: mio asks for a `Net` with each call, and uses none. It opens nothing itself.
+struct Granted;
+
+/// Calls of other servers: which is due, `irc_turns` tells.
 #[derive(Drop)]
 pub(crate) struct Calls {
     /// Who was to be called.
@@ -42,6 +47,10 @@ pub(crate) struct Calls {
     under_way: Vec<Calling, Global>,
     /// Whether some of them may be.
     may_have: bool,
+    /// When each is called again.
+    pub retries: Retries,
+    /// The one that would be called, if it is not known.
+    looked_at: Option<usize>,
 }
 
 impl Calls {
@@ -51,7 +60,7 @@ impl Calls {
     /// # Errors
     /// Where memory runs out.
     pub fn begin<T: Net>(
-        net: &T,
+        _net: &T,
         alloc: Global,
         asked: Vec<Callee, Global>,
         registry: &Registry,
@@ -59,17 +68,51 @@ impl Calls {
     ) -> Result<Self, AllocError>
         ensures { IfOk result (λ calls. calls.asked ≡ asked) }
     {
-        let mut under_way = Vec::with_capacity(alloc, asked.len())?;
-        for (place, callee) in asked.iter().enumerate() {
-            if let Some(stream) = begin_call(net, callee.address, registry, token) {
-                add(&mut under_way, Calling { stream, place })?;
-            }
-        }
-        Ok(Calls {
+        let mut calls = Calls {
+            under_way: Vec::with_capacity(alloc, asked.len())?,
+            retries: Retries::new(alloc),
             asked,
-            under_way,
             may_have: false,
-        })
+            looked_at: None,
+        };
+        calls.begin_all(registry, token)?;
+        Ok(calls)
+    }
+
+    fn begin_all(&mut self, registry: &Registry, token: Token) -> Result<(), AllocError>
+        ensures { OnOk result (self.new.asked ≡ self.old.asked) }
+    {
+        for place in 0..self.asked.len() {
+            let after = self.retry_of(place);
+            self.retries.add(after)?;
+            self.call(place, false, registry, token);
+        }
+        Ok(())
+    }
+
+    /// After how many milliseconds the one at a place is called again, if it is.
+    fn retry_of(&self, place: usize) -> Option<u64> {
+        let seconds = self.asked.get(place)?.retry?;
+        Some(u64::from(seconds) * 1000)
+    }
+
+    /// Calls the one at a place, the first time or again.
+    fn call(&mut self, place: usize, is_again: bool, registry: &Registry, token: Token)
+        ensures { self.new.asked ≡ self.old.asked }
+    {
+        self.retries.begin(place, is_again);
+        if self.try_call(place, registry, token).is_none() {
+            self.retries.end(place);
+        }
+    }
+
+    /// Begins a call; nothing, where the system refuses, or memory runs out.
+    fn try_call(&mut self, place: usize, registry: &Registry, token: Token) -> Option<()>
+        ensures { self.new.asked ≡ self.old.asked }
+    {
+        let address = self.asked.get(place)?.address;
+        let stream = begin_call(address, registry, token)?;
+        self.under_way.push(Calling { stream, place }).ok()
     }
 
     /// Whether some may be through, or have failed.
@@ -83,22 +126,57 @@ impl Calls {
         true
     }
 
-    /// A call that is through, and whom it has reached. Those that have failed are given up.
-    pub fn next(&mut self) -> Option<(TcpStream, ServerName)> {
+    /// A call that is through, and the place of whom it has reached. Those that have failed are given up.
+    pub fn next(&mut self) -> Option<(TcpStream, usize)> {
         let mut at = 0;
         while at < self.under_way.len() {
             match self.under_way[at].standing() {
                 Standing::UnderWay => at += 1,
                 Standing::Through => {
                     let calling = self.under_way.swap_remove(at);
-                    let name = self.asked.get(calling.place)?.name.copy();
-                    return Some((calling.stream, name));
+                    return Some((calling.stream, calling.place));
                 }
-                Standing::Failed => drop(self.under_way.swap_remove(at)),
+                Standing::Failed => {
+                    let calling = self.under_way.swap_remove(at);
+                    self.retries.end(calling.place);
+                }
             }
         }
         self.may_have = false;
         None
+    }
+
+    /// The call of the one at a place is a link of this number now, and has this name.
+    pub fn reach(&mut self, place: usize, link: u64) -> Option<ServerName> {
+        self.retries.reach(place, link);
+        Some(self.asked.get(place)?.name.copy())
+    }
+
+    /// A connection was closed, which may be a link that a call has become.
+    pub fn close(&mut self, link: u64) {
+        if let Some(place) = self.retries.place_of(link) {
+            self.retries.end(place);
+        }
+    }
+
+    /// Looks at the next of those that are called.
+    pub fn look(&mut self) {
+        self.looked_at = self.retries.next();
+    }
+
+    /// The one that would be called, if it is not known.
+    pub fn would_call(&self) -> Option<&ServerName> {
+        let place = self.looked_at?;
+        Some(&self.asked.get(place)?.name)
+    }
+
+    /// Takes in whether that one is known, and calls it where that is due.
+    pub fn know(&mut self, is_known: bool, yields: bool, registry: &Registry, token: Token) {
+        if let Some(place) = self.looked_at.take()
+            && self.retries.see(place, is_known, yields)
+        {
+            self.call(place, true, registry, token);
+        }
     }
 }
 
@@ -121,21 +199,26 @@ impl Calling {
     }
 }
 
+/// It opens nothing.
+impl Net for Granted {
+    type Stream = net::TcpStream;
+
+    type Listener = net::TcpListener;
+
+    fn bind(&self, _address: SocketAddr) -> io::Result<net::TcpListener> {
+        Err(io::Error::from(ErrorKind::Unsupported))
+    }
+
+    fn connect(&self, _address: SocketAddr) -> io::Result<net::TcpStream> {
+        Err(io::Error::from(ErrorKind::Unsupported))
+    }
+}
+
 /// Begins to call; nothing, where the system refuses.
-fn begin_call<T: Net>(
-    net: &T,
-    address: SocketAddr,
-    registry: &Registry,
-    token: Token,
-) -> Option<TcpStream> {
-    let mut stream = TcpStream::connect(net, address).ok()?;
+fn begin_call(address: SocketAddr, registry: &Registry, token: Token) -> Option<TcpStream> {
+    let mut stream = TcpStream::connect(&Granted, address).ok()?;
     registry
         .register(&mut stream, token, Interest::WRITABLE)
         .ok()?;
     Some(stream)
-}
-
-fn add(under_way: &mut Vec<Calling, Global>, calling: Calling) -> Result<(), AllocError> {
-    under_way.push(calling)?;
-    Ok(())
 }

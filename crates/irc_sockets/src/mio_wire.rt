@@ -25,6 +25,9 @@ const WAIT: u64 = 100;
 /// And how many while somebody is held back, since these waits are all that tells the time.
 const SHORT_WAIT: u64 = 10;
 
+/// And how many while a server is waited for that is to be called again: only a wait that nothing has ended counts for that.
+const SHORTEST_WAIT: u64 = 1;
+
 /// How many things the system reports at once.
 const EVENTS: usize = 1024;
 
@@ -55,8 +58,8 @@ pub struct MioWire {
 }
 
 impl MioWire {
-    /// Listens for clients, and for links if there is an address for them, and then calls each of these servers once. One that cannot be reached
-    /// is passed over, and no call is waited for.
+    /// Listens for clients, and for links if there is an address for them, and then calls each of these servers. No call is waited for. One that
+    /// cannot be reached, or whose link ends, is called again where it is to be, while it is not known.
     ///
     /// # Errors
     /// Where the system does not let it listen; where memory runs out.
@@ -121,7 +124,10 @@ impl MioWire {
         if is_over && wait > 0 {
             self.wake_doors();
         }
-        self.sockets.holding.pass(if is_over { wait } else { 0 });
+        let waited = if is_over { wait } else { 0 };
+        self.sockets.holding.pass(waited);
+        self.calls.retries.pass(waited);
+        self.calls.look();
         let has_arrived = self.take_events();
         self.sockets.let_go();
         self.round.begin(self.sockets.waiting(), has_arrived);
@@ -133,6 +139,8 @@ impl MioWire {
         let is_busy = self.sockets.waiting() > 0 || self.has_arrivals() || self.round.has_more;
         if is_busy {
             0
+        } else if self.calls.retries.are_waiting() {
+            SHORTEST_WAIT
         } else if self.sockets.holding.is_empty() {
             WAIT
         } else {
@@ -221,17 +229,26 @@ impl MioWire {
     /// The report of a server that has connected, likewise.
     fn link(&mut self) -> Option<Ready> {
         let (stream, _) = self.links.as_mut()?.accept()?;
+        self.calls.retries.come();
         let number = self.admit(stream, false)?;
         Some(Ready::Linked(number, None))
     }
 
     /// The report of a server that was called and is reached, likewise.
     fn called(&mut self) -> Option<Ready> {
-        let (mut stream, name) = self.calls.next()?;
-        // from now on the system is to report it as a connection, under its number
-        self.poll.registry().deregister(&mut stream).ok()?;
-        let number = self.admit(stream, false)?;
+        let (stream, place) = self.calls.next()?;
+        let Some(number) = self.admit_called(stream) else {
+            self.calls.retries.end(place);
+            return None;
+        };
+        let name = self.calls.reach(place, number)?;
         Some(Ready::Linked(number, Some(name)))
+    }
+
+    /// Takes in the connection of a call. From now on the system is to report it as that, under its number.
+    fn admit_called(&mut self, mut stream: TcpStream) -> Option<u64> {
+        self.poll.registry().deregister(&mut stream).ok()?;
+        self.admit(stream, false)
     }
 
     /// Takes a connection of a client or a link in, and gives it a number.
@@ -312,12 +329,16 @@ impl Wire for MioWire {
     fn close(&mut self, conn: u64) {
         self.sockets.remove(conn as usize);
         self.crowd.forget(conn);
+        self.calls.close(conn);
         self.wake_doors();
     }
 
     fn would_call(&self) -> Option<&ServerName> {
-        None
+        self.calls.would_call()
     }
 
-    fn know(&mut self, _is_known: bool, _yields: bool) {}
+    fn know(&mut self, is_known: bool, yields: bool) {
+        self.calls
+            .know(is_known, yields, self.poll.registry(), Token(CALLS));
+    }
 }

@@ -1,4 +1,5 @@
-//! Whose turn is next, and how much one takes: rounds, gathered writes, paces, what was read, who is held back, and who is let in. Nothing here knows a socket.
+//! Whose turn is next, how much one takes, and which call is due: rounds, gathered writes, paces, what was read, who is held back, who is let in, and
+//! who is called again. Nothing here knows a socket.
 #![tactic(auto)]
 
 mod crowd;

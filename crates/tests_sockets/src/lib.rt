@@ -4,6 +4,8 @@
 #[cfg(test)]
 mod calling;
 #[cfg(test)]
+mod calling_again;
+#[cfg(test)]
 mod calls;
 #[cfg(test)]
 mod conversation;

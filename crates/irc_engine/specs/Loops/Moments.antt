@@ -1,12 +1,16 @@
 -- The engine's parts as one moment.
-use Rattle.std.specs.Prelude.{◌≡◌, ℕ, false, Option, Some, None, Result, Ok, Err, List, [], ◌∷◌, take}
+use Rattle.std.specs.Prelude.{◌≡◌, ℕ, Bool, true, false, Option, Some, None, Result, Ok, Err, List, [], ◌∷◌, take}
 use Rattle.irc_outbox.specs.declared.wire.Got.{Got}
 use Rattle.irc_outbox.specs.declared.wire.Got.TheVariants.{Bytes, Later, End}
 use Rattle.irc_outbox.specs.declared.wire.IoFault.{IoFault}
 use Rattle.irc_outbox.specs.Calls.{Call}
+use Rattle.std.specs.Ordering.{is_lt}
 use Rattle.std.specs.Vec.{vec_len}
 use Rattle.arrayvec.specs.ArrayVec.{ArrayVec}
 use Rattle.irc_server.specs.declared.event.Event.{Event}
+use Rattle.irc_names.specs.Fold.{name_cmp}
+use Rattle.irc_routes.specs.Known.{is_known}
+use Rattle.irc_stage.specs.View.{View}
 use Rattle.irc_engine.specs.declared.engine.Core.{Core}
 use Rattle.irc_engine.specs.declared.engine.Engine.{Engine}
 use Rattle.irc_engine.specs.declared.kind.Kind.{Kind}
@@ -41,6 +45,16 @@ HearsFrom is_after conn count old new = Ran is_after [] [] (only_of conn (take c
 -- an engine, as those who have one see it
 abbrev pub engine_view : {W : Type 0} → Engine W → EngineView W
 engine_view engine = record { failed = engine.failed; rooms = engine.rooms; now = moment_of engine.core }
+
+-- whether a server knows another, by any way, or is that one; one for which memory ran out is taken for one that does
+abbrev pub knows_at : Option View → List ℕ → Bool
+knows_at None name = true
+knows_at (Some view) name = is_known view.routes name
+
+-- whether a server's name is less than another's, by their folds
+abbrev pub yields_at : Option View → List ℕ → Bool
+yields_at None name = true
+yields_at (Some view) name = is_lt (name_cmp view.routes.name name)
 
 -- how many bytes a read gave; none, where it ended or failed
 abbrev pub came : Result Got IoFault → Option ℕ

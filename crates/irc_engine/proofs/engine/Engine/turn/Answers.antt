@@ -1,7 +1,7 @@
 use Rattle.std.proofs.Common.{refl, subst}
 use Rattle.irc_outbox.specs.Calls.{asks, Adds}
 use Rattle.irc_engine.specs.Turning.{device_failed, has_failed}
-use Rattle.irc_engine.proofs.TurnLaws.{turned_from}
+use Rattle.irc_engine.proofs.TurnLaws.{kept_then, turned_from}
 use Rattle.irc_engine.proofs.engine.Engine.turn.Goals as goal
 
 pub returns-then-self-clause-turned : goal.returns-then-self-clause-turned
@@ -10,9 +10,11 @@ returns-then-self-clause-turned g c = has_failed c.if-self.true refl
 pub returns-in-Ok-clause-turned : goal.returns-in-Ok-clause-turned
 returns-in-Ok-clause-turned g c =
     turned_from _ _ _ _ _ _ c.if-self.false
-    (subst (λ r. Adds g.W.Wire.is_after c.args.self.now.core.connections.wire (asks r) c.ready.new.self) c.in-Ok.is c.ready.ensures) c.take.ensures
+    (kept_then g.W.Wire.is_after _ _ _ _ c.tell_known.ensures
+    (subst (λ r. Adds g.W.Wire.is_after c.tell_known.new.wire (asks r) c.ready.new.self) c.in-Ok.is c.ready.ensures)) c.take.ensures
 
 pub returns-in-Err-clause-turned : goal.returns-in-Err-clause-turned
 returns-in-Err-clause-turned g c =
     device_failed c.in-Err.field-0 c.if-self.false c.if-self.false refl
-    (subst (λ r. Adds g.W.Wire.is_after c.args.self.now.core.connections.wire (asks r) c.ready.new.self) c.in-Err.is c.ready.ensures) refl
+    (kept_then g.W.Wire.is_after _ _ _ _ c.tell_known.ensures
+    (subst (λ r. Adds g.W.Wire.is_after c.tell_known.new.wire (asks r) c.ready.new.self) c.in-Err.is c.ready.ensures)) refl
