@@ -1,8 +1,7 @@
 -- When a server is called again.
-use Rattle.std.specs.Prelude.{ℕ, Bool, true, false, not, ◌&&◌, ◌-◌, ◌*◌, min, nat_eq, nat_le, nat_lt, if◌then◌else◌, Option, Some, None, is_none, is_some, List, length, ◌+◌, set}
-use Rattle.std.specs.List.{slice_get, list_any}
+use Rattle.std.specs.Prelude.{ℕ, Bool, true, false, not, ◌&&◌, ◌-◌, ◌*◌, min, nat_eq, nat_le, nat_lt, if◌then◌else◌, Option, Some, None, is_none, is_some, List, ◌+◌, set}
+use Rattle.std.specs.List.{slice_get}
 use Rattle.irc_turns.specs.declared.retry.Retry.{Retry}
-use Rattle.irc_turns.specs.declared.retries.Retries.{Retries}
 
 -- one that is called after so many milliseconds again, or once, and was not called yet
 abbrev pub not_called : Option ℕ → Retry
