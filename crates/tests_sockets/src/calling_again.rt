@@ -1,7 +1,7 @@
 //! Calls that are made again: a wire calls who is not known once it was so for long enough, and nobody who is.
 use irc_names::ServerName;
 use irc_outbox::{Ready, Wire};
-use irc_sockets::{Callee, MioWire};
+use irc_sockets::{Callee, Listening, MioWire};
 use std::net::SocketAddr;
 
 /// How often a wire is asked while a second has to pass, in which it waits a millisecond each time, or 100 where it waits for nobody.
@@ -17,7 +17,12 @@ fn loopback() -> Option<SocketAddr> {
 /// A wire that listens for clients, and for links.
 fn listens(rt: &HostRuntime) -> Option<MioWire> {
     let free = loopback()?;
-    MioWire::listen(rt, rt.alloc(), free, Some(free), Vec::new(rt.alloc())).ok()
+    let listening = Listening {
+        clients: free,
+        links: Some(free),
+        connections_per_address: None,
+    };
+    MioWire::listen(rt, rt.alloc(), listening, Vec::new(rt.alloc())).ok()
 }
 
 /// A wire that calls `b.net` there, and again after so many seconds.
@@ -31,7 +36,12 @@ fn calls(rt: &HostRuntime, address: SocketAddr, retry: Option<u16>) -> Option<Mi
             retry,
         })
         .ok()?;
-    MioWire::listen(rt, rt.alloc(), loopback()?, None, callees).ok()
+    let listening = Listening {
+        clients: loopback()?,
+        links: None,
+        connections_per_address: None,
+    };
+    MioWire::listen(rt, rt.alloc(), listening, callees).ok()
 }
 
 /// The number of the next link of a wire that is told each time whether the server that it would call is known.
