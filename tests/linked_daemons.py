@@ -18,8 +18,8 @@
   files    the three files of examples/network, on other ports, are a network of three, and are again when any of them was killed and started
   late     a server that comes a second after it was called is called again, and linked
   again    the middle one is killed thirty times and started again, while people talk: each time it is called again, and all rooms are alike then
-  crossing two that call each other at once behind a delay are linked each time, and stay so
-  ring     three of which each two are to be linked: all know each other, and then no link is lost
+  crossing two whose calls of each other cross behind a delay are linked each time, and stay so
+  ring     three of which each two are to be linked: all know each other within ten seconds, and then no link is lost
   flooding a client that floods another server without end is slowed: the link stays, and nobody else waits, on this machine and over a slow line
   probed   the system asks after both ends of a link
 
@@ -759,7 +759,7 @@ class Talk(threading.Thread):
                 person.says(f"PRIVMSG {self.channel} :{self.lines}")
                 person.is_open()
                 self.lines += 1
-            time.sleep(0.005)
+            time.sleep(0.05)
 
     def ends(self):
         self.is_over = True
@@ -801,8 +801,9 @@ def again(program):
                 network.see_all("a.net", 1)
                 network["b.net"].start()
                 start = time.monotonic()
+                # the seconds until a call are those of waits that nobody ends, so talk makes them longer
                 for server in network.daemons:
-                    network.see_all(server, 3)
+                    network.see_all(server, 3, seconds=60)
                 longest = max(longest, time.monotonic() - start)
                 bo = network.person("b.net", f"bo{number}").joins("#den")
                 al.sees(f"^:bo{number}![^ ]+ JOIN #den$")
@@ -818,9 +819,9 @@ def again(program):
 
 class Line(threading.Thread):
     """A line between two servers: takes calls at a port of its own, and hands on what is sent either way, so many seconds later, and no more than so
-    many bytes a second."""
+    many bytes a second. The first call waits until the gate is open."""
 
-    def __init__(self, network, target, delay=0.0, rate=None):
+    def __init__(self, network, target, delay=0.0, rate=None, gate=None):
         super().__init__(daemon=True)
         self.door = network.keep(socket.create_server(("127.0.0.1", 0)))
         self.port = self.door.getsockname()[1]
@@ -828,12 +829,16 @@ class Line(threading.Thread):
         self.target = target
         self.delay = delay
         self.rate = rate
+        self.gate = gate
         self.start()
 
     def run(self):
         while True:
             try:
                 near = self.network.keep(self.door.accept()[0])
+                if self.gate is not None:
+                    self.gate.wait(SECONDS)
+                    self.gate = None
                 far = self.network.keep(socket.create_connection(("127.0.0.1", self.target)))
             except OSError:
                 if self.door.fileno() < 0:
@@ -870,31 +875,41 @@ class Line(threading.Thread):
                 pass
 
 
+def settles(network, seconds):
+    """Looks for so many seconds at how many servers each counts, and tells when one of them last counted not all."""
+    probes = [network.person(server, "probe" + server[0]) for server in network.daemons]
+    start = time.monotonic()
+    last = 0.0
+    while (now := time.monotonic() - start) < seconds:
+        for probe in probes:
+            probe.says("LUSERS")
+            if f" {len(probes)} servers" not in probe.sees(r" 251 "):
+                last = now
+        time.sleep(0.02)
+    for probe in probes:
+        probe.leaves()
+    return last
+
+
 def crossing(program):
     longest = 0.0
     for _ in range(20):
         with Network(program, ["a.net", "b.net"], []) as network:
+            gate = threading.Barrier(2)
             for caller, called in (("a.net", "b.net"), ("b.net", "a.net")):
-                network[caller].knows(called, Line(network, network[called].links, delay=0.02).port, retry=1)
+                network[caller].knows(called, Line(network, network[called].links, delay=0.02, gate=gate).port, retry=1)
             for server in network.daemons:
                 network[server].begin()
             for server in network.daemons:
                 network[server].is_ready()
-            start = time.monotonic()
-            network.see_all("a.net", 2, seconds=10)
-            network.see_all("b.net", 2, seconds=10)
-            longest = max(longest, time.monotonic() - start)
-            al, bo = network.person("a.net", "al").joins("#den"), network.person("b.net", "bo").joins("#den")
-            al.sees("^:bo![^ ]+ JOIN #den$")
-            time.sleep(2)
-            if not are_well(network, al, bo):
-                return told("crossing", False, "a link that was there was lost")
-    return told("crossing", longest < 10, f"two that call each other behind 20 ms were linked 20 times, after {longest:.2f} s at most, and stayed so")
+            longest = max(longest, settles(network, 12))
+    return told("crossing", longest < 10, f"two whose calls of each other crossed behind 20 ms were linked 20 times, after {longest:.2f} s at most, and stayed so")
 
 
 def ring(program):
-    """Each of the first two is linked to the other before the third one, which calls both, is there."""
-    for number in range(10):
+    """Two are linked as the third one calls both of them."""
+    longest = 0.0
+    for _ in range(10):
         with Network(program, ["a.net", "b.net", "c.net"], []) as network:
             for caller, called in (("b.net", "a.net"), ("c.net", "a.net"), ("c.net", "b.net")):
                 network[caller].knows(called, Line(network, network[called].links, delay=0.02).port, retry=1)
@@ -903,18 +918,8 @@ def ring(program):
             network["b.net"].start()
             network.see_all("a.net", 2)
             network["c.net"].start()
-            for _ in range(3):
-                # what is known at one moment may be lost by a second way that is told of then
-                for server in network.daemons:
-                    network.see_all(server, 3)
-                time.sleep(1)
-            people_there = [network.person(server, server[0] + "u").joins("#den") for server in network.daemons]
-            time.sleep(4)
-            for one in people_there:
-                one.answers()
-            if any(one.times(" QUIT ") for one in people_there):
-                return told("ring", False, f"in start {number + 1} a link was lost again")
-    return told("ring", True, "ten times the third of three that calls both others was linked, all knew each other, and no link was lost again")
+            longest = max(longest, settles(network, 15))
+    return told("ring", longest < 10, f"ten times a third one called two that were linked: all knew each other after {longest:.2f} s at most, and no link was lost then")
 
 
 CLIENT = """
