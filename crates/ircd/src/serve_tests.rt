@@ -38,7 +38,7 @@ const READY: &[u8] = b"ready\n";
 /// The file that each configuration is written to.
 const FILE: &str = "serve_tests.toml";
 
-static ROWS: [Row; 26] = [
+static ROWS: [Row; 30] = [
     Row {
         room: ROOM,
         more: "",
@@ -242,6 +242,41 @@ static ROWS: [Row; 26] = [
     Row {
         room: ROOM,
         more: "[[peer]]\nname = \"b.net\"\npassword = \"pw\"\nport = 1\n",
+        words: &["serve", FILE, "0"],
+        status: 3,
+        output: b"",
+        errors: BAD,
+    },
+    // one that is called again, and was not there
+    Row {
+        room: ROOM,
+        more: "[[peer]]\nname = \"b.net\"\npassword = \"pw\"\nconnect = \"127.0.0.1:1\"\nretry = 3600\n",
+        words: &["serve", FILE, "3"],
+        status: 0,
+        output: READY,
+        errors: b"",
+    },
+    // one that would be called again, and is not called
+    Row {
+        room: ROOM,
+        more: "[[peer]]\nname = \"b.net\"\npassword = \"pw\"\nretry = 1\n",
+        words: &["serve", FILE, "0"],
+        status: 3,
+        output: b"",
+        errors: BAD,
+    },
+    // the most connections of an address, and none
+    Row {
+        room: ROOM,
+        more: "connections_per_address = 65535\n",
+        words: &["serve", FILE, "0"],
+        status: 0,
+        output: READY,
+        errors: b"",
+    },
+    Row {
+        room: ROOM,
+        more: "connections_per_address = 0\n",
         words: &["serve", FILE, "0"],
         status: 3,
         output: b"",
