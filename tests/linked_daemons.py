@@ -786,7 +786,7 @@ def again(program):
     with Network(program, ["a.net", "b.net", "c.net"], [("a.net", "b.net"), ("c.net", "b.net")], retry=1) as network:
         for name in network.daemons:
             network[name].start()
-        network.see_all("a.net", 3)
+        network.see_all("a.net", 3, seconds=60)
         al, cy = network.person("a.net", "al").joins("#den"), network.person("c.net", "cy").joins("#den")
         al.sees("^:cy![^ ]+ JOIN #den$")
         al.says("MODE #den +tl 40", "TOPIC #den :tea at four")
