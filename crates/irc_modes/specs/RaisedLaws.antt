@@ -14,8 +14,8 @@ use Rattle.irc_modes.specs.ModesSet.{AreWithinLimits, set_changes, ban_changes}
 use Rattle.irc_modes.specs.Raised.{raising, raise_step}
 
 -- all that is set in a channel's modes, as a burst tells it
-abbrev pub told : Modes → List ModeChange
-told modes = set_changes modes ++ ban_changes modes.bans
+abbrev pub all_set : Modes → List ModeChange
+all_set modes = set_changes modes ++ ban_changes modes.bans
 
 -- the modes behind a line of changes, of which those are made that raise something
 abbrev pub line_raised : Modes → List ModeChange → Modes
@@ -30,16 +30,16 @@ RaisedInTurn = (line : List ModeChange) (modes : Modes)
 abbrev pub RaisedIsJoined : Type 0
 RaisedIsJoined = (lines : List (List ModeChange)) (modes other : Modes) → IsBanList modes.bans
     → AreWithinLimits other
-    → flat_map (λ line. line) lines ≡ told other
+    → flat_map (λ line. line) lines ≡ all_set other
     → fold line_raised modes lines ≡ joined_modes modes other
 
 -- of a side's own modes nothing is raised
 abbrev pub NothingRaised : Type 0
-NothingRaised = (modes : Modes) → AreWithinLimits modes → raising (told modes) modes ≡ []
+NothingRaised = (modes : Modes) → AreWithinLimits modes → raising (all_set modes) modes ≡ []
 
 -- ---- their proofs
 
-lines_in_turn : (lines : List (List ModeChange)) (modes : Modes)
+pub lines_in_turn : (lines : List (List ModeChange)) (modes : Modes)
     → fold line_raised modes lines ≡ fold raise_step modes (flat_map (λ line. line) lines)
 lines_in_turn [] modes = refl
 lines_in_turn (line ∷ lines) modes =
