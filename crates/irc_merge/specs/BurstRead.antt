@@ -1,7 +1,7 @@
 -- What the lines of a burst do at a server that reads them (RFC 2813 section 5.3.2, RFC 2812 section 3.7.1). They crossed the lines of its own burst, so nicknames may
 -- be on both sides, and so may channels.
 use Rattle.std.specs.Prelude.{ℕ, Bool, false, not, ◌&&◌, List, [], ◌∷◌, ◌++◌, if◌then◌else◌}
-use Rattle.std.specs.List.{list_all}
+use Rattle.std.specs.List.{list_any}
 use Rattle.std.specs.Option.{option_map_or}
 use Rattle.std.specs.FinMap.{keys}
 use Rattle.irc_names.specs.Fold.{key}
@@ -36,16 +36,17 @@ abbrev pub brought : List ℕ → List ℕ → List (List ℕ × Flags) → List
 brought server channel [] = []
 brought server channel (member ∷ members) = brings server channel (member ∷ members) ∷ []
 
--- whether a channel is there, and all its members are behind the link (our own choice)
-abbrev pub all_far : (List ℕ → Bool) → Room → List ℕ → Bool
-all_far far room channel = option_map_or (λ (c : Channel). list_all (home_passes far room.users) (keys c.members)) (row room.channels (key channel)) false
+-- whether a channel is there, and has a member behind the link (our own choice)
+abbrev pub some_far : (List ℕ → Bool) → Room → List ℕ → Bool
+some_far far room channel =
+    option_map_or (λ (c : Channel). list_any (home_passes far room.users) (keys c.members)) (row room.channels (key channel)) false
 
 -- what comes of a line of a burst, read by the server `own`; homes that are `far` are behind the link
 abbrev pub read_deed : List ℕ → (List ℕ → Bool) → Room → Deed → List Deed
 read_deed own far room (does (AddUser user)) = introduced own room user
 read_deed own far room (brings server channel members) = brought server channel (new_members far room channel members)
-read_deed own far room (sets server channel changes) = if all_far far room channel then sets server channel changes ∷ [] else []
-read_deed own far room (tops server channel topic) = if all_far far room channel then tops server channel topic ∷ [] else []
+read_deed own far room (sets server channel changes) = if some_far far room channel then sets server channel changes ∷ [] else []
+read_deed own far room (tops server channel topic) = if some_far far room channel then tops server channel topic ∷ [] else []
 read_deed own far room other = other ∷ []
 
 -- what comes of some lines, each read in the room that those before it have left

@@ -3,7 +3,9 @@
 use Rattle.std.specs.Prelude.{◌≡◌, ℕ, Option, Some, None, List, is_some, filter}
 use Rattle.std.specs.FinMap.{values, empty}
 use Rattle.irc_names.specs.Fold.{key}
+use Rattle.irc_names.specs.Greater.{bytes_cmp, greater}
 use Rattle.irc_names.specs.Tables.{row, each, both}
+use Rattle.irc_modes.specs.Joined.{joined_modes}
 use Rattle.irc_users.specs.declared.user.User.{User}
 use Rattle.irc_channels.specs.declared.channel.Channel.{Channel}
 use Rattle.irc_room.specs.Room.{Room}
@@ -35,9 +37,16 @@ abbrev pub either : {X : Type 0} → Option X → Option X → Option X
 either (Some x) other = Some x
 either None other = other
 
--- a channel with the members and the invited of both
+-- Two descriptions of one channel, joined (our own choice): of two spellings and of two topics the greater by bytes, where no topic is
+-- the least; the modes of both; the members and the invited of both.
 abbrev pub one_channel : Channel → Channel → Channel
-one_channel one other = record one { members = both either one.members other.members; invited = both either one.invited other.invited }
+one_channel one other = record {
+  name = greater bytes_cmp one.name other.name;
+  modes = joined_modes one.modes other.modes;
+  topic = greater bytes_cmp one.topic other.topic;
+  members = both either one.members other.members;
+  invited = both either one.invited other.invited;
+}
 
 abbrev pub joined_channel : Option Channel → Option Channel → Option Channel
 joined_channel (Some one) (Some other) = Some (one_channel one other)

@@ -1,16 +1,25 @@
 -- What the users of one half are shown when two halves of a network become one (RFC 2813 section 5.3.2).
-use Rattle.std.specs.Prelude.{ℕ, Bool, None, List, [], ◌∷◌, ◌++◌, codes, if◌then◌else◌}
-use Rattle.std.specs.List.{flat_map}
+use Rattle.std.specs.Prelude.{ℕ, Bool, None, List, [], ◌∷◌, ◌++◌, Some, codes, if◌then◌else◌}
+use Rattle.std.specs.List.{filter_map, flat_map}
+use Rattle.std.specs.Ordering.{is_lt}
 use Rattle.std.specs.Option.{option_map_or}
 use Rattle.std.specs.FinMap.{entries, values}
 use Rattle.irc_names.specs.Fold.{key}
+use Rattle.irc_names.specs.Greater.{bytes_cmp, greater}
 use Rattle.irc_names.specs.Tables.{Table, row}
 use Rattle.irc_line.specs.Messages.{named, full, text}
 use Rattle.irc_users.specs.declared.user.User.{User}
 use Rattle.irc_channels.specs.declared.flags.Flags.{Flags}
 use Rattle.irc_channels.specs.declared.channel.Channel.{Channel}
 use Rattle.irc_channels.specs.Channels.{has_member}
+use Rattle.irc_modes.specs.declared.modes.Modes.{Modes}
+use Rattle.irc_modes.specs.declared.modes.ModeChange.{ModeChange}
+use Rattle.irc_modes.specs.Modes.{modes_after}
+use Rattle.irc_modes.specs.ModesSet.{set_changes, ban_changes}
+use Rattle.irc_modes.specs.Raised.{raising}
+use Rattle.irc_mode_words.specs.ModeWritten.{letters_text}
 use Rattle.irc_room.specs.Room.{Room}
+use Rattle.irc_merge.specs.Bursts.{bans_a_line, in_lines}
 use Rattle.irc_merge.specs.ShownAlong.{shown_along}
 use Rattle.irc_merge.specs.Quits.{quits_of, collision_text}
 use Rattle.irc_merge.specs.Merge.{clash, room_without}
@@ -33,10 +42,49 @@ arrival viewer channel flags user =
 abbrev pub member_arrival : Table User → User → List ℕ → List ℕ × Flags → List (List ℕ)
 member_arrival users viewer channel member = option_map_or (arrival viewer channel member.1) (row users member.0) []
 
--- of all members of the other half's channel, in folded order, for one who is a member of this half's
+-- the letters that are set in one line, where there are any
+abbrev pub letters_line : List ModeChange → List (List ModeChange)
+letters_line [] = []
+letters_line (change ∷ changes) = (change ∷ changes) ∷ []
+
+-- the modes of a channel line by line: the letters that are set, and the bans three a line
+abbrev pub mode_lines : Modes → List (List ModeChange)
+mode_lines modes = letters_line (set_changes modes) ++ in_lines bans_a_line (ban_changes modes.bans)
+
+-- MODE with which the viewer's own server makes changes, where there are any
+abbrev pub raised_line : User → List ℕ → List ModeChange → List (List ℕ)
+raised_line viewer channel [] = []
+raised_line viewer channel (change ∷ changes) =
+    text (record {
+      sender = named viewer.home;
+      command = codes "MODE";
+      middle = channel ∷ letters_text (change ∷ changes) ∷ filter_map (λ (c : ModeChange). c.word) (change ∷ changes);
+      last = None;
+    }) ∷ []
+
+-- of each of these lines what raises something, by the modes as the lines before have left them
+abbrev pub raised_lines : User → List ℕ → List (List ModeChange) → Modes → List (List ℕ)
+raised_lines viewer channel [] modes = []
+raised_lines viewer channel (line ∷ lines) modes =
+    raised_line viewer channel (raising line modes)
+    ++ raised_lines viewer channel lines (modes_after (raising line modes) modes)
+
+-- TOPIC by the viewer's own server, where the other half's is greater
+abbrev pub raised_topic : User → List ℕ → List ℕ → List ℕ → List (List ℕ)
+raised_topic viewer channel ours theirs =
+    if is_lt (bytes_cmp ours theirs) then
+      text (record { sender = named viewer.home; command = codes "TOPIC"; middle = channel ∷ []; last = Some theirs }) ∷ []
+    else []
+
+-- What of the other half's channel a member of this half's is shown: all its members, in folded order; what its modes raise; its topic.
+-- Each line has the greater of the two spellings.
 abbrev pub channel_arrivals : Room → User → Channel → Channel → List (List ℕ)
 channel_arrivals other viewer theirs ours =
-    if has_member (key viewer.nick) ours then flat_map (member_arrival other.users viewer ours.name) (entries theirs.members) else []
+    if has_member (key viewer.nick) ours then
+      let name = greater bytes_cmp ours.name theirs.name in
+      flat_map (member_arrival other.users viewer name) (entries theirs.members)
+      ++ (raised_lines viewer name (mode_lines theirs.modes) ours.modes ++ raised_topic viewer name ours.topic theirs.topic)
+    else []
 
 -- channel by channel, in folded order, as far as there are both
 abbrev pub arrivals : Room → Room → User → List (List ℕ)

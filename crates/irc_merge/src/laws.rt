@@ -23,12 +23,12 @@ ghost use Rattle.irc_merge.specs.LimitLaws.{MergeIsWithinLimits, SplitIsWithinLi
 ghost use Rattle.irc_merge.specs.OwnInvitations.{ServerReadsMerge, ServerShowsMerge};
 ghost use Rattle.irc_merge.specs.StayingMembers.{MembersStay};
 
-/// Where two halves of a network agree, the room that they become is the same whichever is named first.
+/// The room that two halves of a network become is the same whichever is named first.
 pub fn merge_is_even()
     ensures { MergeIsEven }
 {}
 
-/// Two well-formed rooms become a well-formed one, whether they agree or not.
+/// Two well-formed rooms become a well-formed one.
 pub fn merge_is_well_formed()
     ensures { MergeIsWellFormed }
 {}
@@ -58,21 +58,21 @@ pub fn squits_split()
     ensures { SquitsSplit }
 {}
 
-/// A burst that is read makes a room just what both halves become: who clashes is gone, everybody else is there, and so are all channels, members,
-/// modes, bans and topics (RFC 2813 section 5.3.2). Invitations alone are not told.
+/// A burst that is read makes a room just what both halves become: who clashes is gone, everybody else is there, and so are all channels and
+/// members, and each channel's spelling, modes, bans and topic are joined (RFC 2813 section 5.3.2). Invitations alone are not told.
 pub fn burst_read_is_merge()
     ensures { BurstReadIsMerge }
 {}
 
 /// A burst that is read shows to each user of this side just what the merge shows: those who clash quit, in order, and then, channel by channel, each
-/// of the other side's members comes, with its flags (RFC 2813 section 5.3.2). The lines are the same, and so is their order.
+/// of the other side's members comes, with its flags, and what its modes and its topic raise (RFC 2813 section 5.3.2). The lines are the same, and
+/// so is their order.
 pub fn shown_is_merge_shown()
     ensures { ShownIsMergeShown }
 {}
 
-/// Each user of a merge is a user of one of the halves, each member has its flags of one of them, who is invited was, and each channel has its name, modes
-/// and topic of one of them; so what holds of all of these
-/// in both halves, as the limits of a room do, holds of the merge.
+/// Each user of a merge is a user of one of the halves, each member has its flags of one of them, who is invited was, and each channel has
+/// its name, modes and topic of one of them, or of two that are joined; so the limits of a room that both halves keep hold of the merge.
 pub fn merge_has_nothing_new()
     ensures { MergeHasNothingNew }
 {}
