@@ -9,7 +9,7 @@ use Rattle.irc_room.specs.OtherInvitations.{AreAlike as AreAlikeRooms}
 use Rattle.irc_merge.specs.Agreeing.{agree}
 use Rattle.irc_merge.specs.Bursts.{burst}
 use Rattle.irc_merge.specs.BurstRead.{read_deed, read_all}
-use Rattle.irc_merge.specs.Deeds.{Deed, does, brings, effects_of, after_deed, shown_by}
+use Rattle.irc_merge.specs.Deeds.{Deed, does, brings, titled, effects_of, after_deed, shown_by}
 
 -- two servers, of two halves, find out by what they have whether the halves agree
 abbrev pub AgreeLooksAtNoInvitation : Type 0
@@ -45,7 +45,8 @@ after_deed_at home room deed = after_deed room deed
 -- a nickname that a user brings is free, and who is brought to a channel is there
 abbrev pub CanComeOf : Room → Deed → Type 0
 CanComeOf room (does effect) = brings_free room effect ≡ true
-CanComeOf room (brings server channel members) = EachInTurn IsPossible room (effects_of room (brings server channel members))
+CanComeOf room (brings server channel members) =
+    EachInTurn IsPossible (titled room (brings server channel members)) (effects_of room (brings server channel members))
 CanComeOf room other = ⊤
 
 -- What a server has of the room after a deed is what the deed makes of what it had.

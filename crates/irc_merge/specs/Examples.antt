@@ -1,16 +1,22 @@
 -- Small networks that are joined, and what their servers tell each other.
 use Rattle.std.specs.Prelude.{◌≡◌, ℕ, true, false, Some, None, List, [], ◌∷◌, ◌++◌, codes, length, map, nat_eq}
 use Rattle.std.specs.Cmp.Lexicographic.{pointwise}
+use Rattle.std.specs.Option.{option_map}
+use Rattle.irc_names.specs.Fold.{key}
+use Rattle.irc_names.specs.Tables.{row}
 use Rattle.irc_line.specs.Bytes.{crlf}
 use Rattle.irc_users.specs.declared.user.User.{User}
 use Rattle.irc_channels.specs.declared.flags.Flags.{Flags}
+use Rattle.irc_channels.specs.declared.channel.Channel.{Channel}
 use Rattle.irc_modes.specs.declared.modes.ModeLetter.TheVariants as letter
+use Rattle.irc_modes.specs.ModesSet.{set_changes}
+use Rattle.irc_mode_words.specs.ModeWritten.{changes_written}
 use Rattle.irc_room.specs.effect.By.TheVariants as by
 use Rattle.irc_room.specs.effect.Effect.{Effect}
 use Rattle.irc_room.specs.effect.Effect.TheVariants.{AddUser, Join, ChangeModes, SetTopic}
 use Rattle.irc_room.specs.Effects.{has_user}
 use Rattle.irc_room.specs.Examples.{room_after, somebody, set, flags_of}
-use Rattle.irc_merge.specs.Deeds.{does, kills, brings, sets, tops}
+use Rattle.irc_merge.specs.Deeds.{Deed, does, kills, brings, sets, tops, effects_of}
 use Rattle.irc_merge.specs.Bursts.{in_lines, members_a_line, burst}
 use Rattle.irc_merge.specs.BurstRead.{read_deed}
 use Rattle.irc_merge.specs.Merge.{merge}
@@ -72,10 +78,48 @@ ChannelsAreJoined =
     × (merge_shown other one (codes "bo") ≡ (codes ":al!u@h JOIN #c" ++ crlf) ∷ (codes ":b.net MODE #c +o al" ++ crlf) ∷ [])
     × (merge_shown one other (codes "an") ≡ [])
 
--- what b.net tells of its topic is not taken where al is in the channel
-abbrev pub TopicIsLeft : Type 0
-TopicIsLeft =
-    read_deed (codes "a.net") (λ home. pointwise nat_eq home (codes "b.net")) (room_after als_side) (tops (codes "b.net") (codes "#c") (codes "hello")) ≡ []
+-- al's #c has modes s and k and a topic, bo's n and another key
+abbrev pub secret_side : List Effect
+secret_side =
+    AddUser (of_a (codes "al")) ∷ Join (codes "al") (codes "#c") true
+    ∷ ChangeModes by.Home (codes "#c") (set letter.Secret None ∷ set letter.Key (Some (codes "aa")) ∷ [])
+    ∷ SetTopic by.Home (codes "#c") (codes "x") ∷ []
+
+abbrev pub keyed_side : List Effect
+keyed_side =
+    AddUser (of_b (codes "bo")) ∷ Join (codes "bo") (codes "#c") true
+    ∷ ChangeModes by.Home (codes "#c") (set letter.NoOutside None ∷ set letter.Key (Some (codes "bb")) ∷ []) ∷ []
+
+-- Nothing that is set is lost, and the greater key is taken. Each sees, behind those who come, what the other side's modes and topic raise.
+abbrev pub ModesAreJoined : Type 0
+ModesAreJoined =
+    let one = room_after secret_side in
+    let other = room_after keyed_side in
+    (merge_shown one other (codes "al")
+    ≡ (codes ":bo!u@h JOIN #c" ++ crlf) ∷ (codes ":a.net MODE #c +o bo" ++ crlf) ∷ (codes ":a.net MODE #c +nk bb" ++ crlf) ∷ [])
+    × (merge_shown other one (codes "bo")
+    ≡ (codes ":al!u@h JOIN #c" ++ crlf) ∷ (codes ":b.net MODE #c +o al" ++ crlf) ∷ (codes ":b.net MODE #c +s" ++ crlf)
+    ∷ (codes ":b.net TOPIC #c :x" ++ crlf) ∷ [])
+    × (option_map (λ (c : Channel). changes_written (set_changes c.modes)) (row (merge one other).channels (key (codes "#c")))
+    ≡ Some (codes "+nsk" ∷ codes "bb" ∷ []))
+    × (option_map (λ (c : Channel). c.topic) (row (merge one other).channels (key (codes "#c"))) ≡ Some (codes "x"))
+
+-- al is in #c, whose topic is `hello`, and bo has come
+abbrev pub bo_has_come : List Effect
+bo_has_come =
+    AddUser (of_a (codes "al")) ∷ Join (codes "al") (codes "#c") true ∷ SetTopic by.Home (codes "#c") (codes "hello")
+    ∷ AddUser (of_b (codes "bo")) ∷ Join (codes "bo") (codes "#c") false ∷ []
+
+abbrev pub topic_of_b : List ℕ → Deed
+topic_of_b topic = tops (codes "b.net") (codes "#c") topic
+
+-- what b.net tells of its topic is read, and left where it is the lesser
+abbrev pub GreaterTopicIsSet : Type 0
+GreaterTopicIsSet =
+    let room = room_after bo_has_come in
+    (read_deed (codes "a.net") (λ home. pointwise nat_eq home (codes "b.net")) room (topic_of_b (codes "hallo")) ≡ topic_of_b (codes "hallo") ∷ [])
+    × (effects_of room (topic_of_b (codes "hallo")) ≡ [])
+    × (effects_of room (topic_of_b (codes "hi")) ≡ SetTopic by.Home (codes "#c") (codes "hi") ∷ [])
 
 -- zed on both sides: on a.net it is in #y with al and alone in #z, on b.net in #z with bo
 abbrev pub zeds_side : List Effect

@@ -1,6 +1,6 @@
 -- What the users of one half are shown when two halves of a network become one (RFC 2813 section 5.3.2).
 use Rattle.std.specs.Prelude.{ℕ, Bool, None, List, [], ◌∷◌, ◌++◌, Some, codes, if◌then◌else◌}
-use Rattle.std.specs.List.{filter_map, flat_map}
+use Rattle.std.specs.List.{flat_map}
 use Rattle.std.specs.Ordering.{is_lt}
 use Rattle.std.specs.Option.{option_map_or}
 use Rattle.std.specs.FinMap.{entries, values}
@@ -17,7 +17,7 @@ use Rattle.irc_modes.specs.declared.modes.ModeChange.{ModeChange}
 use Rattle.irc_modes.specs.Modes.{modes_after}
 use Rattle.irc_modes.specs.ModesSet.{set_changes, ban_changes}
 use Rattle.irc_modes.specs.Raised.{raising}
-use Rattle.irc_mode_words.specs.ModeWritten.{letters_text}
+use Rattle.irc_mode_words.specs.ModeWritten.{changes_written}
 use Rattle.irc_room.specs.Room.{Room}
 use Rattle.irc_merge.specs.Bursts.{bans_a_line, in_lines}
 use Rattle.irc_merge.specs.ShownAlong.{shown_along}
@@ -58,7 +58,7 @@ raised_line viewer channel (change ∷ changes) =
     text (record {
       sender = named viewer.home;
       command = codes "MODE";
-      middle = channel ∷ letters_text (change ∷ changes) ∷ filter_map (λ (c : ModeChange). c.word) (change ∷ changes);
+      middle = channel ∷ changes_written (change ∷ changes);
       last = None;
     }) ∷ []
 
@@ -73,7 +73,7 @@ raised_lines viewer channel (line ∷ lines) modes =
 abbrev pub raised_topic : User → List ℕ → List ℕ → List ℕ → List (List ℕ)
 raised_topic viewer channel ours theirs =
     if is_lt (bytes_cmp ours theirs) then
-      text (record { sender = named viewer.home; command = codes "TOPIC"; middle = channel ∷ []; last = Some theirs }) ∷ []
+    text (record { sender = named viewer.home; command = codes "TOPIC"; middle = channel ∷ []; last = Some theirs }) ∷ []
     else []
 
 -- What of the other half's channel a member of this half's is shown: all its members, in folded order; what its modes raise; its topic.
@@ -81,9 +81,9 @@ raised_topic viewer channel ours theirs =
 abbrev pub channel_arrivals : Room → User → Channel → Channel → List (List ℕ)
 channel_arrivals other viewer theirs ours =
     if has_member (key viewer.nick) ours then
-      let name = greater bytes_cmp ours.name theirs.name in
-      flat_map (member_arrival other.users viewer name) (entries theirs.members)
-      ++ (raised_lines viewer name (mode_lines theirs.modes) ours.modes ++ raised_topic viewer name ours.topic theirs.topic)
+    (let name = greater bytes_cmp ours.name theirs.name in
+    flat_map (member_arrival other.users viewer name) (entries theirs.members)
+    ++ (raised_lines viewer name (mode_lines theirs.modes) ours.modes ++ raised_topic viewer name ours.topic theirs.topic))
     else []
 
 -- channel by channel, in folded order, as far as there are both

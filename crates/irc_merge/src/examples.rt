@@ -1,5 +1,5 @@
 //! Small networks that are joined, by example.
-ghost use Rattle.irc_merge.specs.Examples.{ChannelIsTold, ChannelsAreJoined, NicknameOnBothSides, ThirtyOneMembers, TopicIsLeft};
+ghost use Rattle.irc_merge.specs.Examples.{ChannelIsTold, ChannelsAreJoined, GreaterTopicIsSet, ModesAreJoined, NicknameOnBothSides, ThirtyOneMembers};
 
 /// A channel is told by its members, its modes, its bans and its topic.
 pub fn channel_is_told()
@@ -16,9 +16,14 @@ pub fn channels_are_joined()
     ensures { ChannelsAreJoined }
 {}
 
-/// A topic that is told does not count where somebody of this side is in the channel.
-pub fn topic_is_left()
-    ensures { TopicIsLeft }
+/// Modes, keys and topics of two channels of one name are joined, and each side's members see what theirs raise.
+pub fn modes_are_joined()
+    ensures { ModesAreJoined }
+{}
+
+/// A topic that is told is set where it is the greater, and else left.
+pub fn greater_topic_is_set()
+    ensures { GreaterTopicIsSet }
 {}
 
 /// Both holders of a nickname are killed.

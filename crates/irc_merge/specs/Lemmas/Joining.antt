@@ -1,14 +1,18 @@
 -- Two rooms become one: it is well formed, and the same whichever is named first.
-use Rattle.std.proofs.Common.{◌≡◌, ℕ, true, Option, Some, None, List, refl, sym, ◌∙◌, ap, subst, is_some}
+use Rattle.std.proofs.Common.{◌≡◌, ℕ, Bool, true, false, cond, Option, Some, None, List, refl, sym, ◌∙◌, ap, subst, is_some}
+use Rattle.std.specs.Ordering.{is_lt}
 use Rattle.irc_names.specs.Fold.{key}
+use Rattle.irc_names.specs.Greater.{bytes_cmp, greater}
+use Rattle.irc_names.specs.GreaterLaws.{greater_is_even}
 use Rattle.irc_names.specs.Tables.{Table, row, both}
 use Rattle.irc_names.specs.TableLaws.{same_table, row-both}
+use Rattle.irc_modes.specs.JoinedLaws.{joined_is_even}
 use Rattle.irc_users.specs.declared.user.User.{User}
 use Rattle.irc_channels.specs.declared.channel.Channel.{Channel}
 use Rattle.irc_room.specs.Room.{Room, IsWellFormed, IsSoundRow}
 use Rattle.irc_room.specs.Lemmas.Rows.{not_true, same_some, some_row, some_key}
 use Rattle.irc_room.specs.Lemmas.SoundRows.{IsWithin, sound_more}
-use Rattle.irc_merge.specs.Merge.{AreAlike, either, one_channel, joined_channel, union, merge, room_without}
+use Rattle.irc_merge.specs.Merge.{either, one_channel, joined_channel, union, merge, room_without}
 use Rattle.irc_merge.specs.Laws.{MergeIsEven, MergeIsWellFormed}
 use Rattle.irc_merge.specs.Lemmas.Clashing.{without_well, held_apart}
 
@@ -58,10 +62,18 @@ either_within {X} small more one other first second = record {
     by_row q None at there = (second_within one other).at q (second.at q there)
     by_row q (Some x) at there = (first_within one other).at q (first.at q (ap is_some at))
 
+-- what is so of two texts is so of the greater
+pub greater_so : (P : List ℕ → Type 0) (one other : List ℕ) → P one → P other → P (greater bytes_cmp one other)
+greater_so P one other so so_too = by (is_lt (bytes_cmp one other))
+  where
+    by : (b : Bool) → P (cond b other one)
+    by true = so_too
+    by false = so
+
 both_sound : (one other : Table User) (fold : List ℕ) (c d : Channel) → IsSoundRow one fold c → IsSoundRow other fold d
     → IsSoundRow (both either one other) fold (one_channel c d)
 both_sound one other fold c d sound_c sound_d = record {
-  named = sound_c.named;
+  named = greater_so (λ name. key name ≡ fold) c.name d.name sound_c.named sound_d.named;
   members_known = (either_within c.members d.members one other (record { at = sound_c.members_known }) (record { at = sound_d.members_known })).at;
   invited_known = (either_within c.invited d.invited one other (record { at = sound_c.invited_known }) (record { at = sound_d.invited_known })).at;
   some_member =
@@ -99,20 +111,19 @@ merge_is_well_formed one other well_one well_other =
 
 -- ---- and even
 
-one_turned : (c d : Channel) → AreAlike c d → ((q : List ℕ) → is_some (row c.members q) ≡ true → is_some (row d.members q) ≡ true → ⊥)
+one_turned : (c d : Channel) → ((q : List ℕ) → is_some (row c.members q) ≡ true → is_some (row d.members q) ≡ true → ⊥)
     → ((q : List ℕ) → is_some (row c.invited q) ≡ true → is_some (row d.invited q) ≡ true → ⊥) → one_channel c d ≡ one_channel d c
-one_turned c d alike members invited = λ i. record {
-  name = alike.name i;
-  modes = alike.modes i;
-  topic = alike.topic i;
+one_turned c d members invited = λ i. record {
+  name = greater_is_even c.name d.name i;
+  modes = joined_is_even c.modes d.modes i;
+  topic = greater_is_even c.topic d.topic i;
   members = turned c.members d.members members i;
   invited = turned c.invited d.invited invited i;
 }
 
 channels_turned : (x y : Room) → IsWellFormed x → IsWellFormed y → ((q : List ℕ) → is_some (row x.users q) ≡ true → is_some (row y.users q) ≡ true → ⊥)
-    → ((fold : List ℕ) (c d : Channel) → row x.channels fold ≡ Some c → row y.channels fold ≡ Some d → AreAlike c d)
     → both joined_channel x.channels y.channels ≡ both joined_channel y.channels x.channels
-channels_turned x y well_x well_y apart alike = same_table (both joined_channel x.channels y.channels) (both joined_channel y.channels x.channels) (λ f.
+channels_turned x y well_x well_y apart = same_table (both joined_channel x.channels y.channels) (both joined_channel y.channels x.channels) (λ f.
     row-joined x.channels y.channels f
     ∙ by_rows f (row x.channels f) refl (row y.channels f) refl
     ∙ sym (row-joined y.channels x.channels f))
@@ -124,17 +135,17 @@ channels_turned x y well_x well_y apart alike = same_table (both joined_channel 
     by_rows f (Some c) at (Some d) that =
         let here = well_x.channels_sound f c at in
         let there = well_y.channels_sound f d that in
-        ap Some (one_turned c d (alike f c d at that)
+        ap Some (one_turned c d
         (λ q one other. apart q (here.members_known q one) (there.members_known q other))
         (λ q one other. apart q (here.invited_known q one) (there.invited_known q other)))
 
 pub merge_is_even : MergeIsEven
 unfolding merge
-merge_is_even one other well_one well_other agree =
+merge_is_even one other well_one well_other =
     let x = room_without one other in
     let y = room_without other one in
     let apart : (q : List ℕ) → is_some (row x.users q) ≡ true → is_some (row y.users q) ≡ true → ⊥ = λ q. held_apart one other well_one well_other q in
     λ i. record {
       users = turned x.users y.users apart i;
-      channels = channels_turned x y (without_well one other well_one) (without_well other one well_other) apart agree.alike i;
+      channels = channels_turned x y (without_well one other well_one) (without_well other one well_other) apart i;
     }

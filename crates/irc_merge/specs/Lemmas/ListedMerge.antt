@@ -6,6 +6,7 @@ use Rattle.std.specs.Option.{option_map_or, option_and_then}
 use Rattle.std.specs.FinMap.{values}
 use Rattle.std.specs.FinMap.Entries.{find, is_sorted}
 use Rattle.irc_names.specs.Fold.{key, same}
+use Rattle.irc_names.specs.Greater.{bytes_cmp, greater}
 use Rattle.irc_names.specs.Tables.{fold_cmp, row}
 use Rattle.irc_users.specs.declared.user.User.{User}
 use Rattle.irc_channels.specs.declared.flags.Flags.{Flags}
@@ -24,10 +25,11 @@ use Rattle.irc_room.specs.Viewers.{shows_to}
 use Rattle.irc_merge.specs.ShownAlong.{shown_along}
 use Rattle.irc_merge.specs.Quits.{quits_of, collision_text}
 use Rattle.irc_merge.specs.Deeds.{Deed, does, brings, sets}
+use Rattle.irc_modes.specs.declared.modes.Modes.{Modes}
 use Rattle.irc_modes.specs.ModesSet.{set_changes, ban_changes}
 use Rattle.irc_merge.specs.Bursts.{in_lines, members_a_line, bans_a_line, burst, stored_member, settings_line, topic_line, channel_deeds}
 use Rattle.irc_merge.specs.Merge.{clash, room_without, either, joined_channel, merge}
-use Rattle.irc_merge.specs.MergeShown.{arrival, member_arrival, channel_arrivals, arrivals, merge_shown}
+use Rattle.irc_merge.specs.MergeShown.{arrival, member_arrival, mode_lines, raised_lines, raised_topic, channel_arrivals, arrivals, merge_shown}
 use Rattle.irc_merge.specs.Lemmas.Joining.{row-either, row-joined}
 use Rattle.irc_merge.specs.Lemmas.ShownUsers.{quit_shows}
 
@@ -134,15 +136,21 @@ joined_flags nick (Some c) (Some d) =
     ∙ (λ i. either ((row_listed (λ f. f) c.members nick ∙ map_itself (find fold_cmp nick c.members)) i)
     ((row_listed (λ f. f) d.members nick ∙ map_itself (find fold_cmp nick d.members)) i))
 
+pub channel_merged : (one other : ListedRoom) → AreInOrder one → AreInOrder other → (channel : List ℕ)
+    → row (merge (room_of one) (room_of other)).channels channel
+    ≡ joined_channel (option_map channel_of (find fold_cmp channel (list_without one other).channels))
+    (option_map channel_of (find fold_cmp channel (list_without other one).channels))
+unfolding merge
+channel_merged one other order_one order_other channel =
+    row-joined (room_without (room_of one) (room_of other)).channels (room_without (room_of other) (room_of one)).channels channel
+    ∙ (λ i. joined_channel ((ap (λ (r : Room). row r.channels channel) (without_listed one other order_one) ∙ channel_listed (list_without one other) channel) i)
+    ((ap (λ (r : Room). row r.channels channel) (without_listed other one order_other) ∙ channel_listed (list_without other one) channel) i))
+
 pub flags_merged : (one other : ListedRoom) → AreInOrder one → AreInOrder other → (nick channel : List ℕ)
     → option_and_then (λ (c : Channel). row c.members nick) (row (merge (room_of one) (room_of other)).channels channel)
     ≡ either (flags_in nick (find fold_cmp channel (list_without one other).channels)) (flags_in nick (find fold_cmp channel (list_without other one).channels))
-unfolding merge
 flags_merged one other order_one order_other nick channel =
-    ap (option_and_then (λ (c : Channel). row c.members nick))
-    (row-joined (room_without (room_of one) (room_of other)).channels (room_without (room_of other) (room_of one)).channels channel
-    ∙ (λ i. joined_channel ((ap (λ (r : Room). row r.channels channel) (without_listed one other order_one) ∙ channel_listed (list_without one other) channel) i)
-    ((ap (λ (r : Room). row r.channels channel) (without_listed other one order_other) ∙ channel_listed (list_without other one) channel) i)))
+    ap (option_and_then (λ (c : Channel). row c.members nick)) (channel_merged one other order_one order_other channel)
     ∙ joined_flags nick (find fold_cmp channel (list_without one other).channels) (find fold_cmp channel (list_without other one).channels)
 
 -- ---- what a merge shows
@@ -195,8 +203,16 @@ quits_listed viewer room (user ∷ users) order =
 abbrev list_comes : List (List ℕ × User) → User → List ℕ → List (List ℕ × Flags) → List (List ℕ)
 list_comes users viewer title members = flat_map (λ m. option_map_or (arrival viewer title m.1) (find fold_cmp m.0 users) []) members
 
+abbrev modes_and_topic : User → List ℕ → Modes → Modes → List ℕ → List ℕ → List (List ℕ)
+modes_and_topic viewer name theirs ours their_topic our_topic =
+    raised_lines viewer name (mode_lines theirs) ours ++ raised_topic viewer name our_topic their_topic
+
 abbrev list_channel : List (List ℕ × User) → User → ListedChannel → ListedChannel → List (List ℕ)
-list_channel users viewer theirs ours = if lists_member (key viewer.nick) ours then list_comes users viewer ours.name theirs.members else []
+list_channel users viewer theirs ours =
+    if lists_member (key viewer.nick) ours then
+    list_comes users viewer (greater bytes_cmp ours.name theirs.name) theirs.members
+    ++ modes_and_topic viewer (greater bytes_cmp ours.name theirs.name) theirs.modes ours.modes theirs.topic ours.topic
+    else []
 
 abbrev list_arrivals : ListedRoom → ListedRoom → User → List (List ℕ)
 list_arrivals room other viewer =
@@ -212,8 +228,9 @@ channel_comes : (other : ListedRoom) (viewer : User) (theirs : ListedChannel) �
 channel_comes other viewer theirs order None = refl
 channel_comes other viewer theirs order (Some ours) =
     λ i. if member_listed (key viewer.nick) ours i
-    then (ap (flat_map (member_arrival (room_of other).users viewer ours.name)) (entries_listed (λ f. f) theirs.members order)
-    ∙ comes_listed other viewer ours.name theirs.members) i else []
+    then (ap (flat_map (member_arrival (room_of other).users viewer (greater bytes_cmp ours.name theirs.name))) (entries_listed (λ f. f) theirs.members order)
+    ∙ comes_listed other viewer (greater bytes_cmp ours.name theirs.name) theirs.members) i
+    ++ modes_and_topic viewer (greater bytes_cmp ours.name theirs.name) theirs.modes ours.modes theirs.topic ours.topic else []
 
 arrivals_in_turn : (room other : ListedRoom) (viewer : User) (es : List (List ℕ × ListedChannel)) → AllByRecursion (λ e. HasOrder e.1) es
     → flat_map (λ (theirs : Channel). option_map_or (channel_arrivals (room_of other) viewer theirs) (row (room_of room).channels (key theirs.name)) [])
