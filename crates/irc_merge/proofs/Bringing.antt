@@ -1,34 +1,38 @@
 -- What is read of the lines about one channel is a change of its row, by what is there.
 use Rattle.std.proofs.Common.{◌≡◌, ℕ, Bool, true, false, cond, not, ◌&&◌, Option, Some, None, List, [], ◌∷◌, ◌++◌, refl, sym, ◌∙◌, ap, map, fold, is_some, option_map, if◌then◌else◌}
 use Rattle.std.specs.Prelude.{unwrap_or}
-use Rattle.std.proofs.lemmas.List.Sums.{fold-append}
-use Rattle.std.specs.List.{list_all, flat_map}
+use Rattle.std.specs.List.{list_any, flat_map}
 use Rattle.std.specs.Option.{option_map_or}
+use Rattle.std.specs.Ordering.{is_lt}
 use Rattle.std.specs.FinMap.{keys, get-empty}
 use Rattle.irc_names.specs.Fold.{key}
+use Rattle.irc_names.specs.Greater.{bytes_cmp, greater}
 use Rattle.irc_names.specs.Tables.{Table, fold_cmp, row, put, alter}
+use Rattle.irc_names.specs.TableLaws.{row-alter_same}
 use Rattle.irc_users.specs.declared.user.User.{User}
 use Rattle.irc_channels.specs.declared.flags.Flags.{Flags}
+use Rattle.irc_modes.specs.declared.modes.Modes.{Modes}
 use Rattle.irc_modes.specs.declared.modes.ModeChange.{ModeChange}
 use Rattle.irc_modes.specs.declared.modes.ModeLetter.{ModeLetter}
 use Rattle.irc_modes.specs.declared.modes.ModeLetter.TheVariants as letter
 use Rattle.irc_channels.specs.declared.channel.Channel.{Channel}
-use Rattle.irc_channels.specs.Channels.{has_member, new_channel, joined, with_topic, changed, all_changed}
+use Rattle.irc_channels.specs.Channels.{has_member, new_channel, joined, with_topic, respelled, changed, all_changed}
 use Rattle.irc_modes.specs.Modes.{is_nil}
+use Rattle.irc_modes.specs.ModesSet.{set_changes, ban_changes}
+use Rattle.irc_modes.specs.Raised.{raising}
 use Rattle.irc_room.specs.effect.By.TheVariants as by
-use Rattle.irc_room.specs.effect.Effect.TheVariants.{ChangeModes}
+use Rattle.irc_room.specs.effect.Effect.TheVariants.{ChangeModes, SetTopic}
 use Rattle.irc_room.specs.Room.{Room}
 use Rattle.irc_room.specs.Effects.{is_member}
-use Rattle.irc_room.specs.After.{after, alter_channel}
+use Rattle.irc_room.specs.After.{after, alter_channel, titled_by}
 use Rattle.irc_room.specs.InTurn.{after_all}
 use Rattle.irc_room.specs.InTurnLaws.{after_all-append}
 use Rattle.irc_room.specs.Lemmas.Rows.{alter_same}
-use Rattle.irc_merge.specs.Deeds.{brings, sets, tops, flag_given, member_comes, after_deed, after_deeds}
-use Rattle.irc_modes.specs.ModesSet.{set_changes, ban_changes}
+use Rattle.irc_merge.specs.Deeds.{Deed, brings, sets, tops, flag_given, member_comes, changes_made, raised_in, is_greater_topic, after_deed, after_deeds}
 use Rattle.irc_merge.specs.Bursts.{in_lines, members_a_line, bans_a_line, home_passes, stored_members, settings_line, topic_line, channel_deeds}
-use Rattle.irc_merge.specs.BurstRead.{is_new_member, new_members, brought, all_far}
+use Rattle.irc_merge.specs.BurstRead.{is_new_member, new_members, brought, some_far}
+use Rattle.irc_merge.specs.MergeShown.{letters_line, mode_lines}
 use Rattle.irc_merge.specs.Lemmas.TableWords.{alter_twice}
-use Rattle.irc_merge.proofs.Lines.{joined_lines}
 use Rattle.irc_merge.specs.Lemmas.Reading.{read_one, reads, reads-one, reads-append}
 use Rattle.irc_merge.proofs.Tests.{and_not}
 
@@ -186,82 +190,220 @@ joins_row far name (member ∷ members) room =
     ∙ channel_twice name (λ x. member_joins (home_passes far room.users) name x member)
     (λ x. fold (member_joins (home_passes far room.users) name) x members) room
 
+-- those who are new, each judged by the row as those before it have left it
+abbrev pub row_new : (List ℕ → Bool) → List ℕ → Option Channel → List (List ℕ × Flags) → List (List ℕ × Flags)
+row_new passes name x [] = []
+row_new passes name x (member ∷ members) =
+    if is_new passes (key member.0) x then member ∷ row_new passes name (comes_to name (key member.0) member.1 x) members
+    else row_new passes name x members
+
+new_by_row : (far : List ℕ → Bool) (name : List ℕ) (members : List (List ℕ × Flags)) (room : Room)
+    → new_members far room name members ≡ row_new (home_passes far room.users) name (row room.channels (key name)) members
+new_by_row far name [] room = refl
+new_by_row far name (member ∷ members) room =
+    by_test (is_new_member far room name member) refl
+    (new_by_row far name members (alter_channel name (comes_to name (key member.0) member.1) room)) (new_by_row far name members room)
+  where
+    by_test : (b : Bool) → is_new_member far room name member ≡ b
+        → new_members far (alter_channel name (comes_to name (key member.0) member.1) room) name members
+        ≡ row_new (home_passes far room.users) name (row (alter (key name) (comes_to name (key member.0) member.1) room.channels) (key name)) members
+        → new_members far room name members ≡ row_new (home_passes far room.users) name (row room.channels (key name)) members
+        → cond b (member ∷ new_members far (after_all room (member_comes name member)) name members) (new_members far room name members)
+        ≡ cond b (member ∷ row_new (home_passes far room.users) name (comes_to name (key member.0) member.1 (row room.channels (key name))) members)
+        (row_new (home_passes far room.users) name (row room.channels (key name)) members)
+    by_test true is more less =
+        ap (λ r. member ∷ new_members far r name members)
+        (comes name member room (and_not (home_passes far room.users (key member.0)) (is_member room member.0 name) is).1)
+        ∙ ap (λ ms. member ∷ ms) (more
+        ∙ ap (λ x. row_new (home_passes far room.users) name x members) (row-alter_same (key name) (comes_to name (key member.0) member.1) room.channels))
+    by_test false is more less = less
+
+-- who is new does not depend on how the channel is spelled
+some_new_spelled : (passes : List ℕ → Bool) (title name : List ℕ) (members : List (List ℕ × Flags)) (channel : Channel)
+    → row_new passes name (Some (respelled title channel)) members ≡ row_new passes name (Some channel) members
+some_new_spelled passes title name [] channel = refl
+some_new_spelled passes title name (member ∷ members) channel =
+    by_test (is_new passes (key member.0) (Some channel))
+    (some_new_spelled passes title name members (with_member (key member.0) member.1 channel)) (some_new_spelled passes title name members channel)
+  where
+    by_test : (b : Bool)
+        → row_new passes name (Some (respelled title (with_member (key member.0) member.1 channel))) members
+        ≡ row_new passes name (Some (with_member (key member.0) member.1 channel)) members
+        → row_new passes name (Some (respelled title channel)) members ≡ row_new passes name (Some channel) members
+        → cond b (member ∷ row_new passes name (Some (respelled title (with_member (key member.0) member.1 channel))) members)
+        (row_new passes name (Some (respelled title channel)) members)
+        ≡ cond b (member ∷ row_new passes name (Some (with_member (key member.0) member.1 channel)) members) (row_new passes name (Some channel) members)
+    by_test true more less = ap (λ ms. member ∷ ms) more
+    by_test false more less = less
+
+new_spelled : (passes : List ℕ → Bool) (title name : List ℕ) (members : List (List ℕ × Flags)) (x : Option Channel)
+    → row_new passes name (option_map (respelled title) x) members ≡ row_new passes name x members
+new_spelled passes title name members None = refl
+new_spelled passes title name members (Some channel) = some_new_spelled passes title name members channel
+
+-- ---- a line: the channel takes its spelling where somebody comes at all, and then they come
+
+abbrev pub spelled : List ℕ → List (List ℕ × Flags) → Room → Room
+spelled name [] room = room
+spelled name (member ∷ members) room = titled_by name room
+
+abbrev pub row_spelled : List ℕ → List (List ℕ × Flags) → Option Channel → Option Channel
+row_spelled name [] x = x
+row_spelled name (member ∷ members) x = option_map (respelled name) x
+
+spelled_row : (name : List ℕ) (news : List (List ℕ × Flags)) (room : Room) → spelled name news room ≡ alter_channel name (row_spelled name news) room
+spelled_row name [] room = sym (channel_stays name (λ x. x) room refl)
+spelled_row name (member ∷ news) room = refl
+
+-- the room in which the members of a line come
+abbrev pub line_spelled : (List ℕ → Bool) → List ℕ → Room → List (List ℕ × Flags) → Room
+line_spelled far name room members = spelled name (new_members far room name members) room
+
+-- those who are new are so in either spelling
+pub new_titled : (far : List ℕ → Bool) (name : List ℕ) (members : List (List ℕ × Flags)) (room : Room)
+    → new_members far (titled_by name room) name members ≡ new_members far room name members
+new_titled far name members room =
+    new_by_row far name members (titled_by name room)
+    ∙ ap (λ x. row_new (home_passes far room.users) name x members) (row-alter_same (key name) (option_map (respelled name)) room.channels)
+    ∙ new_spelled (home_passes far room.users) name name members (row room.channels (key name))
+    ∙ sym (new_by_row far name members room)
+
+line_new : (far : List ℕ → Bool) (name : List ℕ) (members : List (List ℕ × Flags)) (room : Room)
+    → new_members far room name members ≡ new_members far (line_spelled far name room members) name members
+line_new far name members room = by (new_members far room name members)
+  where
+    by : (news : List (List ℕ × Flags)) → new_members far room name members ≡ new_members far (spelled name news room) name members
+    by [] = refl
+    by (member ∷ news) = sym (new_titled far name members room)
+
 brought_after : (server name : List ℕ) (members : List (List ℕ × Flags)) (room : Room)
-    → after_deeds room (brought server name members) ≡ after_all room (flat_map (member_comes name) members)
+    → after_deeds room (brought server name members) ≡ after_all (spelled name members room) (flat_map (member_comes name) members)
 unfolding after_deed
 brought_after server name [] room = refl
 brought_after server name (member ∷ members) room = refl
 
 pub line_joins : (own server name : List ℕ) (far : List ℕ → Bool) (members : List (List ℕ × Flags)) (room : Room)
-    → read_one own far room (brings server name members) ≡ fold (one_joins far name) room members
-line_joins own server name far members room = brought_after server name (new_members far room name members) room ∙ new_in_turn far name members room
+    → read_one own far room (brings server name members) ≡ fold (one_joins far name) (line_spelled far name room members) members
+line_joins own server name far members room =
+    brought_after server name (new_members far room name members) room
+    ∙ ap (λ news. after_all (line_spelled far name room members) (flat_map (member_comes name) news)) (line_new far name members room)
+    ∙ new_in_turn far name members (line_spelled far name room members)
+
+-- what a line makes of the row
+abbrev pub line_in : (List ℕ → Bool) → List ℕ → Option Channel → List (List ℕ × Flags) → Option Channel
+line_in passes name x members = fold (member_joins passes name) (row_spelled name (row_new passes name x members) x) members
 
 pub line_row : (own server name : List ℕ) (far : List ℕ → Bool) (members : List (List ℕ × Flags)) (room : Room)
-    → read_one own far room (brings server name members) ≡ alter_channel name (λ x. fold (member_joins (home_passes far room.users) name) x members) room
+    → read_one own far room (brings server name members) ≡ alter_channel name (λ x. line_in (home_passes far room.users) name x members) room
 line_row own server name far members room =
-    line_joins own server name far members room ∙ joins_row far name members room
+    let passes = home_passes far room.users in
+    let news = new_members far room name members in
+    line_joins own server name far members room
+    ∙ joins_row far name members (line_spelled far name room members)
+    ∙ ap (λ (r : Room). alter_channel name (λ x. fold (member_joins (home_passes far r.users) name) x members) r) (spelled_row name news room)
+    ∙ channel_twice name (row_spelled name news) (λ x. fold (member_joins passes name) x members) room
+    ∙ channel_by name (λ x. fold (member_joins passes name) (row_spelled name news x) members) (λ x. line_in passes name x members) room
+    (ap (λ ms. fold (member_joins passes name) (row_spelled name ms (row room.channels (key name))) members) (new_by_row far name members room))
 
 pub lines_row : (own server name : List ℕ) (far : List ℕ → Bool) (lines : List (List (List ℕ × Flags))) (room : Room)
-    → reads own far room (map (brings server name) lines)
-    ≡ alter_channel name (λ x. fold (member_joins (home_passes far room.users) name) x (joined_lines lines)) room
+    → reads own far room (map (brings server name) lines) ≡ alter_channel name (λ x. fold (line_in (home_passes far room.users) name) x lines) room
 lines_row own server name far [] room = sym (channel_stays name (λ x. x) room refl)
 lines_row own server name far (line ∷ lines) room =
-    let join = member_joins (home_passes far room.users) name in
-    let here = alter_channel name (λ x. fold join x line) room in
+    let passes = home_passes far room.users in
     reads-one own far room (brings server name line) (map (brings server name) lines)
     ∙ ap (λ r. reads own far r (map (brings server name) lines)) (line_row own server name far line room)
-    ∙ lines_row own server name far lines here
-    ∙ channel_twice name (λ x. fold join x line) (λ x. fold join x (joined_lines lines)) room
-    ∙ (λ i. alter_channel name (λ x. sym (fold-append join x line (joined_lines lines)) i) room)
+    ∙ lines_row own server name far lines (alter_channel name (λ x. line_in passes name x line) room)
+    ∙ channel_twice name (λ x. line_in passes name x line) (λ x. fold (line_in passes name) x lines) room
 
 -- ---- modes and topic
 
 abbrev pub row_far : (List ℕ → Bool) → Option Channel → Bool
-row_far passes x = option_map_or (λ (c : Channel). list_all passes (keys c.members)) x false
+row_far passes x = option_map_or (λ (c : Channel). list_any passes (keys c.members)) x false
+
+-- what is raised of a line in a channel
+abbrev pub all_raised : List ModeChange → Channel → Channel
+all_raised changes channel = all_changed (raising changes channel.modes) channel
+
+-- a topic in a channel, where it is the greater
+abbrev pub topic_raised : List ℕ → Channel → Channel
+topic_raised topic channel = record channel { topic = greater bytes_cmp channel.topic topic }
 
 abbrev pub row_set : (List ℕ → Bool) → Option Channel → List ModeChange → Option Channel
-row_set passes x changes = if row_far passes x then option_map (all_changed changes) x else x
+row_set passes x changes = if row_far passes x then option_map (all_raised changes) x else x
 
 abbrev pub row_topped : (List ℕ → Bool) → List ℕ → Option Channel → Option Channel
-row_topped passes topic x = if row_far passes x then option_map (with_topic topic) x else x
+row_topped passes topic x = if row_far passes x then option_map (topic_raised topic) x else x
+
+made_row : (name : List ℕ) (changes : List ModeChange) (room : Room)
+    → after_all room (changes_made name changes) ≡ alter_channel name (option_map (all_changed changes)) room
+unfolding after
+made_row name [] room = sym (channel_stays name (option_map (λ c. c)) room (stays (row room.channels (key name))))
+  where
+    stays : (x : Option Channel) → option_map (λ c. c) x ≡ x
+    stays None = refl
+    stays (Some channel) = refl
+made_row name (change ∷ changes) room = refl
 
 pub set_row : (own server name : List ℕ) (far : List ℕ → Bool) (changes : List ModeChange) (room : Room)
     → read_one own far room (sets server name changes) ≡ alter_channel name (λ x. row_set (home_passes far room.users) x changes) room
-unfolding after_deed after
-set_row own server name far changes room = by_test (all_far far room name) refl
+unfolding after_deed
+set_row own server name far changes room = by_test (some_far far room name) refl
   where
-    by_test : (b : Bool) → all_far far room name ≡ b
+    raised : (x : Option Channel)
+        → option_map (all_changed (option_map_or (λ (c : Channel). raising changes c.modes) x [])) x ≡ option_map (all_raised changes) x
+    raised None = refl
+    raised (Some channel) = refl
+
+    by_test : (b : Bool) → some_far far room name ≡ b
         → after_deeds room (cond b (sets server name changes ∷ []) []) ≡ alter_channel name (λ x. row_set (home_passes far room.users) x changes) room
     by_test true is =
-        channel_by name (option_map (all_changed changes)) (λ x. row_set (home_passes far room.users) x changes) room
-        (sym (ap (λ b. cond b (option_map (all_changed changes) (row room.channels (key name))) (row room.channels (key name))) is))
+        made_row name (raised_in room name changes) room
+        ∙ channel_by name (option_map (all_changed (raised_in room name changes))) (λ x. row_set (home_passes far room.users) x changes) room
+        (raised (row room.channels (key name))
+        ∙ sym (ap (λ b. cond b (option_map (all_raised changes) (row room.channels (key name))) (row room.channels (key name))) is))
     by_test false is =
         sym (channel_stays name (λ x. row_set (home_passes far room.users) x changes) room
-        (ap (λ b. cond b (option_map (all_changed changes) (row room.channels (key name))) (row room.channels (key name))) is))
+        (ap (λ b. cond b (option_map (all_raised changes) (row room.channels (key name))) (row room.channels (key name))) is))
+
+-- a topic that is set where it is greater
+greater_row : (name topic : List ℕ) (room : Room)
+    → after_all room (if is_greater_topic room name topic then SetTopic by.Home name topic ∷ [] else [])
+    ≡ alter_channel name (option_map (topic_raised topic)) room
+unfolding after
+greater_row name topic room = by_row (row room.channels (key name)) refl
+  where
+    by_greater : (channel : Channel) → row room.channels (key name) ≡ Some channel → (b : Bool) → is_lt (bytes_cmp channel.topic topic) ≡ b
+        → after_all room (cond b (SetTopic by.Home name topic ∷ []) []) ≡ alter_channel name (option_map (topic_raised topic)) room
+    by_greater channel at true is =
+        channel_by name (option_map (with_topic topic)) (option_map (topic_raised topic)) room
+        (ap (option_map (with_topic topic)) at
+        ∙ ap (λ b. Some (record channel { topic = cond b topic channel.topic })) (sym is)
+        ∙ ap (option_map (topic_raised topic)) (sym at))
+    by_greater channel at false is =
+        sym (channel_stays name (option_map (topic_raised topic)) room
+        (ap (option_map (topic_raised topic)) at ∙ ap (λ b. Some (record channel { topic = cond b topic channel.topic })) is ∙ sym at))
+
+    by_row : (x : Option Channel) → row room.channels (key name) ≡ x
+        → after_all room (cond (option_map_or (λ (c : Channel). is_lt (bytes_cmp c.topic topic)) x false) (SetTopic by.Home name topic ∷ []) [])
+        ≡ alter_channel name (option_map (topic_raised topic)) room
+    by_row None at =
+        sym (channel_stays name (option_map (topic_raised topic)) room (ap (option_map (topic_raised topic)) at ∙ sym at))
+    by_row (Some channel) at = by_greater channel at (is_lt (bytes_cmp channel.topic topic)) refl
 
 pub topped_row : (own server name : List ℕ) (far : List ℕ → Bool) (topic : List ℕ) (room : Room)
     → read_one own far room (tops server name topic) ≡ alter_channel name (row_topped (home_passes far room.users) topic) room
-unfolding after_deed after
-topped_row own server name far topic room = by_test (all_far far room name) refl
+unfolding after_deed
+topped_row own server name far topic room = by_test (some_far far room name) refl
   where
-    by_test : (b : Bool) → all_far far room name ≡ b
+    by_test : (b : Bool) → some_far far room name ≡ b
         → after_deeds room (cond b (tops server name topic ∷ []) []) ≡ alter_channel name (row_topped (home_passes far room.users) topic) room
     by_test true is =
-        channel_by name (option_map (with_topic topic)) (row_topped (home_passes far room.users) topic) room
-        (sym (ap (λ b. cond b (option_map (with_topic topic) (row room.channels (key name))) (row room.channels (key name))) is))
+        greater_row name topic room
+        ∙ channel_by name (option_map (topic_raised topic)) (row_topped (home_passes far room.users) topic) room
+        (sym (ap (λ b. cond b (option_map (topic_raised topic) (row room.channels (key name))) (row room.channels (key name))) is))
     by_test false is =
         sym (channel_stays name (row_topped (home_passes far room.users) topic) room
-        (ap (λ b. cond b (option_map (with_topic topic) (row room.channels (key name))) (row room.channels (key name))) is))
-
-abbrev pub settings_row : (List ℕ → Bool) → List ModeChange → Option Channel → Option Channel
-settings_row passes [] x = x
-settings_row passes (change ∷ changes) x = row_set passes x (change ∷ changes)
-
-pub settings_read : (own server name : List ℕ) (far : List ℕ → Bool) (changes : List ModeChange) (room : Room)
-    → reads own far room (settings_line server name changes) ≡ alter_channel name (settings_row (home_passes far room.users) changes) room
-settings_read own server name far [] room = sym (channel_stays name (λ x. x) room refl)
-settings_read own server name far (change ∷ changes) room =
-    reads-one own far room (sets server name (change ∷ changes)) [] ∙ set_row own server name far (change ∷ changes) room
+        (ap (λ b. cond b (option_map (topic_raised topic) (row room.channels (key name))) (row room.channels (key name))) is))
 
 pub sets_read : (own server name : List ℕ) (far : List ℕ → Bool) (lines : List (List ModeChange)) (room : Room)
     → reads own far room (map (sets server name) lines) ≡ alter_channel name (λ x. fold (row_set (home_passes far room.users)) x lines) room
@@ -284,16 +426,31 @@ topic_read own server name far (byte ∷ topic) room =
 
 -- ---- all lines about a channel
 
+-- letters and bans are told alike, line by line
+letters_told : (server name : List ℕ) (changes : List ModeChange) (lines : List (List ModeChange)) (rest : List Deed)
+    → settings_line server name changes ++ (map (sets server name) lines ++ rest) ≡ map (sets server name) (letters_line changes ++ lines) ++ rest
+letters_told server name [] lines rest = refl
+letters_told server name (change ∷ changes) lines rest = refl
+
+pub told_in_lines : (server : List ℕ) (users : Table User) (channel : Channel)
+    → channel_deeds server users channel
+    ≡ map (brings server channel.name) (in_lines members_a_line (stored_members users channel))
+    ++ (map (sets server channel.name) (mode_lines channel.modes) ++ topic_line server channel.name channel.topic)
+told_in_lines server users channel =
+    ap (λ rest. map (brings server channel.name) (in_lines members_a_line (stored_members users channel)) ++ rest)
+    (letters_told server channel.name (set_changes channel.modes) (in_lines bans_a_line (ban_changes channel.modes.bans))
+    (topic_line server channel.name channel.topic))
+
 -- the row when the members have come
 abbrev pub members_row : (List ℕ → Bool) → Table User → Channel → Option Channel → Option Channel
-members_row passes users channel x = fold (member_joins passes channel.name) x (joined_lines (in_lines members_a_line (stored_members users channel)))
+members_row passes users channel x = fold (line_in passes channel.name) x (in_lines members_a_line (stored_members users channel))
 
-abbrev pub bans_row : (List ℕ → Bool) → List (List ℕ) → Option Channel → Option Channel
-bans_row passes bans x = fold (row_set passes) x (in_lines bans_a_line (ban_changes bans))
+-- and when its modes were told
+abbrev pub modes_row : (List ℕ → Bool) → Modes → Option Channel → Option Channel
+modes_row passes modes x = fold (row_set passes) x (mode_lines modes)
 
 abbrev pub channel_row : (List ℕ → Bool) → Table User → Channel → Option Channel → Option Channel
-channel_row passes users channel x =
-    topic_row passes channel.topic (bans_row passes channel.modes.bans (settings_row passes (set_changes channel.modes) (members_row passes users channel x)))
+channel_row passes users channel x = topic_row passes channel.topic (modes_row passes channel.modes (members_row passes users channel x))
 
 pub deeds_row : (own server : List ℕ) (far : List ℕ → Bool) (users : Table User) (channel : Channel) (room : Room)
     → reads own far room (channel_deeds server users channel) ≡ alter_channel channel.name (channel_row (home_passes far room.users) users channel) room
@@ -301,20 +458,15 @@ deeds_row own server far users channel room =
     let name = channel.name in
     let passes = home_passes far room.users in
     let brought = map (brings server name) (in_lines members_a_line (stored_members users channel)) in
-    let modes = settings_line server name (set_changes channel.modes) in
-    let bans = map (sets server name) (in_lines bans_a_line (ban_changes channel.modes.bans)) in
+    let modes = map (sets server name) (mode_lines channel.modes) in
     let topic = topic_line server name channel.topic in
     let come = alter_channel name (members_row passes users channel) room in
-    let set = alter_channel name (settings_row passes (set_changes channel.modes)) come in
-    let banned = alter_channel name (bans_row passes channel.modes.bans) set in
-    reads-append own far room brought (modes ++ (bans ++ topic))
-    ∙ ap (λ r. reads own far r (modes ++ (bans ++ topic))) (lines_row own server name far (in_lines members_a_line (stored_members users channel)) room)
-    ∙ reads-append own far come modes (bans ++ topic)
-    ∙ ap (λ r. reads own far r (bans ++ topic)) (settings_read own server name far (set_changes channel.modes) come)
-    ∙ reads-append own far set bans topic
-    ∙ ap (λ r. reads own far r topic) (sets_read own server name far (in_lines bans_a_line (ban_changes channel.modes.bans)) set)
-    ∙ topic_read own server name far channel.topic banned
-    ∙ channel_twice name (bans_row passes channel.modes.bans) (topic_row passes channel.topic) set
-    ∙ channel_twice name (settings_row passes (set_changes channel.modes)) (λ x. topic_row passes channel.topic (bans_row passes channel.modes.bans x)) come
-    ∙ channel_twice name (members_row passes users channel)
-    (λ x. topic_row passes channel.topic (bans_row passes channel.modes.bans (settings_row passes (set_changes channel.modes) x))) room
+    let set = alter_channel name (modes_row passes channel.modes) come in
+    ap (reads own far room) (told_in_lines server users channel)
+    ∙ reads-append own far room brought (modes ++ topic)
+    ∙ ap (λ r. reads own far r (modes ++ topic)) (lines_row own server name far (in_lines members_a_line (stored_members users channel)) room)
+    ∙ reads-append own far come modes topic
+    ∙ ap (λ r. reads own far r topic) (sets_read own server name far (mode_lines channel.modes) come)
+    ∙ topic_read own server name far channel.topic set
+    ∙ channel_twice name (modes_row passes channel.modes) (topic_row passes channel.topic) come
+    ∙ channel_twice name (members_row passes users channel) (λ x. topic_row passes channel.topic (modes_row passes channel.modes x)) room

@@ -1,7 +1,6 @@
 -- What is read of a burst can be done, and each of its effects does something.
 use Rattle.std.proofs.Common.{◌≡◌, ℕ, Bool, true, false, cond, not, ◌&&◌, Option, Some, None, List, [], ◌∷◌, ◌++◌, refl, sym, ◌∙◌, ap, subst, is_some, option_map}
-use Rattle.std.proofs.lemmas.List.{append_assoc}
-use Rattle.std.specs.List.{list_all, flat_map}
+use Rattle.std.specs.List.{list_any, flat_map}
 use Rattle.std.specs.FinMap.{keys}
 use Rattle.std.specs.Option.{option_map_or}
 use Rattle.irc_names.specs.Fold.{key}
@@ -18,16 +17,18 @@ use Rattle.irc_room.specs.effect.Effect.{Effect}
 use Rattle.irc_room.specs.effect.Effect.TheVariants.{AddUser, Quit, Join, ChangeModes, SetTopic}
 use Rattle.irc_room.specs.Room.{Room, IsWellFormed}
 use Rattle.irc_room.specs.Effects.{has_user, has_channel, is_member}
-use Rattle.irc_room.specs.After.{after}
+use Rattle.irc_room.specs.After.{after, titled_by}
 use Rattle.irc_room.specs.InTurn.{after_all, EachInTurn}
-use Rattle.irc_room.specs.InTurnLaws.{each-append, each-keeps, after_all-append}
+use Rattle.irc_room.specs.InTurnLaws.{each-append, each-keeps}
 use Rattle.irc_room.specs.Lemmas.Rows.{is_some_map}
 use Rattle.irc_room.specs.Lemmas.WellFormedLaw.{after_is_well_formed}
+use Rattle.irc_room.specs.Lemmas.RespelledRooms.{respelled_is_well_formed}
 use Rattle.irc_merge.specs.Quits.{collision_text}
-use Rattle.irc_merge.specs.Deeds.{Deed, does, kills, brings, sets, tops, flag_given, member_comes, effects_of, after_deed, after_deeds}
+use Rattle.irc_merge.specs.Deeds.{Deed, does, gains, loses, kills, brings, sets, tops, flag_given, member_comes, changes_made, raised_in, is_greater_topic, titled, effects_of, after_deed, after_deeds}
 use Rattle.irc_merge.specs.Bursts.{home_passes}
-use Rattle.irc_merge.specs.BurstRead.{introduced, is_new_member, new_members, brought, all_far, read_deed, read_all}
-use Rattle.irc_merge.specs.CanBeDone.{effects_in_turn, DoesSomething, IsOfBurst, LinesCanBeDone}
+use Rattle.irc_merge.specs.BurstRead.{introduced, is_new_member, new_members, brought, some_far, read_deed, read_all}
+use Rattle.irc_merge.specs.CanBeDone.{DoesSomething, DeedsDo, IsOfBurst, LinesCanBeDone}
+use Rattle.irc_merge.proofs.Bringing.{new_titled}
 use Rattle.irc_merge.proofs.Tests.{and_not}
 
 -- ---- single effects
@@ -120,72 +121,89 @@ members_do far channel (member ∷ members) room =
 
 -- ---- a line
 
-far_there : (far : List ℕ → Bool) (room : Room) (channel : List ℕ) → all_far far room channel ≡ true → has_channel room channel ≡ true
-far_there far room channel all = by_row (row room.channels (key channel)) all
+some_there : (far : List ℕ → Bool) (room : Room) (channel : List ℕ) → some_far far room channel ≡ true → has_channel room channel ≡ true
+some_there far room channel some = by_row (row room.channels (key channel)) some
   where
-    by_row : (o : Option Channel) → option_map_or (λ (c : Channel). list_all (home_passes far room.users) (keys c.members)) o false ≡ true → is_some o ≡ true
-    by_row None all = all
-    by_row (Some c) all = refl
+    by_row : (o : Option Channel) → option_map_or (λ (c : Channel). list_any (home_passes far room.users) (keys c.members)) o false ≡ true → is_some o ≡ true
+    by_row None some = some
+    by_row (Some c) some = refl
 
-introduced_does : (own : List ℕ) (room : Room) (user : User) → IsWellFormed room → EachInTurn DoesSomething room (effects_in_turn room (introduced own room user))
+introduced_does : (own : List ℕ) (room : Room) (user : User) → IsWellFormed room → DeedsDo room (introduced own room user)
 introduced_does own room user well = by_row (row room.users (key user.nick)) refl
   where
     by_row : (o : Option User) → row room.users (key user.nick) ≡ o
-        → EachInTurn DoesSomething room (effects_in_turn room (option_map_or (λ (holder : User). kills own holder.nick ∷ []) o (does (AddUser user) ∷ [])))
-    by_row None at = record { now = add_does room user at; later = tt }
-    by_row (Some holder) at = record {
-      now = quit_does room holder.nick collision_text (ap (λ f. is_some (row room.users f)) (well.users_named (key user.nick) holder at) ∙ ap is_some at);
-      later = tt;
-    }
+        → DeedsDo room (option_map_or (λ (holder : User). kills own holder.nick ∷ []) o (does (AddUser user) ∷ []))
+    by_row None at = (record { now = add_does room user at; later = tt }, tt)
+    by_row (Some holder) at = (
+      record {
+        now = quit_does room holder.nick collision_text (ap (λ f. is_some (row room.users f)) (well.users_named (key user.nick) holder at) ∙ ap is_some at);
+        later = tt;
+      },
+      tt,
+    )
 
-brought_does : (server channel : List ℕ) (members : List (List ℕ × Flags)) (room : Room) → EachInTurn DoesSomething room (flat_map (member_comes channel) members)
-    → EachInTurn DoesSomething room (effects_in_turn room (brought server channel members))
+brought_does : (server channel : List ℕ) (members : List (List ℕ × Flags)) (room : Room)
+    → EachInTurn DoesSomething (titled_by channel room) (flat_map (member_comes channel) members) → DeedsDo room (brought server channel members)
 brought_does server channel [] room all = tt
-brought_does server channel (member ∷ members) room all = each-append DoesSomething room (flat_map (member_comes channel) (member ∷ members)) [] all tt
+brought_does server channel (member ∷ members) room all = (all, tt)
+
+changes_do : (room : Room) (channel : List ℕ) (changes : List ModeChange) → has_channel room channel ≡ true
+    → EachInTurn DoesSomething room (changes_made channel changes)
+changes_do room channel [] there = tt
+changes_do room channel (change ∷ changes) there = record { now = change_does room channel (change ∷ changes) there; later = tt }
 
 line_does : (own : List ℕ) (far : List ℕ → Bool) (deed : Deed) (room : Room) → IsOfBurst deed → IsWellFormed room
-    → EachInTurn DoesSomething room (effects_in_turn room (read_deed own far room deed))
+    → DeedsDo room (read_deed own far room deed)
 line_does own far (does (AddUser user)) room of_burst well = introduced_does own room user well
 line_does own far (brings server channel members) room of_burst well =
-    brought_does server channel (new_members far room channel members) room (members_do far channel members room)
-line_does own far (sets server channel changes) room of_burst well = by_test (all_far far room channel) refl
+    brought_does server channel (new_members far room channel members) room
+    (subst (λ news. EachInTurn DoesSomething (titled_by channel room) (flat_map (member_comes channel) news)) (new_titled far channel members room)
+    (members_do far channel members (titled_by channel room)))
+line_does own far (sets server channel changes) room of_burst well = by_test (some_far far room channel) refl
   where
-    by_test : (b : Bool) → all_far far room channel ≡ b → EachInTurn DoesSomething room (effects_in_turn room (cond b (sets server channel changes ∷ []) []))
-    by_test true all = record { now = change_does room channel changes (far_there far room channel all); later = tt }
-    by_test false some = tt
-line_does own far (tops server channel topic) room of_burst well = by_test (all_far far room channel) refl
+    by_test : (b : Bool) → some_far far room channel ≡ b → DeedsDo room (cond b (sets server channel changes ∷ []) [])
+    by_test true some = (changes_do room channel (raised_in room channel changes) (some_there far room channel some), tt)
+    by_test false none = tt
+line_does own far (tops server channel topic) room of_burst well = by_test (some_far far room channel) refl
   where
-    by_test : (b : Bool) → all_far far room channel ≡ b → EachInTurn DoesSomething room (effects_in_turn room (cond b (tops server channel topic ∷ []) []))
-    by_test true all = record { now = topic_does room channel topic (far_there far room channel all); later = tt }
-    by_test false some = tt
+    by_greater : has_channel room channel ≡ true → (b : Bool) → EachInTurn DoesSomething room (cond b (SetTopic by.Home channel topic ∷ []) [])
+    by_greater there true = record { now = topic_does room channel topic there; later = tt }
+    by_greater there false = tt
+
+    by_test : (b : Bool) → some_far far room channel ≡ b → DeedsDo room (cond b (tops server channel topic ∷ []) [])
+    by_test true some = (by_greater (some_there far room channel some) (is_greater_topic room channel topic), tt)
+    by_test false none = tt
 line_does own far other room of_burst well = absurd of_burst
 
 -- ---- all lines
 
-effects_leave : (room : Room) (deeds : List Deed) → after_all room (effects_in_turn room deeds) ≡ after_deeds room deeds
-unfolding after_deed
-effects_leave room [] = refl
-effects_leave room (deed ∷ deeds) =
-    after_all-append room (effects_of room deed) (effects_in_turn (after_all room (effects_of room deed)) deeds)
-    ∙ effects_leave (after_all room (effects_of room deed)) deeds
+do-append : (room : Room) (a b : List Deed) → DeedsDo room a → DeedsDo (after_deeds room a) b → DeedsDo room (a ++ b)
+do-append room [] b first second = second
+do-append room (deed ∷ a) b first second = (first.0, do-append (after_deed room deed) a b first.1 second)
 
-effects-append : (room : Room) (a b : List Deed) → effects_in_turn room (a ++ b) ≡ effects_in_turn room a ++ effects_in_turn (after_deeds room a) b
-effects-append room [] b = refl
-effects-append room (deed ∷ a) b =
-    ap (λ rest. effects_of room deed ++ rest) (effects-append (after_deed room deed) a b)
-    ∙ sym (append_assoc (effects_of room deed) (effects_in_turn (after_deed room deed) a) (effects_in_turn (after_deeds (after_deed room deed) a) b))
+titled_well : (room : Room) (deed : Deed) → IsWellFormed room → IsWellFormed (titled room deed)
+titled_well room (does effect) well = well
+titled_well room (gains uplink name info) well = well
+titled_well room (loses server name text) well = well
+titled_well room (kills server nick) well = well
+titled_well room (brings server channel members) well = respelled_is_well_formed channel room well
+titled_well room (sets server channel changes) well = well
+titled_well room (tops server channel topic) well = well
 
 stays_well : (room : Room) (effects : List Effect) → EachInTurn DoesSomething room effects → IsWellFormed room → IsWellFormed (after_all room effects)
 stays_well room effects done well =
     each-keeps DoesSomething IsWellFormed (λ r effect done well. after_is_well_formed r effect well done.possible) room effects done well
+
+deeds_well : (room : Room) (deeds : List Deed) → DeedsDo room deeds → IsWellFormed room → IsWellFormed (after_deeds room deeds)
+unfolding after_deed
+deeds_well room [] done well = well
+deeds_well room (deed ∷ deeds) done well =
+    deeds_well (after_deed room deed) deeds done.1 (stays_well (titled room deed) (effects_of room deed) done.0 (titled_well room deed well))
 
 pub lines_can_be_done : LinesCanBeDone
 lines_can_be_done own far room [] of_burst well = tt
 lines_can_be_done own far room (deed ∷ deeds) of_burst well =
     let here = line_does own far deed room of_burst.0 well in
     let now = read_deed own far room deed in
-    let later = lines_can_be_done own far (after_deeds room now) deeds of_burst.1
-    (subst IsWellFormed (effects_leave room now) (stays_well room (effects_in_turn room now) here well)) in
-    subst (EachInTurn DoesSomething room) (sym (effects-append room now (read_all own far (after_deeds room now) deeds)))
-    (each-append DoesSomething room (effects_in_turn room now) (effects_in_turn (after_deeds room now) (read_all own far (after_deeds room now) deeds)) here
-    (subst (λ r. EachInTurn DoesSomething r (effects_in_turn (after_deeds room now) (read_all own far (after_deeds room now) deeds))) (sym (effects_leave room now)) later))
+    do-append room now (read_all own far (after_deeds room now) deeds) here
+    (lines_can_be_done own far (after_deeds room now) deeds of_burst.1 (deeds_well room now here well))

@@ -1,45 +1,56 @@
--- What the lines about one channel make of its row. Those of its members come whose homes are behind the link. Where nobody was in it, so do its
--- modes, its bans and its topic; else they are left as they are.
-use Rattle.std.proofs.Common.{◌≡◌, ℕ, Bool, true, false, cond, not, ◌&&◌, ◌||◌, Option, Some, None, List, [], ◌∷◌, ◌++◌, refl, sym, ◌∙◌, ap, map, fold, is_some, option_map, filter_map, arith, if◌then◌else◌}
-use Rattle.std.proofs.lemmas.Bool.{and_from}
+-- What the lines about one channel make of its row. Those of its members come whose homes are behind the link; where any does, the channel takes
+-- the greater spelling, and its modes, its bans and its topic are joined with what is told.
+use Rattle.std.proofs.Common.{◌≡◌, ℕ, Bool, true, false, cond, not, ◌&&◌, ◌||◌, Option, Some, None, List, [], ◌∷◌, ◌++◌, refl, sym, ◌∙◌, ap, subst, map, fold, filter, is_some, option_map, filter_map, arith, if◌then◌else◌}
+use Rattle.std.proofs.lemmas.Bool.{and_from, or_from}
+use Rattle.std.proofs.lemmas.List.{map-append}
+use Rattle.std.proofs.lemmas.List.Folds.{list_all-append, list_any-append}
 use Rattle.std.proofs.lemmas.List.Sums.{fold-append}
 use Rattle.std.specs.List.{list_all, list_any, cons_option, AllByRecursion}
 use Rattle.std.specs.FinMap.{empty, entries, keys, retain_keys, find, get-empty, get-entries}
 use Rattle.irc_names.specs.Fold.{key}
+use Rattle.irc_names.specs.Greater.{bytes_cmp, greater}
+use Rattle.irc_names.specs.GreaterLaws.{greater_associates, greater_with_itself}
 use Rattle.irc_names.specs.Tables.{Table, fold_cmp, row, alter, both}
 use Rattle.irc_names.specs.TableLaws.{same_fold, same_fold-refl, one_fold, same_table, row-alter, row-keys}
 use Rattle.irc_users.specs.declared.user.User.{User}
 use Rattle.irc_channels.specs.declared.flags.Flags.{Flags}
 use Rattle.irc_modes.specs.declared.modes.Modes.{Modes}
 use Rattle.irc_modes.specs.declared.modes.ModeChange.{ModeChange}
+use Rattle.irc_modes.specs.Bans.{IsBanList}
+use Rattle.irc_modes.specs.Joined.{joined_bans, joined_modes}
+use Rattle.irc_modes.specs.Lemmas.BansByFold.{same_found}
+use Rattle.irc_modes.specs.Lemmas.JoinedBans.{rises-joined_bans, find-joined_bans}
+use Rattle.irc_modes.specs.Modes.{is_nil, no_modes}
+use Rattle.irc_modes.specs.ModesSet.{AreWithinLimits, set_changes, ban_changes}
+use Rattle.irc_modes.specs.Raised.{raising}
+use Rattle.irc_modes.specs.RaisedLaws.{told, line_raised, raised_is_joined}
 use Rattle.irc_channels.specs.declared.channel.Channel.{Channel}
-use Rattle.irc_modes.specs.Modes.{is_nil, no_modes, mode_step, modes_after}
-use Rattle.irc_channels.specs.Channels.{new_channel, while_members, all_changed, with_topic}
+use Rattle.irc_channels.specs.Channels.{new_channel, while_members}
 use Rattle.irc_room.specs.Lemmas.Rows.{not_true, some_key, some_row, no_row, alter_same}
 use Rattle.irc_merge.specs.Bursts.{in_lines, members_a_line, bans_a_line, stored_member, stored_members}
-use Rattle.irc_modes.specs.ModesSet.{set_changes, ban_changes}
 use Rattle.irc_merge.specs.Merge.{either, joined_channel}
-use Rattle.irc_merge.specs.Lemmas.TableWords.{row-kept}
+use Rattle.irc_merge.specs.MergeShown.{letters_line, mode_lines}
+use Rattle.irc_merge.specs.Lemmas.TableWords.{row-kept, entries_kept}
 use Rattle.irc_merge.specs.Lemmas.Quitting.{peopled}
-use Rattle.irc_merge.specs.Lemmas.Joining.{row-either, either_first}
+use Rattle.irc_merge.specs.Lemmas.Joining.{row-either, either_second}
 use Rattle.irc_merge.proofs.Lines.{joined_lines, all_in_lines, each_line}
-use Rattle.irc_merge.proofs.PlainChanges.{is_plain, only_modes, set_plain, bans_plain}
-use Rattle.irc_merge.proofs.Bringing.{with_member, comes_to, entry_joins, member_joins, row_far, row_set, settings_row, topic_row, members_row, bans_row, channel_row}
-use Rattle.irc_merge.proofs.Tests.{and_not, or_second, and_second, either_way}
+use Rattle.irc_merge.proofs.PlainChanges.{is_plain, only_modes, set_plain, bans_plain, raising_plain}
+use Rattle.irc_merge.proofs.Bringing.{with_member, comes_to, entry_joins, member_joins, row_new, row_spelled, line_in, row_far, all_raised, topic_raised, row_set, topic_row, members_row, modes_row, channel_row}
+use Rattle.irc_merge.proofs.Tests.{and_not, neither, or_second, either_way}
 
 none_of : {X : Type 0} (o : Option X) → is_some o ≡ false → o ≡ None
 none_of None e = refl
 none_of (Some x) e = cc
 
 -- a table without a key has no row
-no_rows : {X : Type 0} (table : Table X) → is_nil (keys table) ≡ true → (q : List ℕ) → row table q ≡ None
+pub no_rows : {X : Type 0} (table : Table X) → is_nil (keys table) ≡ true → (q : List ℕ) → row table q ≡ None
 no_rows {X} table none q = by_row (row table q) refl
   where
     by_row : (o : Option X) → row table q ≡ o → o ≡ None
     by_row None at = refl
     by_row (Some x) at = not_true (sym (sym none ∙ some_key table q (ap is_some at)))
 
-either_none : {X : Type 0} (x : Option X) → either x None ≡ x
+pub either_none : {X : Type 0} (x : Option X) → either x None ≡ x
 either_none None = refl
 either_none (Some x) = refl
 
@@ -62,9 +73,9 @@ pub record StandsThere (users : Table User) (fold : List ℕ) : Type 0 where
   pub at : row users fold ≡ Some holder
   pub named : key holder.nick ≡ fold
 
--- what is told of a channel can be told: its modes can be set, and its members are users
+-- what is told of a channel can be told: its modes keep their limits, and its members are users
 pub record IsTellable (users : Table User) (channel : Channel) : Type 0 where
-  pub modes : modes_after (set_changes channel.modes ++ ban_changes channel.modes.bans) no_modes ≡ channel.modes
+  pub modes : AreWithinLimits channel.modes
   pub members : (q : List ℕ) → is_some (row channel.members q) ≡ true → is_some (row users q) ≡ true
   pub named : (q : List ℕ) (user : User) → row users q ≡ Some user → key user.nick ≡ q
 
@@ -82,6 +93,45 @@ stands users channel told q there = by_row (row users q) refl (told.members q th
     by_row : (o : Option User) → row users q ≡ o → is_some o ≡ true → StandsThere users q
     by_row None at some = not_true some
     by_row (Some user) at some = record { holder = user; at = at; named = told.named q user at }
+
+-- members, by their folds
+abbrev pub folded : List (List ℕ × Flags) → List (List ℕ × Flags)
+folded members = map (λ (m : List ℕ × Flags). (key m.0, m.1)) members
+
+stored_folded : (users : Table User) (es : List (List ℕ × Flags)) → AllByRecursion (λ e. StandsThere users e.0) es
+    → folded (filter_map (stored_member users) es) ≡ es
+stored_folded users [] there = refl
+stored_folded users (e ∷ es) there =
+    ap (λ o. folded (cons_option (option_map (λ (user : User). (user.nick, e.1)) o) (filter_map (stored_member users) es))) (there.0).at
+    ∙ (λ i. ((there.0).named i, e.1) ∷ stored_folded users es there.1 i)
+
+-- ---- modes and topic, joined
+
+-- the lines of modes say all that is set
+all_mode_lines : (modes : Modes) → joined_lines (mode_lines modes) ≡ told modes
+all_mode_lines modes = by (set_changes modes)
+  where
+    by : (changes : List ModeChange)
+        → joined_lines (letters_line changes ++ in_lines bans_a_line (ban_changes modes.bans)) ≡ changes ++ ban_changes modes.bans
+    by [] = all_in_lines bans_a_line (ban_changes modes.bans) (omega arith)
+    by (change ∷ changes) = ap (λ rest. change ∷ changes ++ rest) (all_in_lines bans_a_line (ban_changes modes.bans) (omega arith))
+
+pub lines_plain : (modes : Modes) → AllByRecursion (λ line. list_all is_plain line ≡ true) (mode_lines modes)
+lines_plain modes =
+    each_line is_plain (mode_lines modes)
+    (ap (list_all is_plain) (all_mode_lines modes)
+    ∙ list_all-append is_plain (set_changes modes) (ban_changes modes.bans)
+    ∙ and_from _ _ (set_plain modes) (bans_plain modes.bans))
+
+-- where nothing was set, what is told is what is then set
+none_joined : (modes : Modes) → AreWithinLimits modes → joined_modes no_modes modes ≡ modes
+none_joined modes within =
+    ap (λ (bans : List (List ℕ)). record modes { bans = bans })
+    (same_found (joined_bans [] modes.bans) modes.bans (rises-joined_bans [] modes.bans) within.in_order (find-joined_bans [] modes.bans))
+
+over_nothing : (topic : List ℕ) → greater bytes_cmp [] topic ≡ topic
+over_nothing [] = refl
+over_nothing (byte ∷ topic) = refl
 
 module _ (passes : List ℕ → Bool) where
   -- ---- the members of a row
@@ -188,128 +238,260 @@ module _ (passes : List ℕ → Bool) where
 
   -- ---- the members that a burst tells
 
-  stored_join : (users : Table User) (name : List ℕ) (es : List (List ℕ × Flags)) (x : Option Channel) → AllByRecursion (λ e. StandsThere users e.0) es
-      → fold (member_joins passes name) x (filter_map (stored_member users) es) ≡ fold (entry_joins passes name) x es
-  stored_join users name [] x there = refl
-  stored_join users name (e ∷ es) x there =
-      ap (λ o. fold (member_joins passes name) x (cons_option (option_map (λ (user : User). (user.nick, e.1)) o) (filter_map (stored_member users) es))) (there.0).at
-      ∙ ap (λ f. fold (member_joins passes name) (entry_joins passes name x (f, e.1)) (filter_map (stored_member users) es)) (there.0).named
-      ∙ stored_join users name es (entry_joins passes name x e) there.1
+  by_folds : (name : List ℕ) (members : List (List ℕ × Flags)) (x : Option Channel)
+      → fold (member_joins passes name) x members ≡ fold (entry_joins passes name) x (folded members)
+  by_folds name [] x = refl
+  by_folds name (member ∷ members) x = by_folds name members (member_joins passes name x member)
+
+  -- whether one of these is new in a table
+  abbrev any_new : Table Flags → List (List ℕ × Flags) → Bool
+  any_new table es = list_any (λ (e : List ℕ × Flags). passes e.0 && not (is_some (row table e.0))) es
+
+  none_new : (es : List (List ℕ × Flags)) (table : Table Flags) → any_new table es ≡ false → fold row_in table es ≡ table
+  none_new [] table none = refl
+  none_new (e ∷ es) table none =
+      let parts = neither _ _ none in
+      ap (λ b. fold row_in (cond b (alter e.0 (λ _. Some e.1) table) table) es) parts.0 ∙ none_new es table parts.1
+
+  -- the spelling of a line counts where one of its members is new
+  spelled_where_new : (name : List ℕ) (members : List (List ℕ × Flags)) (channel : Channel)
+      → row_spelled name (row_new passes name (Some channel) members) (Some channel)
+      ≡ Some (record channel { name = cond (any_new channel.members (folded members)) (greater bytes_cmp channel.name name) channel.name })
+  spelled_where_new name [] channel = refl
+  spelled_where_new name (member ∷ members) channel =
+      by_test (passes (key member.0) && not (is_some (row channel.members (key member.0)))) (spelled_where_new name members channel)
+    where
+      by_test : (b : Bool)
+          → row_spelled name (row_new passes name (Some channel) members) (Some channel)
+          ≡ Some (record channel { name = cond (any_new channel.members (folded members)) (greater bytes_cmp channel.name name) channel.name })
+          → row_spelled name (cond b (member ∷ row_new passes name (comes_to name (key member.0) member.1 (Some channel)) members)
+          (row_new passes name (Some channel) members)) (Some channel)
+          ≡ Some (record channel { name = cond (b || any_new channel.members (folded members)) (greater bytes_cmp channel.name name) channel.name })
+      by_test true rest = refl
+      by_test false rest = rest
+
+  -- a channel where these come
+  abbrev with_all : List ℕ → List (List ℕ × Flags) → Channel → Channel
+  with_all name es channel = record channel {
+    name = cond (any_new channel.members es) (greater bytes_cmp channel.name name) channel.name;
+    members = fold row_in channel.members es;
+  }
+
+  line_comes : (name : List ℕ) (line : List (List ℕ × Flags)) (channel : Channel) → IsFree channel.invited
+      → line_in passes name (Some channel) line ≡ Some (with_all name (folded line) channel)
+  line_comes name line channel free =
+      ap (λ x. fold (member_joins passes name) x line) (spelled_where_new name line channel)
+      ∙ by_folds name line _
+      ∙ some_joins name (folded line)
+      (record channel { name = cond (any_new channel.members (folded line)) (greater bytes_cmp channel.name name) channel.name }) free
+
+  greater_again : (one other : List ℕ) → greater bytes_cmp (greater bytes_cmp one other) other ≡ greater bytes_cmp one other
+  greater_again one other =
+      greater_associates one other other ∙ ap (greater bytes_cmp one) (greater_with_itself other)
+
+  -- one line after another is all of them at once
+  both_come : (name : List ℕ) (a b : List (List ℕ × Flags)) (channel : Channel)
+      → with_all name b (with_all name a channel) ≡ with_all name (a ++ b) channel
+  both_come name a b channel = λ i. record channel {
+    name = (by_test (any_new channel.members a) refl ∙ ap (λ c. cond c (greater bytes_cmp channel.name name) channel.name)
+        (sym (list_any-append (λ (e : List ℕ × Flags). passes e.0 && not (is_some (row channel.members e.0))) a b))) i;
+    members = sym (fold-append row_in channel.members a b) i;
+  }
+    where
+      by_test : (c : Bool) → any_new channel.members a ≡ c
+          → cond (any_new (fold row_in channel.members a) b) (greater bytes_cmp (cond c (greater bytes_cmp channel.name name) channel.name) name)
+          (cond c (greater bytes_cmp channel.name name) channel.name)
+          ≡ cond (c || any_new channel.members b) (greater bytes_cmp channel.name name) channel.name
+      by_test true some =
+          ap (λ t. cond (any_new (fold row_in channel.members a) b) t (greater bytes_cmp channel.name name)) (greater_again channel.name name)
+          ∙ either_way (any_new (fold row_in channel.members a) b) (greater bytes_cmp channel.name name)
+      by_test false none =
+          ap (λ t. cond (any_new t b) (greater bytes_cmp channel.name name) channel.name) (none_new a channel.members none)
+
+  lines_come : (name : List ℕ) (lines : List (List (List ℕ × Flags))) (channel : Channel) → IsFree channel.invited
+      → fold (line_in passes name) (Some channel) lines ≡ Some (with_all name (folded (joined_lines lines)) channel)
+  lines_come name [] channel free = refl
+  lines_come name (line ∷ lines) channel free =
+      ap (λ x. fold (line_in passes name) x lines) (line_comes name line channel free)
+      ∙ lines_come name lines (with_all name (folded line) channel) free
+      ∙ ap Some (both_come name (folded line) (folded (joined_lines lines)) channel)
+      ∙ ap (λ es. Some (with_all name es channel)) (sym (map-append (λ (m : List ℕ × Flags). (key m.0, m.1)) line (joined_lines lines)))
+
+  -- a channel that is made by those lines has their spelling
+  abbrev IsTheirs : List ℕ → Option Channel → Type 0
+  IsTheirs name None = Unit {0}
+  IsTheirs name (Some channel) = (channel.name ≡ name) × IsFree channel.invited
+
+  theirs_come : (name : List ℕ) (lines : List (List (List ℕ × Flags))) (x : Option Channel) → IsTheirs name x
+      → fold (line_in passes name) x lines ≡ fold (entry_joins passes name) x (folded (joined_lines lines))
+  theirs_come name [] x theirs = refl
+  theirs_come name (line ∷ lines) x theirs =
+      ap (λ y. fold (line_in passes name) y lines) (one_line x theirs)
+      ∙ theirs_come name lines (fold (entry_joins passes name) x (folded line)) (still_theirs x theirs)
+      ∙ sym (ap (fold (entry_joins passes name) x) (map-append (λ (m : List ℕ × Flags). (key m.0, m.1)) line (joined_lines lines))
+      ∙ fold-append (entry_joins passes name) x (folded line) (folded (joined_lines lines)))
+    where
+      spelled_none : (news : List (List ℕ × Flags)) → row_spelled name news None ≡ None
+      spelled_none [] = refl
+      spelled_none (member ∷ news) = refl
+
+      one_line : (x : Option Channel) → IsTheirs name x → line_in passes name x line ≡ fold (entry_joins passes name) x (folded line)
+      one_line None theirs =
+          ap (λ y. fold (member_joins passes name) y line) (spelled_none (row_new passes name None line)) ∙ by_folds name line None
+      one_line (Some channel) theirs =
+          line_comes name line channel theirs.1
+          ∙ ap (λ t. Some (record channel { name = cond (any_new channel.members (folded line)) t channel.name; members = fold row_in channel.members (folded line) }))
+          (ap (greater bytes_cmp channel.name) (sym theirs.0) ∙ greater_with_itself channel.name)
+          ∙ ap (λ t. Some (record channel { name = t; members = fold row_in channel.members (folded line) }))
+          (either_way (any_new channel.members (folded line)) channel.name)
+          ∙ sym (some_joins name (folded line) channel theirs.1)
+
+      made : (members : Table Flags) → IsTheirs name (while_members (record (new_channel name) { members = members }))
+      made members = by_test (is_nil (keys members))
+        where
+          by_test : (b : Bool) → IsTheirs name (cond b None (Some (record (new_channel name) { members = members })))
+          by_test true = tt
+          by_test false = (refl, empty_free)
+
+      still_theirs : (x : Option Channel) → IsTheirs name x → IsTheirs name (fold (entry_joins passes name) x (folded line))
+      still_theirs None theirs = subst (IsTheirs name) (sym (none_joins name (folded line))) (made (fold row_in empty (folded line)))
+      still_theirs (Some channel) theirs = subst (IsTheirs name) (sym (some_joins name (folded line) channel theirs.1)) theirs
 
   -- ---- lines that count, and lines that do not
 
-  all_pass : (ks : List (List ℕ)) → ((q : List ℕ) → list_any (same_fold q) ks ≡ true → passes q ≡ true) → list_all passes ks ≡ true
-  all_pass [] pass = refl
-  all_pass (k ∷ ks) pass =
-      and_from _ _ (pass k (ap (λ b. b || list_any (same_fold k) ks) (same_fold-refl k)))
-      (all_pass ks (λ q there. pass q (or_second (same_fold q k) _ there)))
+  none_pass : (ks : List (List ℕ)) → ((q : List ℕ) → list_any (same_fold q) ks ≡ true → passes q ≡ false) → list_any passes ks ≡ false
+  none_pass [] fail = refl
+  none_pass (k ∷ ks) fail =
+      or_from (passes k) (list_any passes ks) (fail k (ap (λ b. b || list_any (same_fold k) ks) (same_fold-refl k)))
+      (none_pass ks (λ q there. fail q (or_second (same_fold q k) _ there)))
 
-  pub one_fails : (q : List ℕ) (ks : List (List ℕ)) → list_any (same_fold q) ks ≡ true → passes q ≡ false → list_all passes ks ≡ false
-  one_fails q [] there out = cc
-  one_fails q (k ∷ ks) there out = by_fold (same_fold q k) refl there (λ rest. one_fails q ks rest out)
+  pub one_passes : (q : List ℕ) (ks : List (List ℕ)) → list_any (same_fold q) ks ≡ true → passes q ≡ true → list_any passes ks ≡ true
+  one_passes q [] there pass = there
+  one_passes q (k ∷ ks) there pass = by_fold (same_fold q k) refl there (λ rest. one_passes q ks rest pass)
     where
-      by_fold : (b : Bool) → same_fold q k ≡ b → (b || list_any (same_fold q) ks) ≡ true → (list_any (same_fold q) ks ≡ true → list_all passes ks ≡ false)
-          → (passes k && list_all passes ks) ≡ false
-      by_fold true one there rest = ap (λ b. b && list_all passes ks) (ap passes (sym (one_fold q k one)) ∙ out)
-      by_fold false two there rest = and_second (passes k) (list_all passes ks) (rest there)
+      by_fold : (b : Bool) → same_fold q k ≡ b → (b || list_any (same_fold q) ks) ≡ true → (list_any (same_fold q) ks ≡ true → list_any passes ks ≡ true)
+          → (passes k || list_any passes ks) ≡ true
+      by_fold true one there rest = ap (λ b. b || list_any passes ks) (ap passes (sym (one_fold q k one)) ∙ pass)
+      by_fold false two there rest = or_second (passes k) (list_any passes ks) (rest there)
 
   sets_stay : (x : Option Channel) (lines : List (List ModeChange)) → row_far passes x ≡ false → fold (row_set passes) x lines ≡ x
   sets_stay x [] near = refl
   sets_stay x (line ∷ lines) near =
-      ap (λ b. fold (row_set passes) (cond b (option_map (all_changed line) x) x) lines) near ∙ sets_stay x lines near
-
-  settings_stay : (x : Option Channel) (changes : List ModeChange) → row_far passes x ≡ false → settings_row passes changes x ≡ x
-  settings_stay x [] near = refl
-  settings_stay x (change ∷ changes) near = ap (λ b. cond b (option_map (all_changed (change ∷ changes)) x) x) near
+      ap (λ b. fold (row_set passes) (cond b (option_map (all_raised line) x) x) lines) near ∙ sets_stay x lines near
 
   topic_stays : (x : Option Channel) (topic : List ℕ) → row_far passes x ≡ false → topic_row passes topic x ≡ x
   topic_stays x [] near = refl
-  topic_stays x (byte ∷ topic) near = ap (λ b. cond b (option_map (with_topic (byte ∷ topic)) x) x) near
+  topic_stays x (byte ∷ topic) near = ap (λ b. cond b (option_map (topic_raised (byte ∷ topic)) x) x) near
 
-  -- where somebody is on this side, modes, bans and topic are left as they are
+  -- where nobody is behind the link, modes, bans and topic are left as they are
   left_alone : (modes : Modes) (topic : List ℕ) (x : Option Channel) → row_far passes x ≡ false
-      → topic_row passes topic (bans_row passes modes.bans (settings_row passes (set_changes modes) x)) ≡ x
+      → topic_row passes topic (modes_row passes modes x) ≡ x
   left_alone modes topic x near =
-      ap (λ y. topic_row passes topic (bans_row passes modes.bans y)) (settings_stay x (set_changes modes) near)
-      ∙ ap (topic_row passes topic) (sets_stay x (in_lines bans_a_line (ban_changes modes.bans)) near)
-      ∙ topic_stays x topic near
+      ap (topic_row passes topic) (sets_stay x (mode_lines modes) near) ∙ topic_stays x topic near
 
-  -- a channel that is told, so far
-  abbrev told_so_far : List ℕ → Table Flags → Modes → List ℕ → Option Channel
-  told_so_far name members modes topic = Some (record { name = name; modes = modes; topic = topic; members = members; invited = empty })
+  -- where somebody is, what raises something is set
+  pub lines_count : (lines : List (List ModeChange)) (channel : Channel) → list_any passes (keys channel.members) ≡ true
+      → AllByRecursion (λ line. list_all is_plain line ≡ true) lines
+      → fold (row_set passes) (Some channel) lines ≡ Some (record channel { modes = fold line_raised channel.modes lines })
+  lines_count [] channel far plain = refl
+  lines_count (line ∷ lines) channel far plain =
+      ap (λ b. fold (row_set passes) (cond b (Some (all_raised line channel)) (Some channel)) lines) far
+      ∙ ap (λ c. fold (row_set passes) (Some c) lines)
+      (only_modes (raising line channel.modes) channel (raising_plain line channel.modes plain.0))
+      ∙ lines_count lines (record channel { modes = line_raised channel.modes line }) far plain.1
 
-  module _ (name : List ℕ) (members : Table Flags) (far : list_all passes (keys members) ≡ true) where
-    line_counts : (changes : List ModeChange) (modes : Modes) (topic : List ℕ) → list_all is_plain changes ≡ true
-        → row_set passes (told_so_far name members modes topic) changes ≡ told_so_far name members (modes_after changes modes) topic
-    line_counts changes modes topic plain =
-        ap (λ b. cond b (option_map (all_changed changes) (told_so_far name members modes topic)) (told_so_far name members modes topic)) far
-        ∙ ap Some (only_modes changes (record { name = name; modes = modes; topic = topic; members = members; invited = empty }) plain)
+  topic_counts : (topic : List ℕ) (channel : Channel) → list_any passes (keys channel.members) ≡ true
+      → topic_row passes topic (Some channel) ≡ Some (topic_raised topic channel)
+  topic_counts [] channel far = ap (λ t. Some (record channel { topic = t })) (sym (over_none channel.topic))
+    where
+      over_none : (topic : List ℕ) → greater bytes_cmp topic [] ≡ topic
+      over_none [] = refl
+      over_none (byte ∷ topic) = refl
+  topic_counts (byte ∷ topic) channel far = ap (λ b. cond b (Some (topic_raised (byte ∷ topic) channel)) (Some channel)) far
 
-    lines_count : (lines : List (List ModeChange)) (modes : Modes) (topic : List ℕ) → AllByRecursion (λ line. list_all is_plain line ≡ true) lines
-        → fold (row_set passes) (told_so_far name members modes topic) lines ≡ told_so_far name members (modes_after (joined_lines lines) modes) topic
-    lines_count [] modes topic plain = refl
-    lines_count (line ∷ lines) modes topic plain =
-        ap (λ y. fold (row_set passes) y lines) (line_counts line modes topic plain.0)
-        ∙ lines_count lines (modes_after line modes) topic plain.1
-        ∙ ap (λ m. told_so_far name members m topic) (sym (fold-append _ modes line (joined_lines lines)))
-
-    settings_count : (changes : List ModeChange) (modes : Modes) (topic : List ℕ) → list_all is_plain changes ≡ true
-        → settings_row passes changes (told_so_far name members modes topic) ≡ told_so_far name members (modes_after changes modes) topic
-    settings_count [] modes topic plain = refl
-    settings_count (change ∷ changes) modes topic plain = line_counts (change ∷ changes) modes topic plain
-
-    topic_counts : (modes : Modes) (topic : List ℕ) → topic_row passes topic (told_so_far name members modes []) ≡ told_so_far name members modes topic
-    topic_counts modes [] = refl
-    topic_counts modes (byte ∷ topic) =
-        ap (λ b. cond b (told_so_far name members modes (byte ∷ topic)) (told_so_far name members modes [])) far
-
-    all_told : (modes : Modes) (topic : List ℕ)
-        → topic_row passes topic (bans_row passes modes.bans (settings_row passes (set_changes modes) (told_so_far name members no_modes [])))
-        ≡ told_so_far name members (modes_after (ban_changes modes.bans) (modes_after (set_changes modes) no_modes)) topic
-    all_told modes topic =
-        ap (λ y. topic_row passes topic (bans_row passes modes.bans y)) (settings_count (set_changes modes) no_modes [] (set_plain modes))
-        ∙ ap (topic_row passes topic)
-        (lines_count (in_lines bans_a_line (ban_changes modes.bans)) (modes_after (set_changes modes) no_modes) []
-        (each_line is_plain (in_lines bans_a_line (ban_changes modes.bans))
-        (ap (list_all is_plain) (all_in_lines bans_a_line (ban_changes modes.bans) (omega arith)) ∙ bans_plain modes.bans)))
-        ∙ topic_counts (modes_after (joined_lines (in_lines bans_a_line (ban_changes modes.bans))) (modes_after (set_changes modes) no_modes)) topic
-        ∙ ap (λ cs. told_so_far name members (modes_after cs (modes_after (set_changes modes) no_modes)) topic)
-        (all_in_lines bans_a_line (ban_changes modes.bans) (omega arith))
+  all_joined : (modes : Modes) (topic : List ℕ) (channel : Channel) → list_any passes (keys channel.members) ≡ true
+      → IsBanList channel.modes.bans → AreWithinLimits modes
+      → topic_row passes topic (modes_row passes modes (Some channel))
+      ≡ Some (record channel { modes = joined_modes channel.modes modes; topic = greater bytes_cmp channel.topic topic })
+  all_joined modes topic channel far rising within =
+      ap (topic_row passes topic)
+      (lines_count (mode_lines modes) channel far (lines_plain modes)
+      ∙ ap (λ (m : Modes). Some (record channel { modes = m })) (raised_is_joined (mode_lines modes) channel.modes modes rising within (all_mode_lines modes)))
+      ∙ topic_counts topic (record channel { modes = joined_modes channel.modes modes }) far
 
   -- ---- a channel that is told where it may be already
 
-  -- somebody is in it, and of those who pass nobody is in it or invited to it
+  -- somebody is in it, of those who pass nobody is in it or invited to it, and its bans are in order
   pub record IsNear (channel : Channel) : Type 0 where
     pub members : (q : List ℕ) → passes q ≡ true → row channel.members q ≡ None
     pub invited : (q : List ℕ) → passes q ≡ true → row channel.invited q ≡ None
     pub some_member : is_nil (keys channel.members) ≡ false
+    pub rising : IsBanList channel.modes.bans
 
   abbrev pub IsNearRow : Option Channel → Type 0
   IsNearRow None = Unit {0}
   IsNearRow (Some channel) = IsNear channel
 
-  members_are : (users : Table User) (channel : Channel) (x : Option Channel) → IsTellable users channel
-      → members_row passes users channel x ≡ fold (entry_joins passes channel.name) x (entries channel.members)
-  members_are users channel x told =
-      ap (fold (member_joins passes channel.name) x) (all_in_lines members_a_line (stored_members users channel) (omega arith))
-      ∙ stored_join users channel.name (entries channel.members) x
+  told_folds : (users : Table User) (channel : Channel) → IsTellable users channel
+      → folded (joined_lines (in_lines members_a_line (stored_members users channel))) ≡ entries channel.members
+  told_folds users channel told =
+      ap folded (all_in_lines members_a_line (stored_members users channel) (omega arith))
+      ∙ stored_folded users (entries channel.members)
       (entries_pass (StandsThere users) (entries channel.members) (λ q there. stands users channel told q (sym (row-keys channel.members q) ∙ there)))
 
-  -- nobody who passes is in a channel that is near, so it is not all far
-  out_of : (channel : Channel) → IsNear channel → (q : List ℕ) → is_some (row channel.members q) ≡ true → passes q ≡ false
-  out_of channel near q there = by_test (passes q) refl
+  -- those who are kept of its members are those who pass
+  any_kept : (es : List (List ℕ × Flags)) → is_nil (map (λ e. e.0) (filter (λ e. passes e.0) es)) ≡ not (list_any (λ (e : List ℕ × Flags). passes e.0) es)
+  any_kept [] = refl
+  any_kept (e ∷ es) = by_test (passes e.0) (any_kept es)
     where
-      by_test : (b : Bool) → passes q ≡ b → b ≡ false
-      by_test true pass = not_true (sym (ap is_some (near.members q pass)) ∙ there)
+      by_test : (b : Bool) → is_nil (map (λ e. e.0) (filter (λ e. passes e.0) es)) ≡ not (list_any (λ (e : List ℕ × Flags). passes e.0) es)
+          → is_nil (map (λ (e : List ℕ × Flags). e.0) (cond b (e ∷ filter (λ e. passes e.0) es) (filter (λ e. passes e.0) es)))
+          ≡ not (b || list_any (λ (e : List ℕ × Flags). passes e.0) es)
+      by_test true rest = refl
+      by_test false rest = rest
+
+  near_new : (table : Table Flags) → ((q : List ℕ) → passes q ≡ true → row table q ≡ None) → (es : List (List ℕ × Flags))
+      → any_new table es ≡ list_any (λ (e : List ℕ × Flags). passes e.0) es
+  near_new table near [] = refl
+  near_new table near (e ∷ es) = λ i. by_test (passes e.0) refl i || near_new table near es i
+    where
+      by_test : (b : Bool) → passes e.0 ≡ b → (b && not (is_some (row table e.0))) ≡ b
+      by_test true pass = ap (λ o. not (is_some o)) (near e.0 pass)
       by_test false fails = refl
 
-  near_stays : (channel : Channel) (more : Table Flags) → IsNear channel → list_all passes (keys (both either channel.members more)) ≡ false
-  near_stays channel more near =
-      let found = some_row channel.members near.some_member in
-      one_fails found.0 (keys (both either channel.members more))
-      (row-keys (both either channel.members more) found.0 ∙ ap is_some (row-either channel.members more found.0)
-      ∙ either_first (row channel.members found.0) (row more found.0) found.1)
-      (out_of channel near found.0 found.1)
+  -- the channel when the members have come
+  abbrev pub come : Channel → Channel → Channel
+  come channel ours = record ours {
+    name = if is_nil (keys (retain_keys channel.members passes)) then ours.name else greater bytes_cmp ours.name channel.name;
+    members = both either ours.members (retain_keys channel.members passes);
+  }
+
+  pub some_come : (users : Table User) (channel ours : Channel) → IsTellable users channel → IsNear ours
+      → members_row passes users channel (Some ours) ≡ Some (come channel ours)
+  some_come users channel ours told near =
+      lines_come channel.name (in_lines members_a_line (stored_members users channel)) ours near.invited
+      ∙ ap (λ es. Some (with_all channel.name es ours)) (told_folds users channel told)
+      ∙ (λ i. Some (record ours {
+        name = cond (near_new ours.members near.members (entries channel.members) i) (greater bytes_cmp ours.name channel.name) ours.name;
+        members = table_in channel.members ours.members i;
+      }))
+      ∙ ap (λ t. Some (record ours { name = t; members = both either ours.members (retain_keys channel.members passes) }))
+      (turned (list_any (λ (e : List ℕ × Flags). passes e.0) (entries channel.members))
+      ∙ ap (λ b. cond b ours.name (greater bytes_cmp ours.name channel.name))
+      (sym (ap (λ (es : List (List ℕ × Flags)). is_nil (map (λ e. e.0) es)) (entries_kept channel.members passes) ∙ any_kept (entries channel.members))))
+    where
+      turned : (b : Bool) → cond b (greater bytes_cmp ours.name channel.name) ours.name ≡ cond (not b) ours.name (greater bytes_cmp ours.name channel.name)
+      turned true = refl
+      turned false = refl
+
+  pub none_come : (users : Table User) (channel : Channel) → IsTellable users channel
+      → members_row passes users channel None ≡ while_members (record (new_channel channel.name) { members = retain_keys channel.members passes })
+  none_come users channel told =
+      theirs_come channel.name (in_lines members_a_line (stored_members users channel)) None tt
+      ∙ ap (fold (entry_joins passes channel.name) None) (told_folds users channel told)
+      ∙ none_joins channel.name (entries channel.members)
+      ∙ ap (λ (t : Table Flags). while_members (record (new_channel channel.name) { members = t }))
+      (table_in channel.members empty ∙ empty_with (retain_keys channel.members passes))
 
   kept_pass : (table : Table Flags) (q : List ℕ) → is_some (row (retain_keys table passes) q) ≡ true → passes q ≡ true
   kept_pass table q there = by_test (passes q) (sym (ap is_some (row-kept table passes q)) ∙ there)
@@ -318,47 +500,69 @@ module _ (passes : List ℕ → Bool) where
       by_test true there = refl
       by_test false there = there
 
-  kept_far : (table : Table Flags) → list_all passes (keys (retain_keys table passes)) ≡ true
-  kept_far table = all_pass (keys (retain_keys table passes)) (λ q there. kept_pass table q (sym (row-keys (retain_keys table passes) q) ∙ there))
+  -- where one is kept, somebody of the channel is behind the link
+  pub kept_far : (table more : Table Flags) → is_nil (keys (retain_keys table passes)) ≡ false → list_any passes (keys (both either more (retain_keys table passes))) ≡ true
+  kept_far table more some =
+      let found = some_row (retain_keys table passes) some in
+      one_passes found.0 (keys (both either more (retain_keys table passes)))
+      (row-keys (both either more (retain_keys table passes)) found.0 ∙ ap is_some (row-either more (retain_keys table passes) found.0)
+      ∙ either_second (row more found.0) (row (retain_keys table passes) found.0) found.1)
+      (kept_pass table found.0 found.1)
+
+  -- and where nobody who passes is in it, nobody is
+  pub near_alone : (channel : Channel) → IsNear channel → list_any passes (keys channel.members) ≡ false
+  near_alone channel near = none_pass (keys channel.members) (λ q there. out q (sym (row-keys channel.members q) ∙ there) (passes q) refl)
+    where
+      out : (q : List ℕ) → is_some (row channel.members q) ≡ true → (b : Bool) → passes q ≡ b → b ≡ false
+      out q there true pass = not_true (sym (ap is_some (near.members q pass)) ∙ there)
+      out q there false fails = refl
 
   pub channel_told : (users : Table User) (channel : Channel) (x : Option Channel) → IsTellable users channel → IsNearRow x
       → channel_row passes users channel x ≡ joined_channel x (peopled channel (retain_keys channel.members passes) empty)
   channel_told users channel None told near =
-      ap (λ y. topic_row passes channel.topic (bans_row passes channel.modes.bans (settings_row passes (set_changes channel.modes) y)))
-      (members_are users channel None told
-      ∙ none_joins channel.name (entries channel.members)
-      ∙ ap (λ (t : Table Flags). while_members (record (new_channel channel.name) { members = t })) (table_in channel.members empty ∙ empty_with (retain_keys channel.members passes)))
+      ap (λ y. topic_row passes channel.topic (modes_row passes channel.modes y)) (none_come users channel told)
       ∙ by_test (is_nil (keys (retain_keys channel.members passes))) refl
     where
       by_test : (b : Bool) → is_nil (keys (retain_keys channel.members passes)) ≡ b
-          → topic_row passes channel.topic (bans_row passes channel.modes.bans (settings_row passes (set_changes channel.modes)
-          (while_members (record (new_channel channel.name) { members = retain_keys channel.members passes }))))
-          ≡ peopled channel (retain_keys channel.members passes) empty
-      by_test true none =
-          ap (λ b. topic_row passes channel.topic (bans_row passes channel.modes.bans (settings_row passes (set_changes channel.modes)
-          (cond b None (Some (record (new_channel channel.name) { members = retain_keys channel.members passes })))))) none
-          ∙ left_alone channel.modes channel.topic None refl
-          ∙ sym (ap (λ b. cond b None (Some (record channel { members = retain_keys channel.members passes; invited = empty }))) none)
+          → topic_row passes channel.topic (modes_row passes channel.modes
+          (cond b None (Some (record (new_channel channel.name) { members = retain_keys channel.members passes }))))
+          ≡ cond b None (Some (record channel { members = retain_keys channel.members passes; invited = empty }))
+      by_test true none = left_alone channel.modes channel.topic None refl
       by_test false some =
-          ap (λ b. topic_row passes channel.topic (bans_row passes channel.modes.bans (settings_row passes (set_changes channel.modes)
-          (cond b None (Some (record (new_channel channel.name) { members = retain_keys channel.members passes })))))) some
-          ∙ all_told channel.name (retain_keys channel.members passes) (kept_far channel.members) channel.modes channel.topic
-          ∙ ap (λ m. told_so_far channel.name (retain_keys channel.members passes) m channel.topic)
-          (sym (fold-append mode_step no_modes (set_changes channel.modes) (ban_changes channel.modes.bans)) ∙ told.modes)
-          ∙ sym (ap (λ b. cond b None (Some (record channel { members = retain_keys channel.members passes; invited = empty }))) some)
+          all_joined channel.modes channel.topic (record (new_channel channel.name) { members = retain_keys channel.members passes })
+          (ap (λ (t : Table Flags). list_any passes (keys t)) (sym (empty_with (retain_keys channel.members passes))) ∙ kept_far channel.members empty some)
+          refl told.modes
+          ∙ (λ i. Some (record channel {
+            modes = none_joined channel.modes told.modes i;
+            topic = over_nothing channel.topic i;
+            members = retain_keys channel.members passes;
+            invited = empty;
+          }))
   channel_told users channel (Some ours) told near =
-      ap (λ y. topic_row passes channel.topic (bans_row passes channel.modes.bans (settings_row passes (set_changes channel.modes) y)))
-      (members_are users channel (Some ours) told
-      ∙ some_joins channel.name (entries channel.members) ours near.invited
-      ∙ ap (λ (t : Table Flags). Some (record ours { members = t })) (table_in channel.members ours.members))
-      ∙ left_alone channel.modes channel.topic (Some (record ours { members = both either ours.members (retain_keys channel.members passes) }))
-      (near_stays ours (retain_keys channel.members passes) near)
+      ap (λ y. topic_row passes channel.topic (modes_row passes channel.modes y)) (some_come users channel ours told near)
       ∙ by_test (is_nil (keys (retain_keys channel.members passes))) refl
     where
       by_test : (b : Bool) → is_nil (keys (retain_keys channel.members passes)) ≡ b
-          → Some (record ours { members = both either ours.members (retain_keys channel.members passes) })
+          → topic_row passes channel.topic (modes_row passes channel.modes (Some (record ours {
+            name = cond b ours.name (greater bytes_cmp ours.name channel.name);
+            members = both either ours.members (retain_keys channel.members passes);
+          })))
           ≡ joined_channel (Some ours) (cond b None (Some (record channel { members = retain_keys channel.members passes; invited = empty })))
-      by_test true none = ap (λ (t : Table Flags). Some (record ours { members = t })) (with_empty ours.members (retain_keys channel.members passes) (no_rows (retain_keys channel.members passes) none))
+      by_test true none =
+          ap (λ (t : Table Flags). topic_row passes channel.topic (modes_row passes channel.modes (Some (record ours { members = t }))))
+          (with_empty ours.members (retain_keys channel.members passes) (no_rows (retain_keys channel.members passes) none))
+          ∙ left_alone channel.modes channel.topic (Some ours) (near_alone ours near)
       by_test false some =
-          ap (λ (t : Table (Unit {0})). Some (record ours { members = both either ours.members (retain_keys channel.members passes); invited = t }))
+          all_joined channel.modes channel.topic (record ours {
+            name = greater bytes_cmp ours.name channel.name;
+            members = both either ours.members (retain_keys channel.members passes);
+          })
+          (kept_far channel.members ours.members some) near.rising told.modes
+          ∙ ap (λ (t : Table (Unit {0})). Some (record {
+            name = greater bytes_cmp ours.name channel.name;
+            modes = joined_modes ours.modes channel.modes;
+            topic = greater bytes_cmp ours.topic channel.topic;
+            members = both either ours.members (retain_keys channel.members passes);
+            invited = t;
+          }))
           (sym (with_empty ours.invited empty (λ q. get-empty fold_cmp q)))

@@ -1,36 +1,42 @@
 -- The examples, each by computing what the lists say.
-use Rattle.std.proofs.Common.{◌≡◌, ℕ, Bool, false, cond, ◌-◌, min, List, [], ◌∷◌, ◌∙◌, ap, map, length, drop, is_some, codes, nat_eq, arith}
+use Rattle.std.proofs.Common.{◌≡◌, ℕ, Bool, false, cond, ◌-◌, min, Option, List, [], ◌∷◌, ◌∙◌, ap, map, length, drop, is_some, option_map, codes, nat_eq, arith, if◌then◌else◌}
 use Rattle.std.proofs.lemmas.List.{length-take, length-take-le, length-drop}
 use Rattle.std.specs.Int.{div_ceil}
 use Rattle.std.specs.Simd.{first_chunks}
-use Rattle.std.specs.List.{list_all}
+use Rattle.std.specs.List.{list_any}
+use Rattle.std.specs.Ordering.{is_lt}
 use Rattle.std.specs.Option.{option_map_or}
 use Rattle.std.specs.Cmp.Lexicographic.{pointwise}
 use Rattle.std.specs.FinMap.{keys}
 use Rattle.irc_names.specs.Fold.{fold, fold_table, key}
+use Rattle.irc_names.specs.Greater.{bytes_cmp}
 use Rattle.irc_names.specs.Names.{is_key, is_ban_mask}
+use Rattle.irc_names.specs.Tables.{row}
 use Rattle.irc_names.specs.TableLaws.{row-keys}
 use Rattle.irc_line.specs.Bytes.{cut}
 use Rattle.irc_line.specs.Messages.{line_text}
 use Rattle.irc_users.specs.declared.user.User.{User}
 use Rattle.irc_channels.specs.declared.flags.Flags.{Flags}
 use Rattle.irc_channels.specs.declared.channel.Channel.{Channel}
+use Rattle.irc_modes.specs.ModesSet.{set_changes}
+use Rattle.irc_mode_words.specs.ModeWritten.{changes_written}
+use Rattle.irc_room.specs.effect.By.TheVariants as by
 use Rattle.irc_room.specs.effect.Effect.{Effect}
-use Rattle.irc_room.specs.effect.Effect.TheVariants.{AddUser}
+use Rattle.irc_room.specs.effect.Effect.TheVariants.{AddUser, SetTopic}
 use Rattle.irc_room.specs.Effects.{has_user}
 use Rattle.irc_room.specs.Examples.{room_after, flags_of}
 use Rattle.irc_room.specs.Lemmas.Listed.{table_of, row_listed}
 use Rattle.irc_room.specs.Lemmas.ListedRooms.{room_of, all_listed, no_list}
 use Rattle.irc_room.specs.Lemmas.ListedSeen.{user_listed, channel_listed}
 use Rattle.irc_room.specs.Lemmas.ExampleRooms.{list_room}
-use Rattle.irc_merge.specs.Deeds.{does, kills, tops}
+use Rattle.irc_merge.specs.Deeds.{does, kills, effects_of}
 use Rattle.irc_merge.specs.Bursts.{in_lines, members_a_line, burst, home_passes}
 use Rattle.irc_merge.specs.BurstRead.{read_deed}
 use Rattle.irc_merge.specs.Merge.{merge}
 use Rattle.irc_merge.specs.MergeShown.{merge_shown}
-use Rattle.irc_merge.specs.Examples.{an_operator, of_a, with_modes, als_side, bos_side, zeds_side, other_zeds_side, ChannelIsTold, ThirtyOneMembers, ChannelsAreJoined, TopicIsLeft, NicknameOnBothSides}
-use Rattle.irc_merge.proofs.ChannelTold.{one_fails}
-use Rattle.irc_merge.specs.Lemmas.ListedMerge.{AreInOrder, burst_listed, user_merged, flags_merged, merge_listed}
+use Rattle.irc_merge.specs.Examples.{an_operator, a_member, of_a, with_modes, als_side, bos_side, secret_side, keyed_side, bo_has_come, topic_of_b, zeds_side, other_zeds_side, ChannelIsTold, ThirtyOneMembers, ChannelsAreJoined, ModesAreJoined, GreaterTopicIsSet, NicknameOnBothSides}
+use Rattle.irc_merge.proofs.ChannelTold.{one_passes}
+use Rattle.irc_merge.specs.Lemmas.ListedMerge.{AreInOrder, burst_listed, user_merged, channel_merged, flags_merged, merge_listed}
 
 made : (effects : List Effect) → room_after effects ≡ room_of (list_room effects)
 made effects = all_listed no_list effects
@@ -56,7 +62,7 @@ thirty_one_members members is =
     ∷ length-take-le size behind_two (omega (arith, after_two)) i ∷ (length-take size behind_three ∙ ap (min size) after_three) i ∷ [])
 
 pub channels_are_joined : ChannelsAreJoined
-unfolding fold fold_table cut line_text
+unfolding fold fold_table cut line_text in_lines
 channels_are_joined =
     let one = list_room als_side in
     let other = list_room bos_side in
@@ -72,20 +78,47 @@ channels_are_joined =
           ∙ merge_listed one other (codes "an") (record { first = first; second = second; along = tt; left = second }),
     )
 
-pub topic_is_left : TopicIsLeft
+pub modes_are_joined : ModesAreJoined
+unfolding fold fold_table is_key cut line_text in_lines
+modes_are_joined =
+    let one = list_room secret_side in
+    let other = list_room keyed_side in
+    let channel = key (codes "#c") in
+    let first : AreInOrder one = record { users = tt; channels = tt; members = (tt, tt) } in
+    let second : AreInOrder other = record { users = tt; channels = tt; members = (tt, tt) } in (
+      (λ i. merge_shown (made secret_side i) (made keyed_side i) (codes "al"))
+          ∙ merge_listed one other (codes "al") (record { first = first; second = second; along = tt; left = second }),
+      (λ i. merge_shown (made keyed_side i) (made secret_side i) (codes "bo"))
+          ∙ merge_listed other one (codes "bo") (record { first = second; second = first; along = tt; left = first }),
+      (λ i. option_map (λ (c : Channel). changes_written (set_changes c.modes)) (row (merge (made secret_side i) (made keyed_side i)).channels channel))
+          ∙ ap (option_map (λ (c : Channel). changes_written (set_changes c.modes))) (channel_merged one other first second channel),
+      (λ i. option_map (λ (c : Channel). c.topic) (row (merge (made secret_side i) (made keyed_side i)).channels channel))
+          ∙ ap (option_map (λ (c : Channel). c.topic)) (channel_merged one other first second channel),
+    )
+
+-- what a topic of #c that is told does, by what is there
+abbrev set_by : List ℕ → Option Channel → List Effect
+set_by topic found =
+    if option_map_or (λ (c : Channel). is_lt (bytes_cmp c.topic topic)) found false then SetTopic by.Home (codes "#c") topic ∷ [] else []
+
+pub greater_topic_is_set : GreaterTopicIsSet
 unfolding fold fold_table
-topic_is_left =
-    let side = list_room als_side in
+greater_topic_is_set =
+    let side = list_room bo_has_come in
+    let channel = key (codes "#c") in
     let far : List ℕ → Bool = λ home. pointwise nat_eq home (codes "b.net") in
-    let al = key (codes "al") in
+    let bo = key (codes "bo") in
     let passes = home_passes far (room_of side).users in
-    let members : List (List ℕ × Flags) = (al, an_operator) ∷ [] in
-    let deed = tops (codes "b.net") (codes "#c") (codes "hello") in
-    ap (λ r. read_deed (codes "a.net") far r deed) (made als_side)
-    ∙ ap (λ b. cond b (deed ∷ []) [])
-    (ap (λ o. option_map_or (λ (c : Channel). list_all passes (keys c.members)) o false) (channel_listed side (key (codes "#c")))
-    ∙ one_fails passes al (keys (table_of (λ f. f) members)) (row-keys (table_of (λ f. f) members) al ∙ ap is_some (row_listed (λ f. f) members al))
-    (ap (λ o. option_map_or (λ (user : User). far user.home) o false) (user_listed side al)))
+    let members : List (List ℕ × Flags) = (key (codes "al"), an_operator) ∷ (bo, a_member) ∷ [] in
+    let deed = topic_of_b (codes "hallo") in (
+      ap (λ r. read_deed (codes "a.net") far r deed) (made bo_has_come)
+          ∙ ap (λ b. cond b (deed ∷ []) [])
+          (ap (λ o. option_map_or (λ (c : Channel). list_any passes (keys c.members)) o false) (channel_listed side channel)
+          ∙ one_passes passes bo (keys (table_of (λ f. f) members)) (row-keys (table_of (λ f. f) members) bo ∙ ap is_some (row_listed (λ f. f) members bo))
+          (ap (λ o. option_map_or (λ (user : User). far user.home) o false) (user_listed side bo))),
+      ap (λ r. effects_of r deed) (made bo_has_come) ∙ ap (set_by (codes "hallo")) (channel_listed side channel),
+      ap (λ r. effects_of r (topic_of_b (codes "hi"))) (made bo_has_come) ∙ ap (set_by (codes "hi")) (channel_listed side channel),
+    )
 
 pub nickname_on_both_sides : NicknameOnBothSides
 unfolding fold fold_table cut line_text

@@ -7,6 +7,7 @@ pub mod PlainChanges
 pub mod ChannelTold
 pub mod ReadMerge
 pub mod ShownChannels
+pub mod ShownModes
 pub mod ShownMembers
 pub mod ShownMerge
 pub mod NothingNew

@@ -1,39 +1,44 @@
 -- Agreement, and what is read, done and shown, does not look at invitations.
 use Rattle.std.proofs.Common.{◌≡◌, ℕ, Bool, true, false, not, ◌&&◌, Option, Some, None, List, [], ◌∷◌, ◌++◌, refl, sym, ◌∙◌, ap, subst, option_map, option_to_list, if◌then◌else◌, filter_map}
 use Rattle.std.specs.Prelude.{⊤}
-use Rattle.std.specs.List.{list_all, AllByRecursion, flat_map}
+use Rattle.std.specs.List.{list_all, list_any, AllByRecursion, flat_map}
+use Rattle.std.specs.Ordering.{is_lt}
 use Rattle.std.specs.Option.{option_and_then, option_map_or}
 use Rattle.std.specs.FinMap.{entries, keys}
 use Rattle.irc_names.specs.Fold.{key}
+use Rattle.irc_names.specs.Greater.{bytes_cmp}
 use Rattle.irc_names.specs.Tables.{Table, row}
 use Rattle.irc_names.specs.TableLaws.{row-each}
 use Rattle.irc_users.specs.declared.user.User.{User}
 use Rattle.irc_channels.specs.declared.flags.Flags.{Flags}
 use Rattle.irc_channels.specs.declared.channel.Channel.{Channel}
+use Rattle.irc_modes.specs.declared.modes.ModeChange.{ModeChange}
 use Rattle.irc_modes.specs.declared.modes.ModeLetter.{ModeLetter}
 use Rattle.irc_modes.specs.declared.modes.ModeLetter.TheVariants as letter
+use Rattle.irc_modes.specs.Raised.{raising}
 use Rattle.irc_room.specs.effect.By.TheVariants as by
 use Rattle.irc_room.specs.effect.Effect.{Effect}
 use Rattle.irc_room.specs.effect.Effect.TheVariants.{AddUser, Rename, Quit, Join, Part, Kick, ChangeModes, SetTopic, Say, Invite, UserMode}
 use Rattle.irc_room.specs.Room.{Room, IsWellFormed}
 use Rattle.irc_room.specs.Effects.{IsPossible, brings_free}
-use Rattle.irc_room.specs.After.{after}
+use Rattle.irc_room.specs.After.{after, titled_by}
 use Rattle.irc_room.specs.InTurn.{after_all, EachInTurn}
-use Rattle.irc_room.specs.Invitations.{of_home, after_at, HomeFollows, HomeIsWellFormed}
+use Rattle.irc_room.specs.Invitations.{is_at, inviting_only, of_home, after_at, HomeFollows, HomeIsWellFormed}
 use Rattle.irc_room.specs.OtherInvitations.{uninviting, AlikeHaveAlike, AlikeTakeAlike, AlikeStayAlike}
 use Rattle.irc_room.specs.OtherInvitations.{AreAlike as AreAlikeRooms}
 use Rattle.irc_room.specs.Lemmas.WellFormedLaw.{after_is_well_formed}
+use Rattle.irc_room.specs.Lemmas.RespelledRooms.{respelled_is_well_formed, home_is_respelled, alike_are_respelled_alike}
 use Rattle.irc_merge.specs.Agreeing.{are_alike, agree}
 use Rattle.irc_merge.specs.AsideInvitations.{AgreeLooksAtNoInvitation, BurstTellsNoInvitation, AlikeReadAlike, AlikeDoAlike, HomeFollowsDeed}
 use Rattle.irc_merge.specs.Bursts.{home_passes}
-use Rattle.irc_merge.specs.BurstRead.{introduced, new_members, brought, all_far, read_deed, read_all}
-use Rattle.irc_merge.specs.Deeds.{Deed, does, gains, loses, kills, brings, sets, tops, flag_given, member_comes, effects_of, after_deed, after_deeds, shown_by}
+use Rattle.irc_merge.specs.BurstRead.{introduced, new_members, brought, some_far, read_deed, read_all}
+use Rattle.irc_merge.specs.Deeds.{Deed, does, gains, loses, kills, brings, sets, tops, flag_given, member_comes, changes_made, raised_in, is_greater_topic, titled, effects_of, after_deed, after_deeds, shown_by}
 use Rattle.irc_merge.specs.Merge.{room_without, uninvited, channel_uninvited}
 use Rattle.irc_merge.specs.Quits.{quits_of, users_at, collision_text}
 use Rattle.irc_merge.specs.ShownAlong.{shown_along}
 use Rattle.irc_merge.specs.Lemmas.Quitting.{quit_well}
 use Rattle.irc_merge.specs.Lemmas.TableWords.{entries_each}
-use Rattle.irc_merge.proofs.OwnInvitations.{of_home_uninvited, of_home_burst, without_uninvited, same_without}
+use Rattle.irc_merge.proofs.OwnInvitations.{of_home_uninvited, of_home_burst, without_uninvited, same_without, home_row}
 
 -- ---- agreement
 
@@ -77,6 +82,18 @@ burst_tells_no_invitation = of_home_burst
 
 -- ---- effects of a deed
 
+raised_aside : (changes : List ModeChange) (found : Option Channel)
+    → option_map_or (λ (c : Channel). raising changes c.modes) found []
+    ≡ option_map_or (λ (c : Channel). raising changes c.modes) (option_map uninviting found) []
+raised_aside changes None = refl
+raised_aside changes (Some channel) = refl
+
+greater_aside : (topic : List ℕ) (found : Option Channel)
+    → option_map_or (λ (c : Channel). is_lt (bytes_cmp c.topic topic)) found false
+    ≡ option_map_or (λ (c : Channel). is_lt (bytes_cmp c.topic topic)) (option_map uninviting found) false
+greater_aside topic None = refl
+greater_aside topic (Some channel) = refl
+
 effects_alike : (room other : Room) (deed : Deed) → AreAlikeRooms room other → effects_of room deed ≡ effects_of other deed
 effects_alike room other (does effect) alike = refl
 effects_alike room other (gains uplink name info) alike = refl
@@ -84,8 +101,25 @@ effects_alike room other (loses server name text) alike =
     ap (λ (users : Table User). quits_of text (users_at name (record { users = users; channels = room.channels }))) alike.users
 effects_alike room other (kills server nick) alike = refl
 effects_alike room other (brings server channel members) alike = refl
-effects_alike room other (sets server channel changes) alike = refl
-effects_alike room other (tops server channel topic) alike = refl
+effects_alike room other (sets server channel changes) alike =
+    ap (changes_made channel)
+    (raised_aside changes (row room.channels (key channel))
+    ∙ ap (λ o. option_map_or (λ (c : Channel). raising changes c.modes) o []) (alike.channels (key channel))
+    ∙ sym (raised_aside changes (row other.channels (key channel))))
+effects_alike room other (tops server channel topic) alike =
+    ap (λ b. if b then SetTopic by.Home channel topic ∷ [] else [])
+    (greater_aside topic (row room.channels (key channel))
+    ∙ ap (λ o. option_map_or (λ (c : Channel). is_lt (bytes_cmp c.topic topic)) o false) (alike.channels (key channel))
+    ∙ sym (greater_aside topic (row other.channels (key channel))))
+
+titled_alike : (room other : Room) (deed : Deed) → AreAlikeRooms room other → AreAlikeRooms (titled room deed) (titled other deed)
+titled_alike room other (does effect) alike = alike
+titled_alike room other (gains uplink name info) alike = alike
+titled_alike room other (loses server name text) alike = alike
+titled_alike room other (kills server nick) alike = alike
+titled_alike room other (brings server channel members) alike = alike_are_respelled_alike channel room other alike
+titled_alike room other (sets server channel changes) alike = alike
+titled_alike room other (tops server channel topic) alike = alike
 
 module _ (stay : AlikeStayAlike) (take : AlikeTakeAlike) (have : AlikeHaveAlike) where
   all_stay : (room other : Room) (effects : List Effect) → AreAlikeRooms room other → AreAlikeRooms (after_all room effects) (after_all other effects)
@@ -103,11 +137,13 @@ module _ (stay : AlikeStayAlike) (take : AlikeTakeAlike) (have : AlikeHaveAlike)
   unfolding after_deed shown_by
   alike_do_alike room other deed alike =
       let same = effects_alike room other deed alike in
+      let before = titled_alike room other deed alike in
       record {
         effects = same;
-        stays = subst (λ effects. AreAlikeRooms (after_all room (effects_of room deed)) (after_all other effects)) same
-            (all_stay room other (effects_of room deed) alike);
-        shown = λ viewer. all_show viewer room other (effects_of room deed) alike ∙ ap (shown_along viewer other) same;
+        stays = subst (λ effects. AreAlikeRooms (after_all (titled room deed) (effects_of room deed)) (after_all (titled other deed) effects)) same
+            (all_stay (titled room deed) (titled other deed) (effects_of room deed) before);
+        shown = λ viewer.
+            all_show viewer (titled room deed) (titled other deed) (effects_of room deed) before ∙ ap (shown_along viewer (titled other deed)) same;
       }
 
   deeds_stay : (room other : Room) (deeds : List Deed) → AreAlikeRooms room other → AreAlikeRooms (after_deeds room deeds) (after_deeds other deeds)
@@ -132,15 +168,15 @@ module _ (stay : AlikeStayAlike) (take : AlikeTakeAlike) (have : AlikeHaveAlike)
         then member ∷ joining i else staying i
 
     far_aside : (users : Table User) (found : Option Channel)
-        → option_map_or (λ (c : Channel). list_all (home_passes far users) (keys c.members)) found false
-        ≡ option_map_or (λ (c : Channel). list_all (home_passes far users) (keys c.members)) (option_map uninviting found) false
+        → option_map_or (λ (c : Channel). list_any (home_passes far users) (keys c.members)) found false
+        ≡ option_map_or (λ (c : Channel). list_any (home_passes far users) (keys c.members)) (option_map uninviting found) false
     far_aside users None = refl
     far_aside users (Some channel) = refl
 
-    all_far_alike : (room other : Room) (channel : List ℕ) → AreAlikeRooms room other → all_far far room channel ≡ all_far far other channel
-    all_far_alike room other channel alike =
+    some_far_alike : (room other : Room) (channel : List ℕ) → AreAlikeRooms room other → some_far far room channel ≡ some_far far other channel
+    some_far_alike room other channel alike =
         far_aside room.users (row room.channels (key channel))
-        ∙ (λ i. option_map_or (λ (c : Channel). list_all (home_passes far (alike.users i)) (keys c.members)) (alike.channels (key channel) i) false)
+        ∙ (λ i. option_map_or (λ (c : Channel). list_any (home_passes far (alike.users i)) (keys c.members)) (alike.channels (key channel) i) false)
         ∙ sym (far_aside other.users (row other.channels (key channel)))
 
     one_alike : (room other : Room) (deed : Deed) → AreAlikeRooms room other → read_deed own far room deed ≡ read_deed own far other deed
@@ -160,9 +196,9 @@ module _ (stay : AlikeStayAlike) (take : AlikeTakeAlike) (have : AlikeHaveAlike)
     one_alike room other (kills server nick) alike = refl
     one_alike room other (brings server channel members) alike = ap (brought server channel) (members_alike room other channel members alike)
     one_alike room other (sets server channel changes) alike =
-        ap (λ b. if b then sets server channel changes ∷ [] else []) (all_far_alike room other channel alike)
+        ap (λ b. if b then sets server channel changes ∷ [] else []) (some_far_alike room other channel alike)
     one_alike room other (tops server channel topic) alike =
-        ap (λ b. if b then tops server channel topic ∷ [] else []) (all_far_alike room other channel alike)
+        ap (λ b. if b then tops server channel topic ∷ [] else []) (some_far_alike room other channel alike)
 
     read_alike : (room other : Room) (deeds : List Deed) → AreAlikeRooms room other → read_all own far room deeds ≡ read_all own far other deeds
     read_alike room other [] alike = refl
@@ -228,6 +264,29 @@ users_at_home : (home : List ℕ) (room : Room) (name : List ℕ) → users_at n
 unfolding of_home
 users_at_home home room name = refl
 
+-- what a channel has but who is invited is the same at each server
+raised_at_home : (home : List ℕ) (room : Room) (channel : List ℕ) (changes : List ModeChange)
+    → raised_in (of_home home room) channel changes ≡ raised_in room channel changes
+raised_at_home home room channel changes =
+    ap (λ o. option_map_or (λ (c : Channel). raising changes c.modes) o []) (home_row home room (key channel)) ∙ by_row (row room.channels (key channel))
+  where
+    by_row : (o : Option Channel)
+        → option_map_or (λ (c : Channel). raising changes c.modes) (option_map (inviting_only (is_at home room.users)) o) []
+        ≡ option_map_or (λ (c : Channel). raising changes c.modes) o []
+    by_row None = refl
+    by_row (Some c) = refl
+
+greater_at_home : (home : List ℕ) (room : Room) (channel topic : List ℕ)
+    → is_greater_topic (of_home home room) channel topic ≡ is_greater_topic room channel topic
+greater_at_home home room channel topic =
+    ap (λ o. option_map_or (λ (c : Channel). is_lt (bytes_cmp c.topic topic)) o false) (home_row home room (key channel)) ∙ by_row (row room.channels (key channel))
+  where
+    by_row : (o : Option Channel)
+        → option_map_or (λ (c : Channel). is_lt (bytes_cmp c.topic topic)) (option_map (inviting_only (is_at home room.users)) o) false
+        ≡ option_map_or (λ (c : Channel). is_lt (bytes_cmp c.topic topic)) o false
+    by_row None = refl
+    by_row (Some c) = refl
+
 module _ (follows : HomeFollows) where
   all_follow : (home : List ℕ) (room : Room) (effects : List Effect) → IsWellFormed room → AllByRecursion InvitesNobody effects
       → EachInTurn StaysWell room effects → of_home home (after_all room effects) ≡ after_all (of_home home room) effects
@@ -248,6 +307,17 @@ module _ (follows : HomeFollows) where
     later = possible_stay (after room effect) effects possible.later;
   }
 
+  made_follow : (home : List ℕ) (room : Room) (channel : List ℕ) (changes : List ModeChange) → IsWellFormed room
+      → of_home home (after_all room (changes_made channel changes)) ≡ after_all (of_home home room) (changes_made channel changes)
+  made_follow home room channel [] well = refl
+  made_follow home room channel (change ∷ changes) well = follows home room (ChangeModes by.Home channel (change ∷ changes)) well refl
+
+  topic_follows : (home : List ℕ) (room : Room) (channel topic : List ℕ) → IsWellFormed room → (b : Bool)
+      → of_home home (after_all room (if b then SetTopic by.Home channel topic ∷ [] else []))
+      ≡ after_all (of_home home room) (if b then SetTopic by.Home channel topic ∷ [] else [])
+  topic_follows home room channel topic well true = follows home room (SetTopic by.Home channel topic) well refl
+  topic_follows home room channel topic well false = refl
+
   pub home_follows_deed : HomeFollowsDeed
   unfolding after_deed
   home_follows_deed home room (does effect) well can = follows home room effect well can
@@ -258,7 +328,12 @@ module _ (follows : HomeFollows) where
   home_follows_deed home room (kills server nick) well can =
       all_follow home room (Quit nick collision_text ∷ []) well (tt, tt) (record { now = (quit_well room nick collision_text, refl); later = tt })
   home_follows_deed home room (brings server channel members) well can =
-      all_follow home room (flat_map (member_comes channel) members) well (members_invite channel members) (possible_stay room _ can)
+      all_follow home (titled_by channel room) (flat_map (member_comes channel) members) (respelled_is_well_formed channel room well)
+      (members_invite channel members) (possible_stay (titled_by channel room) _ can)
+      ∙ ap (λ r. after_all r (flat_map (member_comes channel) members)) (home_is_respelled home channel room)
   home_follows_deed home room (sets server channel changes) well can =
-      follows home room (ChangeModes by.Home channel changes) well refl
-  home_follows_deed home room (tops server channel topic) well can = follows home room (SetTopic by.Home channel topic) well refl
+      made_follow home room channel (raised_in room channel changes) well
+      ∙ ap (λ made. after_all (of_home home room) (changes_made channel made)) (sym (raised_at_home home room channel changes))
+  home_follows_deed home room (tops server channel topic) well can =
+      topic_follows home room channel topic well (is_greater_topic room channel topic)
+      ∙ ap (λ b. after_all (of_home home room) (if b then SetTopic by.Home channel topic ∷ [] else [])) (sym (greater_at_home home room channel topic))

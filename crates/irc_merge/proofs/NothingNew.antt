@@ -2,11 +2,13 @@
 use Rattle.std.proofs.Common.{◌≡◌, ℕ, Bool, true, false, cond, not, Option, Some, None, List, refl, sym, ◌∙◌, ap, ◌⊎◌, inl, inr, is_some}
 use Rattle.std.specs.Option.{option_and_then, option_map_or}
 use Rattle.std.specs.FinMap.{keys, retain_keys}
+use Rattle.irc_names.specs.Greater.{bytes_cmp, greater}
 use Rattle.irc_names.specs.Tables.{row}
 use Rattle.irc_users.specs.declared.user.User.{User}
 use Rattle.irc_channels.specs.declared.channel.Channel.{Channel}
 use Rattle.irc_channels.specs.declared.flags.Flags.{Flags}
 use Rattle.irc_channels.specs.Channels.{is_invited}
+use Rattle.irc_modes.specs.Joined.{joined_modes}
 use Rattle.irc_modes.specs.Modes.{is_nil}
 use Rattle.irc_room.specs.Room.{Room, IsWellFormed}
 use Rattle.irc_room.specs.InTurn.{after_all}
@@ -15,7 +17,7 @@ use Rattle.irc_room.specs.Lemmas.Rows.{not_none, not_true, same_some}
 use Rattle.irc_merge.specs.Quits.{quits_of, collision_text}
 use Rattle.irc_merge.specs.Merge.{AreAlike, clash, room_without, either, one_channel, joined_channel, merge}
 use Rattle.irc_merge.specs.Split.{split, lost_users}
-use Rattle.irc_merge.specs.Laws.{ComesOf, MergeHasNothingNew, SplitHasNothingNew}
+use Rattle.irc_merge.specs.Laws.{ComesOf, IsOfBoth, of_one, of_other, of_both, MergeHasNothingNew, SplitHasNothingNew}
 use Rattle.irc_merge.specs.Lemmas.Quitting.{among, thinned, users_left, channels_left}
 use Rattle.irc_merge.specs.Lemmas.Joining.{row-either, row-joined}
 use Rattle.irc_merge.specs.Lemmas.TableWords.{row-kept}
@@ -91,7 +93,7 @@ pub split_has_nothing_new : SplitHasNothingNew
 unfolding split
 split_has_nothing_new text homes room well = quits_come room text (lost_users homes room) well
 
-without_comes : (room other : Room) → IsWellFormed room → ComesOf room (room_without room other)
+pub without_comes : (room other : Room) → IsWellFormed room → ComesOf room (room_without room other)
 unfolding room_without
 without_comes room other well = quits_come room collision_text (clash room other) well
 
@@ -123,26 +125,22 @@ merge_has_nothing_new one other well_one well_other = record {
 
     channel_of : (fold : List ℕ) (channel : Channel) (o : Option Channel) → row (room_without one other).channels fold ≡ o → (p : Option Channel)
         → row (room_without other one).channels fold ≡ p → joined_channel o p ≡ Some channel
-        → (before : Channel) × (((row one.channels fold ≡ Some before) ⊎ (row other.channels fold ≡ Some before)) × AreAlike channel before)
+        → IsOfBoth one other fold channel
     channel_of fold channel None at p that is =
         let found = second.channels fold channel (that ∙ is) in
-        (found.0, (inr found.1.0, found.1.1))
+        of_other found.0 found.1.0 found.1.1
     channel_of fold channel (Some c) at None that is =
         let found = first.channels fold channel (at ∙ is) in
-        (found.0, (inl found.1.0, found.1.1))
+        of_one found.0 found.1.0 found.1.1
     channel_of fold channel (Some c) at (Some d) that is =
-        let found = first.channels fold c at in
-        let same = sym (same_some (one_channel c d) channel is) in (
-          found.0,
-          (
-            inl found.1.0,
-            record {
-              name = ap (λ (c : Channel). c.name) same ∙ (found.1.1).name;
-              modes = ap (λ (c : Channel). c.modes) same ∙ (found.1.1).modes;
-              topic = ap (λ (c : Channel). c.topic) same ∙ (found.1.1).topic;
-            },
-          ),
-        )
+        let ours = first.channels fold c at in
+        let theirs = second.channels fold d that in
+        let same = sym (same_some (one_channel c d) channel is) in
+        of_both ours.0 theirs.0 ours.1.0 theirs.1.0 (record {
+          name = ap (λ (c : Channel). c.name) same ∙ (λ i. greater bytes_cmp ((ours.1.1).name i) ((theirs.1.1).name i));
+          modes = ap (λ (c : Channel). c.modes) same ∙ (λ i. joined_modes ((ours.1.1).modes i) ((theirs.1.1).modes i));
+          topic = ap (λ (c : Channel). c.topic) same ∙ (λ i. greater bytes_cmp ((ours.1.1).topic i) ((theirs.1.1).topic i));
+        })
 
     of_first : (nick fold : List ℕ) (flags : Flags) (c : Channel) → row (room_without one other).channels fold ≡ Some c → row c.members nick ≡ Some flags
         → (flags_at one nick fold ≡ Some flags) ⊎ (flags_at other nick fold ≡ Some flags)

@@ -11,6 +11,7 @@ use Rattle.irc_users.specs.declared.user.User.{User}
 use Rattle.irc_users.specs.UserTable.{is_home}
 use Rattle.irc_channels.specs.declared.channel.Channel.{Channel}
 use Rattle.irc_modes.specs.Modes.{is_nil}
+use Rattle.irc_modes.specs.ModesSet.{AreWithinLimits}
 use Rattle.irc_channels.specs.Channels.{has_member, without_user}
 use Rattle.irc_room.specs.effect.Effect.TheVariants.{Quit}
 use Rattle.irc_room.specs.Room.{Room, IsWellFormed, IsSoundRow}
@@ -25,7 +26,7 @@ use Rattle.irc_merge.specs.Quits.{quits_of, collision_text}
 use Rattle.irc_merge.specs.Bursts.{burst}
 use Rattle.irc_merge.specs.Merge.{clash, room_without, either, joined_channel, one_channel, merge, uninvited, channel_uninvited}
 use Rattle.irc_merge.specs.MergeShown.{channel_arrivals, arrivals, merge_shown}
-use Rattle.irc_merge.specs.Laws.{AreApart}
+use Rattle.irc_merge.specs.Laws.{AreApart, CanBeTold}
 use Rattle.irc_room.specs.Invitations.{is_at, inviting_only, of_home}
 use Rattle.irc_merge.specs.OwnInvitations.{ServerReadsMerge, ServerShowsMerge}
 use Rattle.irc_merge.specs.Lemmas.TableWords.{row-kept, values_each}
@@ -189,7 +190,7 @@ shown_uninvited room other well well_other viewer =
 
 -- ---- each server keeps those of its own users
 
-home_row : (home : List ℕ) (room : Room) (q : List ℕ)
+pub home_row : (home : List ℕ) (room : Room) (q : List ℕ)
     → row (of_home home room).channels q ≡ option_map (inviting_only (is_at home room.users)) (row room.channels q)
 unfolding of_home
 home_row home room q = row-each (λ channel. Some (inviting_only (is_at home room.users) channel)) room.channels q ∙ by_row (row room.channels q)
@@ -422,16 +423,27 @@ home_apart home far room other apart = record {
   behind = apart.behind;
 }
 
+home_told : (home : List ℕ) (room : Room) → CanBeTold room → CanBeTold (of_home home room)
+home_told home room told = record {
+  modes = λ fold channel is. by_row fold channel (row room.channels fold) refl (sym (home_row home room fold) ∙ is);
+}
+  where
+    by_row : (fold : List ℕ) (channel : Channel) (o : Option Channel) → row room.channels fold ≡ o
+        → option_map (inviting_only (is_at home room.users)) o ≡ Some channel → AreWithinLimits channel.modes
+    by_row fold channel None at is = not_none channel is
+    by_row fold channel (Some before) at is =
+        subst (λ (c : Channel). AreWithinLimits c.modes) (same_some (inviting_only (is_at home room.users) before) channel is) (told.modes fold before at)
+
 pub server_reads_merge : ServerReadsMerge
-server_reads_merge own server home theirs far room other well well_other told apart near =
+server_reads_merge own server home theirs far room other well well_other ours told apart near =
     ap (λ ds. after_deeds (of_home home room) (read_all own far (of_home home room) ds)) (of_home_burst server theirs other)
-    ∙ burst_read_is_merge own server far (of_home home room) other (home_well home room well) well_other told (home_apart home far room other apart)
+    ∙ burst_read_is_merge own server far (of_home home room) other (home_well home room well) well_other (home_told home room ours) told (home_apart home far room other apart)
     ∙ home_of_merge home room other well well_other (elsewhere_of home far room other apart near)
 
 pub server_shows_merge : ServerShowsMerge
-server_shows_merge own server home theirs far room other well well_other apart viewer user at =
+server_shows_merge own server home theirs far room other well well_other ours told apart viewer user at =
     ap (λ ds. shown_by_all viewer (of_home home room) (read_all own far (of_home home room) ds)) (of_home_burst server theirs other)
-    ∙ shown_is_merge_shown own server far (of_home home room) other (home_well home room well) well_other (home_apart home far room other apart) viewer user
+    ∙ shown_is_merge_shown own server far (of_home home room) other (home_well home room well) well_other (home_told home room ours) told (home_apart home far room other apart) viewer user
     (ap (λ t. row t (key viewer)) (home_users home room) ∙ at)
     ∙ sym (shown_uninvited (of_home home room) other (home_well home room well) well_other viewer)
     ∙ ap (λ r. merge_shown r (uninvited other) viewer) (of_home_uninvited home room)

@@ -1,5 +1,5 @@
 -- Changes of a channel's own modes change nothing else of it; those that tell its modes are such.
-use Rattle.std.proofs.Common.{◌≡◌, ℕ, Bool, true, false, not, Option, Some, None, List, [], ◌∷◌, ◌++◌, refl, ◌∙◌, ap}
+use Rattle.std.proofs.Common.{◌≡◌, ℕ, Bool, true, false, cond, not, Option, Some, None, List, [], ◌∷◌, ◌++◌, refl, ◌∙◌, ap}
 use Rattle.std.proofs.lemmas.Bool.{and_parts, and_from}
 use Rattle.std.proofs.lemmas.List.Folds.{list_all-append}
 use Rattle.std.specs.List.{list_all}
@@ -10,7 +10,8 @@ use Rattle.irc_modes.specs.declared.modes.ModeChange.{ModeChange}
 use Rattle.irc_modes.specs.declared.modes.ModeLetter.{ModeLetter}
 use Rattle.irc_modes.specs.declared.modes.ModeLetter.TheVariants as letter
 use Rattle.irc_channels.specs.declared.channel.Channel.{Channel}
-use Rattle.irc_modes.specs.Modes.{mode_changed, modes_after}
+use Rattle.irc_modes.specs.Modes.{mode_changed, mode_step, modes_after}
+use Rattle.irc_modes.specs.Raised.{raises, raising}
 use Rattle.irc_channels.specs.Channels.{letter_changed, all_changed}
 use Rattle.irc_room.specs.Seen.{names_member}
 use Rattle.irc_modes.specs.ModesSet.{flag_set, privacy_set, key_set, limit_set, set_changes, ban_changes}
@@ -40,6 +41,19 @@ only_modes (change ∷ changes) channel plain =
     let parts = and_parts _ _ plain in
     ap (all_changed changes) (letter_plain change.plus change.letter change.word channel parts.0)
     ∙ only_modes changes (record channel { modes = mode_changed change.plus change.letter change.word channel.modes }) parts.1
+
+-- what is raised of such changes
+pub raising_plain : (changes : List ModeChange) (modes : Modes) → list_all is_plain changes ≡ true → list_all is_plain (raising changes modes) ≡ true
+raising_plain [] modes plain = refl
+raising_plain (change ∷ changes) modes plain =
+    let parts = and_parts _ _ plain in
+    by (raises change.plus change.letter change.word modes) (and_from _ _ parts.0 (raising_plain changes (mode_step modes change) parts.1))
+    (raising_plain changes modes parts.1)
+  where
+    by : (b : Bool) → list_all is_plain (change ∷ raising changes (mode_step modes change)) ≡ true → list_all is_plain (raising changes modes) ≡ true
+        → list_all is_plain (cond b (change ∷ raising changes (mode_step modes change)) (raising changes modes)) ≡ true
+    by true more less = more
+    by false more less = less
 
 -- ---- the changes that tell modes
 

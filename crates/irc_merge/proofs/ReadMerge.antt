@@ -11,12 +11,11 @@ use Rattle.irc_names.specs.TableLaws.{same_fold, one_fold, same_table, row-alter
 use Rattle.irc_users.specs.declared.user.User.{User}
 use Rattle.irc_channels.specs.declared.flags.Flags.{Flags}
 use Rattle.irc_channels.specs.declared.channel.Channel.{Channel}
-use Rattle.irc_modes.specs.Modes.{no_modes, modes_after}
+use Rattle.irc_modes.specs.ModesSet.{AreWithinLimits}
 use Rattle.irc_room.specs.Room.{Room, IsWellFormed, IsSoundRow}
 use Rattle.irc_room.specs.After.{alter_channel}
 use Rattle.irc_room.specs.Lemmas.Rows.{not_none, not_true, same_some}
 use Rattle.irc_merge.specs.Deeds.{Deed}
-use Rattle.irc_modes.specs.ModesSet.{set_changes, ban_changes}
 use Rattle.irc_merge.specs.Bursts.{burst, user_deeds, channel_deeds, home_passes}
 use Rattle.irc_merge.specs.Merge.{clash, room_without, either, joined_channel, merge, uninvited, channel_uninvited}
 use Rattle.irc_merge.specs.Laws.{AreApart, CanBeTold, BurstReadIsMerge}
@@ -27,7 +26,8 @@ use Rattle.irc_merge.specs.Lemmas.Joining.{row-joined}
 use Rattle.irc_merge.specs.Lemmas.Reading.{reads, reads-append}
 use Rattle.irc_merge.specs.Lemmas.Introducing.{told_user, both_users, users_introduced, channels_introduced}
 use Rattle.irc_merge.proofs.Bringing.{channel_row, deeds_row}
-use Rattle.irc_merge.proofs.ChannelTold.{IsNearRow, channel_told}
+use Rattle.irc_merge.proofs.ChannelTold.{IsNear, IsNearRow, channel_told}
+use Rattle.irc_merge.proofs.NothingNew.{without_comes}
 use Rattle.irc_merge.proofs.Tests.{either_way}
 
 joined_none : (x : Option Channel) → joined_channel x None ≡ x
@@ -75,7 +75,7 @@ module _ (far : List ℕ → Bool) (room other : Room) (well : IsWellFormed room
       by_rows None (Some user) at there = apart.behind q user at
       by_rows (Some holder) (Some user) at there = refl
 
-  left_kept : (channel : Channel) → ((q : List ℕ) → is_some (row channel.members q) ≡ true → is_some (row other.users q) ≡ true)
+  pub left_kept : (channel : Channel) → ((q : List ℕ) → is_some (row channel.members q) ≡ true → is_some (row other.users q) ≡ true)
       → retain_keys channel.members passes ≡ retain_keys channel.members (λ q. not (gone q))
   left_kept channel known = same_table (retain_keys channel.members passes) (retain_keys channel.members (λ q. not (gone q))) (λ q.
       row-kept channel.members passes q ∙ by_row q (row channel.members q) refl ∙ sym (row-kept channel.members (λ q. not (gone q)) q))
@@ -92,18 +92,28 @@ module _ (far : List ℕ → Bool) (room other : Room) (well : IsWellFormed room
       by_row None at = refl
       by_row (Some x) at = not_true (sym (ap is_some none) ∙ known (ap is_some at))
 
-  near_row : (fold : List ℕ) → IsNearRow passes (row (room_without room other).channels fold)
-  near_row fold = by_row (row (room_without room other).channels fold) refl
+  -- what is left of a channel of this side has modes that can be told
+  left_told : CanBeTold room → (fold : List ℕ) (channel : Channel) → row (room_without room other).channels fold ≡ Some channel → AreWithinLimits channel.modes
+  left_told told fold channel at =
+      let before = (without_comes room other well).channels fold channel at in
+      subst AreWithinLimits (sym (before.1.1).modes) (told.modes fold before.0 before.1.0)
+
+  pub near_channel : CanBeTold room → (fold : List ℕ) (channel : Channel) → row (room_without room other).channels fold ≡ Some channel → IsNear passes channel
+  near_channel told fold channel at =
+      let sound = (without_well room other well).channels_sound fold channel at in
+      record {
+        members = λ q pass. unknown channel.members q (sound.members_known q) (none_near q pass);
+        invited = λ q pass. unknown channel.invited q (sound.invited_known q) (none_near q pass);
+        some_member = sound.some_member;
+        rising = (left_told told fold channel at).in_order;
+      }
+
+  pub near_row : CanBeTold room → (fold : List ℕ) → IsNearRow passes (row (room_without room other).channels fold)
+  near_row told fold = by_row (row (room_without room other).channels fold) refl
     where
       by_row : (o : Option Channel) → row (room_without room other).channels fold ≡ o → IsNearRow passes o
       by_row None at = tt
-      by_row (Some channel) at =
-          let sound = (without_well room other well).channels_sound fold channel at in
-          record {
-            members = λ q pass. unknown channel.members q (sound.members_known q) (none_near q pass);
-            invited = λ q pass. unknown channel.invited q (sound.invited_known q) (none_near q pass);
-            some_member = sound.some_member;
-          }
+      by_row (Some channel) at = near_channel told fold channel at
 
   -- what the lines about a channel of the other side make of its row here
   pub record IsRead (fold : List ℕ) (channel : Channel) : Type 0 where
@@ -111,13 +121,13 @@ module _ (far : List ℕ → Bool) (room other : Room) (well : IsWellFormed room
     pub row_is : channel_row passes other.users channel (row (room_without room other).channels fold)
         ≡ joined_channel (row (room_without room other).channels fold) (thinned gone channel)
 
-  pub channel_read : (fold : List ℕ) (channel : Channel) → IsSoundRow other.users fold channel → channel.invited ≡ empty
-      → modes_after (set_changes channel.modes ++ ban_changes channel.modes.bans) no_modes ≡ channel.modes → IsRead fold channel
-  channel_read fold channel sound uninvited told = record {
+  pub channel_read : CanBeTold room → (fold : List ℕ) (channel : Channel) → IsSoundRow other.users fold channel → channel.invited ≡ empty
+      → AreWithinLimits channel.modes → IsRead fold channel
+  channel_read ours fold channel sound uninvited told = record {
     named = sound.named;
     row_is =
         channel_told passes other.users channel (row (room_without room other).channels fold)
-        (record { modes = told; members = sound.members_known; named = well_other.users_named }) (near_row fold)
+        (record { modes = told; members = sound.members_known; named = well_other.users_named }) (near_row ours fold)
         ∙ (λ i. joined_channel (row (room_without room other).channels fold) (peopled channel (left_kept channel sound.members_known i)
         ((nothing_kept (λ q. not (gone q)) ∙ ap (λ (t : Table (Unit {0})). retain_keys t (λ q. not (gone q))) (sym uninvited)) i)));
   }
@@ -192,9 +202,9 @@ module _ (far : List ℕ → Bool) (room other : Room) (well : IsWellFormed room
   -- ---- all of them
 
   pub read_gives : (own server : List ℕ) → ((fold : List ℕ) (channel : Channel) → row other.channels fold ≡ Some channel → channel.invited ≡ empty)
-      → CanBeTold other → reads own far room (burst server other) ≡ merge room other
+      → CanBeTold room → CanBeTold other → reads own far room (burst server other) ≡ merge room other
   unfolding burst merge
-  read_gives own server uninvited told =
+  read_gives own server uninvited ours told =
       let met = reads own far room (user_deeds other) in
       let here : met.channels ≡ (room_without room other).channels = channels_introduced own far room other well well_other in
       let rise = true_is _ (entries_sorted other.channels) in
@@ -202,7 +212,7 @@ module _ (far : List ℕ → Bool) (room other : Room) (well : IsWellFormed room
       (entries_all IsRead (entries other.channels)
       (λ q channel is.
       let at : row other.channels q ≡ Some channel = get-entries other.channels q ∙ is in
-      channel_read q channel (well_other.channels_sound q channel at) (uninvited q channel at) (told.modes q channel at))
+      channel_read ours q channel (well_other.channels_sound q channel at) (uninvited q channel at) (told.modes q channel at))
       rise)
       met (users_introduced own far room other well well_other) (λ q there. ap (λ t. row t q) here) in
       reads-append own far room (user_deeds other) (flat_map (channel_deeds server other.users) (values other.channels))
@@ -250,7 +260,7 @@ pub uninvited_told : (room : Room) → CanBeTold room → CanBeTold (uninvited r
 uninvited_told room told = record {
   modes = λ fold channel is.
       let found = uninvited_row (row room.channels fold) channel (sym (row-each channel_uninvited room.channels fold) ∙ is) in
-      subst (λ (c : Channel). modes_after (set_changes c.modes ++ ban_changes c.modes.bans) no_modes ≡ c.modes) found.1.1 (told.modes fold found.0 found.1.0);
+      subst (λ (c : Channel). AreWithinLimits c.modes) found.1.1 (told.modes fold found.0 found.1.0);
 }
 
 uninvited_empty : (room : Room) (fold : List ℕ) (channel : Channel) → row (uninvited room).channels fold ≡ Some channel → channel.invited ≡ empty
@@ -270,7 +280,7 @@ uninvited_burst server room =
     (ap (flat_map (channel_deeds server room.users)) (values_each channel_uninvited room.channels) ∙ same_deeds server room.users (values room.channels))
 
 pub burst_read_is_merge : BurstReadIsMerge
-burst_read_is_merge own server far room other well well_other told apart =
+burst_read_is_merge own server far room other well well_other ours told apart =
     ap (reads own far room) (sym (uninvited_burst server other))
     ∙ read_gives far room (uninvited other) well (uninvited_well other well_other) (record { near = apart.near; behind = apart.behind })
-    own server (uninvited_empty other) (uninvited_told other told)
+    own server (uninvited_empty other) ours (uninvited_told other told)

@@ -1,7 +1,8 @@
 -- What one user is shown by one member who comes to a channel: its JOIN and its flags, if the user is in the channel; else nothing.
-use Rattle.std.proofs.Common.{◌≡◌, ℕ, Bool, true, false, cond, ◌||◌, Option, Some, None, List, [], ◌∷◌, ◌++◌, refl, sym, ◌∙◌, ap, is_some, option_map, option_to_list, codes, nat_eq}
+use Rattle.std.proofs.Common.{◌≡◌, ℕ, Bool, true, false, cond, not, ◌||◌, Option, Some, None, List, [], ◌∷◌, ◌++◌, refl, sym, ◌∙◌, ap, is_some, option_map, option_to_list, filter_map, codes, nat_eq}
+use Rattle.std.proofs.lemmas.Bool.{and_parts}
 use Rattle.std.specs.Prelude.{unwrap_or}
-use Rattle.std.specs.List.{cons_option}
+use Rattle.std.specs.List.{list_all, cons_option}
 use Rattle.std.specs.Cmp.Lexicographic.{pointwise, bytes_decides}
 use Rattle.std.specs.Option.{option_and_then, option_map_or}
 use Rattle.std.specs.FinMap.{get-empty}
@@ -17,18 +18,20 @@ use Rattle.irc_modes.specs.declared.modes.ModeLetter.TheVariants as letter
 use Rattle.irc_channels.specs.declared.channel.Channel.{Channel}
 use Rattle.irc_channels.specs.Channels.{has_member, new_channel, joined, changed, all_changed}
 use Rattle.irc_modes.specs.Letters.{letter_byte, sign_byte}
+use Rattle.irc_mode_words.specs.ModeWritten.{letters_text, changes_written}
 use Rattle.irc_room.specs.effect.By.TheVariants as by
 use Rattle.irc_room.specs.effect.Effect.TheVariants.{Join, ChangeModes, SetTopic}
 use Rattle.irc_room.specs.Room.{Room}
 use Rattle.irc_room.specs.Effects.{is_member}
 use Rattle.irc_room.specs.After.{after, alter_channel}
-use Rattle.irc_room.specs.Seen.{full_sender, line_from, names_member, shown_line}
+use Rattle.irc_room.specs.Seen.{full_sender, line_from, names_member, stored_nick, written_words, shown_line}
 use Rattle.irc_room.specs.Lemmas.Rows.{not_true}
 use Rattle.irc_room.specs.Lemmas.ModesKept.{same_rows}
 use Rattle.irc_room.specs.Viewers.{shows_to, line_for}
 use Rattle.irc_merge.specs.ShownAlong.{shown_along}
 use Rattle.irc_merge.specs.Deeds.{flag_given, member_comes}
 use Rattle.irc_merge.specs.MergeShown.{join_line, flag_line, arrival}
+use Rattle.irc_merge.proofs.PlainChanges.{is_plain}
 use Rattle.irc_merge.proofs.Bringing.{given, with_member, comes_to}
 use Rattle.irc_merge.proofs.Tests.{or_second}
 
@@ -108,6 +111,18 @@ comes_outside name q fold flags x two outside =
     ∙ ap (λ b. is_some (cond b (Some flags) (row (unwrap_or x (new_channel name)).members q))) two
     ∙ new_outside name q x outside
 
+-- words of the channel's own modes are written as they are told
+words_as_told : (room : Room) (changes : List ModeChange) → list_all is_plain changes ≡ true
+    → written_words room changes ≡ filter_map (λ (c : ModeChange). c.word) changes
+words_as_told room [] plain = refl
+words_as_told room (change ∷ changes) plain =
+    let parts = and_parts _ _ plain in
+    λ i. cons_option (by (names_member change.letter) parts.0 i) (words_as_told room changes parts.1 i)
+  where
+    by : (b : Bool) → not b ≡ true → cond b (option_map (stored_nick room) change.word) change.word ≡ change.word
+    by true plain = cc
+    by false plain = refl
+
 module _ (viewer name : List ℕ) where
   -- ---- a viewer who is in the channel
 
@@ -183,6 +198,28 @@ module _ (viewer name : List ℕ) where
       ∙ (λ i. written_mode user which (option_map_or (λ (c : Channel). c.name) (sees.there i) name)
       (cond (flag i) (Some (option_map_or (λ (u : User). u.nick) (at i) nick)) (Some nick)))
       ∙ ap (λ t. Some (mode_line user t which holder.nick)) sees.titled
+
+  -- changes of the channel's own modes, as they are
+  pub changes_shown : (user : User) (title : List ℕ) (changes : List ModeChange) (room : Room) → Sees user title room → list_all is_plain changes ≡ true
+      → shows_to room (ChangeModes by.Home name changes) viewer
+      ≡ Some (text (record { sender = named user.home; command = codes "MODE"; middle = title ∷ changes_written changes; last = None }))
+  unfolding shows_to
+  changes_shown user title changes room sees plain =
+      ap (option_and_then (line_for room (ChangeModes by.Home name changes))) sees.at
+      ∙ ap (λ b. cond b (shown_line room (ChangeModes by.Home name changes) user) None) (member_seen user title room sees)
+      ∙ (λ i. line_from (codes "MODE") (option_map_or (λ (c : Channel). c.name) (sees.there i) name ∷ letters_text changes ∷ words_as_told room changes plain i)
+      None (Some (named user.home)))
+      ∙ ap (λ t. Some (text (record { sender = named user.home; command = codes "MODE"; middle = t ∷ changes_written changes; last = None }))) sees.titled
+
+  pub topic_shown : (user : User) (title topic : List ℕ) (room : Room) → Sees user title room
+      → shows_to room (SetTopic by.Home name topic) viewer
+      ≡ Some (text (record { sender = named user.home; command = codes "TOPIC"; middle = title ∷ []; last = Some topic }))
+  unfolding shows_to
+  topic_shown user title topic room sees =
+      ap (option_and_then (line_for room (SetTopic by.Home name topic))) sees.at
+      ∙ ap (λ b. cond b (shown_line room (SetTopic by.Home name topic) user) None) (member_seen user title room sees)
+      ∙ (λ i. line_from (codes "TOPIC") (option_map_or (λ (c : Channel). c.name) (sees.there i) name ∷ []) (Some topic) (Some (named user.home)))
+      ∙ ap (λ t. Some (text (record { sender = named user.home; command = codes "TOPIC"; middle = t ∷ []; last = Some topic }))) sees.titled
 
   flags_shown : (user : User) (title nick : List ℕ) (holder : User) (op voice : Bool) (room : Room) → Sees user title room → row room.users (key nick) ≡ Some holder
       → shown_along viewer room (flag_given op letter.Operator name nick ++ flag_given voice letter.Voice name nick)
@@ -261,7 +298,7 @@ module _ (viewer name : List ℕ) where
       by_idle true = refl
       by_idle false = by_row (row room.users (key viewer)) refl
 
-  still_blind : (room : Room) (change : Option Channel → Option Channel) → IsBlind room
+  pub still_blind : (room : Room) (change : Option Channel → Option Channel) → IsBlind room
       → ((x : Option Channel) → row_has (key viewer) x ≡ false → row_has (key viewer) (change x) ≡ false) → IsBlind (alter_channel name change room)
   still_blind room change blind stays = record {
     named = blind.named;

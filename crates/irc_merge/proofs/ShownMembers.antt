@@ -1,37 +1,39 @@
 -- What a user of this side is shown while the members of a channel are brought.
-use Rattle.std.proofs.Common.{◌≡◌, ℕ, Bool, true, false, cond, not, ◌&&◌, Option, Some, None, List, [], ◌∷◌, ◌++◌, refl, sym, ◌∙◌, ap, map, fold, is_some, option_map, option_to_list, filter_map, arith, if◌then◌else◌}
+use Rattle.std.proofs.Common.{◌≡◌, ℕ, Bool, true, false, cond, not, ◌&&◌, Option, Some, None, List, [], ◌∷◌, ◌++◌, refl, sym, ◌∙◌, ap, map, fold, is_some, option_map, filter_map, arith, if◌then◌else◌}
 use Rattle.std.proofs.lemmas.Bool.{and_parts}
 use Rattle.std.proofs.lemmas.List.{append-nil, append_assoc}
 use Rattle.std.specs.List.{flat_map, cons_option, AllByRecursion}
 use Rattle.std.specs.Option.{option_map_or}
-use Rattle.std.specs.FinMap.{keys, find, is_sorted}
+use Rattle.std.specs.FinMap.{find, is_sorted}
 use Rattle.std.specs.FinMap.Entries.{below_all}
 use Rattle.irc_names.specs.Fold.{key}
+use Rattle.irc_names.specs.GreaterLaws.{greater_with_itself}
 use Rattle.irc_names.specs.Tables.{Table, fold_cmp, row}
-use Rattle.irc_names.specs.TableLaws.{same_fold, one_fold, row-keys, row-alter_same}
+use Rattle.irc_names.specs.TableLaws.{same_fold, one_fold, row-alter_same}
 use Rattle.irc_users.specs.declared.user.User.{User}
 use Rattle.irc_channels.specs.declared.flags.Flags.{Flags}
-use Rattle.irc_modes.specs.declared.modes.ModeChange.{ModeChange}
 use Rattle.irc_channels.specs.declared.channel.Channel.{Channel}
-use Rattle.irc_channels.specs.Channels.{has_member}
+use Rattle.irc_channels.specs.Channels.{has_member, new_channel, respelled}
 use Rattle.irc_room.specs.Room.{Room}
 use Rattle.irc_room.specs.Effects.{is_member}
-use Rattle.irc_room.specs.After.{alter_channel}
+use Rattle.irc_room.specs.After.{alter_channel, titled_by}
 use Rattle.irc_room.specs.InTurn.{after_all}
 use Rattle.irc_room.specs.Lemmas.Rows.{not_true}
+use Rattle.irc_room.specs.Lemmas.RespelledRooms.{respelled_once}
 use Rattle.irc_merge.specs.ShownAlong.{shown_along}
-use Rattle.irc_merge.specs.Deeds.{brings, sets, tops, member_comes, shown_by, shown_by_all}
-use Rattle.irc_modes.specs.ModesSet.{set_changes, ban_changes}
-use Rattle.irc_merge.specs.Bursts.{in_lines, members_a_line, bans_a_line, home_passes, stored_member, stored_members, settings_line, topic_line, channel_deeds}
-use Rattle.irc_merge.specs.BurstRead.{is_new_member, new_members, brought, all_far}
-use Rattle.irc_merge.specs.MergeShown.{arrival}
+use Rattle.irc_merge.specs.Deeds.{brings, member_comes, shown_by, shown_by_all}
+use Rattle.irc_merge.specs.Bursts.{in_lines, members_a_line, home_passes, stored_member, stored_members, channel_deeds}
+use Rattle.irc_merge.specs.BurstRead.{is_new_member, new_members, brought}
+use Rattle.irc_merge.specs.MergeShown.{arrival, mode_lines}
 use Rattle.irc_merge.proofs.Splitting.{shown-append}
 use Rattle.irc_merge.specs.Lemmas.TableWords.{first_there, above_first}
 use Rattle.irc_merge.proofs.Lines.{joined_lines, all_in_lines}
+use Rattle.irc_merge.specs.Lemmas.Reading.{read_one}
 use Rattle.irc_merge.specs.Lemmas.ShownReading.{shown_one, shown_reads, shown_reads-one, shown_reads-append}
-use Rattle.irc_merge.proofs.Bringing.{comes, comes_to, member_joins, one_joins, line_joins, lines_row, row_far, row_set, set_row, settings_row, bans_row, settings_read, sets_read}
-use Rattle.irc_merge.proofs.ChannelTold.{one_fails, StandsThere}
-use Rattle.irc_merge.proofs.ShownChannels.{Sees, IsBlind, row_has, come_shown, sees_come, comes_outside, come_unseen, blind_come, change_unseen, topic_unseen}
+use Rattle.irc_merge.proofs.Bringing.{channel_by, channel_twice, comes, comes_to, with_member, member_joins, one_joins, joins_row, new_titled, spelled, line_spelled, line_joins, lines_row, members_row, told_in_lines}
+use Rattle.irc_merge.proofs.ChannelTold.{StandsThere}
+use Rattle.irc_merge.proofs.ShownChannels.{Sees, IsBlind, row_has, come_shown, sees_come, comes_outside, come_unseen, blind_come}
+use Rattle.irc_merge.proofs.ShownModes.{tail}
 use Rattle.irc_merge.proofs.Tests.{and_not}
 
 -- ---- member by member
@@ -70,21 +72,80 @@ joins-append viewer far name (member ∷ a) b room =
     ∙ sym (append_assoc (shown_join viewer far name room member) (shown_joins viewer far name (one_joins far name room member) a)
     (shown_joins viewer far name (fold (one_joins far name) (one_joins far name room member) a) b))
 
+-- where nobody comes, the spelling shows nothing
 brought_shown : (viewer server name : List ℕ) (members : List (List ℕ × Flags)) (room : Room)
-    → shown_by_all viewer room (brought server name members) ≡ shown_along viewer room (flat_map (member_comes name) members)
+    → shown_by_all viewer room (brought server name members) ≡ shown_along viewer (titled_by name room) (flat_map (member_comes name) members)
 unfolding shown_by
 brought_shown viewer server name [] room = refl
-brought_shown viewer server name (member ∷ members) room = append-nil (shown_along viewer room (flat_map (member_comes name) (member ∷ members)))
+brought_shown viewer server name (member ∷ members) room =
+    append-nil (shown_along viewer (titled_by name room) (flat_map (member_comes name) (member ∷ members)))
+
+line_shown : (viewer own server name : List ℕ) (far : List ℕ → Bool) (line : List (List ℕ × Flags)) (room : Room)
+    → shown_one viewer own far room (brings server name line) ≡ shown_joins viewer far name (titled_by name room) line
+line_shown viewer own server name far line room =
+    brought_shown viewer server name (new_members far room name line) room
+    ∙ ap (λ news. shown_along viewer (titled_by name room) (flat_map (member_comes name) news)) (sym (new_titled far name line room))
+    ∙ new_shown viewer far name line (titled_by name room)
+
+-- ---- a channel is spelled before those of a line come, or behind them: it is the same
+
+member_titled : (passes : List ℕ → Bool) (name : List ℕ) (x : Option Channel) (member : List ℕ × Flags)
+    → option_map (respelled name) (member_joins passes name x member) ≡ member_joins passes name (option_map (respelled name) x) member
+member_titled passes name None member = by_test (passes (key member.0))
+  where
+    made : option_map (respelled name) (comes_to name (key member.0) member.1 None) ≡ comes_to name (key member.0) member.1 None
+    made = ap (λ title. Some (record (with_member (key member.0) member.1 (new_channel name)) { name = title })) (greater_with_itself name)
+
+    by_test : (b : Bool) → option_map (respelled name) (cond (b && true) (comes_to name (key member.0) member.1 None) None)
+        ≡ cond (b && true) (comes_to name (key member.0) member.1 None) None
+    by_test true = made
+    by_test false = refl
+member_titled passes name (Some channel) member = by_test (passes (key member.0) && not (has_member (key member.0) channel))
+  where
+    by_test : (b : Bool) → option_map (respelled name) (cond b (comes_to name (key member.0) member.1 (Some channel)) (Some channel))
+        ≡ cond b (comes_to name (key member.0) member.1 (Some (respelled name channel))) (Some (respelled name channel))
+    by_test true = refl
+    by_test false = refl
+
+members_titled : (passes : List ℕ → Bool) (name : List ℕ) (members : List (List ℕ × Flags)) (x : Option Channel)
+    → option_map (respelled name) (fold (member_joins passes name) x members) ≡ fold (member_joins passes name) (option_map (respelled name) x) members
+members_titled passes name [] x = refl
+members_titled passes name (member ∷ members) x =
+    members_titled passes name members (member_joins passes name x member)
+    ∙ ap (λ y. fold (member_joins passes name) y members) (member_titled passes name x member)
+
+titled_before : (far : List ℕ → Bool) (name : List ℕ) (members : List (List ℕ × Flags)) (room : Room)
+    → titled_by name (fold (one_joins far name) room members) ≡ fold (one_joins far name) (titled_by name room) members
+titled_before far name members room =
+    let join = member_joins (home_passes far room.users) name in
+    ap (titled_by name) (joins_row far name members room)
+    ∙ channel_twice name (λ x. fold join x members) (option_map (respelled name)) room
+    ∙ channel_by name (λ x. option_map (respelled name) (fold join x members)) (λ x. fold join (option_map (respelled name) x) members) room
+    (members_titled (home_passes far room.users) name members (row room.channels (key name)))
+    ∙ sym (joins_row far name members (titled_by name room)
+    ∙ channel_twice name (option_map (respelled name)) (λ x. fold join x members) room)
+
+line_titled : (own server name : List ℕ) (far : List ℕ → Bool) (line : List (List ℕ × Flags)) (room : Room)
+    → titled_by name (read_one own far room (brings server name line)) ≡ fold (one_joins far name) (titled_by name room) line
+line_titled own server name far line room =
+    ap (titled_by name) (line_joins own server name far line room)
+    ∙ titled_before far name line (line_spelled far name room line)
+    ∙ ap (λ r. fold (one_joins far name) r line) (by (new_members far room name line))
+  where
+    by : (news : List (List ℕ × Flags)) → titled_by name (spelled name news room) ≡ titled_by name room
+    by [] = refl
+    by (member ∷ news) = respelled_once name room
 
 pub lines_shown : (viewer own server name : List ℕ) (far : List ℕ → Bool) (lines : List (List (List ℕ × Flags))) (room : Room)
-    → shown_reads viewer own far room (map (brings server name) lines) ≡ shown_joins viewer far name room (joined_lines lines)
+    → shown_reads viewer own far room (map (brings server name) lines) ≡ shown_joins viewer far name (titled_by name room) (joined_lines lines)
 lines_shown viewer own server name far [] room = refl
 lines_shown viewer own server name far (line ∷ lines) room =
     shown_reads-one viewer own far room (brings server name line) (map (brings server name) lines)
-    ∙ (λ i. (brought_shown viewer server name (new_members far room name line) room ∙ new_shown viewer far name line room) i
-    ++ shown_reads viewer own far (line_joins own server name far line room i) (map (brings server name) lines))
-    ∙ ap (λ rest. shown_joins viewer far name room line ++ rest) (lines_shown viewer own server name far lines (fold (one_joins far name) room line))
-    ∙ sym (joins-append viewer far name line (joined_lines lines) room)
+    ∙ (λ i. line_shown viewer own server name far line room i
+    ++ lines_shown viewer own server name far lines (read_one own far room (brings server name line)) i)
+    ∙ ap (λ r. shown_joins viewer far name (titled_by name room) line ++ shown_joins viewer far name r (joined_lines lines))
+    (line_titled own server name far line room)
+    ∙ sym (joins-append viewer far name line (joined_lines lines) (titled_by name room))
 
 -- ---- who is not in the channel is shown nothing
 
@@ -193,91 +254,19 @@ module _ (viewer name : List ℕ) (far : List ℕ → Bool) (users : Table User)
       (joins_seen es parts.1 there.1 (alter_channel name (comes_to name e.0 e.1) room) (sees_come viewer name user title e.0 e.1 room sees)
       (outside_later (home_passes far room.users) name e es room parts.0 outside) held)
 
--- ---- modes and topics are shown to nobody of this side
+-- ---- all lines about a channel: those that bring its members, and then those that tell its modes and its topic
 
--- where all members are behind the link, one of this side is none
-far_blind : (passes : List ℕ → Bool) (fold : List ℕ) (x : Option Channel) → passes fold ≡ false → row_far passes x ≡ true → row_has fold x ≡ false
-far_blind passes fold None out far = refl
-far_blind passes fold (Some channel) out far = by_test (has_member fold channel) refl
-  where
-    by_test : (b : Bool) → has_member fold channel ≡ b → b ≡ false
-    by_test true member = not_true (sym (one_fails passes fold (keys channel.members) (row-keys channel.members fold ∙ member) out) ∙ far)
-    by_test false none = refl
-
--- a viewer of this side
-pub record IsOurs (viewer : List ℕ) (far : List ℕ → Bool) (users : Table User) : Type 0 where
-  pub named : (user : User) → row users (key viewer) ≡ Some user → key user.nick ≡ key viewer
-  pub near : home_passes far users (key viewer) ≡ false
-
-set_unseen : (viewer own server name : List ℕ) (far : List ℕ → Bool) (changes : List ModeChange) (room : Room) → IsOurs viewer far room.users
-    → shown_one viewer own far room (sets server name changes) ≡ []
-unfolding shown_by
-set_unseen viewer own server name far changes room ours = by_test (all_far far room name) refl
-  where
-    by_test : (b : Bool) → all_far far room name ≡ b → shown_by_all viewer room (cond b (sets server name changes ∷ []) []) ≡ []
-    by_test true all =
-        ap (λ o. (option_to_list o ++ []) ++ []) (change_unseen viewer name changes room (record {
-          named = ours.named;
-          outside = far_blind (home_passes far room.users) (key viewer) (row room.channels (key name)) ours.near all;
-        }))
-    by_test false some = refl
-
-top_unseen : (viewer own server name : List ℕ) (far : List ℕ → Bool) (topic : List ℕ) (room : Room) → IsOurs viewer far room.users
-    → shown_one viewer own far room (tops server name topic) ≡ []
-unfolding shown_by
-top_unseen viewer own server name far topic room ours = by_test (all_far far room name) refl
-  where
-    by_test : (b : Bool) → all_far far room name ≡ b → shown_by_all viewer room (cond b (tops server name topic ∷ []) []) ≡ []
-    by_test true all =
-        ap (λ o. (option_to_list o ++ []) ++ []) (topic_unseen viewer name topic room (record {
-          named = ours.named;
-          outside = far_blind (home_passes far room.users) (key viewer) (row room.channels (key name)) ours.near all;
-        }))
-    by_test false some = refl
-
-sets_unseen : (viewer own server name : List ℕ) (far : List ℕ → Bool) (lines : List (List ModeChange)) (room : Room) → IsOurs viewer far room.users
-    → shown_reads viewer own far room (map (sets server name) lines) ≡ []
-sets_unseen viewer own server name far [] room ours = refl
-sets_unseen viewer own server name far (line ∷ lines) room ours =
-    shown_reads-one viewer own far room (sets server name line) (map (sets server name) lines)
-    ∙ (λ i. set_unseen viewer own server name far line room ours i ++ shown_reads viewer own far (set_row own server name far line room i) (map (sets server name) lines))
-    ∙ sets_unseen viewer own server name far lines (alter_channel name (λ x. row_set (home_passes far room.users) x line) room) ours
-
-settings_unseen : (viewer own server name : List ℕ) (far : List ℕ → Bool) (changes : List ModeChange) (room : Room) → IsOurs viewer far room.users
-    → shown_reads viewer own far room (settings_line server name changes) ≡ []
-settings_unseen viewer own server name far [] room ours = refl
-settings_unseen viewer own server name far (change ∷ changes) room ours =
-    shown_reads-one viewer own far room (sets server name (change ∷ changes)) []
-    ∙ ap (λ lines. lines ++ []) (set_unseen viewer own server name far (change ∷ changes) room ours)
-
-topic_line_unseen : (viewer own server name : List ℕ) (far : List ℕ → Bool) (topic : List ℕ) (room : Room) → IsOurs viewer far room.users
-    → shown_reads viewer own far room (topic_line server name topic) ≡ []
-topic_line_unseen viewer own server name far [] room ours = refl
-topic_line_unseen viewer own server name far (byte ∷ topic) room ours =
-    shown_reads-one viewer own far room (tops server name (byte ∷ topic)) []
-    ∙ ap (λ lines. lines ++ []) (top_unseen viewer own server name far (byte ∷ topic) room ours)
-
--- of all lines about a channel those alone show something that bring its members
-pub deeds_shown : (viewer own server : List ℕ) (far : List ℕ → Bool) (users : Table User) (channel : Channel) (room : Room) → IsOurs viewer far room.users
-    → shown_reads viewer own far room (channel_deeds server users channel) ≡ shown_joins viewer far channel.name room (stored_members users channel)
-deeds_shown viewer own server far users channel room ours =
+pub deeds_shown : (viewer own server : List ℕ) (far : List ℕ → Bool) (users : Table User) (channel : Channel) (room : Room)
+    → shown_reads viewer own far room (channel_deeds server users channel)
+    ≡ shown_joins viewer far channel.name (titled_by channel.name room) (stored_members users channel)
+    ++ shown_reads viewer own far (alter_channel channel.name (members_row (home_passes far room.users) users channel) room)
+    (tail server channel.name (mode_lines channel.modes) channel.topic)
+deeds_shown viewer own server far users channel room =
     let name = channel.name in
     let lines = in_lines members_a_line (stored_members users channel) in
-    let modes = settings_line server name (set_changes channel.modes) in
-    let bans = map (sets server name) (in_lines bans_a_line (ban_changes channel.modes.bans)) in
-    let topic = topic_line server name channel.topic in
-    let come = alter_channel name (λ x. fold (member_joins (home_passes far room.users) name) x (joined_lines lines)) room in
-    let set = alter_channel name (settings_row (home_passes far room.users) (set_changes channel.modes)) come in
-    let banned = alter_channel name (bans_row (home_passes far room.users) channel.modes.bans) set in
-    shown_reads-append viewer own far room (map (brings server name) lines) (modes ++ (bans ++ topic))
-    ∙ (λ i. lines_shown viewer own server name far lines room i ++ shown_reads viewer own far (lines_row own server name far lines room i) (modes ++ (bans ++ topic)))
-    ∙ ap (λ rest. shown_joins viewer far name room (joined_lines lines) ++ rest)
-    (shown_reads-append viewer own far come modes (bans ++ topic)
-    ∙ (λ i. settings_unseen viewer own server name far (set_changes channel.modes) come ours i
-    ++ shown_reads viewer own far (settings_read own server name far (set_changes channel.modes) come i) (bans ++ topic))
-    ∙ shown_reads-append viewer own far set bans topic
-    ∙ (λ i. sets_unseen viewer own server name far (in_lines bans_a_line (ban_changes channel.modes.bans)) set ours i
-    ++ shown_reads viewer own far (sets_read own server name far (in_lines bans_a_line (ban_changes channel.modes.bans)) set i) topic)
-    ∙ topic_line_unseen viewer own server name far channel.topic banned ours)
-    ∙ append-nil (shown_joins viewer far name room (joined_lines lines))
-    ∙ ap (shown_joins viewer far name room) (all_in_lines members_a_line (stored_members users channel) (omega arith))
+    let rest = tail server name (mode_lines channel.modes) channel.topic in
+    ap (shown_reads viewer own far room) (told_in_lines server users channel)
+    ∙ shown_reads-append viewer own far room (map (brings server name) lines) rest
+    ∙ (λ i. (lines_shown viewer own server name far lines room
+    ∙ ap (shown_joins viewer far name (titled_by name room)) (all_in_lines members_a_line (stored_members users channel) (omega arith))) i
+    ++ shown_reads viewer own far (lines_row own server name far lines room i) rest)

@@ -1,37 +1,41 @@
 -- What a user of this side is shown by a burst that is read is what the merge shows.
-use Rattle.std.proofs.Common.{◌≡◌, ℕ, Bool, true, false, cond, not, ◌&&◌, Option, Some, None, List, [], ◌∷◌, ◌++◌, refl, sym, ◌∙◌, ap, map, filter, filter_map, is_some}
+use Rattle.std.proofs.Common.{◌≡◌, ℕ, Bool, true, false, cond, not, ◌&&◌, Option, Some, None, List, [], ◌∷◌, ◌++◌, refl, sym, ◌∙◌, ap, map, filter, filter_map, is_some, option_map, if◌then◌else◌}
 use Rattle.std.proofs.lemmas.Bool.{and_parts}
-use Rattle.std.specs.List.{flat_map, cons_option, AllByRecursion}
+use Rattle.std.specs.List.{list_any, flat_map, cons_option, AllByRecursion}
 use Rattle.std.specs.Option.{option_map_or}
 use Rattle.std.specs.FinMap.{entries, entries_sorted, values, keys, retain_keys, find, is_sorted, get-entries}
 use Rattle.irc_names.specs.Fold.{key}
+use Rattle.irc_names.specs.Greater.{bytes_cmp, greater}
 use Rattle.irc_names.specs.Tables.{Table, fold_cmp, row, alter, each, both}
-use Rattle.irc_names.specs.TableLaws.{same_table, row-each, row-keys}
+use Rattle.irc_names.specs.TableLaws.{same_table, row-each, row-keys, row-alter_same}
 use Rattle.irc_users.specs.declared.user.User.{User}
 use Rattle.irc_channels.specs.declared.flags.Flags.{Flags}
 use Rattle.irc_channels.specs.declared.channel.Channel.{Channel}
-use Rattle.irc_channels.specs.Channels.{has_member}
+use Rattle.irc_channels.specs.Channels.{has_member, new_channel, respelled}
 use Rattle.irc_modes.specs.Modes.{is_nil}
+use Rattle.irc_modes.specs.ModesSet.{AreWithinLimits}
 use Rattle.irc_room.specs.Room.{Room, IsWellFormed, IsSoundRow}
+use Rattle.irc_room.specs.After.{alter_channel, titled_by}
 use Rattle.irc_room.specs.Lemmas.Rows.{not_true}
 use Rattle.irc_merge.specs.Quits.{quits_of, collision_text}
 use Rattle.irc_merge.specs.ShownAlong.{shown_along}
 use Rattle.irc_merge.specs.Bursts.{burst, user_deeds, channel_deeds, home_passes, stored_members}
 use Rattle.irc_merge.specs.Merge.{clash, room_without, either}
-use Rattle.irc_merge.specs.MergeShown.{arrival, member_arrival, channel_arrivals, arrivals, merge_shown}
-use Rattle.irc_merge.specs.Laws.{AreApart, ShownIsMergeShown}
-use Rattle.irc_merge.specs.Lemmas.TableWords.{true_is, first_there, entries_kept, entries_all, values_each}
+use Rattle.irc_merge.specs.MergeShown.{arrival, member_arrival, mode_lines, raised_lines, raised_topic, channel_arrivals, arrivals, merge_shown}
+use Rattle.irc_merge.specs.Laws.{AreApart, CanBeTold, ShownIsMergeShown}
+use Rattle.irc_merge.specs.Lemmas.TableWords.{true_is, row-kept, first_there, entries_kept, entries_all, values_each}
 use Rattle.irc_merge.specs.Lemmas.Quitting.{thinned}
 use Rattle.irc_merge.specs.Lemmas.Clashing.{clashing, users_without, channels_without, without_well}
-use Rattle.irc_merge.specs.Lemmas.Joining.{union_well}
+use Rattle.irc_merge.specs.Lemmas.Joining.{row-either, either_first, union_well}
 use Rattle.irc_merge.specs.Lemmas.ShownReading.{shown_reads, shown_reads-append}
 use Rattle.irc_merge.specs.Lemmas.Introducing.{told_user, both_users, users_introduced, channels_introduced}
 use Rattle.irc_merge.specs.Lemmas.ShownUsers.{kills_shown}
-use Rattle.irc_merge.proofs.Bringing.{deeds_row}
-use Rattle.irc_merge.proofs.ChannelTold.{StandsThere, entries_pass}
-use Rattle.irc_merge.proofs.ReadMerge.{gone, passes_is, left_passes, none_near, told_deeds, step_row, step_here}
+use Rattle.irc_merge.proofs.Bringing.{members_row, deeds_row}
+use Rattle.irc_merge.proofs.ChannelTold.{IsNear, IsNearRow, IsTellable, StandsThere, come, some_come, none_come, kept_far, near_alone, either_none, with_empty, no_rows, lines_plain, entries_pass}
+use Rattle.irc_merge.proofs.ReadMerge.{gone, passes_is, left_passes, left_kept, none_near, near_channel, near_row, told_deeds, step_row, step_here}
 use Rattle.irc_merge.proofs.ShownChannels.{row_has}
-use Rattle.irc_merge.proofs.ShownMembers.{shown_joins, joins_seen, joins_unseen, arrived, AreOutside, AreHeld, IsOurs, deeds_shown}
+use Rattle.irc_merge.proofs.ShownMembers.{shown_joins, joins_seen, joins_unseen, arrived, AreOutside, AreHeld, deeds_shown}
+use Rattle.irc_merge.proofs.ShownModes.{tail, tail_near, tail_unseen, tail_seen}
 
 over_some : {X Y Z : Type 0} (f : Y → List Z) (h : X → Option Y) (xs : List X) → flat_map f (filter_map h xs) ≡ flat_map (λ x. option_map_or f (h x) []) xs
 over_some f h [] = refl
@@ -51,7 +55,7 @@ no_entries [] none = refl
 no_entries (e ∷ es) none = cc
 
 module _ (far : List ℕ → Bool) (room other : Room) (well : IsWellFormed room) (well_other : IsWellFormed other) (apart : AreApart far room other)
-    (viewer : List ℕ) (mine : User) (at : row room.users (key viewer) ≡ Some mine) where
+    (ours : CanBeTold room) (viewer : List ℕ) (mine : User) (at : row room.users (key viewer) ≡ Some mine) where
   abbrev here : Room
   here = room_without room other
 
@@ -86,9 +90,6 @@ module _ (far : List ℕ → Bool) (room other : Room) (well : IsWellFormed room
 
   all_named : (user : User) → row all (key viewer) ≡ Some user → key user.nick ≡ key viewer
   all_named user is = (union_well here there (without_well room other well) (without_well other room well_other)).users_named (key viewer) user is
-
-  ours : IsOurs viewer far all
-  ours = record { named = all_named; near = mine_near }
 
   -- where it is left, nobody of the other side had its nickname
   mine_left : is_some (row here.users (key viewer)) ≡ true → (row here.users (key viewer) ≡ Some mine) × (row all (key viewer) ≡ Some mine)
@@ -159,47 +160,180 @@ module _ (far : List ℕ → Bool) (room other : Room) (well : IsWellFormed room
   abbrev with_all : Table Channel → Room
   with_all channels = record { users = all; channels = channels }
 
-  -- one who is a member sees all who come
-  seen_lines : (fold : List ℕ) (channel ours_here : Channel) (channels : Table Channel) → IsSoundRow other.users fold channel
-      → row channels (key channel.name) ≡ Some ours_here → row here.channels (key channel.name) ≡ Some ours_here → has_member (key viewer) ours_here ≡ true
-      → shown_joins viewer far channel.name (with_all channels) (stored_members other.users channel) ≡ lines_of channel
-  seen_lines fold channel ours_here channels sound is_row is_here member =
-      joins_seen viewer channel.name far other.users mine ours_here.name (entries channel.members) (true_is _ (entries_sorted channel.members))
-      (standing fold channel sound) (with_all channels)
-      (record { at = left.1; named = well.users_named (key viewer) mine at; channel = ours_here; there = is_row; titled = refl; member = member })
-      outside held
-      ∙ sym (ap (flat_map (member_arrival there.users mine ours_here.name)) (entries_kept channel.members (λ q. not (away q)))
-      ∙ over_kept ours_here.name (entries channel.members) (known_entries fold channel sound))
-      ∙ by_test (is_nil (keys (retain_keys channel.members (λ q. not (away q))))) refl
-      ∙ sym (ap (λ o. option_map_or (λ (user : User). per user channel) o []) left.0)
+  -- the room when the members of a channel have come
+  abbrev come_to : Channel → Table Channel → Room
+  come_to channel channels = alter_channel channel.name (members_row pass other.users channel) (with_all channels)
+
+  -- a channel of the other side, as it is told
+  record IsTold (fold : List ℕ) (channel : Channel) : Type 0 where
+    sound : IsSoundRow other.users fold channel
+    modes : AreWithinLimits channel.modes
+
+  tellable : (fold : List ℕ) (channel : Channel) → IsTold fold channel → IsTellable other.users channel
+  tellable fold channel told = record { modes = told.modes; members = (told.sound).members_known; named = well_other.users_named }
+
+  abbrev kept : Channel → Table Flags
+  kept channel = retain_keys channel.members pass
+
+  kept_is : (fold : List ℕ) (channel : Channel) → IsTold fold channel → kept channel ≡ retain_keys channel.members (λ q. not (away q))
+  kept_is fold channel told = left_kept far room other well well_other apart channel (told.sound).members_known
+
+  -- ---- for one who is a member
+
+  module _ (server own fold : List ℕ) (channel ours_here : Channel) (channels : Table Channel) (told : IsTold fold channel)
+      (is_row : row channels (key channel.name) ≡ Some ours_here) (is_here : row here.channels (key channel.name) ≡ Some ours_here)
+      (member : has_member (key viewer) ours_here ≡ true) where
+    abbrev title : List ℕ
+    title = greater bytes_cmp ours_here.name channel.name
+
+    known : (q : List ℕ) → is_some (row ours_here.members q) ≡ true → is_some (row here.users q) ≡ true
+    known q some = ((without_well room other well).channels_sound (key channel.name) ours_here is_here).members_known q some
+
+    left : (row here.users (key viewer) ≡ Some mine) × (row all (key viewer) ≡ Some mine)
+    left = mine_left (known (key viewer) member)
+
+    near : IsNear pass ours_here
+    near = near_channel far room other well well_other apart ours (key channel.name) ours_here is_here
+
+    titled_row : row (titled_by channel.name (with_all channels)).channels (key channel.name) ≡ Some (respelled channel.name ours_here)
+    titled_row =
+        row-alter_same (key channel.name) (option_map (respelled channel.name)) channels ∙ ap (option_map (respelled channel.name)) is_row
+
+    outside : AreOutside pass channel.name (entries channel.members) (titled_by channel.name (with_all channels))
+    outside q some passing = ap (row_has q) titled_row ∙ by_member (has_member q ours_here) refl
+      where
+        by_member : (b : Bool) → has_member q ours_here ≡ b → b ≡ false
+        by_member true is = not_true (sym (ap is_some (none_near far room other well well_other apart q passing)) ∙ known q is)
+        by_member false is = refl
+
+    -- it sees all who come
+    members_seen : shown_joins viewer far channel.name (titled_by channel.name (with_all channels)) (stored_members other.users channel)
+        ≡ flat_map (member_arrival there.users mine title) (entries (retain_keys channel.members (λ q. not (away q))))
+    members_seen =
+        joins_seen viewer channel.name far other.users mine title (entries channel.members) (true_is _ (entries_sorted channel.members))
+        (standing fold channel told.sound) (titled_by channel.name (with_all channels))
+        (record {
+          at = left.1;
+          named = well.users_named (key viewer) mine at;
+          channel = respelled channel.name ours_here;
+          there = titled_row;
+          titled = refl;
+          member = member;
+        })
+        outside held
+        ∙ sym (ap (flat_map (member_arrival there.users mine title)) (entries_kept channel.members (λ q. not (away q)))
+        ∙ over_kept title (entries channel.members) (known_entries fold channel told.sound))
+
+    come_row : row (come_to channel channels).channels (key channel.name) ≡ Some (come pass channel ours_here)
+    come_row =
+        row-alter_same (key channel.name) (members_row pass other.users channel) channels
+        ∙ ap (members_row pass other.users channel) is_row
+        ∙ some_come pass other.users channel ours_here (tellable fold channel told) near
+
+    -- what its modes and its topic raise
+    abbrev raised : List (List ℕ)
+    raised = raised_lines mine title (mode_lines channel.modes) ours_here.modes ++ raised_topic mine title ours_here.topic channel.topic
+
+    -- and that, where somebody has come
+    modes_seen : (b : Bool) → is_nil (keys (kept channel)) ≡ b
+        → shown_reads viewer own far (come_to channel channels) (tail server channel.name (mode_lines channel.modes) channel.topic) ≡ cond b [] raised
+    modes_seen true none =
+        tail_near viewer own server channel.name far (mode_lines channel.modes) channel.topic (come_to channel channels)
+        (ap (λ o. option_map_or (λ (c : Channel). list_any pass (keys c.members)) o false) come_row
+        ∙ ap (λ (t : Table Flags). list_any pass (keys t)) (with_empty ours_here.members (kept channel) (no_rows (kept channel) none))
+        ∙ near_alone pass ours_here near)
+    modes_seen false some =
+        tail_seen viewer own server channel.name far mine (mode_lines channel.modes) channel.topic
+        (record ours_here { name = title; members = both either ours_here.members (kept channel) }) (come_to channel channels) (lines_plain channel.modes)
+        (record {
+          at = left.1;
+          named = well.users_named (key viewer) mine at;
+          there = come_row
+              ∙ ap (λ b. Some (record ours_here { name = cond b ours_here.name title; members = both either ours_here.members (kept channel) })) some;
+          member = ap is_some (row-either ours_here.members (kept channel) (key viewer))
+              ∙ either_first (row ours_here.members (key viewer)) (row (kept channel) (key viewer)) member;
+          some = kept_far pass channel.members ours_here.members some;
+        })
+
+    seen_lines : shown_reads viewer own far (with_all channels) (channel_deeds server other.users channel) ≡ lines_of channel
+    seen_lines =
+        deeds_shown viewer own server far other.users channel (with_all channels)
+        ∙ by_test (is_nil (keys (retain_keys channel.members (λ q. not (away q))))) refl
+        ∙ sym (ap (λ o. option_map_or (λ (user : User). per user channel) o []) left.0)
+      where
+        over : (b : Bool) → is_nil (keys (retain_keys channel.members (λ q. not (away q)))) ≡ b
+            → flat_map (member_arrival there.users mine title) (entries (retain_keys channel.members (λ q. not (away q)))) ++ cond b [] raised ≡ per mine channel
+        over true none =
+            ap (λ (es : List (List ℕ × Flags)). flat_map (member_arrival there.users mine title) es ++ [])
+            (no_entries (entries (retain_keys channel.members (λ q. not (away q)))) none)
+            ∙ sym (ap (λ b. option_map_or (λ (theirs : Channel). option_map_or (channel_arrivals there mine theirs) (row here.channels (key theirs.name)) [])
+            (cond b None (Some (record channel { members = retain_keys channel.members (λ q. not (away q)); invited = retain_keys channel.invited (λ q. not (away q)) }))) []) none)
+        over false some =
+            let theirs : Channel = record channel { members = retain_keys channel.members (λ q. not (away q)); invited = retain_keys channel.invited (λ q. not (away q)) } in
+            sym (ap (λ b. option_map_or (λ (theirs : Channel). option_map_or (channel_arrivals there mine theirs) (row here.channels (key theirs.name)) []) (cond b None (Some theirs)) []) some
+            ∙ ap (λ o. option_map_or (channel_arrivals there mine theirs) o []) is_here
+            ∙ ap (λ b. cond b (flat_map (member_arrival there.users mine title) (entries theirs.members) ++ raised) [])
+            (ap (λ f. has_member f ours_here) (well.users_named (key viewer) mine at) ∙ member))
+
+        by_test : (b : Bool) → is_nil (keys (retain_keys channel.members (λ q. not (away q)))) ≡ b
+            → shown_joins viewer far channel.name (titled_by channel.name (with_all channels)) (stored_members other.users channel)
+            ++ shown_reads viewer own far (come_to channel channels) (tail server channel.name (mode_lines channel.modes) channel.topic)
+            ≡ per mine channel
+        by_test b is =
+            (λ i. members_seen i ++ modes_seen b (ap (λ (t : Table Flags). is_nil (keys t)) (kept_is fold channel told) ∙ is) i) ∙ over b is
+
+  -- ---- one who is none sees nothing
+
+  -- the viewer is not among those who come
+  kept_out : (channel : Channel) → row (kept channel) (key viewer) ≡ None
+  kept_out channel = row-kept channel.members pass (key viewer) ∙ ap (λ b. cond b (row channel.members (key viewer)) None) mine_near
+
+  come_out : (fold : List ℕ) (channel : Channel) → IsTold fold channel → (x : Option Channel) → IsNearRow pass x → row_has (key viewer) x ≡ false
+      → row_has (key viewer) (members_row pass other.users channel x) ≡ false
+  come_out fold channel told None is_near none =
+      ap (row_has (key viewer)) (none_come pass other.users channel (tellable fold channel told)) ∙ by_test (is_nil (keys (kept channel)))
     where
-      known : (q : List ℕ) → is_some (row ours_here.members q) ≡ true → is_some (row here.users q) ≡ true
-      known q some = ((without_well room other well).channels_sound (key channel.name) ours_here is_here).members_known q some
+      by_test : (b : Bool) → row_has (key viewer) (cond b None (Some (record (new_channel channel.name) { members = kept channel }))) ≡ false
+      by_test true = refl
+      by_test false = ap is_some (kept_out channel)
+  come_out fold channel told (Some ours_here) is_near none =
+      ap (row_has (key viewer)) (some_come pass other.users channel ours_here (tellable fold channel told) is_near)
+      ∙ ap is_some (row-either ours_here.members (kept channel) (key viewer)
+      ∙ ap (either (row ours_here.members (key viewer))) (kept_out channel)
+      ∙ either_none (row ours_here.members (key viewer)))
+      ∙ none
 
-      left : (row here.users (key viewer) ≡ Some mine) × (row all (key viewer) ≡ Some mine)
-      left = mine_left (known (key viewer) member)
+  respelled_has : (q name : List ℕ) (x : Option Channel) → row_has q (option_map (respelled name) x) ≡ row_has q x
+  respelled_has q name None = refl
+  respelled_has q name (Some channel) = refl
 
-      outside : AreOutside pass channel.name (entries channel.members) (with_all channels)
-      outside q some passing = ap (row_has q) is_row ∙ by_member (has_member q ours_here) refl
-        where
-          by_member : (b : Bool) → has_member q ours_here ≡ b → b ≡ false
-          by_member true is = not_true (sym (ap is_some (none_near far room other well well_other apart q passing)) ∙ known q is)
-          by_member false is = refl
+  unseen_lines : (own server fold : List ℕ) (channel : Channel) (channels : Table Channel) → IsTold fold channel
+      → row channels (key channel.name) ≡ row here.channels (key channel.name) → row_has (key viewer) (row here.channels (key channel.name)) ≡ false
+      → shown_reads viewer own far (with_all channels) (channel_deeds server other.users channel) ≡ []
+  unseen_lines own server fold channel channels told same none =
+      deeds_shown viewer own server far other.users channel (with_all channels)
+      ∙ (λ i. joins_unseen viewer channel.name far (stored_members other.users channel) (titled_by channel.name (with_all channels)) mine_near
+      (record {
+        named = all_named;
+        outside =
+            ap (row_has (key viewer)) (row-alter_same (key channel.name) (option_map (respelled channel.name)) channels)
+            ∙ respelled_has (key viewer) channel.name (row channels (key channel.name))
+            ∙ ap (row_has (key viewer)) same
+            ∙ none;
+      }) i
+      ++ tail_unseen viewer own server channel.name far (mode_lines channel.modes) channel.topic (come_to channel channels) (lines_plain channel.modes)
+      (record {
+        named = all_named;
+        outside =
+            ap (row_has (key viewer)) (row-alter_same (key channel.name) (members_row pass other.users channel) channels
+            ∙ ap (members_row pass other.users channel) same)
+            ∙ come_out fold channel told (row here.channels (key channel.name)) (near_row far room other well well_other apart ours (key channel.name)) none;
+      }) i)
 
-      by_test : (b : Bool) → is_nil (keys (retain_keys channel.members (λ q. not (away q)))) ≡ b
-          → flat_map (member_arrival there.users mine ours_here.name) (entries (retain_keys channel.members (λ q. not (away q)))) ≡ per mine channel
-      by_test true none =
-          ap (flat_map (member_arrival there.users mine ours_here.name)) (no_entries (entries (retain_keys channel.members (λ q. not (away q)))) none)
-          ∙ sym (ap (λ b. option_map_or (λ (theirs : Channel). option_map_or (channel_arrivals there mine theirs) (row here.channels (key theirs.name)) [])
-          (cond b None (Some (record channel { members = retain_keys channel.members (λ q. not (away q)); invited = retain_keys channel.invited (λ q. not (away q)) }))) []) none)
-      by_test false some =
-          let theirs : Channel = record channel { members = retain_keys channel.members (λ q. not (away q)); invited = retain_keys channel.invited (λ q. not (away q)) } in
-          sym (ap (λ b. option_map_or (λ (theirs : Channel). option_map_or (channel_arrivals there mine theirs) (row here.channels (key theirs.name)) []) (cond b None (Some theirs)) []) some
-          ∙ ap (λ o. option_map_or (channel_arrivals there mine theirs) o []) is_here
-          ∙ ap (λ b. cond b (flat_map (member_arrival there.users mine ours_here.name) (entries theirs.members)) [])
-          (ap (λ f. has_member f ours_here) (well.users_named (key viewer) mine at) ∙ member))
+  not_there : (b : Bool) (lines : List (List ℕ)) → b ≡ false → cond b lines [] ≡ []
+  not_there true lines e = cc
+  not_there false lines e = refl
 
-  -- one who is none sees nothing
   no_lines : (channel : Channel) → row_has (key viewer) (row here.channels (key channel.name)) ≡ false → lines_of channel ≡ []
   no_lines channel none = by_user (row here.users (key viewer)) refl
     where
@@ -207,7 +341,7 @@ module _ (far : List ℕ → Bool) (room other : Room) (well : IsWellFormed room
           → option_map_or (channel_arrivals there user theirs) o [] ≡ []
       by_channel user named theirs None none = refl
       by_channel user named theirs (Some channel) none =
-          ap (λ b. cond b (flat_map (member_arrival there.users user channel.name) (entries theirs.members)) []) (ap (λ f. has_member f channel) named ∙ none)
+          not_there (has_member (key user.nick) channel) _ (ap (λ f. has_member f channel) named ∙ none)
 
       by_left : (user : User) → key user.nick ≡ key viewer → (b : Bool)
           → option_map_or (λ (theirs : Channel). option_map_or (channel_arrivals there user theirs) (row here.channels (key theirs.name)) [])
@@ -222,46 +356,42 @@ module _ (far : List ℕ → Bool) (room other : Room) (well : IsWellFormed room
       by_user (Some user) is =
           by_left user ((without_well room other well).users_named (key viewer) user is) (is_nil (keys (retain_keys channel.members (λ q. not (away q)))))
 
-  channel_lines : (own server fold : List ℕ) (channel : Channel) (channels : Table Channel) → IsSoundRow other.users fold channel
+  channel_lines : (own server fold : List ℕ) (channel : Channel) (channels : Table Channel) → IsTold fold channel
       → row channels (key channel.name) ≡ row here.channels (key channel.name)
       → shown_reads viewer own far (with_all channels) (channel_deeds server other.users channel) ≡ lines_of channel
-  channel_lines own server fold channel channels sound same =
-      deeds_shown viewer own server far other.users channel (with_all channels) ours ∙ by_row (row here.channels (key channel.name)) refl
+  channel_lines own server fold channel channels told same = by_row (row here.channels (key channel.name)) refl
     where
       unseen : row_has (key viewer) (row here.channels (key channel.name)) ≡ false
-          → shown_joins viewer far channel.name (with_all channels) (stored_members other.users channel) ≡ lines_of channel
-      unseen none =
-          joins_unseen viewer channel.name far (stored_members other.users channel) (with_all channels) mine_near
-          (record { named = all_named; outside = ap (row_has (key viewer)) same ∙ none })
-          ∙ sym (no_lines channel none)
+          → shown_reads viewer own far (with_all channels) (channel_deeds server other.users channel) ≡ lines_of channel
+      unseen none = unseen_lines own server fold channel channels told same none ∙ sym (no_lines channel none)
 
       by_member : (ours_here : Channel) → row here.channels (key channel.name) ≡ Some ours_here → (b : Bool) → has_member (key viewer) ours_here ≡ b
-          → shown_joins viewer far channel.name (with_all channels) (stored_members other.users channel) ≡ lines_of channel
-      by_member ours_here is true member = seen_lines fold channel ours_here channels sound (same ∙ is) is member
+          → shown_reads viewer own far (with_all channels) (channel_deeds server other.users channel) ≡ lines_of channel
+      by_member ours_here is true member = seen_lines server own fold channel ours_here channels told (same ∙ is) is member
       by_member ours_here is false none = unseen (ap (row_has (key viewer)) is ∙ none)
 
       by_row : (o : Option Channel) → row here.channels (key channel.name) ≡ o
-          → shown_joins viewer far channel.name (with_all channels) (stored_members other.users channel) ≡ lines_of channel
+          → shown_reads viewer own far (with_all channels) (channel_deeds server other.users channel) ≡ lines_of channel
       by_row None is = unseen (ap (row_has (key viewer)) is)
       by_row (Some ours_here) is = by_member ours_here is (has_member (key viewer) ours_here) refl
 
   -- ---- all channels
 
-  all_lines : (own server : List ℕ) (es : List (List ℕ × Channel)) → is_sorted fold_cmp es ≡ true → AllByRecursion (λ e. IsSoundRow other.users e.0 e.1) es
+  all_lines : (own server : List ℕ) (es : List (List ℕ × Channel)) → is_sorted fold_cmp es ≡ true → AllByRecursion (λ e. IsTold e.0 e.1) es
       → (channels : Table Channel) → ((q : List ℕ) → is_some (find fold_cmp q es) ≡ true → row channels q ≡ row here.channels q)
       → shown_reads viewer own far (with_all channels) (told_deeds far room other well well_other apart server es) ≡ flat_map lines_of (map (λ e. e.1) es)
-  all_lines own server [] rise sound channels same = refl
-  all_lines own server (e ∷ es) rise sound channels same =
+  all_lines own server [] rise told channels same = refl
+  all_lines own server (e ∷ es) rise told channels same =
       let parts = and_parts _ _ rise in
       let before = with_all channels in
       let rest = told_deeds far room other well well_other apart server es in
       shown_reads-append viewer own far before (channel_deeds server other.users e.1) rest
-      ∙ (λ i. channel_lines own server e.0 e.1 channels sound.0
-      (ap (row channels) (sound.0).named ∙ same e.0 (first_there e es) ∙ ap (row here.channels) (sym (sound.0).named)) i
+      ∙ (λ i. channel_lines own server e.0 e.1 channels told.0
+      (ap (row channels) ((told.0).sound).named ∙ same e.0 (first_there e es) ∙ ap (row here.channels) (sym ((told.0).sound).named)) i
       ++ shown_reads viewer own far (deeds_row own server far other.users e.1 before i) rest)
       ∙ ap (λ lines. lines_of e.1 ++ lines)
-      (all_lines own server es parts.1 sound.1 (alter (key e.1.name) (step_row far room other well well_other apart before e.1) channels)
-      (step_here far room other well well_other apart before e es parts.0 (sound.0).named same))
+      (all_lines own server es parts.1 told.1 (alter (key e.1.name) (step_row far room other well well_other apart before e.1) channels)
+      (step_here far room other well well_other apart before e es parts.0 ((told.0).sound).named same))
 
   left_values : values there.channels ≡ filter_map (thinned away) (values other.channels)
   left_values =
@@ -276,9 +406,9 @@ module _ (far : List ℕ → Bool) (room other : Room) (well : IsWellFormed room
       sym (ap (flat_map (λ (theirs : Channel). option_map_or (channel_arrivals there user theirs) (row here.channels (key theirs.name)) [])) left_values
       ∙ over_some (λ (theirs : Channel). option_map_or (channel_arrivals there user theirs) (row here.channels (key theirs.name)) []) (thinned away) (values other.channels))
 
-  pub burst_shown : (own server : List ℕ) → shown_reads viewer own far room (burst server other) ≡ merge_shown room other viewer
+  pub burst_shown : (own server : List ℕ) → CanBeTold other → shown_reads viewer own far room (burst server other) ≡ merge_shown room other viewer
   unfolding burst merge_shown
-  burst_shown own server =
+  burst_shown own server theirs =
       let rise = true_is _ (entries_sorted other.channels) in
       let told = flat_map (channel_deeds server other.users) (values other.channels) in
       shown_reads-append viewer own far room (user_deeds other) told
@@ -289,11 +419,13 @@ module _ (far : List ℕ → Bool) (room other : Room) (well : IsWellFormed room
       }) told)
       ∙ ap (λ lines. shown_along viewer room (quits_of collision_text (clash room other)) ++ lines)
       (all_lines own server (entries other.channels) rise
-      (entries_all (IsSoundRow other.users) (entries other.channels)
-      (λ q channel is. well_other.channels_sound q channel (get-entries other.channels q ∙ is)) rise)
+      (entries_all IsTold (entries other.channels)
+      (λ q channel is.
+      let there : row other.channels q ≡ Some channel = get-entries other.channels q ∙ is in
+      record { sound = well_other.channels_sound q channel there; modes = theirs.modes q channel there }) rise)
       here.channels (λ q some. refl)
       ∙ gathered (row here.users (key viewer)))
 
 pub shown_is_merge_shown : ShownIsMergeShown
-shown_is_merge_shown own server far room other well well_other apart viewer mine at =
-    burst_shown far room other well well_other apart viewer mine at own server
+shown_is_merge_shown own server far room other well well_other ours theirs apart viewer mine at =
+    burst_shown far room other well well_other apart ours viewer mine at own server theirs

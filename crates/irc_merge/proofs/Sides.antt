@@ -1,15 +1,15 @@
 -- The side of a room whose homes pass a test: where all pass, it is the room; it is well formed, and what is told of it is what it has.
-use Rattle.std.proofs.Common.{◌≡◌, ℕ, Bool, true, false, cond, Option, Some, None, List, ◌++◌, refl, sym, ◌∙◌, ap, subst, is_some}
+use Rattle.std.proofs.Common.{◌≡◌, ℕ, Bool, true, false, cond, Option, Some, None, List, refl, sym, ◌∙◌, ap, subst, is_some}
 use Rattle.std.specs.Option.{option_and_then, option_map_or}
 use Rattle.std.specs.FinMap.{keys, retain_keys}
 use Rattle.irc_names.specs.Tables.{Table, row, each}
 use Rattle.irc_names.specs.TableLaws.{same_table, row-each}
 use Rattle.irc_users.specs.declared.user.User.{User}
 use Rattle.irc_channels.specs.declared.channel.Channel.{Channel}
-use Rattle.irc_modes.specs.Modes.{is_nil, no_modes, modes_after}
+use Rattle.irc_modes.specs.Modes.{is_nil}
 use Rattle.irc_room.specs.Room.{Room, IsSoundRow}
 use Rattle.irc_room.specs.Lemmas.Rows.{not_none, not_true, same_some}
-use Rattle.irc_modes.specs.ModesSet.{set_changes, ban_changes}
+use Rattle.irc_modes.specs.ModesSet.{AreWithinLimits}
 use Rattle.irc_merge.specs.Bursts.{home_passes, user_passes, channel_side, side_of}
 use Rattle.irc_merge.specs.Laws.{CanBeTold, WholeSide, SideIsWellFormed, SideReadIsMerge}
 use Rattle.irc_merge.specs.Lemmas.TableWords.{row-kept}
@@ -124,9 +124,9 @@ unfolding side_of
 side_told passes room told = record {
   modes = λ fold channel is.
       let found = side_channel passes room.users fold (row room.channels fold) channel (sym (row-each (channel_side passes room.users) room.channels fold) ∙ is) in
-      subst (λ (c : Channel). modes_after (set_changes c.modes ++ ban_changes c.modes.bans) no_modes ≡ c.modes) (found.1.1).is (told.modes fold found.0 found.1.0);
+      subst (λ (c : Channel). AreWithinLimits c.modes) (found.1.1).is (told.modes fold found.0 found.1.0);
 }
 
 pub side_read_is_merge : SideReadIsMerge
-side_read_is_merge own server far passes room other well well_other told apart =
-    burst_read_is_merge own server far room (side_of passes other) well (side_is_well_formed passes other well_other) (side_told passes other told) apart
+side_read_is_merge own server far passes room other well well_other ours told apart =
+    burst_read_is_merge own server far room (side_of passes other) well (side_is_well_formed passes other well_other) ours (side_told passes other told) apart
