@@ -1,5 +1,5 @@
 -- What is read of a burst can be done, and each of its effects does something.
-use Rattle.std.proofs.Common.{◌≡◌, ℕ, Bool, true, false, cond, not, ◌&&◌, Option, Some, None, List, [], ◌∷◌, ◌++◌, refl, sym, ◌∙◌, ap, subst, is_some, option_map}
+use Rattle.std.proofs.Common.{◌≡◌, ℕ, Bool, true, false, cond, not, ◌&&◌, Option, Some, None, List, [], ◌∷◌, ◌++◌, refl, ◌∙◌, ap, subst, is_some, option_map, if◌then◌else◌}
 use Rattle.std.specs.List.{list_any, flat_map}
 use Rattle.std.specs.FinMap.{keys}
 use Rattle.std.specs.Option.{option_map_or}
@@ -101,7 +101,7 @@ member_does far room channel member new =
       later = flags_do (after room (Join member.0 channel false)) channel member.0 member.1.op member.1.voice (joined_there room member.0 channel);
     }
 
-members_do : (far : List ℕ → Bool) (channel : List ℕ) (members : List (List ℕ × Flags)) (room : Room)
+pub members_do : (far : List ℕ → Bool) (channel : List ℕ) (members : List (List ℕ × Flags)) (room : Room)
     → EachInTurn DoesSomething room (flat_map (member_comes channel) (new_members far room channel members))
 members_do far channel [] room = tt
 members_do far channel (member ∷ members) room =
@@ -121,7 +121,7 @@ members_do far channel (member ∷ members) room =
 
 -- ---- a line
 
-some_there : (far : List ℕ → Bool) (room : Room) (channel : List ℕ) → some_far far room channel ≡ true → has_channel room channel ≡ true
+pub some_there : (far : List ℕ → Bool) (room : Room) (channel : List ℕ) → some_far far room channel ≡ true → has_channel room channel ≡ true
 some_there far room channel some = by_row (row room.channels (key channel)) some
   where
     by_row : (o : Option Channel) → option_map_or (λ (c : Channel). list_any (home_passes far room.users) (keys c.members)) o false ≡ true → is_some o ≡ true
@@ -147,10 +147,16 @@ brought_does : (server channel : List ℕ) (members : List (List ℕ × Flags)) 
 brought_does server channel [] room all = tt
 brought_does server channel (member ∷ members) room all = (all, tt)
 
-changes_do : (room : Room) (channel : List ℕ) (changes : List ModeChange) → has_channel room channel ≡ true
+-- what is raised of modes that are told, and a topic that is told where it is greater
+pub changes_do : (room : Room) (channel : List ℕ) (changes : List ModeChange) → has_channel room channel ≡ true
     → EachInTurn DoesSomething room (changes_made channel changes)
 changes_do room channel [] there = tt
 changes_do room channel (change ∷ changes) there = record { now = change_does room channel (change ∷ changes) there; later = tt }
+
+pub greater_does : (room : Room) (channel topic : List ℕ) → has_channel room channel ≡ true → (greater : Bool)
+    → EachInTurn DoesSomething room (if greater then SetTopic by.Home channel topic ∷ [] else [])
+greater_does room channel topic there true = record { now = topic_does room channel topic there; later = tt }
+greater_does room channel topic there false = tt
 
 line_does : (own : List ℕ) (far : List ℕ → Bool) (deed : Deed) (room : Room) → IsOfBurst deed → IsWellFormed room
     → DeedsDo room (read_deed own far room deed)
@@ -166,12 +172,8 @@ line_does own far (sets server channel changes) room of_burst well = by_test (so
     by_test false none = tt
 line_does own far (tops server channel topic) room of_burst well = by_test (some_far far room channel) refl
   where
-    by_greater : has_channel room channel ≡ true → (b : Bool) → EachInTurn DoesSomething room (cond b (SetTopic by.Home channel topic ∷ []) [])
-    by_greater there true = record { now = topic_does room channel topic there; later = tt }
-    by_greater there false = tt
-
     by_test : (b : Bool) → some_far far room channel ≡ b → DeedsDo room (cond b (tops server channel topic ∷ []) [])
-    by_test true some = (by_greater (some_there far room channel some) (is_greater_topic room channel topic), tt)
+    by_test true some = (greater_does room channel topic (some_there far room channel some) (is_greater_topic room channel topic), tt)
     by_test false none = tt
 line_does own far other room of_burst well = absurd of_burst
 
@@ -181,7 +183,7 @@ do-append : (room : Room) (a b : List Deed) → DeedsDo room a → DeedsDo (afte
 do-append room [] b first second = second
 do-append room (deed ∷ a) b first second = (first.0, do-append (after_deed room deed) a b first.1 second)
 
-titled_well : (room : Room) (deed : Deed) → IsWellFormed room → IsWellFormed (titled room deed)
+pub titled_well : (room : Room) (deed : Deed) → IsWellFormed room → IsWellFormed (titled room deed)
 titled_well room (does effect) well = well
 titled_well room (gains uplink name info) well = well
 titled_well room (loses server name text) well = well
@@ -194,7 +196,8 @@ stays_well : (room : Room) (effects : List Effect) → EachInTurn DoesSomething 
 stays_well room effects done well =
     each-keeps DoesSomething IsWellFormed (λ r effect done well. after_is_well_formed r effect well done.possible) room effects done well
 
-deeds_well : (room : Room) (deeds : List Deed) → DeedsDo room deeds → IsWellFormed room → IsWellFormed (after_deeds room deeds)
+-- the room stays well formed
+pub deeds_well : (room : Room) (deeds : List Deed) → DeedsDo room deeds → IsWellFormed room → IsWellFormed (after_deeds room deeds)
 unfolding after_deed
 deeds_well room [] done well = well
 deeds_well room (deed ∷ deeds) done well =

@@ -18,8 +18,6 @@ use Rattle.irc_line.specs.Messages.{line_text}
 use Rattle.irc_users.specs.declared.user.User.{User}
 use Rattle.irc_channels.specs.declared.flags.Flags.{Flags}
 use Rattle.irc_channels.specs.declared.channel.Channel.{Channel}
-use Rattle.irc_modes.specs.ModesSet.{set_changes}
-use Rattle.irc_mode_words.specs.ModeWritten.{changes_written}
 use Rattle.irc_room.specs.effect.By.TheVariants as by
 use Rattle.irc_room.specs.effect.Effect.{Effect}
 use Rattle.irc_room.specs.effect.Effect.TheVariants.{AddUser, SetTopic}
@@ -34,7 +32,7 @@ use Rattle.irc_merge.specs.Bursts.{in_lines, members_a_line, burst, home_passes}
 use Rattle.irc_merge.specs.BurstRead.{read_deed}
 use Rattle.irc_merge.specs.Merge.{merge}
 use Rattle.irc_merge.specs.MergeShown.{merge_shown}
-use Rattle.irc_merge.specs.Examples.{an_operator, a_member, of_a, with_modes, als_side, bos_side, secret_side, keyed_side, bo_has_come, topic_of_b, zeds_side, other_zeds_side, ChannelIsTold, ThirtyOneMembers, ChannelsAreJoined, ModesAreJoined, GreaterTopicIsSet, NicknameOnBothSides}
+use Rattle.irc_merge.specs.Examples.{an_operator, a_member, of_a, with_modes, als_side, bos_side, secret_side, keyed_side, modes_written, bo_has_come, topic_of_b, zeds_side, other_zeds_side, ChannelIsTold, ThirtyOneMembers, ChannelsAreJoined, ModesAreJoined, GreaterTopicIsSet, NicknameOnBothSides}
 use Rattle.irc_merge.proofs.ChannelTold.{one_passes}
 use Rattle.irc_merge.specs.Lemmas.ListedMerge.{AreInOrder, burst_listed, user_merged, channel_merged, flags_merged, merge_listed}
 
@@ -90,8 +88,8 @@ modes_are_joined =
           ∙ merge_listed one other (codes "al") (record { first = first; second = second; along = tt; left = second }),
       (λ i. merge_shown (made keyed_side i) (made secret_side i) (codes "bo"))
           ∙ merge_listed other one (codes "bo") (record { first = second; second = first; along = tt; left = first }),
-      (λ i. option_map (λ (c : Channel). changes_written (set_changes c.modes)) (row (merge (made secret_side i) (made keyed_side i)).channels channel))
-          ∙ ap (option_map (λ (c : Channel). changes_written (set_changes c.modes))) (channel_merged one other first second channel),
+      (λ i. option_map modes_written (row (merge (made secret_side i) (made keyed_side i)).channels channel))
+          ∙ ap (option_map modes_written) (channel_merged one other first second channel),
       (λ i. option_map (λ (c : Channel). c.topic) (row (merge (made secret_side i) (made keyed_side i)).channels channel))
           ∙ ap (option_map (λ (c : Channel). c.topic)) (channel_merged one other first second channel),
     )

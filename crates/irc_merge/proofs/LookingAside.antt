@@ -112,7 +112,7 @@ effects_alike room other (tops server channel topic) alike =
     ∙ ap (λ o. option_map_or (λ (c : Channel). is_lt (bytes_cmp c.topic topic)) o false) (alike.channels (key channel))
     ∙ sym (greater_aside topic (row other.channels (key channel))))
 
-titled_alike : (room other : Room) (deed : Deed) → AreAlikeRooms room other → AreAlikeRooms (titled room deed) (titled other deed)
+pub titled_alike : (room other : Room) (deed : Deed) → AreAlikeRooms room other → AreAlikeRooms (titled room deed) (titled other deed)
 titled_alike room other (does effect) alike = alike
 titled_alike room other (gains uplink name info) alike = alike
 titled_alike room other (loses server name text) alike = alike

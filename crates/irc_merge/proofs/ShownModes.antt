@@ -20,7 +20,7 @@ use Rattle.irc_channels.specs.Channels.{has_member}
 use Rattle.irc_room.specs.effect.By.TheVariants as by
 use Rattle.irc_room.specs.effect.Effect.TheVariants.{SetTopic}
 use Rattle.irc_room.specs.Room.{Room}
-use Rattle.irc_room.specs.After.{after, alter_channel}
+use Rattle.irc_room.specs.After.{alter_channel}
 use Rattle.irc_merge.specs.ShownAlong.{shown_along}
 use Rattle.irc_merge.specs.Deeds.{Deed, sets, tops, changes_made, raised_in, is_greater_topic, after_deeds, shown_by, shown_by_all}
 use Rattle.irc_merge.specs.Bursts.{home_passes, topic_line}

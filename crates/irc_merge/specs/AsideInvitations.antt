@@ -46,7 +46,8 @@ after_deed_at home room deed = after_deed room deed
 abbrev pub CanComeOf : Room → Deed → Type 0
 CanComeOf room (does effect) = brings_free room effect ≡ true
 CanComeOf room (brings server channel members) =
-    EachInTurn IsPossible (titled room (brings server channel members)) (effects_of room (brings server channel members))
+    EachInTurn IsPossible (titled room (brings server channel members))
+    (effects_of room (brings server channel members))
 CanComeOf room other = ⊤
 
 -- What a server has of the room after a deed is what the deed makes of what it had.

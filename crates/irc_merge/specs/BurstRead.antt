@@ -39,14 +39,17 @@ brought server channel (member ∷ members) = brings server channel (member ∷ 
 -- whether a channel is there, and has a member behind the link (our own choice)
 abbrev pub some_far : (List ℕ → Bool) → Room → List ℕ → Bool
 some_far far room channel =
-    option_map_or (λ (c : Channel). list_any (home_passes far room.users) (keys c.members)) (row room.channels (key channel)) false
+    option_map_or (λ (c : Channel). list_any (home_passes far room.users) (keys c.members))
+    (row room.channels (key channel)) false
 
 -- what comes of a line of a burst, read by the server `own`; homes that are `far` are behind the link
 abbrev pub read_deed : List ℕ → (List ℕ → Bool) → Room → Deed → List Deed
 read_deed own far room (does (AddUser user)) = introduced own room user
 read_deed own far room (brings server channel members) = brought server channel (new_members far room channel members)
-read_deed own far room (sets server channel changes) = if some_far far room channel then sets server channel changes ∷ [] else []
-read_deed own far room (tops server channel topic) = if some_far far room channel then tops server channel topic ∷ [] else []
+read_deed own far room (sets server channel changes) =
+    if some_far far room channel then sets server channel changes ∷ [] else []
+read_deed own far room (tops server channel topic) =
+    if some_far far room channel then tops server channel topic ∷ [] else []
 read_deed own far room other = other ∷ []
 
 -- what comes of some lines, each read in the room that those before it have left

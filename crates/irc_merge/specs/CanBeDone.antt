@@ -17,7 +17,8 @@ pub record DoesSomething (room : Room) (effect : Effect) : Type 0 where
 -- each effect of some deeds, one after another, does something when its turn comes
 abbrev pub DeedsDo : Room → List Deed → Type 0
 DeedsDo room [] = ⊤
-DeedsDo room (deed ∷ deeds) = EachInTurn DoesSomething (titled room deed) (effects_of room deed) × DeedsDo (after_deed room deed) deeds
+DeedsDo room (deed ∷ deeds) =
+    EachInTurn DoesSomething (titled room deed) (effects_of room deed) × DeedsDo (after_deed room deed) deeds
 
 -- the lines of a burst
 abbrev pub IsOfBurst : Deed → Type 0

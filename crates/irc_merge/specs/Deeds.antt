@@ -54,7 +54,8 @@ abbrev pub changes_made : List ℕ → List ModeChange → List Effect
 changes_made channel [] = []
 changes_made channel (change ∷ changes) = ChangeModes by.Home channel (change ∷ changes) ∷ []
 
--- of the changes that a server tells, those that raise something in the channel that is there (our own choice)
+-- of the changes that a server tells, those that raise something in the channel that is there (our own
+-- choice)
 abbrev pub raised_in : Room → List ℕ → List ModeChange → List ModeChange
 raised_in room channel changes =
     option_map_or (λ (c : Channel). raising changes c.modes) (row room.channels (key channel)) []
@@ -62,7 +63,8 @@ raised_in room channel changes =
 -- whether a topic is greater than that of the channel that is there (our own choice)
 abbrev pub is_greater_topic : Room → List ℕ → List ℕ → Bool
 is_greater_topic room channel topic =
-    option_map_or (λ (c : Channel). is_lt (bytes_cmp c.topic topic)) (row room.channels (key channel)) false
+    option_map_or (λ (c : Channel). is_lt (bytes_cmp c.topic topic))
+    (row room.channels (key channel)) false
 
 -- what a deed does to a room, one effect after another
 abbrev pub effects_of : Room → Deed → List Effect
@@ -71,12 +73,13 @@ effects_of room (gains uplink name info) = []
 effects_of room (loses server name text) = quits_of text (users_at name room)
 effects_of room (kills server nick) = Quit nick collision_text ∷ []
 effects_of room (brings server channel members) = flat_map (member_comes channel) members
-effects_of room (sets server channel changes) = changes_made channel (raised_in room channel changes)
+effects_of room (sets server channel changes) =
+    changes_made channel (raised_in room channel changes)
 effects_of room (tops server channel topic) =
     if is_greater_topic room channel topic then SetTopic by.Home channel topic ∷ [] else []
 
--- What a deed does first: NJOIN has the channel that is there take its spelling, where that is greater. It is no effect, and nobody
--- is shown it.
+-- What a deed does first: NJOIN has the channel that is there take its spelling, where that is greater.
+-- It is no effect, and nobody is shown it.
 abbrev pub titled : Room → Deed → Room
 titled room (brings server channel members) = titled_by channel room
 titled room deed = room

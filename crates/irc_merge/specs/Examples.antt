@@ -82,32 +82,42 @@ ChannelsAreJoined =
 abbrev pub secret_side : List Effect
 secret_side =
     AddUser (of_a (codes "al")) ∷ Join (codes "al") (codes "#c") true
-    ∷ ChangeModes by.Home (codes "#c") (set letter.Secret None ∷ set letter.Key (Some (codes "aa")) ∷ [])
+    ∷ ChangeModes by.Home (codes "#c")
+    (set letter.Secret None ∷ set letter.Key (Some (codes "aa")) ∷ [])
     ∷ SetTopic by.Home (codes "#c") (codes "x") ∷ []
 
 abbrev pub keyed_side : List Effect
 keyed_side =
     AddUser (of_b (codes "bo")) ∷ Join (codes "bo") (codes "#c") true
-    ∷ ChangeModes by.Home (codes "#c") (set letter.NoOutside None ∷ set letter.Key (Some (codes "bb")) ∷ []) ∷ []
+    ∷ ChangeModes by.Home (codes "#c")
+    (set letter.NoOutside None ∷ set letter.Key (Some (codes "bb")) ∷ []) ∷ []
 
--- Nothing that is set is lost, and the greater key is taken. Each sees, behind those who come, what the other side's modes and topic raise.
+-- the letters that are set in a channel, and their parameters
+abbrev pub modes_written : Channel → List (List ℕ)
+modes_written channel = changes_written (set_changes channel.modes)
+
+-- Nothing that is set is lost, and the greater key is taken. Each sees, behind those who come, what the
+-- other side's modes and topic raise.
 abbrev pub ModesAreJoined : Type 0
 ModesAreJoined =
     let one = room_after secret_side in
     let other = room_after keyed_side in
     (merge_shown one other (codes "al")
-    ≡ (codes ":bo!u@h JOIN #c" ++ crlf) ∷ (codes ":a.net MODE #c +o bo" ++ crlf) ∷ (codes ":a.net MODE #c +nk bb" ++ crlf) ∷ [])
+    ≡ (codes ":bo!u@h JOIN #c" ++ crlf) ∷ (codes ":a.net MODE #c +o bo" ++ crlf)
+    ∷ (codes ":a.net MODE #c +nk bb" ++ crlf) ∷ [])
     × (merge_shown other one (codes "bo")
-    ≡ (codes ":al!u@h JOIN #c" ++ crlf) ∷ (codes ":b.net MODE #c +o al" ++ crlf) ∷ (codes ":b.net MODE #c +s" ++ crlf)
-    ∷ (codes ":b.net TOPIC #c :x" ++ crlf) ∷ [])
-    × (option_map (λ (c : Channel). changes_written (set_changes c.modes)) (row (merge one other).channels (key (codes "#c")))
+    ≡ (codes ":al!u@h JOIN #c" ++ crlf) ∷ (codes ":b.net MODE #c +o al" ++ crlf)
+    ∷ (codes ":b.net MODE #c +s" ++ crlf) ∷ (codes ":b.net TOPIC #c :x" ++ crlf) ∷ [])
+    × (option_map modes_written (row (merge one other).channels (key (codes "#c")))
     ≡ Some (codes "+nsk" ∷ codes "bb" ∷ []))
-    × (option_map (λ (c : Channel). c.topic) (row (merge one other).channels (key (codes "#c"))) ≡ Some (codes "x"))
+    × (option_map (λ (c : Channel). c.topic) (row (merge one other).channels (key (codes "#c")))
+    ≡ Some (codes "x"))
 
 -- al is in #c, whose topic is `hello`, and bo has come
 abbrev pub bo_has_come : List Effect
 bo_has_come =
-    AddUser (of_a (codes "al")) ∷ Join (codes "al") (codes "#c") true ∷ SetTopic by.Home (codes "#c") (codes "hello")
+    AddUser (of_a (codes "al")) ∷ Join (codes "al") (codes "#c") true
+    ∷ SetTopic by.Home (codes "#c") (codes "hello")
     ∷ AddUser (of_b (codes "bo")) ∷ Join (codes "bo") (codes "#c") false ∷ []
 
 abbrev pub topic_of_b : List ℕ → Deed
@@ -117,7 +127,8 @@ topic_of_b topic = tops (codes "b.net") (codes "#c") topic
 abbrev pub GreaterTopicIsSet : Type 0
 GreaterTopicIsSet =
     let room = room_after bo_has_come in
-    (read_deed (codes "a.net") (λ home. pointwise nat_eq home (codes "b.net")) room (topic_of_b (codes "hallo")) ≡ topic_of_b (codes "hallo") ∷ [])
+    (read_deed (codes "a.net") (λ home. pointwise nat_eq home (codes "b.net")) room (topic_of_b (codes "hallo"))
+    ≡ topic_of_b (codes "hallo") ∷ [])
     × (effects_of room (topic_of_b (codes "hallo")) ≡ [])
     × (effects_of room (topic_of_b (codes "hi")) ≡ SetTopic by.Home (codes "#c") (codes "hi") ∷ [])
 

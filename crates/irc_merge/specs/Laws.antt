@@ -21,7 +21,8 @@ use Rattle.irc_merge.specs.Split.{lost_home, lost_homes, split, split_effects, s
 
 -- which half is named first makes no difference
 abbrev pub MergeIsEven : Type 0
-MergeIsEven = (one other : Room) → IsWellFormed one → IsWellFormed other → merge one other ≡ merge other one
+MergeIsEven = (one other : Room) → IsWellFormed one → IsWellFormed other
+    → merge one other ≡ merge other one
 
 -- two well-formed rooms become one that is well formed
 abbrev pub MergeIsWellFormed : Type 0
@@ -54,14 +55,17 @@ pub record AreApart (far : List ℕ → Bool) (room other : Room) : Type 0 where
   pub near : (fold : List ℕ) (user : User) → row room.users fold ≡ Some user → far user.home ≡ false
   pub behind : (fold : List ℕ) (user : User) → row other.users fold ≡ Some user → far user.home ≡ true
 
--- The modes of each channel can be told, and what is told can be judged by them: keys and limits keep their rules, and bans are in order.
+-- The modes of each channel can be told, and what is told can be judged by them: keys and limits keep
+-- their rules, and bans are in order.
 pub record CanBeTold (room : Room) : Type 0 where
-  pub modes : (fold : List ℕ) (channel : Channel) → row room.channels fold ≡ Some channel → AreWithinLimits channel.modes
+  pub modes : (fold : List ℕ) (channel : Channel) → row room.channels fold ≡ Some channel
+      → AreWithinLimits channel.modes
 
 -- A burst that is read makes the room what both halves become. Invitations alone are not told.
 abbrev pub BurstReadIsMerge : Type 0
-BurstReadIsMerge = (own server : List ℕ) (far : List ℕ → Bool) (room other : Room) → IsWellFormed room → IsWellFormed other
-    → CanBeTold room → CanBeTold other → AreApart far room other → after_deeds room (read_all own far room (burst server other)) ≡ merge room (uninvited other)
+BurstReadIsMerge = (own server : List ℕ) (far : List ℕ → Bool) (room other : Room)
+    → IsWellFormed room → IsWellFormed other → CanBeTold room → CanBeTold other → AreApart far room other
+    → after_deeds room (read_all own far room (burst server other)) ≡ merge room (uninvited other)
 
 -- where all homes pass, all that a room has is told
 abbrev pub WholeSide : Type 0
@@ -73,13 +77,17 @@ SideIsWellFormed = (passes : List ℕ → Bool) (room : Room) → IsWellFormed r
 
 -- so the same is said of a burst that tells of some homes alone
 abbrev pub SideReadIsMerge : Type 0
-SideReadIsMerge = (own server : List ℕ) (far passes : List ℕ → Bool) (room other : Room) → IsWellFormed room → IsWellFormed other
-    → CanBeTold room → CanBeTold other → AreApart far room (side_of passes other) → after_deeds room (read_all own far room (burst_of server passes other)) ≡ merge room (uninvited (side_of passes other))
+SideReadIsMerge = (own server : List ℕ) (far passes : List ℕ → Bool) (room other : Room)
+    → IsWellFormed room → IsWellFormed other → CanBeTold room → CanBeTold other
+    → AreApart far room (side_of passes other)
+    → after_deeds room (read_all own far room (burst_of server passes other))
+    ≡ merge room (uninvited (side_of passes other))
 
 -- A burst shows to each user of this side what the merge shows.
 abbrev pub ShownIsMergeShown : Type 0
-ShownIsMergeShown = (own server : List ℕ) (far : List ℕ → Bool) (room other : Room) → IsWellFormed room → IsWellFormed other
-    → CanBeTold room → CanBeTold other → AreApart far room other → (viewer : List ℕ) (user : User) → row room.users (key viewer) ≡ Some user
+ShownIsMergeShown = (own server : List ℕ) (far : List ℕ → Bool) (room other : Room)
+    → IsWellFormed room → IsWellFormed other → CanBeTold room → CanBeTold other → AreApart far room other
+    → (viewer : List ℕ) (user : User) → row room.users (key viewer) ≡ Some user
     → shown_by_all viewer room (read_all own far room (burst server other)) ≡ merge_shown room other viewer
 
 -- a room has no user, member, flag or invitation that another has not, and its channels have their names, modes and topics of that one
@@ -90,23 +98,28 @@ pub record ComesOf (room new : Room) : Type 0 where
   pub members : (nick fold : List ℕ) (flags : Flags) → flags_at new nick fold ≡ Some flags → flags_at room nick fold ≡ Some flags
   pub invited : (nick fold : List ℕ) → is_invited_at new nick fold ≡ true → is_invited_at room nick fold ≡ true
 
--- a channel is there in one of two rooms with its name, modes and topic, or is what the two of both are joined to
+-- a channel is there in one of two rooms with its name, modes and topic, or is what the two of both are
+-- joined to
 pub data IsOfBoth (one other : Room) (fold : List ℕ) (channel : Channel) : Type 0 where
-  of_one : (before : Channel) → row one.channels fold ≡ Some before → AreAlike channel before → IsOfBoth one other fold channel
-  of_other : (before : Channel) → row other.channels fold ≡ Some before → AreAlike channel before → IsOfBoth one other fold channel
-  of_both : (before theirs : Channel) → row one.channels fold ≡ Some before → row other.channels fold ≡ Some theirs
+  of_one : (before : Channel) → row one.channels fold ≡ Some before → AreAlike channel before
+      → IsOfBoth one other fold channel
+  of_other : (before : Channel) → row other.channels fold ≡ Some before → AreAlike channel before
+      → IsOfBoth one other fold channel
+  of_both : (before theirs : Channel)
+      → row one.channels fold ≡ Some before → row other.channels fold ≡ Some theirs
       → AreAlike channel (one_channel before theirs) → IsOfBoth one other fold channel
 
 -- the same of two rooms, of one, of the other or of both
 pub record ComesOfBoth (one other new : Room) : Type 0 where
   pub users : (fold : List ℕ) (user : User) → row new.users fold ≡ Some user → (row one.users fold ≡ Some user) ⊎ (row other.users fold ≡ Some user)
-  pub channels : (fold : List ℕ) (channel : Channel) → row new.channels fold ≡ Some channel → IsOfBoth one other fold channel
+  pub channels : (fold : List ℕ) (channel : Channel) → row new.channels fold ≡ Some channel
+      → IsOfBoth one other fold channel
   pub members : (nick fold : List ℕ) (flags : Flags) → flags_at new nick fold ≡ Some flags
       → (flags_at one nick fold ≡ Some flags) ⊎ (flags_at other nick fold ≡ Some flags)
   pub invited : (nick fold : List ℕ) → is_invited_at new nick fold ≡ true → (is_invited_at one nick fold ≡ true) ⊎ (is_invited_at other nick fold ≡ true)
 
--- so what holds of each user and of each member, and of a channel's name, modes and topic also when two are joined, holds after a merge;
--- and after a split
+-- so what holds of each user and of each member, and of a channel's name, modes and topic also when two
+-- are joined, holds after a merge; and after a split
 abbrev pub MergeHasNothingNew : Type 0
 MergeHasNothingNew = (one other : Room) → IsWellFormed one → IsWellFormed other → ComesOfBoth one other (merge one other)
 

@@ -37,8 +37,8 @@ abbrev pub either : {X : Type 0} → Option X → Option X → Option X
 either (Some x) other = Some x
 either None other = other
 
--- Two descriptions of one channel, joined (our own choice): of two spellings and of two topics the greater by bytes, where no topic is
--- the least; the modes of both; the members and the invited of both.
+-- Two descriptions of one channel, joined (our own choice): of two spellings and of two topics the
+-- greater by bytes, where no topic is the least; the modes of both; the members and the invited of both.
 abbrev pub one_channel : Channel → Channel → Channel
 one_channel one other = record {
   name = greater bytes_cmp one.name other.name;

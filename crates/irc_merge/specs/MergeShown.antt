@@ -1,5 +1,5 @@
 -- What the users of one half are shown when two halves of a network become one (RFC 2813 section 5.3.2).
-use Rattle.std.specs.Prelude.{ℕ, Bool, None, List, [], ◌∷◌, ◌++◌, Some, codes, if◌then◌else◌}
+use Rattle.std.specs.Prelude.{ℕ, Bool, Some, None, List, [], ◌∷◌, ◌++◌, codes, if◌then◌else◌}
 use Rattle.std.specs.List.{flat_map}
 use Rattle.std.specs.Ordering.{is_lt}
 use Rattle.std.specs.Option.{option_map_or}
@@ -49,7 +49,8 @@ letters_line (change ∷ changes) = (change ∷ changes) ∷ []
 
 -- the modes of a channel line by line: the letters that are set, and the bans three a line
 abbrev pub mode_lines : Modes → List (List ModeChange)
-mode_lines modes = letters_line (set_changes modes) ++ in_lines bans_a_line (ban_changes modes.bans)
+mode_lines modes =
+    letters_line (set_changes modes) ++ in_lines bans_a_line (ban_changes modes.bans)
 
 -- MODE with which the viewer's own server makes changes, where there are any
 abbrev pub raised_line : User → List ℕ → List ModeChange → List (List ℕ)
@@ -72,19 +73,27 @@ raised_lines viewer channel (line ∷ lines) modes =
 -- TOPIC by the viewer's own server, where the other half's is greater
 abbrev pub raised_topic : User → List ℕ → List ℕ → List ℕ → List (List ℕ)
 raised_topic viewer channel ours theirs =
-    if is_lt (bytes_cmp ours theirs) then
-    text (record { sender = named viewer.home; command = codes "TOPIC"; middle = channel ∷ []; last = Some theirs }) ∷ []
-    else []
+    if is_lt (bytes_cmp ours theirs)
+    then text (record {
+      sender = named viewer.home;
+      command = codes "TOPIC";
+      middle = channel ∷ [];
+      last = Some theirs;
+    }) ∷ [] else []
 
--- What of the other half's channel a member of this half's is shown: all its members, in folded order; what its modes raise; its topic.
--- Each line has the greater of the two spellings.
+-- What of the other half's channel is shown under a name: all its members, in folded order; what its
+-- modes raise in ours; its topic.
+abbrev pub channel_seen : Room → User → List ℕ → Channel → Channel → List (List ℕ)
+channel_seen other viewer name theirs ours =
+    flat_map (member_arrival other.users viewer name) (entries theirs.members)
+    ++ (raised_lines viewer name (mode_lines theirs.modes) ours.modes
+    ++ raised_topic viewer name ours.topic theirs.topic)
+
+-- A member of this half's channel is shown that, each line with the greater of the two spellings.
 abbrev pub channel_arrivals : Room → User → Channel → Channel → List (List ℕ)
 channel_arrivals other viewer theirs ours =
-    if has_member (key viewer.nick) ours then
-    (let name = greater bytes_cmp ours.name theirs.name in
-    flat_map (member_arrival other.users viewer name) (entries theirs.members)
-    ++ (raised_lines viewer name (mode_lines theirs.modes) ours.modes ++ raised_topic viewer name ours.topic theirs.topic))
-    else []
+    if has_member (key viewer.nick) ours
+    then channel_seen other viewer (greater bytes_cmp ours.name theirs.name) theirs ours else []
 
 -- channel by channel, in folded order, as far as there are both
 abbrev pub arrivals : Room → Room → User → List (List ℕ)

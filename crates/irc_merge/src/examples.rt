@@ -16,7 +16,8 @@ pub fn channels_are_joined()
     ensures { ChannelsAreJoined }
 {}
 
-/// Modes, keys and topics of two channels of one name are joined, and each side's members see what theirs raise.
+/// Modes, keys and topics of two channels of one name are joined, and the members of each see what the
+/// other's raise.
 pub fn modes_are_joined()
     ensures { ModesAreJoined }
 {}

@@ -58,21 +58,24 @@ pub fn squits_split()
     ensures { SquitsSplit }
 {}
 
-/// A burst that is read makes a room just what both halves become: who clashes is gone, everybody else is there, and so are all channels and
-/// members, and each channel's spelling, modes, bans and topic are joined (RFC 2813 section 5.3.2). Invitations alone are not told.
+/// A burst that is read makes a room just what both halves become: who clashes is gone, everybody else is
+/// there, and so are all channels and members, and each channel's spelling, modes, bans and topic are
+/// joined (RFC 2813 section 5.3.2). Invitations alone are not told.
 pub fn burst_read_is_merge()
     ensures { BurstReadIsMerge }
 {}
 
-/// A burst that is read shows to each user of this side just what the merge shows: those who clash quit, in order, and then, channel by channel, each
-/// of the other side's members comes, with its flags, and what its modes and its topic raise (RFC 2813 section 5.3.2). The lines are the same, and
-/// so is their order.
+/// A burst that is read shows to each user of this side just what the merge shows: those who clash quit,
+/// in order, and then, channel by channel, each of the other side's members comes, with its flags, and
+/// then what its modes and its topic raise (RFC 2813 section 5.3.2). The lines are the same, and so is
+/// their order.
 pub fn shown_is_merge_shown()
     ensures { ShownIsMergeShown }
 {}
 
-/// Each user of a merge is a user of one of the halves, each member has its flags of one of them, who is invited was, and each channel has
-/// its name, modes and topic of one of them, or of two that are joined; so the limits of a room that both halves keep hold of the merge.
+/// Each user of a merge is a user of one of the halves, each member has its flags of one of them, who is
+/// invited was, and each channel has its name, modes and topic of one of them, or of two that are joined;
+/// so the limits of a room that both halves keep hold of the merge.
 pub fn merge_has_nothing_new()
     ensures { MergeHasNothingNew }
 {}

@@ -25,11 +25,10 @@ use Rattle.irc_room.specs.Viewers.{shows_to}
 use Rattle.irc_merge.specs.ShownAlong.{shown_along}
 use Rattle.irc_merge.specs.Quits.{quits_of, collision_text}
 use Rattle.irc_merge.specs.Deeds.{Deed, does, brings, sets}
-use Rattle.irc_modes.specs.declared.modes.Modes.{Modes}
 use Rattle.irc_modes.specs.ModesSet.{set_changes, ban_changes}
 use Rattle.irc_merge.specs.Bursts.{in_lines, members_a_line, bans_a_line, burst, stored_member, settings_line, topic_line, channel_deeds}
 use Rattle.irc_merge.specs.Merge.{clash, room_without, either, joined_channel, merge}
-use Rattle.irc_merge.specs.MergeShown.{arrival, member_arrival, mode_lines, raised_lines, raised_topic, channel_arrivals, arrivals, merge_shown}
+use Rattle.irc_merge.specs.MergeShown.{arrival, member_arrival, mode_lines, raised_lines, raised_topic, channel_seen, channel_arrivals, arrivals, merge_shown}
 use Rattle.irc_merge.specs.Lemmas.Joining.{row-either, row-joined}
 use Rattle.irc_merge.specs.Lemmas.ShownUsers.{quit_shows}
 
@@ -203,16 +202,14 @@ quits_listed viewer room (user ∷ users) order =
 abbrev list_comes : List (List ℕ × User) → User → List ℕ → List (List ℕ × Flags) → List (List ℕ)
 list_comes users viewer title members = flat_map (λ m. option_map_or (arrival viewer title m.1) (find fold_cmp m.0 users) []) members
 
-abbrev modes_and_topic : User → List ℕ → Modes → Modes → List ℕ → List ℕ → List (List ℕ)
-modes_and_topic viewer name theirs ours their_topic our_topic =
-    raised_lines viewer name (mode_lines theirs) ours ++ raised_topic viewer name our_topic their_topic
+abbrev list_seen : List (List ℕ × User) → User → List ℕ → ListedChannel → ListedChannel → List (List ℕ)
+list_seen users viewer name theirs ours =
+    list_comes users viewer name theirs.members
+    ++ (raised_lines viewer name (mode_lines theirs.modes) ours.modes ++ raised_topic viewer name ours.topic theirs.topic)
 
 abbrev list_channel : List (List ℕ × User) → User → ListedChannel → ListedChannel → List (List ℕ)
 list_channel users viewer theirs ours =
-    if lists_member (key viewer.nick) ours then
-    list_comes users viewer (greater bytes_cmp ours.name theirs.name) theirs.members
-    ++ modes_and_topic viewer (greater bytes_cmp ours.name theirs.name) theirs.modes ours.modes theirs.topic ours.topic
-    else []
+    if lists_member (key viewer.nick) ours then list_seen users viewer (greater bytes_cmp ours.name theirs.name) theirs ours else []
 
 abbrev list_arrivals : ListedRoom → ListedRoom → User → List (List ℕ)
 list_arrivals room other viewer =
@@ -223,14 +220,19 @@ comes_listed : (other : ListedRoom) (viewer : User) (title : List ℕ) (es : Lis
 comes_listed other viewer title [] = refl
 comes_listed other viewer title (e ∷ es) = λ i. option_map_or (arrival viewer title e.1) (user_listed other e.0 i) [] ++ comes_listed other viewer title es i
 
+seen_listed : (other : ListedRoom) (viewer : User) (name : List ℕ) (theirs ours : ListedChannel) → HasOrder theirs
+    → channel_seen (room_of other) viewer name (channel_of theirs) (channel_of ours) ≡ list_seen other.users viewer name theirs ours
+seen_listed other viewer name theirs ours order =
+    ap (λ lines. lines ++ (raised_lines viewer name (mode_lines theirs.modes) ours.modes ++ raised_topic viewer name ours.topic theirs.topic))
+    (ap (flat_map (member_arrival (room_of other).users viewer name)) (entries_listed (λ f. f) theirs.members order)
+    ∙ comes_listed other viewer name theirs.members)
+
 channel_comes : (other : ListedRoom) (viewer : User) (theirs : ListedChannel) → HasOrder theirs → (o : Option ListedChannel)
     → option_map_or (channel_arrivals (room_of other) viewer (channel_of theirs)) (option_map channel_of o) [] ≡ option_map_or (list_channel other.users viewer theirs) o []
 channel_comes other viewer theirs order None = refl
 channel_comes other viewer theirs order (Some ours) =
     λ i. if member_listed (key viewer.nick) ours i
-    then (ap (flat_map (member_arrival (room_of other).users viewer (greater bytes_cmp ours.name theirs.name))) (entries_listed (λ f. f) theirs.members order)
-    ∙ comes_listed other viewer (greater bytes_cmp ours.name theirs.name) theirs.members) i
-    ++ modes_and_topic viewer (greater bytes_cmp ours.name theirs.name) theirs.modes ours.modes theirs.topic ours.topic else []
+    then seen_listed other viewer (greater bytes_cmp ours.name theirs.name) theirs ours order i else []
 
 arrivals_in_turn : (room other : ListedRoom) (viewer : User) (es : List (List ℕ × ListedChannel)) → AllByRecursion (λ e. HasOrder e.1) es
     → flat_map (λ (theirs : Channel). option_map_or (channel_arrivals (room_of other) viewer theirs) (row (room_of room).channels (key theirs.name)) [])
