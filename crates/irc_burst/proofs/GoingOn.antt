@@ -81,14 +81,14 @@ module _ (room : Room) (known : Known) (link : ℕ) (server : List ℕ) (rule : 
     token = true;
     direction = may_come reader server;
     names = (is_nick server || is_one) && names;
-    effects = if is_one then (if reader.is_far_channel channel then effect by.Home ∷ [] else []) else if_there reader (effect (by.User server));
+    effects = if is_one then (if reader.has_far channel then effect by.Home ∷ [] else []) else if_there reader (effect (by.User server));
   }
 
   of_it : (parameters names : Bool) (channel : List ℕ) (effect : By → Effect) (told : List Told)
       → effects_told known.name room (Some server) (first_fault (of_either reader server parameters names channel effect)) ≡ Ok told
       → (parameters ≡ true) × ((told ≡ []) ⊎ (told ≡ map a_deed (flat_map (collided known.name room (Some server)) (effect by.Home ∷ []))))
   of_it parameters names channel effect told is =
-      taken known.name room server parameters (may_come reader server) ((is_nick server || true) && names) (reader.is_far_channel channel) (effect by.Home) told
+      taken known.name room server parameters (may_come reader server) ((is_nick server || true) && names) (reader.has_far channel) (effect by.Home) told
       (sym (ap (λ b. told_by known.name room server b (first_fault (either b parameters names channel effect))) rule)
       ∙ sym (told_so known.name room server (first_fault (of_either reader server parameters names channel effect)))
       ∙ is)

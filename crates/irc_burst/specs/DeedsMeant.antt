@@ -9,7 +9,7 @@
 --   `:b.net SQUIT c.net :b.net c.net`      BadName, as c.net is unknown; of a.net it would be WrongDirection
 --   `:b.net KILL al :Nick collision`       al quits; with another text Parameters; of a nickname that nobody has it means nothing
 --   `:b.net NJOIN #c :@bo,+zz`             bo becomes a member, and an operator, if it is none; zz is nobody, and left out
---   `:b.net TOPIC #c :hello`               counts where #c is there and all its members are behind the link, else it means nothing
+--   `:b.net TOPIC #c :hello`               counts where #c is there and has a member behind the link, else it means nothing
 --   `NICK al 1 u h 1 + :Al`                al is killed in the name of a.net, and the newcomer is not taken
 --   `:bo NICK al`                          both are killed, al first: the nicknames are in folded order
 --   `PASS pw 0210010001 TREE|`             Order: it begins a link

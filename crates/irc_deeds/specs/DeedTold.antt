@@ -5,11 +5,14 @@
 --   `:b.net KILL al :Nick collision`        those who share a channel see the QUIT, then line_to 1 ERROR, end_of 1, then line_on 3 the same line
 --   a KILL of a.net's own, by a collision   likewise, and line_on 2 as well: it goes back by the link that the other came by
 --   `:b.net NJOIN #c :@bo`                  line_to 1 `:bo!u@h JOIN #c`, line_to 1 `:a.net MODE #c +o bo`, then line_on 3 the same NJOIN
+--   `:b.net NJOIN #c :@bo`, #C of a.net's   the same: the channel is #c first, the greater of the two spellings, which is shown to nobody
+--   `:b.net MODE #c +mk bb`, #c of +m       line_to 1 `:a.net MODE #c +k bb`, then line_on 3 the line as it came, +m in it
+--   `:b.net TOPIC #c :x`, the topic y there nothing is shown, as y is greater; line_on 3 the same line
 --   link 2 is lost                          as if each server behind it were lost, b.net and then c.net: `:a.net SQUIT b.net :a.net b.net` on link 3, ..
 use Rattle.std.specs.Prelude.{ℕ, Option, Some, None, List, [], ◌∷◌, ◌++◌, codes, if◌then◌else◌}
 use Rattle.std.specs.Option.{option_map_or}
 use Rattle.std.specs.FinMap.{get}
-use Rattle.irc_merge.specs.Deeds.{Deed, does, gains, loses, kills, effects_of}
+use Rattle.irc_merge.specs.Deeds.{Deed, does, gains, loses, kills, brings, effects_of}
 use Rattle.irc_merge.specs.Quits.{collision_text}
 use Rattle.irc_names.specs.Spellings.{exactly_same}
 use Rattle.irc_routes.specs.Known.{names_behind}
@@ -17,7 +20,7 @@ use Rattle.irc_burst_lines.specs.DeedLines.{deed_parts}
 use Rattle.irc_burst.specs.DeedsMeant.{Told, a_deed, a_server}
 use Rattle.irc_stage.specs.View.{End, View}
 use Rattle.irc_stage.specs.EffectTold.{Served, all_changed, effect_came, taken_out}
-use Rattle.irc_stage.specs.Linked.{is_taken, told_on_all, unlinked, with_row, without_row}
+use Rattle.irc_stage.specs.Linked.{is_taken, told_on_all, unlinked, with_row, with_title, without_row}
 
 -- ---- deeds
 
@@ -25,7 +28,12 @@ use Rattle.irc_stage.specs.Linked.{is_taken, told_on_all, unlinked, with_row, wi
 abbrev pub forgotten : List ℕ → Served → Served
 forgotten name s = record s { view = without_row name s.view }
 
--- What a deed does that came by a link, or is the server's own. Its line is what it is in the view before.
+-- a channel that is there is spelled in the greater of two ways, and nobody is shown it
+abbrev pub titled_view : List ℕ → Served → Served
+titled_view channel s = record s { view = with_title channel s.view }
+
+-- What a deed does that came by a link, or is the server's own. Its line is what it is in the view before: it goes on as it came, also
+-- where it does less than it says.
 unfoldable pub deed_told : Option ℕ → Deed → Served → Served
 deed_told arrival (does effect) s = effect_came arrival effect s
 deed_told arrival (gains uplink name info) s = s
@@ -34,6 +42,9 @@ deed_told arrival (loses server name text) s =
     (forgotten name (all_changed (effects_of s.view.room (loses server name text)) s))
 deed_told arrival (kills server nick) s =
     told_on_all arrival (deed_parts s.view.room s.view.routes (kills server nick)) (taken_out nick collision_text s)
+deed_told arrival (brings server channel members) s =
+    told_on_all arrival (deed_parts s.view.room s.view.routes (brings server channel members))
+    (all_changed (effects_of s.view.room (brings server channel members)) (titled_view channel s))
 deed_told arrival deed s =
     told_on_all arrival (deed_parts s.view.room s.view.routes deed) (all_changed (effects_of s.view.room deed) s)
 

@@ -1,9 +1,8 @@
 -- The members of a channel are its rows, each under the fold of its name.
-use Rattle.std.proofs.Common.{◌≡◌, ℕ, Bool, true, false, ◌&&◌, is_some, Option, Some, None, List, map, refl, sym, ◌∙◌, ap}
-use Rattle.std.specs.List.{list_all}
+use Rattle.std.proofs.Common.{◌≡◌, ℕ, Bool, true, false, ◌&&◌, ◌||◌, is_some, Option, Some, None, List, [], ◌∷◌, map, refl, sym, ◌∙◌, ap}
+use Rattle.std.specs.List.{list_any}
 use Rattle.std.specs.Option.{option_map_or}
 use Rattle.std.specs.FinMap.{entries}
-use Rattle.std.proofs.lemmas.List.Folds.{list_all-map}
 use Rattle.irc_tables.specs.declared.table.Row.{Row}
 use Rattle.irc_tables.specs.RowViews.{row_entry}
 use Rattle.irc_channels.specs.ChannelTable.{members_in}
@@ -13,18 +12,22 @@ use Rattle.irc_room.specs.Room.{Room}
 use Rattle.irc_routes.specs.Known.{Known}
 use Rattle.irc_link_reader.specs.Loops.Readings.{is_member_far}
 use Rattle.irc_room.specs.Readers.{home_under}
-use Rattle.irc_link_reader.specs.Reader.{reader_of, is_behind_link, all_behind_link}
+use Rattle.irc_link_reader.specs.Reader.{reader_of, is_behind_link, some_behind_link}
+
+any-map : {A B : Type 0} (passes : B → Bool) (f : A → B) (xs : List A) → list_any passes (map f xs) ≡ list_any (λ x. passes (f x)) xs
+any-map passes f [] = refl
+any-map passes f (x ∷ xs) = ap (λ b. passes (f x) || b) (any-map passes f xs)
 
 pub far-rows : (room : Room) (known : Known) (link : ℕ) (o : Option Channel) (rows : List (Row Flags)) → map row_entry rows ≡ members_in o
-    → (is_some o && list_all (is_member_far (reader_of room known link)) rows) ≡ option_map_or (all_behind_link room known link) o false
+    → (is_some o && list_any (is_member_far (reader_of room known link)) rows) ≡ option_map_or (some_behind_link room known link) o false
 far-rows room known link None rows is = refl
 far-rows room known link (Some channel) rows is =
     let far : List ℕ → Bool = λ fold. option_map_or (is_behind_link known link) (home_under room fold) false in
     let entry_far : List ℕ × Flags → Bool = λ e. far e.0 in
-    sym (list_all-map entry_far row_entry rows) ∙ ap (list_all entry_far) is ∙ sym (list_all-map far (λ (e : List ℕ × Flags). e.0) (entries channel.members))
+    sym (any-map entry_far row_entry rows) ∙ ap (list_any entry_far) is ∙ sym (any-map far (λ (e : List ℕ × Flags). e.0) (entries channel.members))
 
 -- the same of a channel that is there
 pub far-there : (room : Room) (known : Known) (link : ℕ) (o : Option Channel) (rows : List (Row Flags)) → map row_entry rows ≡ members_in o → is_some o ≡ true
-    → list_all (is_member_far (reader_of room known link)) rows ≡ option_map_or (all_behind_link room known link) o false
+    → list_any (is_member_far (reader_of room known link)) rows ≡ option_map_or (some_behind_link room known link) o false
 far-there room known link o rows is there =
-    sym (ap (λ b. b && list_all (is_member_far (reader_of room known link)) rows) there) ∙ far-rows room known link o rows is
+    sym (ap (λ b. b && list_any (is_member_far (reader_of room known link)) rows) there) ∙ far-rows room known link o rows is

@@ -17,8 +17,8 @@
 --                    `:bo MODE #c +l 007`               Parameters: a limit has no leading zeros; so is `+k a,b`, as a key has no comma
 --                    `:bo MODE #c +o 9d`                BadName: the word of o is no nickname
 --                    `:bo MODE bo +i`                   its own mode; `:bo MODE al +i` is Parameters
---   a server's:      `:b.net TOPIC #c :x`               counts where #c is there and all its members are behind this link; else it means nothing:
---                                                       somebody is in #c on this side, which keeps what it has
+--   a server's:      `:b.net TOPIC #c :x`               counts where #c is there and has a member behind this link; else it means nothing:
+--                                                       of a channel that has none b.net has nothing to tell
 -- The first that is wrong is told: of `:al KICK #c bo` (no text) by this link Parameters and not WrongDirection, of `:al NICK 9d` WrongDirection
 -- and not BadName.
 use Rattle.std.specs.Prelude.{◌≡◌, ◌⊎◌, IsOk, ℕ, Bool, true, false, not, ◌&&◌, ◌||◌, is_some, Option, Some, None, Result, Ok, Err, List, [], ◌∷◌, codes, nat_eq, unwrap_or, if◌then◌else◌}
@@ -147,10 +147,10 @@ nick_line reader _ _ = malformed
 
 -- ---- lines of a user or of a server
 
--- what changes a channel counts, if it is from a server, only where all members of the channel are behind the link (our own choice)
+-- what changes a channel counts, if it is from a server, only where the channel has a member behind the link (our own choice)
 abbrev pub change_of : Reader → List ℕ → List ℕ → (By → Effect) → List Effect
 change_of reader name channel effect =
-    if is_server name then (if reader.is_far_channel channel then effect by.Home ∷ [] else [])
+    if is_server name then (if reader.has_far channel then effect by.Home ∷ [] else [])
     else if_there reader (effect (by.User name))
 
 -- a line of a user or of a server: whether its parameters are as they should be, whether its names are, and what it does to a channel

@@ -15,7 +15,7 @@
 --                          side while the line was on its way. To close the link for it would be to lose links in the normal run of things.
 --   `:9d QUIT :x`          is from nobody that could be looked for. It is let pass here, and is BadName once all else is right.
 use Rattle.std.specs.Prelude.{ℕ, Bool, true, false, Option, List, nat_eq, if◌then◌else◌}
-use Rattle.std.specs.List.{list_all}
+use Rattle.std.specs.List.{list_any}
 use Rattle.std.specs.Option.{option_map_or}
 use Rattle.std.specs.FinMap.{keys}
 use Rattle.irc_names.specs.Fold.{key}
@@ -35,14 +35,15 @@ pub record Reader : Type 0 where
   pub server : ℕ → Option (List ℕ)
   -- how many links away a server is
   pub distance : List ℕ → Option ℕ
-  -- whether a channel is there, and all its members are behind the link
-  pub is_far_channel : List ℕ → Bool
+  -- whether a channel is there, and has a member behind the link
+  pub has_far : List ℕ → Bool
 
 abbrev pub is_behind_link : Known → ℕ → List ℕ → Bool
 is_behind_link known link name = option_map_or (nat_eq link) (next_hop known name) false
 
-abbrev pub all_behind_link : Room → Known → ℕ → Channel → Bool
-all_behind_link room known link channel = list_all (λ fold. option_map_or (is_behind_link known link) (home_under room fold) false) (keys channel.members)
+abbrev pub some_behind_link : Room → Known → ℕ → Channel → Bool
+some_behind_link room known link channel =
+    list_any (λ fold. option_map_or (is_behind_link known link) (home_under room fold) false) (keys channel.members)
 
 abbrev pub reader_of : Room → Known → ℕ → Reader
 reader_of room known link = record {
@@ -50,7 +51,7 @@ reader_of room known link = record {
   is_far = is_behind_link known link;
   server = token_in known link;
   distance = distance_of known;
-  is_far_channel = λ name. option_map_or (all_behind_link room known link) (row room.channels (key name)) false;
+  has_far = λ name. option_map_or (some_behind_link room known link) (row room.channels (key name)) false;
 }
 
 -- Whether a line from this name may come by this link. It may not where it is from a server that is not behind the link, be it known or

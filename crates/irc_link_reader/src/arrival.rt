@@ -1,6 +1,6 @@
 //! What is asked where a line is read that came by a link.
 ghost use Rattle.std.specs.Prelude.{◌≡◌, Ok, Err, is_some, true, if◌then◌else◌, option_to_list};
-ghost use Rattle.std.specs.List.{list_all};
+ghost use Rattle.std.specs.List.{list_any};
 ghost use Rattle.std.specs.Option.{option_copied, option_map_or};
 ghost use Rattle.irc_names.specs.Fold.{key};
 ghost use Rattle.irc_room.specs.Readers.{channel_at};
@@ -131,11 +131,11 @@ fn is_there(at: Arrival<'_>, nick: Option<&Nick>) -> bool
     }
 }
 
-/// Whether a channel is there, and all its members are behind the link.
-pub(crate) fn is_far_channel(at: Arrival<'_>, name: &[u8]) -> bool
-    ensures { result ≡ (reader at.entry).is_far_channel name.now }
+/// Whether a channel is there, and has a member behind the link.
+pub(crate) fn has_far(at: Arrival<'_>, name: &[u8]) -> bool
+    ensures { result ≡ (reader at.entry).has_far name.now }
 {
-    has_channel(at, name) && are_members_far(at, at.room.members_of(name))
+    has_channel(at, name) && is_any_far(at, at.room.members_of(name))
 }
 
 fn has_channel(at: Arrival<'_>, name: &[u8]) -> bool
@@ -144,13 +144,13 @@ fn has_channel(at: Arrival<'_>, name: &[u8]) -> bool
     at.room.channel(name).is_some()
 }
 
-/// Whether members are all behind the link.
-fn are_members_far(at: Arrival<'_>, members: &[Row<Flags>]) -> bool
-    ensures { result ≡ list_all (is_member_far (reader at.entry)) members.now }
+/// Whether some of these members are behind the link.
+fn is_any_far(at: Arrival<'_>, members: &[Row<Flags>]) -> bool
+    ensures { result ≡ list_any (is_member_far (reader at.entry)) members.now }
 {
     members
         .iter()
-        .all(|member| is_member_far(at, member.name.as_slice()))
+        .any(|member| is_member_far(at, member.name.as_slice()))
 }
 
 /// Whether the user under a fold is behind the link.

@@ -3,7 +3,7 @@ ghost use Rattle.std.specs.Prelude.{◌≡◌, Some, option_to_list};
 ghost use Rattle.irc_link_reader.specs.Loops.Readings.{IsChange, ReadsEffect, effects_counted, doer_or_fault, is_left_alone, reader};
 ghost use Rattle.irc_link_reader.specs.Means.{join_line, kick_line, part_line, topic_line};
 
-use crate::arrival::{Arrival, expect_from, if_there, is_far_channel};
+use crate::arrival::{Arrival, expect_from, has_far, if_there};
 use irc_link_words::{Params, WireFault, is_marked, read_channel, read_nick, read_words, unmarked};
 use irc_names::is_server;
 use irc_room::{By, Effect};
@@ -113,7 +113,8 @@ pub(crate) fn read_doer(name: &[u8]) -> Result<By, WireFault>
     }
 }
 
-/// The change of a channel, where it counts: a user's if that is there, a server's if all members of the channel are behind the link.
+/// The change of a channel, where it counts: a user's if that is there, a server's if the channel has a
+/// member behind the link.
 pub(crate) fn if_counts(at: Arrival<'_>, effect: Effect) -> Option<Effect>
     requires { IsChange effect }
     ensures { option_to_list result ≡ effects_counted (reader at.entry) effect }
@@ -125,7 +126,7 @@ pub(crate) fn if_counts(at: Arrival<'_>, effect: Effect) -> Option<Effect>
     }
 }
 
-/// Whether a server changes a channel of which not all members are behind the link.
+/// Whether a server changes a channel that has no member behind the link.
 fn is_near_change(at: Arrival<'_>, effect: &Effect) -> bool
     ensures { result ≡ is_left_alone (reader at.entry) effect.now }
 {
@@ -139,7 +140,7 @@ fn is_near_change(at: Arrival<'_>, effect: &Effect) -> bool
             by: By::Home,
             channel,
             ..
-        } => !is_far_channel(at, channel.as_bytes()),
+        } => !has_far(at, channel.as_bytes()),
         _ => false,
     }
 }

@@ -8,6 +8,7 @@ use Rattle.std.specs.FinMap.{get, insert}
 use Rattle.irc_line.specs.Messages.{Written}
 use Rattle.irc_links.specs.Ends.{End}
 use Rattle.irc_links.specs.Ways.{but, met_links}
+use Rattle.irc_room.specs.After.{titled_by}
 use Rattle.irc_routes.specs.Adding.{added_fault}
 use Rattle.irc_routes.specs.Known.{Known, added, token_in, without_link, without_server}
 use Rattle.irc_stage.specs.View.{View, without_end}
@@ -38,6 +39,12 @@ without_row name view = record view { routes = without_server name view.routes }
 -- a link that is open no more; behind it nobody is
 abbrev pub unlinked : ℕ → View → View
 unlinked link view = record (without_end link view) { routes = without_link link view.routes }
+
+-- ---- channels of both sides
+
+-- a channel that is there has the greater spelling of the two: the one that it has, and this one
+abbrev pub with_title : List ℕ → View → View
+with_title channel view = record view { room = titled_by channel view.room }
 
 -- ---- what is told on to all
 

@@ -120,7 +120,7 @@ topic_read reader nick channel text is named short =
     (change_of reader nick channel (λ doer. SetTopic doer channel text)) (words_fit max_words text short) (far_may_come reader nick is.named is.far)
     (both (is_nick nick || is_server nick) (is_channel channel) (ap (λ b. b || is_server nick) is.named) named)
     ∙ ap Ok
-    (ap (λ b. if b then (if reader.is_far_channel channel then SetTopic by.Home channel text ∷ [] else [])
+    (ap (λ b. if b then (if reader.has_far channel then SetTopic by.Home channel text ∷ [] else [])
     else if_there reader (SetTopic (by.User nick) channel text)) (nick-no_server nick is.named)
     ∙ there reader (SetTopic (by.User nick) channel text) is.known)
 

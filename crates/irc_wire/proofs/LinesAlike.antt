@@ -18,7 +18,7 @@ use Rattle.irc_room.specs.Room.{Room}
 use Rattle.irc_room.specs.Seen.{changes_words, stored_channel, stored_nick, target_name}
 use Rattle.irc_routes.specs.Known.{Known, distance_of, token_in}
 use Rattle.irc_link_reader.specs.Means.{read_by}
-use Rattle.irc_link_reader.specs.Reader.{Reader, all_behind_link, is_behind_link, reader_of}
+use Rattle.irc_link_reader.specs.Reader.{Reader, some_behind_link, is_behind_link, reader_of}
 use Rattle.irc_link_words.specs.Words.{marked, with_i, without_i}
 use Rattle.irc_link_writer.specs.Written.{by_name, from}
 use Rattle.irc_wire.specs.OtherInvitations.{AlikeMeanAlike, AlikeWriteAlike, ReadAtHome, WrittenAtHome}
@@ -62,14 +62,14 @@ module _ (room other : Room) (alike : AreAlike room other) where
   -- ---- what is read
 
   far_alike : (known : Known) (link : ℕ) (name : List ℕ)
-      → option_map_or (all_behind_link room known link) (row room.channels (key name)) false
-      ≡ option_map_or (all_behind_link other known link) (row other.channels (key name)) false
+      → option_map_or (some_behind_link room known link) (row room.channels (key name)) false
+      ≡ option_map_or (some_behind_link other known link) (row other.channels (key name)) false
   far_alike known link name =
-      row_alike (λ found. option_map_or (all_behind_link room known link) found false) blind name
-      ∙ ap (λ (users : Table User). option_map_or (all_behind_link (with_users users) known link) (row other.channels (key name)) false) alike.users
+      row_alike (λ found. option_map_or (some_behind_link room known link) found false) blind name
+      ∙ ap (λ (users : Table User). option_map_or (some_behind_link (with_users users) known link) (row other.channels (key name)) false) alike.users
     where
-      blind : (found : Option Channel) → option_map_or (all_behind_link room known link) found false
-          ≡ option_map_or (all_behind_link room known link) (option_map uninviting found) false
+      blind : (found : Option Channel) → option_map_or (some_behind_link room known link) found false
+          ≡ option_map_or (some_behind_link room known link) (option_map uninviting found) false
       blind None = refl
       blind (Some c) = refl
 
@@ -79,7 +79,7 @@ module _ (room other : Room) (alike : AreAlike room other) where
     is_far = is_behind_link known link;
     server = token_in known link;
     distance = distance_of known;
-    is_far_channel = λ name. far_alike known link name i;
+    has_far = λ name. far_alike known link name i;
   }
 
 pub alike_write_alike : AlikeWriteAlike

@@ -215,7 +215,7 @@ taken_is_written_so reader name channel words effects is ok =
       named = named;
       worded = all_worded (changes_of words) (words_kept words so.parameters_so) named;
       effects_told = subst (AreTold channel words) so.means_so
-          (told_by (is_server name) (reader.is_far_channel channel) (is_some (reader.home name) && true) name channel words);
+          (told_by (is_server name) (reader.has_far channel) (is_some (reader.home name) && true) name channel words);
     }
 
 pub otherwise_written_is_refused : OtherwiseWrittenIsRefused
@@ -240,7 +240,7 @@ read_so reader nick channel words changes nick_is channel_is there comes taken n
     ∙ no_fault (by_words reader nick channel (are_changes words) changes) taken refl comes
     (and_from (is_nick nick || is_server nick) _ (or_left (is_nick nick) _ nick_is)
     (and_from (is_channel channel) (are_members_named changes) channel_is named))
-    ∙ ap Ok (user_told (is_server nick) (reader.is_far_channel channel) (is_some (reader.home nick)) (effect by.Home ∷ []) (effect (by.User nick) ∷ [])
+    ∙ ap Ok (user_told (is_server nick) (reader.has_far channel) (is_some (reader.home nick)) (effect by.Home ∷ []) (effect (by.User nick) ∷ [])
     (nick-no_server nick nick_is) there)
 
 abbrev mode_of_words : List ℕ → List ℕ → List (List ℕ) → Parsed

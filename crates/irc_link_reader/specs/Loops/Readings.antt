@@ -86,13 +86,13 @@ home_channel (SetTopic by.Home channel text) = Some channel
 home_channel (ChangeModes by.Home channel changes) = Some channel
 home_channel other = None
 
--- whether an effect is a server's change of a channel of which a member is not behind the link
+-- whether an effect is a server's change of a channel that has no member behind the link
 abbrev pub is_left_alone : Reader → Effect → Bool
-is_left_alone reader effect = not (option_map_or reader.is_far_channel (home_channel effect) true)
+is_left_alone reader effect = not (option_map_or reader.has_far (home_channel effect) true)
 
 -- the effect, where it counts
 abbrev pub effects_counted : Reader → Effect → List Effect
-effects_counted reader effect = if option_map_or reader.is_far_channel (home_channel effect) true then if_there reader effect else []
+effects_counted reader effect = if option_map_or reader.has_far (home_channel effect) true then if_there reader effect else []
 
 -- whether the user of this nickname is behind the link
 abbrev pub is_far_user : Reader → List ℕ → Bool
