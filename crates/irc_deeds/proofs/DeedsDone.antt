@@ -5,20 +5,18 @@ use Rattle.irc_names.specs.Spellings.{exactly_same}
 use Rattle.irc_channels.specs.Texts.{cut_words}
 use Rattle.irc_channels.specs.declared.flags.Flags.{Flags}
 use Rattle.irc_modes.specs.declared.modes.ModeChange.{ModeChange}
-use Rattle.irc_room.specs.effect.By.TheVariants as by
 use Rattle.irc_room.specs.effect.Effect.{Effect}
-use Rattle.irc_room.specs.effect.Effect.TheVariants.{ChangeModes, SetTopic}
 use Rattle.std.specs.List.{flat_map}
-use Rattle.irc_merge.specs.Deeds.{does, loses, kills, brings, sets, tops, member_comes}
+use Rattle.irc_merge.specs.Deeds.{does, loses, kills, brings, sets, tops, changes_made, effects_of, member_comes, raised_in}
 use Rattle.irc_merge.specs.Quits.{collision_text, quits_of, users_at}
 use Rattle.irc_links.specs.Ways.{but, met_links}
 use Rattle.irc_burst.specs.DeedsMeant.{a_deed, a_server}
 use Rattle.irc_burst_lines.specs.DeedLines.{kill_parts, mode_parts, njoin_parts, server_parts, squit_parts, topic_parts}
-use Rattle.irc_stage.specs.EffectTold.{Served, all_changed, changed_if, effect_came, taken_out, with_sent}
-use Rattle.irc_stage.specs.Linked.{is_taken, told_on_all, with_row, without_row}
+use Rattle.irc_stage.specs.EffectTold.{Served, all_changed, effect_came, taken_out, with_sent}
+use Rattle.irc_stage.specs.Linked.{is_taken, told_on_all, with_row, with_title, without_row}
 use Rattle.irc_stage.specs.Loops.Stage.{lines_on}
 use Rattle.irc_stage.specs.View.{View}
-use Rattle.irc_deeds.specs.DeedTold.{deed_told, forgotten, gain_told, told_by}
+use Rattle.irc_deeds.specs.DeedTold.{deed_told, forgotten, gain_told, titled_view, told_by}
 
 -- a line on every link that counts, but for one, behind all that was put out so far
 abbrev pub GoesOn : Option ℕ → List ℕ → Served → Served → Type 0
@@ -43,26 +41,30 @@ unfolding deed_told
 kills_done arrival server nick line old mid new out written told =
     told_last arrival line (kill_parts server nick) mid (taken_out nick collision_text old) new out written told
 
-pub brings_done : (arrival : Option ℕ) (server channel : List ℕ) (members : List (List ℕ × Flags)) (line : List ℕ) (old mid new : Served)
-    → mid ≡ all_changed (flat_map (member_comes channel) members) old → line ≡ text (njoin_parts server channel members) → GoesOn arrival line mid new
-    → new ≡ deed_told arrival (brings server channel members) old
+pub brings_done : (arrival : Option ℕ) (server channel : List ℕ) (members : List (List ℕ × Flags)) (line : List ℕ) (old : Served) (spelled : View)
+    (mid new : Served) → spelled ≡ with_title channel old.view → mid ≡ all_changed (flat_map (member_comes channel) members) (record old { view = spelled })
+    → line ≡ text (njoin_parts server channel members) → GoesOn arrival line mid new → new ≡ deed_told arrival (brings server channel members) old
 unfolding deed_told
-brings_done arrival server channel members line old mid new come written told =
-    told_last arrival line (njoin_parts server channel members) mid (all_changed (flat_map (member_comes channel) members) old) new come written told
+brings_done arrival server channel members line old spelled mid new titled come written told =
+    let effects = flat_map (member_comes channel) members in
+    told_last arrival line (njoin_parts server channel members) mid (all_changed effects (titled_view channel old)) new
+    (come ∙ ap (λ v. all_changed effects (record old { view = v })) titled) written told
 
 pub sets_done : (arrival : Option ℕ) (server channel : List ℕ) (changes : List ModeChange) (line : List ℕ) (old mid new : Served)
-    → mid ≡ changed_if (ChangeModes by.Home channel changes) old → line ≡ text (mode_parts server channel changes) → GoesOn arrival line mid new
-    → new ≡ deed_told arrival (sets server channel changes) old
+    → mid ≡ all_changed (changes_made channel (raised_in old.view.room channel changes)) old → line ≡ text (mode_parts server channel changes)
+    → GoesOn arrival line mid new → new ≡ deed_told arrival (sets server channel changes) old
 unfolding deed_told
 sets_done arrival server channel changes line old mid new set written told =
-    told_last arrival line (mode_parts server channel changes) mid (changed_if (ChangeModes by.Home channel changes) old) new set written told
+    told_last arrival line (mode_parts server channel changes) mid (all_changed (changes_made channel (raised_in old.view.room channel changes)) old) new
+    set written told
 
 pub tops_done : (arrival : Option ℕ) (server channel topic line : List ℕ) (old mid new : Served)
-    → mid ≡ changed_if (SetTopic by.Home channel topic) old → line ≡ text (topic_parts server channel topic) → GoesOn arrival line mid new
-    → new ≡ deed_told arrival (tops server channel topic) old
+    → mid ≡ all_changed (effects_of old.view.room (tops server channel topic)) old → line ≡ text (topic_parts server channel topic)
+    → GoesOn arrival line mid new → new ≡ deed_told arrival (tops server channel topic) old
 unfolding deed_told
 tops_done arrival server channel topic line old mid new set written told =
-    told_last arrival line (topic_parts server channel topic) mid (changed_if (SetTopic by.Home channel topic) old) new set written told
+    told_last arrival line (topic_parts server channel topic) mid (all_changed (effects_of old.view.room (tops server channel topic)) old) new
+    set written told
 
 -- ---- what a line tells
 

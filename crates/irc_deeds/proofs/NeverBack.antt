@@ -19,7 +19,7 @@ use Rattle.irc_link_writer.specs.Written.{wire}
 use Rattle.irc_links.specs.Ways.{but, met_links, told_homes, ways_toward}
 use Rattle.irc_stage.specs.EffectTold.{Served, all_changed, changed, changed_if, client_ended, counts, effect_came, effect_told, ends_of, is_elsewhere, on_links, quit_by, shown_at, taken_out, with_sent}
 use Rattle.irc_stage.specs.Linked.{told_on_all}
-use Rattle.irc_deeds.specs.DeedTold.{deed_told, forgotten}
+use Rattle.irc_deeds.specs.DeedTold.{deed_told, forgotten, titled_view}
 use Rattle.irc_deeds.specs.Laws.{NeverBack, NeverBackOfAll, PutsOutElsewhere, goes_on}
 use Rattle.irc_registering.specs.Closing.{error_line}
 
@@ -163,7 +163,10 @@ never_back link (loses server name words) s =
     then_all link (deed_parts s.view.room s.view.routes (loses server name words)) s.out (forgotten name (all_changed effects s)) (by_all link effects s)
 never_back link (kills server nick) s =
     then_all link (deed_parts s.view.room s.view.routes (kills server nick)) s.out (taken_out nick collision_text s) (by_taken_out link nick collision_text s)
-never_back link (brings server channel members) s = by_effects link (brings server channel members) s
+never_back link (brings server channel members) s =
+    let effects = effects_of s.view.room (brings server channel members) in
+    then_all link (deed_parts s.view.room s.view.routes (brings server channel members)) s.out (all_changed effects (titled_view channel s))
+    (by_all link effects (titled_view channel s))
 never_back link (sets server channel changes) s = by_effects link (sets server channel changes) s
 never_back link (tops server channel topic) s = by_effects link (tops server channel topic) s
 

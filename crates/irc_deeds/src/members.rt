@@ -29,7 +29,7 @@ pub(crate) struct Arrivals<'a> {
     pub members: &'a [NewMember],
 }
 
-/// Users become members of a channel, each with its flags, and the others are told.
+/// Users become members of a channel, which takes the spelling of the line first, where that is the greater; each has its flags, and the others are told.
 ///
 /// # Errors
 /// Where memory runs out.
@@ -48,6 +48,7 @@ pub(crate) fn bring_all(
 {
     let told = as_told(stage.alloc(), arrivals.members)?;
     let line = njoin_text(arrivals.server, arrivals.channel, told.as_slice());
+    stage.respell(arrivals.channel);
     come_all(stage, link, arrivals, out)?;
     stage.tell_all(Some(link), &line, out)
 }

@@ -2,9 +2,10 @@
 ghost use Rattle.std.specs.Prelude.{◌≡◌, Some, IfOk, OnOk};
 ghost use Rattle.irc_batch.specs.Growing.{Grew};
 ghost use Rattle.irc_burst.specs.Loops.Acts.{act_told, acts_told};
+ghost use Rattle.irc_merge.specs.Deeds.{changes_made, is_greater_topic, raised_in};
 ghost use Rattle.irc_stage.specs.Loops.Linking.{IsMetAt};
-ghost use Rattle.irc_stage.specs.Loops.Stage.{IsServing};
-ghost use Rattle.irc_deeds.specs.Loops.Telling.{loses_of, sets_of, tops_of, DoesDeed, Gains, Kills, DoesTold, DoesAllTold};
+ghost use Rattle.irc_stage.specs.Loops.Stage.{IsServing, Keeps};
+ghost use Rattle.irc_deeds.specs.Loops.Telling.{loses_of, sets_of, topped_by, tops_of, ChangesAll, DoesDeed, Gains, Kills, DoesTold, DoesAllTold};
 
 use crate::members::{Arrivals, bring_all};
 use crate::quitting::quit_all;
@@ -14,7 +15,7 @@ use irc_burst_lines::{kill_text, mode_text, server_text, squit_text, topic_text}
 use irc_channels::Words;
 use irc_modes::ModeChange;
 use irc_names::{ChannelName, Nick, ServerName};
-use irc_room::{By, Effect, ModeChanges};
+use irc_room::{By, Effect, ModeChanges, Room};
 use irc_stage::{Newcomer, Stage};
 use std::alloc::{AllocError, Global};
 
@@ -208,7 +209,7 @@ pub(crate) struct Setting<'a> {
     changes: &'a ModeChanges,
 }
 
-/// A server sets modes of a channel.
+/// A server sets modes of a channel: of its changes those are made that raise something, and all go on as they came.
 fn set(
     stage: &mut Stage,
     link: u64,
@@ -223,25 +224,50 @@ fn set(
     ensures grew { Grew out.old.outs out.new.outs }
 {
     let changes = setting.changes.as_slice();
+    let raised = raised(stage.alloc(), stage.room(), setting.channel, changes)?;
     let line = mode_text(setting.server, setting.channel, changes);
-    let effect = Effect::ChangeModes {
-        by: By::Home,
-        channel: setting.channel.copy(),
-        changes: copied(stage.alloc(), changes)?,
-    };
-    stage.take(link, &effect, out)?;
+    make(stage, link, setting.channel, raised, out)?;
     stage.tell_all(Some(link), &line, out)
 }
 
-/// These changes once more.
-fn copied(alloc: Global, changes: &[ModeChange]) -> Result<ModeChanges, AllocError>
-    ensures { IfOk result (λ copy. copy ≡ changes.now) }
+/// Of these changes those that raise something in the channel that is there.
+fn raised(
+    alloc: Global,
+    room: &Room,
+    channel: &ChannelName,
+    changes: &[ModeChange],
+) -> Result<Vec<ModeChange, Global>, AllocError>
+    ensures { IfOk result (λ raised. raised.items ≡ raised_in room.now.room channel.now changes.now) }
 {
-    let mut copy = Vec::new(alloc);
-    for change in changes {
-        copy.push(change.copy())?;
+    match room.channel(channel.as_bytes()) {
+        Some(channel) => channel.modes.raising(changes),
+        None => Ok(Vec::new(alloc)),
     }
-    Ok(ModeChanges::new(copy))
+}
+
+/// A server makes changes of a channel's modes, where there are any.
+fn make(
+    stage: &mut Stage,
+    link: u64,
+    channel: &ChannelName,
+    changes: Vec<ModeChange, Global>,
+    out: &mut Batch,
+) -> Result<(), AllocError>
+    requires serving { IsServing stage.old }
+    ensures ok { OnOk result (ChangesAll (changes_made channel.now changes.items) stage.old out.old stage.new out.new) }
+    ensures serving { OnOk result (IsServing stage.new) }
+    ensures keeps { Keeps stage.old stage.new }
+    ensures grew { Grew out.old.outs out.new.outs }
+{
+    if changes.is_empty() {
+        return Ok(());
+    }
+    let effect = Effect::ChangeModes {
+        by: By::Home,
+        channel: channel.copy(),
+        changes: ModeChanges::new(changes),
+    };
+    stage.take(link, &effect, out)
 }
 
 /// A channel's topic, as a server sets it.
@@ -252,7 +278,7 @@ pub(crate) struct Topic<'a> {
     text: &'a Words,
 }
 
-/// A server sets a channel's topic.
+/// A server sets a channel's topic: it is set where it is greater than the one that is there, and goes on as it came.
 fn top(stage: &mut Stage, link: u64, topic: Topic<'_>, out: &mut Batch) -> Result<(), AllocError>
     requires serving { IsServing stage.old }
     requires met { IsMetAt link stage.old }
@@ -262,11 +288,40 @@ fn top(stage: &mut Stage, link: u64, topic: Topic<'_>, out: &mut Batch) -> Resul
     ensures grew { Grew out.old.outs out.new.outs }
 {
     let line = topic_text(topic.server, topic.channel, topic.text);
+    raise_topic(stage, link, topic, out)?;
+    stage.tell_all(Some(link), &line, out)
+}
+
+/// A channel's topic is set, where it is greater than the one that is there.
+fn raise_topic(
+    stage: &mut Stage,
+    link: u64,
+    topic: Topic<'_>,
+    out: &mut Batch,
+) -> Result<(), AllocError>
+    requires serving { IsServing stage.old }
+    ensures ok { OnOk result (ChangesAll (topped_by topic.entry stage.old) stage.old out.old stage.new out.new) }
+    ensures serving { OnOk result (IsServing stage.new) }
+    ensures keeps { Keeps stage.old stage.new }
+    ensures grew { Grew out.old.outs out.new.outs }
+{
+    if !is_greater(stage.room(), topic.channel, topic.text) {
+        return Ok(());
+    }
     let effect = Effect::SetTopic {
         by: By::Home,
         channel: topic.channel.copy(),
         text: topic.text.copy(),
     };
-    stage.take(link, &effect, out)?;
-    stage.tell_all(Some(link), &line, out)
+    stage.take(link, &effect, out)
+}
+
+/// Whether a topic is greater by bytes than that of the channel that is there.
+fn is_greater(room: &Room, channel: &ChannelName, topic: &Words) -> bool
+    ensures { result ≡ is_greater_topic room.now.room channel.now topic.now }
+{
+    match room.channel(channel.as_bytes()) {
+        Some(channel) => channel.topic.as_bytes().cmp(topic.as_bytes()).is_lt(),
+        None => false,
+    }
 }

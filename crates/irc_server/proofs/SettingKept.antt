@@ -27,7 +27,7 @@ use Rattle.irc_stage.specs.Handle.{Happening, connects, says, goes, client_after
 use Rattle.irc_stage.specs.EffectTold.{Served, all_changed, changed, changed_if, client_ended, counts, effect_came, effect_told, in_silence, quit_by, taken_out, with_sent}
 use Rattle.irc_stage.specs.Linked.{is_taken, with_far, with_password, with_row}
 use Rattle.irc_stage.specs.ClientTold.{client_told, closed_told, message_told, quit_told, seated, step_told, steps_told, unseated, user_told}
-use Rattle.irc_deeds.specs.DeedTold.{all_told, arrival_of, deed_told, deeds_told, forgotten, gain_told, link_lost, lost_behind, told_by}
+use Rattle.irc_deeds.specs.DeedTold.{all_told, arrival_of, deed_told, deeds_told, forgotten, gain_told, link_lost, lost_behind, titled_view, told_by}
 use Rattle.irc_deeds.specs.Heard.{Heard, ignored, closes, password, meets, tells, heard}
 use Rattle.irc_deeds.specs.LinkServed.{after_heard, line_served, link_opened, met_by, on_link, opening_parts, owes}
 use Rattle.irc_server.specs.Served.{of_client, link_up, link_says, link_down, served, IsSetAlike, ServedKeepsItsSetting}
@@ -133,7 +133,10 @@ deed_keeps arrival (loses server name text) s =
     through s.view left.view (forgotten name left).view (all_keep (effects_of s.view.room (loses server name text)) s)
     (record { peers = refl; name = refl; info = refl; created = refl })
 deed_keeps arrival (kills server nick) s = taken_keeps nick collision_text s
-deed_keeps arrival (brings server channel members) s = all_keep (effects_of s.view.room (brings server channel members)) s
+deed_keeps arrival (brings server channel members) s =
+    let effects = effects_of s.view.room (brings server channel members) in
+    let spelled = titled_view channel s in
+    through s.view spelled.view (all_changed effects spelled).view (record { peers = refl; name = refl; info = refl; created = refl }) (all_keep effects spelled)
 deed_keeps arrival (sets server channel changes) s = all_keep (effects_of s.view.room (sets server channel changes)) s
 deed_keeps arrival (tops server channel topic) s = all_keep (effects_of s.view.room (tops server channel topic)) s
 

@@ -27,7 +27,7 @@ use Rattle.irc_stage.specs.EffectTold.{Served, all_changed, changed, changed_if,
 use Rattle.irc_stage.specs.Linked.{told_on_all}
 use Rattle.irc_stage.specs.Lemmas.Counting.{get-kept}
 use Rattle.irc_stage.specs.Lemmas.Numbers.{get-each}
-use Rattle.irc_deeds.specs.DeedTold.{deed_told, deeds_told, forgotten}
+use Rattle.irc_deeds.specs.DeedTold.{deed_told, deeds_told, forgotten, titled_view}
 use Rattle.irc_server_laws.specs.Own.{is_its_own}
 use Rattle.irc_server_laws.proofs.AllOf.{all-append, all-filter, all-flat, all-gained, all-map, all-picked, all_entries, all_found, all_keys}
 use Rattle.irc_server_laws.proofs.MetEnds.{left_met, there}
@@ -202,6 +202,9 @@ module _ (start : View) where
     out = own.out;
   }
 
+  titled_own : (channel : List ℕ) → StaysOwn (titled_view channel)
+  titled_own channel s own = record { clients = own.clients; ends = own.ends; met = own.met; out = own.out }
+
   pub deed_own : (arrival : Option ℕ) (deed : Deed) → StaysOwn (deed_told arrival deed)
   unfolding deed_told
   deed_own arrival (does effect) s own = came_own arrival effect s own
@@ -214,7 +217,9 @@ module _ (start : View) where
       all_own arrival (deed_parts s.view.room s.view.routes (kills server nick)) (taken_out nick collision_text s) (taken_out_own nick collision_text s own)
   deed_own arrival (brings server channel members) s own =
       let effects = effects_of s.view.room (brings server channel members) in
-      all_own arrival (deed_parts s.view.room s.view.routes (brings server channel members)) (all_changed effects s) (all_changed_own effects s own)
+      let spelled = titled_view channel s in
+      all_own arrival (deed_parts s.view.room s.view.routes (brings server channel members)) (all_changed effects spelled)
+      (all_changed_own effects spelled (titled_own channel s own))
   deed_own arrival (sets server channel changes) s own =
       let effects = effects_of s.view.room (sets server channel changes) in
       all_own arrival (deed_parts s.view.room s.view.routes (sets server channel changes)) (all_changed effects s) (all_changed_own effects s own)

@@ -32,7 +32,7 @@ use Rattle.irc_stage.specs.Handle.{Happening, connects, says, goes, client_after
 use Rattle.irc_stage.specs.EffectTold.{Served, all_changed, changed, changed_if, counts, effect_came, effect_told, ends_of, in_silence, is_elsewhere, on_links, quit_by, shown_at, taken_out, ways_at, with_sent}
 use Rattle.irc_stage.specs.Linked.{is_taken, told_on_all, with_row}
 use Rattle.irc_stage.specs.ClientTold.{client_told, closed_told, message_told, quit_told, seated, step_told, steps_told, unseated, user_told}
-use Rattle.irc_deeds.specs.DeedTold.{all_told, arrival_of, deed_told, deeds_told, forgotten, gain_told, link_lost, lost_behind, told_by}
+use Rattle.irc_deeds.specs.DeedTold.{all_told, arrival_of, deed_told, deeds_told, forgotten, gain_told, link_lost, lost_behind, titled_view, told_by}
 use Rattle.irc_deeds.specs.LinkServed.{on_link}
 use Rattle.irc_server_laws.proofs.AllOf.{all-append, all-each, all-flat, all-one, all-picked, all_entries}
 use Rattle.irc_registering.specs.Closing.{error_line}
@@ -139,7 +139,11 @@ module _ (test : Sent → Bool) (Holds : List Sent → Type 0) (keeps : IsKeptBe
   deed_stays arrival (kills server nick) s holds =
       all_stays arrival (deed_parts s.view.room s.view.routes (kills server nick)) (taken_out nick collision_text s)
       (taken_out_stays nick collision_text s holds)
-  deed_stays arrival (brings server channel members) s holds = whole_stays arrival (brings server channel members) s holds
+  deed_stays arrival (brings server channel members) s holds =
+      let deed = brings server channel members in
+      let effects = effects_of s.view.room deed in
+      let spelled = titled_view channel s in
+      all_stays arrival (deed_parts s.view.room s.view.routes deed) (all_changed effects spelled) (all_changed_stays effects spelled holds)
   deed_stays arrival (sets server channel changes) s holds = whole_stays arrival (sets server channel changes) s holds
   deed_stays arrival (tops server channel topic) s holds = whole_stays arrival (tops server channel topic) s holds
 

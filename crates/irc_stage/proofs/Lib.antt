@@ -9,3 +9,4 @@ pub mod ToldOnLinks
 pub mod LinkEnds
 pub mod EndedClients
 pub mod Serving
+pub mod Respelling

@@ -5,7 +5,7 @@ ghost use Rattle.std.specs.Option.{option_copied};
 ghost use Rattle.irc_batch.specs.Growing.{Grew};
 ghost use Rattle.irc_room.specs.Effects.{brings_free};
 ghost use Rattle.irc_stage.specs.EffectTold.{counts, is_of_here};
-ghost use Rattle.irc_stage.specs.Linked.{unlinked, with_far, with_password, without_row};
+ghost use Rattle.irc_stage.specs.Linked.{unlinked, with_far, with_password, with_title, without_row};
 ghost use Rattle.irc_stage.specs.Matched.{is_user_here};
 ghost use Rattle.irc_stage.specs.View.{with_end};
 ghost use Rattle.irc_stage.specs.Loops.Linking.{takes_newcomer, IsKnownIf, IsMetAt, IsToldToAll};
@@ -19,7 +19,7 @@ use irc_channels::Words;
 use irc_handshake::Password;
 use irc_line::Text;
 use irc_links::LinkEnd;
-use irc_names::{Nick, ServerName};
+use irc_names::{ChannelName, Nick, ServerName};
 use irc_registering::closing;
 use irc_room::{Effect, Room};
 use irc_routes::{Info, RoutesFault};
@@ -142,6 +142,19 @@ impl Stage {
     {
         self.ways.forget();
         self.routes.remove(name.as_bytes());
+    }
+
+    /// A channel that another side has too takes that side's spelling, where it is the greater by bytes. Nobody is shown it, and who listens there is to
+    /// be found anew. A channel that is not there stays so: its first member makes it.
+    pub fn respell(&mut self, channel: &ChannelName)
+        requires serving { IsServing self.old }
+        ensures ok { view_of self.new ≡ with_title channel.now (view_of self.old) }
+        ensures serving { IsServing self.new }
+        ensures keeps { Keeps self.old self.new }
+    {
+        self.listeners.clear();
+        self.ways.forget();
+        let _ = self.room.respell(channel);
     }
 
     /// A line on every link that counts, but for the one by which it came.

@@ -17,7 +17,7 @@ use Rattle.irc_stage.specs.Linked.{is_taken, told_on_all, unlinked, with_row}
 use Rattle.irc_stage.specs.View.{View}
 use Rattle.irc_stage.specs.Lemmas.Steps.{LeavesInFront, changed_behind, nothing_behind, sent_behind, told_behind}
 use Rattle.irc_stage.specs.Loops.Stage.{behind_sent}
-use Rattle.irc_deeds.specs.DeedTold.{all_told, arrival_of, deed_told, deeds_told, forgotten, gain_told, link_lost, lost_behind, told_by}
+use Rattle.irc_deeds.specs.DeedTold.{all_told, arrival_of, deed_told, deeds_told, forgotten, gain_told, link_lost, lost_behind, titled_view, told_by}
 use Rattle.irc_registering.specs.Closing.{error_line}
 
 -- ---- effects
@@ -80,7 +80,8 @@ deed_behind arrival (kills server nick) out s =
     let parts = deed_parts s.view.room s.view.routes (kills server nick) in
     ap (told_on_all arrival parts) (taken_out_behind nick collision_text out s) ∙ on_all_behind arrival parts out (taken_out nick collision_text s)
 deed_behind arrival (brings server channel members) out s =
-    effects_behind arrival (deed_parts s.view.room s.view.routes (brings server channel members)) (effects_of s.view.room (brings server channel members)) out s
+    effects_behind arrival (deed_parts s.view.room s.view.routes (brings server channel members)) (effects_of s.view.room (brings server channel members)) out
+    (titled_view channel s)
 deed_behind arrival (sets server channel changes) out s =
     effects_behind arrival (deed_parts s.view.room s.view.routes (sets server channel changes)) (effects_of s.view.room (sets server channel changes)) out s
 deed_behind arrival (tops server channel topic) out s =

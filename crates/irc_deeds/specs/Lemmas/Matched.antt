@@ -11,6 +11,7 @@ use Rattle.irc_batch.specs.Batches.{end_of_link}
 use Rattle.irc_batch.specs.declared.close_reason.CloseReason.TheVariants as reason
 use Rattle.irc_room.specs.effect.Effect.{Effect}
 use Rattle.irc_room.specs.Room.{IsWellFormed}
+use Rattle.irc_room.specs.Lemmas.RespelledRooms.{respelled_is_well_formed}
 use Rattle.irc_routes.specs.Known.{added, place_of, without_link, without_server}
 use Rattle.irc_routes.specs.Place.{Place}
 use Rattle.irc_merge.specs.Deeds.{Deed, does, gains, loses, kills, brings, sets, tops, effects_of}
@@ -22,7 +23,7 @@ use Rattle.irc_stage.specs.Matched.{IsMatched}
 use Rattle.irc_stage.specs.EffectTold.{Served, all_changed, changed_if, in_silence, taken_out, with_sent}
 use Rattle.irc_stage.specs.Linked.{is_taken, unlinked, with_far, with_password, with_row}
 use Rattle.irc_stage.specs.Lemmas.Counting.{Holds, came_stays, changed_if_stays, taken_out_stays}
-use Rattle.irc_deeds.specs.DeedTold.{all_told, arrival_of, deed_told, deeds_told, forgotten, gain_told, link_lost, lost_behind, told_by}
+use Rattle.irc_deeds.specs.DeedTold.{all_told, arrival_of, deed_told, deeds_told, forgotten, gain_told, link_lost, lost_behind, titled_view, told_by}
 use Rattle.irc_deeds.specs.Heard.{Heard, ignored, closes, password, meets, tells, heard}
 use Rattle.irc_deeds.specs.LinkServed.{after_heard, line_served, link_opened, met_by, on_link, opening_parts, owes}
 
@@ -52,6 +53,18 @@ forgotten_stays name s holds = record {
   well = holds.well;
 }
 
+-- how a channel is spelled does not matter
+titled_stays : (channel : List ℕ) → StaysSo (titled_view channel)
+titled_stays channel s holds = record {
+  matched = record {
+    registered_is_user = holds.matched.registered_is_user;
+    user_has_one = holds.matched.user_has_one;
+    spelled = holds.matched.spelled;
+    user_has_client = holds.matched.user_has_client;
+  };
+  well = respelled_is_well_formed channel s.view.room holds.well;
+}
+
 -- lines on links change nothing of it
 same_view : (s t : Served) → s.view ≡ t.view → Holds s → Holds t
 same_view s t is holds = record {
@@ -71,7 +84,9 @@ deed_stays arrival (kills server nick) s holds =
     same_view (taken_out nick collision_text s) (deed_told arrival (kills server nick) s) refl (taken_out_stays nick collision_text s holds)
 deed_stays arrival (brings server channel members) s holds =
     let effects = effects_of s.view.room (brings server channel members) in
-    same_view (all_changed effects s) (deed_told arrival (brings server channel members) s) refl (all_changed_stays effects s holds)
+    let spelled = titled_view channel s in
+    same_view (all_changed effects spelled) (deed_told arrival (brings server channel members) s) refl
+    (all_changed_stays effects spelled (titled_stays channel s holds))
 deed_stays arrival (sets server channel changes) s holds =
     let effects = effects_of s.view.room (sets server channel changes) in
     same_view (all_changed effects s) (deed_told arrival (sets server channel changes) s) refl (all_changed_stays effects s holds)

@@ -8,7 +8,7 @@ use Rattle.irc_merge.specs.Quits.{collision_text}
 use Rattle.irc_burst.specs.DeedsMeant.{Told, a_deed, a_server}
 use Rattle.irc_stage.specs.EffectTold.{Served, all_changed, changed, changed_if, counts, effect_came, effect_told, quit_by}
 use Rattle.irc_stage.specs.Linked.{is_taken, with_row}
-use Rattle.irc_deeds.specs.DeedTold.{all_told, arrival_of, deed_told, deeds_told, gain_told, told_by}
+use Rattle.irc_deeds.specs.DeedTold.{all_told, arrival_of, deed_told, deeds_told, gain_told, titled_view, told_by}
 
 -- the ends of the links stay
 abbrev pub KeepsEnds : (Served → Served) → Type 0
@@ -45,7 +45,7 @@ deed_keeps_ends arrival (does effect) s = came_keeps arrival effect s
 deed_keeps_ends arrival (gains uplink name info) s = refl
 deed_keeps_ends arrival (loses server name text) s = all_keep (effects_of s.view.room (loses server name text)) s
 deed_keeps_ends arrival (kills server nick) s = quit_keeps nick collision_text s
-deed_keeps_ends arrival (brings server channel members) s = all_keep (effects_of s.view.room (brings server channel members)) s
+deed_keeps_ends arrival (brings server channel members) s = all_keep (effects_of s.view.room (brings server channel members)) (titled_view channel s)
 deed_keeps_ends arrival (sets server channel changes) s = all_keep (effects_of s.view.room (sets server channel changes)) s
 deed_keeps_ends arrival (tops server channel topic) s = all_keep (effects_of s.view.room (tops server channel topic)) s
 

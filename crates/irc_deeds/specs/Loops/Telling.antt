@@ -4,7 +4,7 @@ use Rattle.irc_batch.specs.Batches.{Batch}
 use Rattle.irc_burst.specs.DeedsMeant.{Told, a_deed, a_server}
 use Rattle.irc_burst.specs.declared.acts.NewMember.{NewMember}
 use Rattle.irc_burst.specs.Loops.Acts.{member_told, members_told}
-use Rattle.irc_merge.specs.Deeds.{Deed, brings, flag_given, kills, loses, member_comes, sets, tops}
+use Rattle.irc_merge.specs.Deeds.{Deed, brings, effects_of, flag_given, kills, loses, member_comes, sets, tops}
 use Rattle.irc_modes.specs.declared.modes.ModeLetter.{ModeLetter}
 use Rattle.irc_room.specs.effect.By.TheVariants as by
 use Rattle.irc_room.specs.effect.Effect.{Effect}
@@ -12,7 +12,7 @@ use Rattle.irc_room.specs.effect.Effect.TheVariants.{ChangeModes, Quit}
 use Rattle.irc_stage.specs.declared.linked.Newcomer.{Newcomer}
 use Rattle.irc_stage.specs.declared.stage.Stage.{Stage}
 use Rattle.irc_stage.specs.EffectTold.{all_changed}
-use Rattle.irc_stage.specs.Loops.Stage.{served_at}
+use Rattle.irc_stage.specs.Loops.Stage.{served_at, view_of}
 use Rattle.irc_deeds.specs.declared.members.Arrivals.{Arrivals}
 use Rattle.irc_deeds.specs.declared.members.Gift.{Gift}
 use Rattle.irc_deeds.specs.declared.telling.Loss.{Loss}
@@ -32,6 +32,10 @@ sets_of setting = sets setting.server.now setting.channel.now setting.changes.no
 
 abbrev pub tops_of : Topic → Deed
 tops_of topic = tops topic.server.now topic.channel.now topic.text.now
+
+-- the effects of a topic that a server sets
+abbrev pub topped_by : Topic → Stage → List Effect
+topped_by topic stage = effects_of (view_of stage).room (tops_of topic)
 
 -- what gives a member a flag
 abbrev pub flag_of : ModeLetter → List ℕ → List ℕ → Effect

@@ -1,9 +1,9 @@
 use Rattle.std.proofs.Common.{Some, ◌∙◌, ap}
 use Rattle.irc_line.specs.Messages.{text}
 use Rattle.irc_burst_lines.specs.DeedLines.{mode_parts}
-use Rattle.irc_room.specs.effect.By.TheVariants as by
-use Rattle.irc_room.specs.effect.Effect.TheVariants.{ChangeModes}
-use Rattle.irc_stage.specs.EffectTold.{changed_if}
+use Rattle.irc_merge.specs.Deeds.{changes_made, raised_in}
+use Rattle.irc_room.specs.Room.{Room}
+use Rattle.irc_stage.specs.EffectTold.{all_changed}
 use Rattle.irc_stage.specs.Lemmas.Outcomes.{on_ok}
 use Rattle.irc_stage.specs.Loops.Stage.{served_at}
 use Rattle.irc_deeds.proofs.DeedsDone.{sets_done}
@@ -14,9 +14,11 @@ returns-clause-ok c =
     let setting = c.args.setting in
     let old = served_at c.args.stage.now c.args.out.now.outs in
     on_ok c.tell_all.result _ _
-    (λ told. sets_done (Some c.args.link) setting.server.now setting.channel.now setting.changes.now _ old (served_at c.take.new.self c.take.new.out.outs) _
-    (c.in_ok-take.ensures.ok
-    ∙ ap (λ channel. changed_if (ChangeModes by.Home channel c.in_ok-copied.field-0) old) c.copy.ensures
-    ∙ ap (λ changes. changed_if (ChangeModes by.Home setting.channel.now changes) old) (c.in_ok-copied.ensures ∙ c.as_slice-changes.ensures))
+    (λ told. sets_done (Some c.args.link) setting.server.now setting.channel.now setting.changes.now _ old (served_at c.make.new.stage c.make.new.out.outs) _
+    (c.in_ok-make.ensures.ok
+    ∙ ap (λ changes. all_changed (changes_made setting.channel.now changes) old) c.in_ok-raised.ensures
+    ∙ ap (λ (room : Room). all_changed (changes_made setting.channel.now (raised_in room setting.channel.now c.as_slice-changes.result.now)) old)
+    c.room.ensures
+    ∙ ap (λ changes. all_changed (changes_made setting.channel.now (raised_in old.view.room setting.channel.now changes)) old) c.as_slice-changes.ensures)
     (c.mode_text-line.ensures ∙ ap (λ changes. text (mode_parts setting.server.now setting.channel.now changes)) c.as_slice-changes.ensures) told)
     c.tell_all.ensures.ok

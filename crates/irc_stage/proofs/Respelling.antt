@@ -1,0 +1,64 @@
+-- A server whose channel is spelled in the greater of two ways.
+use Rattle.std.specs.Prelude.{OnOk, OnErr}
+use Rattle.std.proofs.Common.{◌≡◌, ℕ, Bool, false, Option, Some, None, Result, Ok, Err, List, refl, sym, ◌∙◌, ap, subst, is_some, option_map, if◌then◌else◌}
+use Rattle.std.specs.Result.{result_err}
+use Rattle.irc_names.specs.Fold.{key}
+use Rattle.irc_names.specs.Tables.{Table, row}
+use Rattle.irc_channels.specs.declared.channel.Channel.{Channel}
+use Rattle.irc_channels.specs.Channels.{respelled}
+use Rattle.irc_room.specs.fault.RoomFault.{RoomFault}
+use Rattle.irc_room.specs.fault.RoomFault.TheVariants.{Failed, NoSuchChannel}
+use Rattle.irc_room.specs.After.{titled_by}
+use Rattle.irc_room.specs.Applying.{Kept, respelling_fault}
+use Rattle.irc_room.specs.Effects.{has_channel}
+use Rattle.irc_room.specs.Lemmas.RespelledRooms.{respelled_is_well_formed}
+use Rattle.irc_room.specs.Lemmas.Rows.{alter_same, not_none}
+use Rattle.irc_links.specs.Loops.Branching.{KnowsNothing}
+use Rattle.irc_links.specs.declared.ways.Ways.{Ways}
+use Rattle.irc_stage.specs.declared.listeners.Listeners.{Listeners}
+use Rattle.irc_stage.specs.declared.stage.Stage.{Stage}
+use Rattle.irc_stage.specs.Loops.Stage.{IsServing}
+
+-- a channel that is not there has no other spelling
+none_respelled : (name : List ℕ) (found : Option Channel) (fault : RoomFault)
+    → (if is_some found then None else Some NoSuchChannel) ≡ Some fault → option_map (respelled name) found ≡ found
+none_respelled name None fault is = refl
+none_respelled name (Some channel) fault is = not_none fault is
+
+-- whichever way the room answers, it has the greater spelling
+pub room_respelled : {U : Type 0} (result : Result U RoomFault) (kept now : Kept) (name : List ℕ) → kept.failed ≡ false
+    → result_err result ≡ respelling_fault kept name → OnOk result (now ≡ record kept { room = titled_by name kept.room })
+    → OnErr result (now ≡ kept) → now ≡ record kept { room = titled_by name kept.room }
+room_respelled (Ok done) kept now name serves fault ok refused = ok
+room_respelled (Err why) kept now name serves fault ok refused =
+    refused
+    ∙ ap (λ (channels : Table Channel). record kept { room = record kept.room { channels = channels } })
+    (sym (alter_same (key name) (option_map (respelled name)) kept.room.channels
+    (none_respelled name (row kept.room.channels (key name)) why
+    (sym (fault ∙ ap (λ b. if b then Some Failed else (if has_channel kept.room name then None else Some NoSuchChannel)) serves)))))
+
+-- a server that serves goes on to: nobody is known to listen, and no way is known
+pub serves_respelled : (stage : Stage) → IsServing stage → (name : List ℕ) (now : Kept) (listeners : Listeners) (ways : Ways)
+    → now ≡ record stage.room { room = titled_by name stage.room.room } → listeners.channel ≡ None → KnowsNothing ways
+    → IsServing (record stage { room = now; listeners = listeners; ways = ways })
+serves_respelled stage serving name now listeners ways is heard known =
+    subst (λ (kept : Kept). IsServing (record stage { room = kept; listeners = listeners; ways = ways })) (sym is)
+    (record {
+      ready = record {
+        own_is = serving.ready.own_is;
+        sound = record {
+          serves = serving.ready.sound.serves;
+          well_formed = respelled_is_well_formed name stage.room.room serving.ready.sound.well_formed;
+        };
+        indexed = serving.ready.indexed;
+        heard = λ channel one. cc (sym heard ∙ one);
+        branches = λ channel one. cc (sym known ∙ one);
+        met = serving.ready.met;
+      };
+      matched = record {
+        registered_is_user = serving.matched.registered_is_user;
+        user_has_one = serving.matched.user_has_one;
+        spelled = serving.matched.spelled;
+        user_has_client = serving.matched.user_has_client;
+      };
+    })
