@@ -15,8 +15,8 @@ use std::test::Fail;
 /// A line by the link to b.net, and what a.net reads of it.
 type Row = (&'static [u8], &'static [u8]);
 
-/// bo is a user of b.net, who is in #o, al one of a.net, who is in #d.
-static ROWS: [Row; 43] = [
+/// bo is a user of b.net, who is in #o, al one of a.net, who is in #d; both are in #m.
+static ROWS: [Row; 47] = [
     (b":b.net SERVER c.net 2 2 :C", b" server b.net c.net 2 2 C"),
     (b":b.net SERVER c.net 3 2 :C", b" parameters"),
     (b":b.net SERVER c.net 2 2 C x", b" parameters"),
@@ -66,8 +66,12 @@ static ROWS: [Row; 43] = [
     (b":bo NICK al", b" kill a.net al kill a.net bo"),
     (b":b.net TOPIC #d :x", b""),
     (b":b.net TOPIC #o :hello", b" topic b.net #o hello"),
+    (b":b.net TOPIC #M :hello", b" topic b.net #M hello"),
+    (b":b.net TOPIC #none :x", b""),
     (b":b.net MODE #d +ntl 5", b""),
     (b":b.net MODE #o +ntl 5", b" modes b.net #o n t l 5"),
+    (b":b.net MODE #M +ntl 5", b" modes b.net #M n t l 5"),
+    (b":b.net MODE #none +n", b""),
     (b":b.net FOO #d", b" unknown"),
 ];
 
@@ -292,6 +296,8 @@ fn lines_of_servers_are_read(rt: HostRuntime) -> Result<(), Fail> {
     come(&rt, alloc, &mut room, b"bo", b"b.net", b"Bo");
     join(&rt, alloc, &mut room, b"al", true, b"#d");
     join(&rt, alloc, &mut room, b"bo", true, b"#o");
+    join(&rt, alloc, &mut room, b"al", true, b"#m");
+    join(&rt, alloc, &mut room, b"bo", true, b"#m");
     assert!(rt; rows_hold(alloc, &room, &routes, &ROWS));
     assert!(rt; rows_hold(alloc, &room, &routes, &WORDS));
     assert!(rt; filled_rows_hold(alloc, &room, &routes, &FILLED));

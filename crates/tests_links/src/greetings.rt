@@ -186,7 +186,7 @@ static OF_ONE_CLIENT: [Row; 5] = [
             Out::Line(1, b":a.net 255 al :I have 1 clients and 1 servers"),
         ],
     ),
-    // What a burst brings is shown, member by member; modes and a topic of the other side do not count where al is a member.
+    // What a burst brings is shown: member by member, then the modes that raise something, then a topic that is greater.
     (
         &[
             Step::Calls(7, b"b.net"),
@@ -209,6 +209,8 @@ static OF_ONE_CLIENT: [Row; 5] = [
             Out::Line(1, b":a.net MODE #c +o bo"),
             Out::Line(1, b":a.net MODE #c +v bo"),
             Out::Line(1, b":cy!u@h JOIN #c"),
+            Out::Line(1, b":a.net MODE #c +s"),
+            Out::Line(1, b":a.net TOPIC #c :other"),
         ],
     ),
     // A closed link is no link: nobody is told.
@@ -275,6 +277,8 @@ static OF_TWO_SERVERS: [Row; 4] = [
             Out::LinkLine(7, b":d.net NJOIN #d :@dee"),
             Out::LinkLine(7, b":d.net MODE #d +ntk pw"),
             Out::LinkLine(7, b":d.net TOPIC #d :hello"),
+            Out::LinkLine(7, b":d.net MODE #c +s"),
+            Out::LinkLine(7, b":d.net TOPIC #c :hello"),
         ],
     ),
     // An NJOIN of which nobody is left is not passed on.

@@ -10,6 +10,8 @@ mod greetings;
 #[cfg(test)]
 mod happening;
 #[cfg(test)]
+mod joining;
+#[cfg(test)]
 mod losses;
 #[cfg(test)]
 mod ways;

@@ -1,0 +1,516 @@
+//! Channels that two sides have when they are linked: spellings, modes and topics are joined (our own choice).
+use crate::happening::{Row, Step, rows_hold};
+use irc_batch::Out;
+
+/// al, client 1, has made #key, #private, #limit, #ban and #Spelled. c.net is linked by 8, with cy, b.net by 7, with bo: no line of its channels
+/// has come.
+static OUR_SIDE: [Step; 22] = [
+    Step::Connects(1),
+    Step::Says(1, b"NICK al"),
+    Step::Says(1, b"USER u 0 * :Al"),
+    Step::Says(1, b"JOIN #key"),
+    Step::Says(1, b"MODE #key +sk aa"),
+    Step::Says(1, b"TOPIC #key :x"),
+    Step::Says(1, b"JOIN #private"),
+    Step::Says(1, b"MODE #private +p"),
+    Step::Says(1, b"JOIN #limit"),
+    Step::Says(1, b"MODE #limit +imntsk aa"),
+    Step::Says(1, b"MODE #limit +l 5"),
+    Step::Says(1, b"JOIN #ban"),
+    Step::Says(1, b"MODE #ban +bbb A!*@* b!*@* x!*@*"),
+    Step::Says(1, b"JOIN #Spelled"),
+    Step::IsCalled(8),
+    Step::Hears(8, b"PASS pq 0210010001 TREE|"),
+    Step::Hears(8, b"SERVER c.net 1 1 :C"),
+    Step::IsCalled(7),
+    Step::Hears(7, b"PASS pw 0210010001 TREE|"),
+    Step::Hears(7, b"SERVER b.net 1 1 :B"),
+    Step::Hears(7, b"NICK bo 1 u h 1 + :Bo"),
+    Step::Hears(8, b"NICK cy 1 u h 1 + :Cy"),
+];
+
+/// What b.net tells of the channels, each with modes of its own.
+static THEIRS: [Row; 6] = [
+    // The greater key takes the place of the lesser one; what is set here alone is shown to nobody here.
+    (
+        &[
+            Step::Hears(7, b":b.net NJOIN #key :@bo"),
+            Step::Hears(7, b":b.net MODE #key +nk bb"),
+            Step::Says(1, b"MODE #key"),
+            Step::Says(1, b"TOPIC #key"),
+        ],
+        &[
+            Out::Line(1, b":bo!u@h JOIN #key"),
+            Out::Line(1, b":a.net MODE #key +o bo"),
+            Out::LinkLine(8, b":b.net NJOIN #key :@bo"),
+            Out::Line(1, b":a.net MODE #key +nk bb"),
+            Out::LinkLine(8, b":b.net MODE #key +nk bb"),
+            Out::Line(1, b":a.net 324 al #key +nsk bb"),
+            Out::Line(1, b":a.net 332 al #key :x"),
+        ],
+    ),
+    // Secret is more than private.
+    (
+        &[
+            Step::Hears(7, b":b.net NJOIN #private :bo"),
+            Step::Hears(7, b":b.net MODE #private +s"),
+            Step::Says(1, b"MODE #private"),
+        ],
+        &[
+            Out::Line(1, b":bo!u@h JOIN #private"),
+            Out::LinkLine(8, b":b.net NJOIN #private :bo"),
+            Out::Line(1, b":a.net MODE #private +s"),
+            Out::LinkLine(8, b":b.net MODE #private +s"),
+            Out::Line(1, b":a.net 324 al #private +s"),
+        ],
+    ),
+    // Of one line what raises something is made and shown, and the line goes on as it came.
+    (
+        &[
+            Step::Hears(7, b":b.net NJOIN #limit :bo"),
+            Step::Hears(7, b":b.net MODE #limit +inptl 50"),
+            Step::Says(1, b"MODE #limit"),
+        ],
+        &[
+            Out::Line(1, b":bo!u@h JOIN #limit"),
+            Out::LinkLine(8, b":b.net NJOIN #limit :bo"),
+            Out::Line(1, b":a.net MODE #limit +l 50"),
+            Out::LinkLine(8, b":b.net MODE #limit +inptl 50"),
+            Out::Line(1, b":a.net 324 al #limit +imnstkl aa 50"),
+        ],
+    ),
+    // Of two spellings of a ban the greater stays.
+    (
+        &[
+            Step::Hears(7, b":b.net NJOIN #ban :bo"),
+            Step::Hears(7, b":b.net MODE #ban +bbb a!*@* B!*@* y!*@*"),
+            Step::Says(1, b"MODE #ban b"),
+        ],
+        &[
+            Out::Line(1, b":bo!u@h JOIN #ban"),
+            Out::LinkLine(8, b":b.net NJOIN #ban :bo"),
+            Out::Line(1, b":a.net MODE #ban +bb a!*@* y!*@*"),
+            Out::LinkLine(8, b":b.net MODE #ban +bbb a!*@* B!*@* y!*@*"),
+            Out::Line(1, b":a.net 367 al #ban a!*@*"),
+            Out::Line(1, b":a.net 367 al #ban b!*@*"),
+            Out::Line(1, b":a.net 367 al #ban x!*@*"),
+            Out::Line(1, b":a.net 367 al #ban y!*@*"),
+            Out::Line(1, b":a.net 368 al #ban :End of channel ban list"),
+        ],
+    ),
+    // Of two spellings of a channel the greater stays, from its first member on.
+    (
+        &[
+            Step::Hears(7, b":b.net NJOIN #spelled :@bo"),
+            Step::Hears(7, b":b.net MODE #spelled +m"),
+            Step::Says(1, b"MODE #SPELLED"),
+        ],
+        &[
+            Out::Line(1, b":bo!u@h JOIN #spelled"),
+            Out::Line(1, b":a.net MODE #spelled +o bo"),
+            Out::LinkLine(8, b":b.net NJOIN #spelled :@bo"),
+            Out::Line(1, b":a.net MODE #spelled +m"),
+            Out::LinkLine(8, b":b.net MODE #spelled +m"),
+            Out::Line(1, b":a.net 324 al #spelled +m"),
+        ],
+    ),
+    // Where somebody is left of the members alone.
+    (
+        &[
+            Step::Hears(7, b":b.net NJOIN #spelled :@zz,@al"),
+            Step::Hears(7, b":b.net MODE #spelled +m"),
+            Step::Hears(7, b":b.net TOPIC #spelled :x"),
+            Step::Says(1, b"MODE #spelled"),
+        ],
+        &[Out::Line(1, b":a.net 324 al #Spelled +")],
+    ),
+];
+
+/// The same the other way round: al has the modes of the other side.
+static OTHER_SIDE: [Step; 22] = [
+    Step::Connects(1),
+    Step::Says(1, b"NICK al"),
+    Step::Says(1, b"USER u 0 * :Al"),
+    Step::Says(1, b"JOIN #key"),
+    Step::Says(1, b"MODE #key +nk bb"),
+    Step::Says(1, b"JOIN #private"),
+    Step::Says(1, b"MODE #private +s"),
+    Step::Says(1, b"JOIN #limit"),
+    Step::Says(1, b"MODE #limit +intp"),
+    Step::Says(1, b"MODE #limit +l 50"),
+    Step::Says(1, b"JOIN #ban"),
+    Step::Says(1, b"MODE #ban +bbb a!*@* B!*@* y!*@*"),
+    Step::Says(1, b"JOIN #spelled"),
+    Step::Says(1, b"MODE #spelled +m"),
+    Step::IsCalled(8),
+    Step::Hears(8, b"PASS pq 0210010001 TREE|"),
+    Step::Hears(8, b"SERVER c.net 1 1 :C"),
+    Step::IsCalled(7),
+    Step::Hears(7, b"PASS pw 0210010001 TREE|"),
+    Step::Hears(7, b"SERVER b.net 1 1 :B"),
+    Step::Hears(7, b"NICK bo 1 u h 1 + :Bo"),
+    Step::Hears(8, b"NICK cy 1 u h 1 + :Cy"),
+];
+
+static OURS: [Row; 5] = [
+    (
+        &[
+            Step::Hears(7, b":b.net NJOIN #key :bo"),
+            Step::Hears(7, b":b.net MODE #key +sk aa"),
+            Step::Hears(7, b":b.net TOPIC #key :x"),
+            Step::Says(1, b"MODE #key"),
+            Step::Says(1, b"TOPIC #key"),
+        ],
+        &[
+            Out::Line(1, b":bo!u@h JOIN #key"),
+            Out::LinkLine(8, b":b.net NJOIN #key :bo"),
+            Out::Line(1, b":a.net MODE #key +s"),
+            Out::LinkLine(8, b":b.net MODE #key +sk aa"),
+            Out::Line(1, b":a.net TOPIC #key :x"),
+            Out::LinkLine(8, b":b.net TOPIC #key :x"),
+            Out::Line(1, b":a.net 324 al #key +nsk bb"),
+            Out::Line(1, b":a.net 332 al #key :x"),
+        ],
+    ),
+    // A line that raises nothing is shown to nobody, and goes on.
+    (
+        &[
+            Step::Hears(7, b":b.net NJOIN #private :bo"),
+            Step::Hears(7, b":b.net MODE #private +p"),
+            Step::Says(1, b"MODE #private"),
+        ],
+        &[
+            Out::Line(1, b":bo!u@h JOIN #private"),
+            Out::LinkLine(8, b":b.net NJOIN #private :bo"),
+            Out::LinkLine(8, b":b.net MODE #private +p"),
+            Out::Line(1, b":a.net 324 al #private +s"),
+        ],
+    ),
+    (
+        &[
+            Step::Hears(7, b":b.net NJOIN #limit :bo"),
+            Step::Hears(7, b":b.net MODE #limit +imnstkl aa 5"),
+            Step::Says(1, b"MODE #limit"),
+        ],
+        &[
+            Out::Line(1, b":bo!u@h JOIN #limit"),
+            Out::LinkLine(8, b":b.net NJOIN #limit :bo"),
+            Out::Line(1, b":a.net MODE #limit +msk aa"),
+            Out::LinkLine(8, b":b.net MODE #limit +imnstkl aa 5"),
+            Out::Line(1, b":a.net 324 al #limit +imnstkl aa 50"),
+        ],
+    ),
+    (
+        &[
+            Step::Hears(7, b":b.net NJOIN #ban :bo"),
+            Step::Hears(7, b":b.net MODE #ban +bbb A!*@* b!*@* x!*@*"),
+            Step::Says(1, b"MODE #ban b"),
+        ],
+        &[
+            Out::Line(1, b":bo!u@h JOIN #ban"),
+            Out::LinkLine(8, b":b.net NJOIN #ban :bo"),
+            Out::Line(1, b":a.net MODE #ban +bb b!*@* x!*@*"),
+            Out::LinkLine(8, b":b.net MODE #ban +bbb A!*@* b!*@* x!*@*"),
+            Out::Line(1, b":a.net 367 al #ban a!*@*"),
+            Out::Line(1, b":a.net 367 al #ban b!*@*"),
+            Out::Line(1, b":a.net 367 al #ban x!*@*"),
+            Out::Line(1, b":a.net 367 al #ban y!*@*"),
+            Out::Line(1, b":a.net 368 al #ban :End of channel ban list"),
+        ],
+    ),
+    (
+        &[
+            Step::Hears(7, b":b.net NJOIN #Spelled :bo"),
+            Step::Says(1, b"MODE #Spelled"),
+        ],
+        &[
+            Out::Line(1, b":bo!u@h JOIN #spelled"),
+            Out::LinkLine(8, b":b.net NJOIN #Spelled :bo"),
+            Out::Line(1, b":a.net 324 al #spelled +m"),
+        ],
+    ),
+];
+
+/// Lines of servers in channels of al's, bo of b.net in some of them.
+static LATER: [Row; 6] = [
+    // A topic that is not greater is shown to nobody, and goes on.
+    (
+        &[
+            Step::Hears(7, b":b.net NJOIN #key :bo"),
+            Step::Hears(7, b":b.net TOPIC #key :w"),
+            Step::Hears(7, b":b.net TOPIC #key :x"),
+            Step::Hears(7, b":b.net TOPIC #key :"),
+            Step::Hears(7, b":b.net TOPIC #key :y"),
+        ],
+        &[
+            Out::Line(1, b":bo!u@h JOIN #key"),
+            Out::LinkLine(8, b":b.net NJOIN #key :bo"),
+            Out::LinkLine(8, b":b.net TOPIC #key :w"),
+            Out::LinkLine(8, b":b.net TOPIC #key :x"),
+            Out::LinkLine(8, b":b.net TOPIC #key :"),
+            Out::Line(1, b":a.net TOPIC #key :y"),
+            Out::LinkLine(8, b":b.net TOPIC #key :y"),
+        ],
+    ),
+    // What is taken away is, and a member is given what it is given.
+    (
+        &[
+            Step::Hears(7, b":b.net NJOIN #limit :bo"),
+            Step::Hears(7, b":b.net MODE #limit -m+o bo"),
+            Step::Hears(7, b":b.net MODE #limit +no bo"),
+            Step::Says(1, b"MODE #limit"),
+        ],
+        &[
+            Out::Line(1, b":bo!u@h JOIN #limit"),
+            Out::LinkLine(8, b":b.net NJOIN #limit :bo"),
+            Out::Line(1, b":a.net MODE #limit -m+o bo"),
+            Out::LinkLine(8, b":b.net MODE #limit -m+o bo"),
+            Out::Line(1, b":a.net MODE #limit +o bo"),
+            Out::LinkLine(8, b":b.net MODE #limit +no bo"),
+            Out::Line(1, b":a.net 324 al #limit +instkl aa 5"),
+        ],
+    ),
+    // Changes are judged one after another.
+    (
+        &[
+            Step::Hears(7, b":b.net NJOIN #key :bo"),
+            Step::Hears(7, b":b.net MODE #key +kk bb ab"),
+        ],
+        &[
+            Out::Line(1, b":bo!u@h JOIN #key"),
+            Out::LinkLine(8, b":b.net NJOIN #key :bo"),
+            Out::Line(1, b":a.net MODE #key +k bb"),
+            Out::LinkLine(8, b":b.net MODE #key +kk bb ab"),
+        ],
+    ),
+    // A channel that nobody behind the link is in, and one that is not there.
+    (
+        &[
+            Step::Hears(7, b":b.net NJOIN #key :bo"),
+            Step::Hears(8, b":c.net MODE #key +n"),
+            Step::Hears(8, b":c.net TOPIC #key :y"),
+            Step::Hears(7, b":b.net MODE #limit +n"),
+            Step::Hears(7, b":b.net TOPIC #limit :y"),
+            Step::Hears(7, b":b.net MODE #none +n"),
+        ],
+        &[
+            Out::Line(1, b":bo!u@h JOIN #key"),
+            Out::LinkLine(8, b":b.net NJOIN #key :bo"),
+        ],
+    ),
+    // The only one that was in it is killed.
+    (
+        &[
+            Step::Hears(7, b":b.net NJOIN #key :bo"),
+            Step::Hears(8, b"NICK bo 1 u h 1 + :Bo"),
+            Step::Hears(7, b":b.net MODE #key +n"),
+            Step::Hears(7, b":b.net TOPIC #key :y"),
+        ],
+        &[
+            Out::Line(1, b":bo!u@h JOIN #key"),
+            Out::LinkLine(8, b":b.net NJOIN #key :bo"),
+            Out::Line(1, b":bo!u@h QUIT :Killed (Nick collision)"),
+            Out::LinkLine(7, b":a.net KILL bo :Nick collision"),
+            Out::LinkLine(8, b":a.net KILL bo :Nick collision"),
+        ],
+    ),
+    // The same burst once more raises nothing.
+    (
+        &[
+            Step::Hears(7, b":b.net NJOIN #key :bo"),
+            Step::Hears(7, b":b.net MODE #key +nsk bb"),
+            Step::Hears(7, b":b.net MODE #key +nsk bb"),
+        ],
+        &[
+            Out::Line(1, b":bo!u@h JOIN #key"),
+            Out::LinkLine(8, b":b.net NJOIN #key :bo"),
+            Out::Line(1, b":a.net MODE #key +nk bb"),
+            Out::LinkLine(8, b":b.net MODE #key +nsk bb"),
+            Out::LinkLine(8, b":b.net MODE #key +nsk bb"),
+        ],
+    ),
+];
+
+/// al, client 1, and zed, client 2, are in #ZOO. c.net is linked by 8, then b.net by 7, with ben.
+static ZED: [Step; 15] = [
+    Step::Connects(1),
+    Step::Says(1, b"NICK al"),
+    Step::Says(1, b"USER u 0 * :Al"),
+    Step::Connects(2),
+    Step::Says(2, b"NICK zed"),
+    Step::Says(2, b"USER u 0 * :Zed"),
+    Step::Says(1, b"JOIN #ZOO"),
+    Step::Says(2, b"JOIN #ZOO"),
+    Step::IsCalled(8),
+    Step::Hears(8, b"PASS pq 0210010001 TREE|"),
+    Step::Hears(8, b"SERVER c.net 1 1 :C"),
+    Step::IsCalled(7),
+    Step::Hears(7, b"PASS pw 0210010001 TREE|"),
+    Step::Hears(7, b"SERVER b.net 1 1 :B"),
+    Step::Hears(7, b"NICK ben 1 u h 1 + :Ben"),
+];
+
+/// b.net has a zed too, in #zoo.
+static ZEDS: [Row; 2] = [
+    // It was alone there: the channel has ended on its side, and nothing of it counts.
+    (
+        &[
+            Step::Hears(7, b"NICK zed 1 u h 1 + :Zed"),
+            Step::Hears(7, b":b.net NJOIN #zoo :@zed"),
+            Step::Hears(7, b":b.net MODE #zoo +i"),
+            Step::Hears(7, b":b.net TOPIC #zoo :x"),
+            Step::Says(1, b"MODE #zoo"),
+            Step::Says(1, b"TOPIC #zoo"),
+        ],
+        &[
+            Out::Line(1, b":zed!u@h QUIT :Killed (Nick collision)"),
+            Out::Line(2, b"ERROR :Closing link (Killed (Nick collision))"),
+            Out::Close(2),
+            Out::LinkLine(7, b":a.net KILL zed :Nick collision"),
+            Out::LinkLine(8, b":a.net KILL zed :Nick collision"),
+            Out::Line(1, b":a.net 324 al #ZOO +"),
+            Out::Line(1, b":a.net 331 al #ZOO :No topic is set"),
+        ],
+    ),
+    // With ben, who is left.
+    (
+        &[
+            Step::Hears(7, b"NICK zed 1 u h 1 + :Zed"),
+            Step::Hears(7, b":b.net NJOIN #zoo :@zed,ben"),
+            Step::Hears(7, b":b.net MODE #zoo +i"),
+            Step::Hears(7, b":b.net TOPIC #zoo :x"),
+            Step::Says(1, b"MODE #zoo"),
+            Step::Says(1, b"TOPIC #zoo"),
+        ],
+        &[
+            Out::Line(1, b":zed!u@h QUIT :Killed (Nick collision)"),
+            Out::Line(2, b"ERROR :Closing link (Killed (Nick collision))"),
+            Out::Close(2),
+            Out::LinkLine(7, b":a.net KILL zed :Nick collision"),
+            Out::LinkLine(8, b":a.net KILL zed :Nick collision"),
+            Out::Line(1, b":ben!u@h JOIN #zoo"),
+            Out::LinkLine(8, b":b.net NJOIN #zoo :ben"),
+            Out::Line(1, b":a.net MODE #zoo +i"),
+            Out::LinkLine(8, b":b.net MODE #zoo +i"),
+            Out::Line(1, b":a.net TOPIC #zoo :x"),
+            Out::LinkLine(8, b":b.net TOPIC #zoo :x"),
+            Out::Line(1, b":a.net 324 al #zoo +i"),
+            Out::Line(1, b":a.net 332 al #zoo :x"),
+        ],
+    ),
+];
+
+/// Three in a row: b.net with bo by 7, a.net, c.net with cy by 8. al, client 1, is in no channel.
+static MIDDLE: [Step; 11] = [
+    Step::Connects(1),
+    Step::Says(1, b"NICK al"),
+    Step::Says(1, b"USER u 0 * :Al"),
+    Step::IsCalled(7),
+    Step::Hears(7, b"PASS pw 0210010001 TREE|"),
+    Step::Hears(7, b"SERVER b.net 1 1 :B"),
+    Step::Hears(7, b"NICK bo 1 u h 1 + :Bo"),
+    Step::IsCalled(8),
+    Step::Hears(8, b"PASS pq 0210010001 TREE|"),
+    Step::Hears(8, b"SERVER c.net 1 1 :C"),
+    Step::Hears(8, b"NICK cy 1 u h 1 + :Cy"),
+];
+
+/// A server without a member joins what it hears, and passes on each line as it came.
+static PASSED_ON: [Row; 1] = [(
+    &[
+        Step::Hears(7, b":b.net NJOIN #C :@bo"),
+        Step::Hears(7, b":b.net MODE #C +mk aa"),
+        Step::Hears(7, b":b.net TOPIC #C :x"),
+        Step::Hears(8, b":c.net NJOIN #c :@cy"),
+        Step::Hears(8, b":c.net MODE #c +mnk bb"),
+        Step::Hears(8, b":c.net TOPIC #c :w"),
+        Step::Says(1, b"JOIN #c bb"),
+        Step::Says(1, b"MODE #c"),
+    ],
+    &[
+        Out::LinkLine(8, b":b.net NJOIN #C :@bo"),
+        Out::LinkLine(8, b":b.net MODE #C +mk aa"),
+        Out::LinkLine(8, b":b.net TOPIC #C :x"),
+        Out::LinkLine(7, b":c.net NJOIN #c :@cy"),
+        Out::LinkLine(7, b":c.net MODE #c +mnk bb"),
+        Out::LinkLine(7, b":c.net TOPIC #c :w"),
+        Out::Line(1, b":al!u@h JOIN #c"),
+        Out::LinkLine(7, b":al JOIN #c"),
+        Out::LinkLine(8, b":al JOIN #c"),
+        Out::Line(1, b":a.net 332 al #c :x"),
+        Out::Line(1, b":a.net 353 al = #c :al @bo @cy"),
+        Out::Line(1, b":a.net 366 al #c :End of NAMES list"),
+        Out::Line(1, b":a.net 324 al #c +mnk bb"),
+    ],
+)];
+
+/// al, client 1, has made #c, with 20 bans; b.net is linked by 7, with bo.
+static TWENTY_BANS: [Step; 15] = [
+    Step::Connects(1),
+    Step::Says(1, b"NICK al"),
+    Step::Says(1, b"USER u 0 * :Al"),
+    Step::Says(1, b"JOIN #c"),
+    Step::Says(1, b"MODE #c +bbb a00!*@* a01!*@* a02!*@*"),
+    Step::Says(1, b"MODE #c +bbb a03!*@* a04!*@* a05!*@*"),
+    Step::Says(1, b"MODE #c +bbb a06!*@* a07!*@* a08!*@*"),
+    Step::Says(1, b"MODE #c +bbb a09!*@* a10!*@* a11!*@*"),
+    Step::Says(1, b"MODE #c +bbb a12!*@* a13!*@* a14!*@*"),
+    Step::Says(1, b"MODE #c +bbb a15!*@* a16!*@* a17!*@*"),
+    Step::Says(1, b"MODE #c +bb a18!*@* a19!*@*"),
+    Step::IsCalled(7),
+    Step::Hears(7, b"PASS pw 0210010001 TREE|"),
+    Step::Hears(7, b"SERVER b.net 1 1 :B"),
+    Step::Hears(7, b"NICK bo 1 u h 1 + :Bo"),
+];
+
+/// Twenty others come, three a line: more than a client may set. One more is refused to al.
+static TWENTY_MORE: [Row; 1] = [(
+    &[
+        Step::Hears(7, b":b.net NJOIN #c :bo"),
+        Step::Hears(7, b":b.net MODE #c +bbb b00!*@* b01!*@* b02!*@*"),
+        Step::Hears(7, b":b.net MODE #c +bbb b03!*@* b04!*@* b05!*@*"),
+        Step::Hears(7, b":b.net MODE #c +bbb b06!*@* b07!*@* b08!*@*"),
+        Step::Hears(7, b":b.net MODE #c +bbb b09!*@* b10!*@* b11!*@*"),
+        Step::Hears(7, b":b.net MODE #c +bbb b12!*@* b13!*@* b14!*@*"),
+        Step::Hears(7, b":b.net MODE #c +bbb b15!*@* b16!*@* b17!*@*"),
+        Step::Hears(7, b":b.net MODE #c +bb b18!*@* b19!*@*"),
+        Step::Says(1, b"MODE #c +b c!*@*"),
+    ],
+    &[
+        Out::Line(1, b":bo!u@h JOIN #c"),
+        Out::Line(1, b":a.net MODE #c +bbb b00!*@* b01!*@* b02!*@*"),
+        Out::Line(1, b":a.net MODE #c +bbb b03!*@* b04!*@* b05!*@*"),
+        Out::Line(1, b":a.net MODE #c +bbb b06!*@* b07!*@* b08!*@*"),
+        Out::Line(1, b":a.net MODE #c +bbb b09!*@* b10!*@* b11!*@*"),
+        Out::Line(1, b":a.net MODE #c +bbb b12!*@* b13!*@* b14!*@*"),
+        Out::Line(1, b":a.net MODE #c +bbb b15!*@* b16!*@* b17!*@*"),
+        Out::Line(1, b":a.net MODE #c +bb b18!*@* b19!*@*"),
+        Out::Line(1, b":a.net 478 al #c b :Channel list is full"),
+    ],
+)];
+
+#[test]
+fn what_the_other_side_raises_is_shown(rt: HostRuntime) {
+    assert!(rt; rows_hold(rt.alloc(), &OUR_SIDE, &THEIRS));
+    assert!(rt; rows_hold(rt.alloc(), &OTHER_SIDE, &OURS));
+}
+
+#[test]
+fn a_servers_line_counts_where_somebody_is_behind_the_link(rt: HostRuntime) {
+    assert!(rt; rows_hold(rt.alloc(), &OUR_SIDE, &LATER));
+}
+
+#[test]
+fn a_channel_that_has_ended_tells_nothing(rt: HostRuntime) {
+    assert!(rt; rows_hold(rt.alloc(), &ZED, &ZEDS));
+}
+
+#[test]
+fn a_server_between_two_sides_joins_them(rt: HostRuntime) {
+    assert!(rt; rows_hold(rt.alloc(), &MIDDLE, &PASSED_ON));
+}
+
+#[test]
+fn bans_of_both_sides_may_be_more_than_thirty(rt: HostRuntime) {
+    assert!(rt; rows_hold(rt.alloc(), &TWENTY_BANS, &TWENTY_MORE));
+}
