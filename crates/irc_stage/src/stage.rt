@@ -194,7 +194,7 @@ impl Stage {
         clients::take_out(&mut self.clients, conn);
     }
 
-    /// An effect changes the room, is shown to its viewers, and is told on links: the one door by which a server's room changes and what is said in
+    /// An effect changes the room, is shown to its viewers, and is told on links: the one door for effects on a server's room, by which what is said in
     /// it goes out. On links it is told as it is written in the room before. Where no link is open, none is looked for.
     ///
     /// # Errors
