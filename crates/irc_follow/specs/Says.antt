@@ -22,7 +22,7 @@ use Rattle.irc_room.specs.Sendable.{IsSendable, IsSentChange, IsStoredNick}
 use Rattle.irc_room.specs.Effects.{doer_of}
 use Rattle.irc_merge.specs.Bursts.{members_a_line}
 use Rattle.irc_merge.specs.CanBeDone.{DoesSomething}
-use Rattle.irc_merge.specs.Deeds.{Deed, does, gains, loses, kills, brings, sets, tops, effects_of}
+use Rattle.irc_merge.specs.Deeds.{Deed, does, gains, loses, kills, brings, sets, tops, titled, effects_of}
 use Rattle.irc_relay.specs.Links.{Name, same, toward, distance, AreLinked}
 use Rattle.irc_relay.specs.Relay.{Machine, TakesFrom}
 use Rattle.irc_relay.specs.Following.{Fact, Play, Terms}
@@ -100,21 +100,32 @@ abbrev pub IsOfFar : Fixed → Part → Option Name → Type 0
 IsOfFar s w None = ⊥
 IsOfFar s w (Some home) = IsFar s w home
 
--- a channel that is there, all of whose members are of far servers
-abbrev pub AreOfFar : Fixed → Part → Option Channel → Type 0
-AreOfFar s w None = ⊥
-AreOfFar s w (Some channel) = AllByRecursion (λ fold. IsOfFar s w (home_under w.hall.room fold)) (keys channel.members)
+-- one of some users is of a far server
+abbrev pub IsOneOfFar : Fixed → Part → List (List ℕ) → Type 0
+IsOneOfFar s w [] = ⊥
+IsOneOfFar s w (fold ∷ folds) = IsOfFar s w (home_under w.hall.room fold) ⊎ IsOneOfFar s w folds
 
--- a channel that the line of a server may change: nobody is in it but users of far servers
+-- a channel that is there, one of whose members is of a far server
+abbrev pub HasOneOfFar : Fixed → Part → Option Channel → Type 0
+HasOneOfFar s w None = ⊥
+HasOneOfFar s w (Some channel) = IsOneOfFar s w (keys channel.members)
+
+-- a channel of which the line of a server counts: some user of a far server is in it
 pub record IsFarChannel (s : Fixed) (w : Part) (channel : List ℕ) : Type 0 where
   pub named : IsChannel channel
-  pub members : AreOfFar s w (row w.hall.room.channels (key channel))
+  pub some : HasOneOfFar s w (row w.hall.room.channels (key channel))
 
--- changes of its modes that are read as they are written, with words that a line can carry
+-- Changes of its modes that are read as they are written, with words that a line can carry. All of them are told on, whether they raise
+-- something in the channel or not.
 pub record AreToldChanges (s : Fixed) (w : Part) (channel : List ℕ) (changes : List ModeChange) : Type 0 where
   pub far : IsFarChannel s w channel
   pub readable : AreReadable changes
   pub sent : AllByRecursion (IsSentChange w.hall.room) changes
+
+-- a topic that a line can carry, which is told on likewise
+pub record IsToldTopic (s : Fixed) (w : Part) (channel topic : List ℕ) : Type 0 where
+  pub far : IsFarChannel s w channel
+  pub carried : IsCarriedText topic
 
 -- members that one line brings, each a user of a far server, spelled as it is stored
 pub record IsToldMember (s : Fixed) (w : Part) (member : List ℕ × Flags) : Type 0 where
@@ -132,16 +143,17 @@ abbrev pub CanBeTold : Fixed → Part → Deed → Type 0
 CanBeTold s w (loses server name text) = IsCarriedText text
 CanBeTold s w (brings server channel members) = AreToldMembers s w channel members
 CanBeTold s w (sets server channel changes) = AreToldChanges s w channel changes
-CanBeTold s w (tops server channel topic) = IsFarChannel s w channel
+CanBeTold s w (tops server channel topic) = IsToldTopic s w channel topic
 CanBeTold s w (does effect) = ⊤
 CanBeTold s w (gains uplink name info) = ⊤
 CanBeTold s w (kills server nick) = ⊤
 
--- a deed of a far server: each of its effects is possible in its turn, does something, and keeps the limits; and a line can tell of it
+-- A deed of a far server: each of its effects, if there are any, is possible in its turn, does something, and keeps the limits; and a line
+-- can tell of it.
 pub record IsDoableByServer (s : Fixed) (w : Part) (server : Name) (deed : Deed) : Type 0 where
   pub known : w.tree.knows server ≡ true
   pub far : IsFar s w server
-  pub each : EachInTurn DoesSomething w.hall.room (effects_of w.hall.room deed)
+  pub each : EachInTurn DoesSomething (titled w.hall.room deed) (effects_of w.hall.room deed)
   pub within : AllByRecursion KeepsLimits (effects_of w.hall.room deed)
   pub told : CanBeTold s w deed
 
