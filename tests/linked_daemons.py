@@ -5,6 +5,7 @@
   clash    a nickname on both sides before the link: both holders are gone, and nobody else is
   lost     the middle one is killed: who is behind it quits on every screen; it is started again, and the one behind it
   burst    users and channels from before the link are there behind it, with flags, modes and topic
+  joined   two sides have one channel with other modes, another topic and another spelling: it is one behind the links, whichever was first
   wild     a peer that sends wild bytes is closed, and nobody else
   deaf     a peer that never reads is closed once more waits than its room, and nobody else
   small    a burst that does not fit into the room of a link closes it, and nobody else
@@ -452,6 +453,41 @@ def burst(program):
         wanted = sorted(["@al", "+u7", "bo"] + [f"u{number}" for number in range(70) if number != 7])
         return told("burst", sorted(names) == wanted and modes == "+ntk sesame" and network.all_run(),
                     f"{len(names)} members with their flags, modes {modes}, the ban and the topic came with the link")
+
+
+# what al's side and cy's have of one channel
+RULES = {"al": ["MODE #Den +sk aa", "MODE #Den +bbb A!*@* b!*@* x!*@*", "TOPIC #Den :tea"],
+         "cy": ["MODE #den +nkl bb 10", "MODE #den +bbb a!*@* B!*@* y!*@*"]}
+# what each sees of the other's
+SEEN = {"al": [":cy!cy@127.0.0.1 JOIN #den", ":a.net MODE #den +o cy", ":a.net MODE #den +nkl bb 10", ":a.net MODE #den +bb a!*@* y!*@*"],
+        "cy": [":al!al@127.0.0.1 JOIN #den", ":c.net MODE #den +o al", ":c.net MODE #den +s", ":c.net MODE #den +bb b!*@* x!*@*", ":c.net TOPIC #den :tea"]}
+
+
+def are_joined(program, first, second):
+    """b.net links two sides that have one channel: whether both see of it what they have to, and have the same then."""
+    with Network(program, ["a.net", "b.net", "c.net"], [("b.net", first), ("b.net", second)]) as network:
+        network["a.net"].start()
+        network["c.net"].start()
+        al, cy = network.person("a.net", "al").joins("#Den"), network.person("c.net", "cy").joins("#den")
+        for person in (al, cy):
+            for rule in RULES[person.nick]:
+                person.says(rule)
+                person.sees(f" {re.escape(rule)}$")
+        network["b.net"].start()
+        network.see_all("a.net", 3)
+        network.see_all("c.net", 3)
+        all_seen = [[person.sees(".") for _ in SEEN[person.nick]] == SEEN[person.nick] and person.is_quiet() for person in (al, cy)]
+        answers = []
+        for person in (al, cy):
+            person.says("MODE #den", "TOPIC #den", "MODE #den b")
+            answers.append([person.sees(f" {number} ").split(f" {person.nick} #den ")[1] for number in (324, 332, 367, 367, 367, 367, 368)])
+        wanted = ["+nskl bb 10", ":tea", "a!*@*", "b!*@*", "x!*@*", "y!*@*", ":End of channel ban list"]
+        return all(all_seen) and answers == [wanted, wanted] and network.all_run()
+
+
+def joined(program):
+    holds = [are_joined(program, *ends) for ends in (("a.net", "c.net"), ("c.net", "a.net"))]
+    return told("joined", all(holds), "both sides see what the other raises, and have one spelling, one topic, all modes and four bans")
 
 
 def with_peer(program, name="w.net", **rooms):
@@ -1002,6 +1038,7 @@ def probed(program):
 
 PARTS = [people, clash, lost, burst, wild, deaf, small, liars, doors, silent, knocking, reset, waiting, refused, files, late, again, crossing, ring,
          flooding, probed]
+PARTS = [people, clash, lost, burst, joined, wild, deaf, small, liars, doors, silent, knocking, reset, waiting, refused, files]
 
 
 def holds(part, program):

@@ -3,9 +3,11 @@ use Rattle.std.proofs.Common.{◌≡◌, ℕ, Bool, true, false, not, ◌&&◌, 
 use Rattle.std.specs.List.{AllByRecursion, flat_map}
 use Rattle.irc_users.specs.declared.user.User.{User}
 use Rattle.irc_channels.specs.declared.flags.Flags.{Flags}
+use Rattle.irc_modes.specs.declared.modes.ModeChange.{ModeChange}
 use Rattle.irc_modes.specs.declared.modes.ModeLetter.{ModeLetter}
 use Rattle.irc_modes.specs.declared.modes.ModeLetter.TheVariants as letter
 use Rattle.irc_batch.specs.Batches.{Sent}
+use Rattle.irc_room.specs.effect.By.TheVariants as by
 use Rattle.irc_room.specs.effect.Effect.{Effect}
 use Rattle.irc_room.specs.effect.Effect.TheVariants.{AddUser, Rename, Quit, Join, Part, Kick, ChangeModes, SetTopic, Say, Invite, UserMode}
 use Rattle.irc_room.specs.After.{after}
@@ -15,7 +17,7 @@ use Rattle.irc_room.specs.OtherInvitations.{AreAlike, IsTakenAlike}
 use Rattle.irc_room.specs.Room.{Room}
 use Rattle.irc_room.specs.Lemmas.AlikeLaw.{alike_stay_alike, alike_take_alike}
 use Rattle.irc_merge.specs.CanBeDone.{DoesSomething}
-use Rattle.irc_merge.specs.Deeds.{flag_given, member_comes}
+use Rattle.irc_merge.specs.Deeds.{changes_made, flag_given, is_greater_topic, member_comes, raised_in, sets, tops, effects_of}
 use Rattle.irc_merge.specs.Quits.{quits_of}
 use Rattle.irc_stage.specs.EffectTold.{Served, all_changed, changed, counts, is_of_here, view_after}
 use Rattle.irc_stage.specs.View.{View}
@@ -82,6 +84,36 @@ members_quiet channel (member ∷ members) = (
       (given_quiet member.1.op letter.Operator channel member.0) (given_quiet member.1.voice letter.Voice channel member.0))
       (members_quiet channel members),
 )
+
+-- changes of modes are one effect, or none where they raise nothing
+made_calm : (channel : List ℕ) (changes : List ModeChange) → AllCalm (changes_made channel changes)
+made_calm channel [] = tt
+made_calm channel (change ∷ changes) = (refl, tt)
+
+made_quiet : (channel : List ℕ) (changes : List ModeChange) → AllQuiet (changes_made channel changes)
+made_quiet channel [] = tt
+made_quiet channel (change ∷ changes) = (refl, tt)
+
+pub sets_calm : (room : Room) (server channel : List ℕ) (changes : List ModeChange) → AllCalm (effects_of room (sets server channel changes))
+sets_calm room server channel changes = made_calm channel (raised_in room channel changes)
+
+pub sets_quiet : (room : Room) (server channel : List ℕ) (changes : List ModeChange) → AllQuiet (effects_of room (sets server channel changes))
+sets_quiet room server channel changes = made_quiet channel (raised_in room channel changes)
+
+-- and so is a topic
+pub tops_calm : (room : Room) (server channel topic : List ℕ) → AllCalm (effects_of room (tops server channel topic))
+tops_calm room server channel topic = by_test (is_greater_topic room channel topic)
+  where
+    by_test : (b : Bool) → AllCalm (if b then SetTopic by.Home channel topic ∷ [] else [])
+    by_test true = (refl, tt)
+    by_test false = tt
+
+pub tops_quiet : (room : Room) (server channel topic : List ℕ) → AllQuiet (effects_of room (tops server channel topic))
+tops_quiet room server channel topic = by_test (is_greater_topic room channel topic)
+  where
+    by_test : (b : Bool) → AllQuiet (if b then SetTopic by.Home channel topic ∷ [] else [])
+    by_test true = (refl, tt)
+    by_test false = tt
 
 -- ---- users stay
 

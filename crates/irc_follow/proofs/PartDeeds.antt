@@ -22,8 +22,9 @@ use Rattle.irc_room.specs.Effects.{has_user}
 use Rattle.irc_room.specs.Lemmas.Rows.{is_some_map, same_some}
 use Rattle.irc_room.specs.Lemmas.WellFormedLaw.{after_is_well_formed}
 use Rattle.irc_room.specs.Lemmas.LimitsKept.{after_is_within_limits}
+use Rattle.irc_room.specs.Lemmas.RespelledRooms.{respelled_is_well_formed, respelled_is_within_limits}
 use Rattle.irc_merge.specs.CanBeDone.{DoesSomething}
-use Rattle.irc_merge.specs.Deeds.{Deed, loses, kills, brings, sets, tops, after_deed, effects_of}
+use Rattle.irc_merge.specs.Deeds.{Deed, loses, kills, brings, sets, tops, titled, after_deed, effects_of}
 use Rattle.irc_merge.specs.Quits.{collision_text, quits_of, users_at}
 use Rattle.irc_merge.specs.Lemmas.Quitting.{among_values, users_left}
 use Rattle.irc_relay.specs.Links.{Name, same}
@@ -34,7 +35,7 @@ use Rattle.irc_world.specs.World.{home_in}
 use Rattle.irc_follow.specs.Part.{Fixed, clients_elsewhere, done, info_in, is_home_of, IsSoundPart}
 use Rattle.irc_follow.specs.Part as of_side
 use Rattle.irc_follow.specs.Says.{IsDoableByServer, IsDoableKill, IsDoableLoss}
-use Rattle.irc_follow.proofs.DeedEffects.{AllQuiet, members_quiet, users_stay}
+use Rattle.irc_follow.proofs.DeedEffects.{AllQuiet, members_quiet, sets_quiet, tops_quiet, users_stay}
 use Rattle.irc_follow.proofs.PartEffects.{kept_by_effect}
 use Rattle.irc_follow.proofs.TreeLoses.{lost_is_sound}
 
@@ -68,29 +69,38 @@ quiet_sound s w room sound well within users = record {
 }
 
 module _ (s : Fixed) (w : of_side.Part) (sound : IsSoundPart s w) (server : Name) where
+  -- in the room as the deed has spelled it
   by_effects : (deed : Deed) → IsDoableByServer s w server deed → AllQuiet (effects_of w.hall.room deed)
+      → IsWellFormed (titled w.hall.room deed) → IsWithinLimits (titled w.hall.room deed) → (titled w.hall.room deed).users ≡ w.hall.room.users
       → IsSoundPart s (record w { hall = record w.hall { room = after_deed w.hall.room deed } })
   unfolding after_deed
-  by_effects deed doable quiet =
-      quiet_sound s w (after_all w.hall.room (effects_of w.hall.room deed)) sound
-      (deed_well w.hall.room (effects_of w.hall.room deed) doable.each sound.well)
-      (deed_within w.hall.room (effects_of w.hall.room deed) doable.within sound.within)
-      (users_stay w.hall.room (effects_of w.hall.room deed) quiet)
+  by_effects deed doable quiet well within users =
+      let room = titled w.hall.room deed in
+      let effects = effects_of w.hall.room deed in
+      quiet_sound s w (after_all room effects) sound
+      (deed_well room effects doable.each well)
+      (deed_within room effects doable.within within)
+      (users_stay room effects quiet ∙ users)
 
   pub brings_keeps : (channel : List ℕ) (members : List (List ℕ × Flags)) → IsDoableByServer s w server (brings server channel members)
       → IsSoundPart s (done s w (brings server channel members))
   unfolding done
-  brings_keeps channel members doable = by_effects (brings server channel members) doable (members_quiet channel members)
+  brings_keeps channel members doable =
+      by_effects (brings server channel members) doable (members_quiet channel members)
+      (respelled_is_well_formed channel w.hall.room sound.well)
+      (respelled_is_within_limits channel w.hall.room doable.told.named sound.within) refl
 
   pub sets_keeps : (channel : List ℕ) (changes : List ModeChange) → IsDoableByServer s w server (sets server channel changes)
       → IsSoundPart s (done s w (sets server channel changes))
   unfolding done
-  sets_keeps channel changes doable = by_effects (sets server channel changes) doable (refl, tt)
+  sets_keeps channel changes doable =
+      by_effects (sets server channel changes) doable (sets_quiet w.hall.room server channel changes) sound.well sound.within refl
 
   pub tops_keeps : (channel topic : List ℕ) → IsDoableByServer s w server (tops server channel topic)
       → IsSoundPart s (done s w (tops server channel topic))
   unfolding done
-  tops_keeps channel topic doable = by_effects (tops server channel topic) doable (refl, tt)
+  tops_keeps channel topic doable =
+      by_effects (tops server channel topic) doable (tops_quiet w.hall.room server channel topic) sound.well sound.within refl
 
   -- ---- a user is killed
 

@@ -13,11 +13,14 @@ use Rattle.irc_room.specs.InTurnLaws.{each-so}
 use Rattle.irc_room.specs.Invitations.{of_home}
 use Rattle.irc_room.specs.OtherInvitations.{AreAlike}
 use Rattle.irc_room.specs.Room.{Room}
+use Rattle.irc_room.specs.Lemmas.AlikeLaw.{alike_have_alike, alike_stay_alike, alike_take_alike}
 use Rattle.irc_room.specs.Lemmas.HomeLaw.{home_follows}
+use Rattle.irc_room.specs.Lemmas.RespelledRooms.{alike_are_respelled_alike}
 use Rattle.irc_merge.specs.CanBeDone.{DoesSomething}
-use Rattle.irc_merge.specs.Deeds.{Deed, loses, kills, brings, sets, tops, after_deed, effects_of}
+use Rattle.irc_merge.specs.AsideInvitations.{CanComeOf, after_deed_at}
+use Rattle.irc_merge.specs.Deeds.{Deed, loses, kills, brings, sets, tops, titled, after_deed, effects_of}
 use Rattle.irc_merge.specs.Quits.{collision_text, quits_of, users_at}
-use Rattle.irc_merge.proofs.LookingAside.{home_follows_deed}
+use Rattle.irc_merge.proofs.LookingAside.{alike_do_alike, home_follows_deed}
 use Rattle.irc_relay.specs.Links.{Name, same, linked, AreLinked}
 use Rattle.irc_relay.specs.Relay.{TakesFrom}
 use Rattle.irc_relay.specs.Lemmas.TellingNames.{Telling, alike, unlike, tell, same_unless}
@@ -38,8 +41,8 @@ use Rattle.irc_world.specs.World.{home_in}
 use Rattle.irc_follow.specs.Part.{Fixed, clients_elsewhere, done, is_home_of, number, IsSoundPart}
 use Rattle.irc_follow.specs.Part as of_side
 use Rattle.irc_follow.specs.Fits.{far_end, Fits}
-use Rattle.irc_follow.specs.Says.{neighbour_served, Says, IsDoableKill, IsDoableLoss}
-use Rattle.irc_follow.proofs.DeedEffects.{AllCalm, AllQuiet, all_view, members_calm, members_quiet, quiet_counted, quits_calm}
+use Rattle.irc_follow.specs.Says.{neighbour_served, Says, IsDoableByServer, IsDoableKill, IsDoableLoss}
+use Rattle.irc_follow.proofs.DeedEffects.{AllCalm, AllQuiet, all_view, at_room, members_calm, members_quiet, quiet_counted, quits_calm, sets_calm, sets_quiet, tops_calm, tops_quiet}
 use Rattle.irc_follow.proofs.LostUsers.{lost_are_of, lost_counted}
 use Rattle.irc_follow.proofs.PartDeeds.{brings_keeps, kills_keeps, loses_keeps, sets_keeps, there_to_kill, tops_keeps}
 use Rattle.irc_follow.proofs.SaidEffect.{own_name, room_now, rooms_alike}
@@ -84,47 +87,93 @@ module _ (s : Fixed) (p t : Name) (w : of_side.Part) (view : View) (takes : Take
     room = is;
   }
 
-  quiet_view : (effects : List Effect) → AllCalm effects → AllQuiet effects → EachInTurn DoesSomething w.hall.room effects
-      → (all_changed effects (in_silence view)).view ≡ record view { room = after_all view.room effects }
-  quiet_view effects calm quiet each =
-      all_view view effects view.room w.hall.room [] rooms calm (quiet_counted view w.hall.room effects quiet each)
+  -- a deed does the same effects here as in the room of the side
+  pub same_effects : (deed : Deed) → effects_of view.room deed ≡ effects_of w.hall.room deed
+  same_effects deed = (alike_do_alike alike_stay_alike alike_take_alike alike_have_alike view.room w.hall.room deed rooms).effects
 
-  possible : (effects : List Effect) → EachInTurn DoesSomething w.hall.room effects → EachInTurn IsPossible w.hall.room effects
-  possible = each-so DoesSomething IsPossible (λ room effect does_it. does_it.possible) w.hall.room
+  -- a deed whose effects leave clients and users as they are, and each do something in their turn
+  pub record IsQuietDeed (deed : Deed) : Type 0 where
+    pub calm : AllCalm (effects_of w.hall.room deed)
+    pub quiet : AllQuiet (effects_of w.hall.room deed)
+    pub each : EachInTurn DoesSomething (titled w.hall.room deed) (effects_of w.hall.room deed)
+    pub alike : AreAlike (titled view.room deed) (titled w.hall.room deed)
+    pub can : CanComeOf w.hall.room deed
+    pub follows : after_deed_at t view.room deed ≡ after_deed view.room deed
+
+  pub brings_quietly : (server channel : List ℕ) (members : List (List ℕ × Flags)) → IsDoableByServer s w server (brings server channel members)
+      → IsQuietDeed (brings server channel members)
+  brings_quietly server channel members doable = record {
+    calm = members_calm channel members;
+    quiet = members_quiet channel members;
+    each = doable.each;
+    alike = alike_are_respelled_alike channel view.room w.hall.room rooms;
+    can = each-so DoesSomething IsPossible (λ room effect does_it. does_it.possible) (titled w.hall.room (brings server channel members))
+        (effects_of w.hall.room (brings server channel members)) doable.each;
+    follows = refl;
+  }
+
+  pub sets_quietly : (server channel : List ℕ) (changes : List ModeChange) → IsDoableByServer s w server (sets server channel changes)
+      → IsQuietDeed (sets server channel changes)
+  sets_quietly server channel changes doable = record {
+    calm = sets_calm w.hall.room server channel changes;
+    quiet = sets_quiet w.hall.room server channel changes;
+    each = doable.each;
+    alike = rooms;
+    can = tt;
+    follows = refl;
+  }
+
+  pub tops_quietly : (server channel topic : List ℕ) → IsDoableByServer s w server (tops server channel topic)
+      → IsQuietDeed (tops server channel topic)
+  tops_quietly server channel topic doable = record {
+    calm = tops_calm w.hall.room server channel topic;
+    quiet = tops_quiet w.hall.room server channel topic;
+    each = doable.each;
+    alike = rooms;
+    can = tt;
+    follows = refl;
+  }
+
+  quiet_fits : (deed : Deed) → IsQuietDeed deed → IsSoundPart s (record w { hall = record w.hall { room = after_deed w.hall.room deed } })
+      → Fits s t (record w { hall = record w.hall { room = after_deed w.hall.room deed } })
+      (all_changed (effects_of view.room deed) (at_room view (titled view.room deed) [])).view
+  unfolding after_deed
+  quiet_fits deed is sound_now =
+      let effects = effects_of w.hall.room deed in
+      let view_is = ap (λ es. (all_changed es (at_room view (titled view.room deed) [])).view) (same_effects deed)
+      ∙ all_view view effects (titled view.room deed) (titled w.hall.room deed) [] is.alike is.calm
+      (quiet_counted view (titled w.hall.room deed) effects is.quiet is.each) in
+      let room_is = ap (after_all (titled view.room deed)) (sym (same_effects deed))
+      ∙ sym (home_follows_deed home_follows t w.hall.room deed sound.well is.can ∙ ap (λ room. after_deed_at t room deed) (sym fits.room) ∙ is.follows) in
+      subst (Fits s t (record w { hall = record w.hall { room = after_all (titled w.hall.room deed) effects } })) (sym view_is)
+      (with_room_fits (after_all (titled view.room deed) effects) (after_all (titled w.hall.room deed) effects) sound_now room_is)
 
   pub said_brings_fits : (server channel : List ℕ) (members : List (List ℕ × Flags)) (line : List ℕ) → Says s p t w view (brings server channel members) line
       → Fits s t (done s w (brings server channel members)) (neighbour_served s p view line).view
-  unfolding done told_by deed_told after_deed
+  unfolding done told_by deed_told
   said_brings_fits server channel members line says =
-      let effects = effects_of w.hall.room (brings server channel members) in
-      let view_is = asked_is (brings server channel members) line says.end says.is_end says.means
-      ∙ quiet_view effects (members_calm channel members) (members_quiet channel members) says.doable.each in
-      let room_is = sym (home_follows_deed home_follows t w.hall.room (brings server channel members) sound.well (possible effects says.doable.each)
-      ∙ ap (λ room. after_all room effects) (sym fits.room)) in
-      subst (Fits s t (done s w (brings server channel members))) (sym view_is)
-      (with_room_fits (after_all view.room effects) (after_all w.hall.room effects) (brings_keeps s w sound server channel members says.doable) room_is)
+      subst (Fits s t (done s w (brings server channel members)))
+      (sym (asked_is (brings server channel members) line says.end says.is_end says.means))
+      (quiet_fits (brings server channel members) (brings_quietly server channel members says.doable)
+      (brings_keeps s w sound server channel members says.doable))
 
   pub said_sets_fits : (server channel : List ℕ) (changes : List ModeChange) (line : List ℕ) → Says s p t w view (sets server channel changes) line
       → Fits s t (done s w (sets server channel changes)) (neighbour_served s p view line).view
-  unfolding done told_by deed_told after_deed
+  unfolding done told_by deed_told
   said_sets_fits server channel changes line says =
-      let effects = effects_of w.hall.room (sets server channel changes) in
-      let view_is = asked_is (sets server channel changes) line says.end says.is_end says.means ∙ quiet_view effects (refl, tt) (refl, tt) says.doable.each in
-      let room_is = sym (home_follows_deed home_follows t w.hall.room (sets server channel changes) sound.well tt
-      ∙ ap (λ room. after_all room effects) (sym fits.room)) in
-      subst (Fits s t (done s w (sets server channel changes))) (sym view_is)
-      (with_room_fits (after_all view.room effects) (after_all w.hall.room effects) (sets_keeps s w sound server channel changes says.doable) room_is)
+      subst (Fits s t (done s w (sets server channel changes)))
+      (sym (asked_is (sets server channel changes) line says.end says.is_end says.means))
+      (quiet_fits (sets server channel changes) (sets_quietly server channel changes says.doable)
+      (sets_keeps s w sound server channel changes says.doable))
 
   pub said_tops_fits : (server channel topic : List ℕ) (line : List ℕ) → Says s p t w view (tops server channel topic) line
       → Fits s t (done s w (tops server channel topic)) (neighbour_served s p view line).view
-  unfolding done told_by deed_told after_deed
+  unfolding done told_by deed_told
   said_tops_fits server channel topic line says =
-      let effects = effects_of w.hall.room (tops server channel topic) in
-      let view_is = asked_is (tops server channel topic) line says.end says.is_end says.means ∙ quiet_view effects (refl, tt) (refl, tt) says.doable.each in
-      let room_is = sym (home_follows_deed home_follows t w.hall.room (tops server channel topic) sound.well tt
-      ∙ ap (λ room. after_all room effects) (sym fits.room)) in
-      subst (Fits s t (done s w (tops server channel topic))) (sym view_is)
-      (with_room_fits (after_all view.room effects) (after_all w.hall.room effects) (tops_keeps s w sound server channel topic says.doable) room_is)
+      subst (Fits s t (done s w (tops server channel topic)))
+      (sym (asked_is (tops server channel topic) line says.end says.is_end says.means))
+      (quiet_fits (tops server channel topic) (tops_quietly server channel topic says.doable)
+      (tops_keeps s w sound server channel topic says.doable))
 
   -- ---- a server is lost
 

@@ -10,11 +10,13 @@ use Rattle.irc_batch.specs.Batches.{Sent, end_of}
 use Rattle.irc_room.specs.effect.Effect.{Effect}
 use Rattle.irc_room.specs.effect.Effect.TheVariants.{Quit}
 use Rattle.irc_room.specs.InTurn.{EachInTurn}
+use Rattle.irc_room.specs.OtherInvitations.{AreAlike}
+use Rattle.irc_room.specs.Room.{Room, IsWellFormed}
 use Rattle.irc_room.specs.Seen.{Showing}
 use Rattle.irc_room.specs.Viewers.{shows_to}
 use Rattle.irc_room.specs.Lemmas.AlikeLaw.{alike_have_alike, alike_stay_alike, alike_take_alike}
-use Rattle.irc_merge.specs.CanBeDone.{DoesSomething}
-use Rattle.irc_merge.specs.Deeds.{Deed, does, gains, loses, kills, brings, sets, tops, effects_of, shown_by}
+use Rattle.irc_room.specs.Lemmas.RespelledRooms.{respelled_is_well_formed}
+use Rattle.irc_merge.specs.Deeds.{Deed, does, gains, loses, kills, brings, sets, tops, titled, effects_of, shown_by}
 use Rattle.irc_merge.specs.Quits.{collision_text, quits_of, users_at}
 use Rattle.irc_merge.proofs.LookingAside.{alike_do_alike}
 use Rattle.irc_relay.specs.Links as of_links
@@ -29,7 +31,7 @@ use Rattle.irc_stage.specs.Handle.{is_client, to_viewer}
 use Rattle.irc_stage.specs.Linked.{is_taken, told_on_all, with_far, with_row}
 use Rattle.irc_stage.specs.View.{View}
 use Rattle.irc_links.specs.Ways.{but, met_links}
-use Rattle.irc_deeds.specs.DeedTold.{arrival_of, deed_told, forgotten, gain_told, told_by}
+use Rattle.irc_deeds.specs.DeedTold.{arrival_of, deed_told, forgotten, gain_told, titled_view, told_by}
 use Rattle.irc_deeds.specs.Heard.{meets, tells}
 use Rattle.irc_deeds.specs.LinkServed.{after_heard, line_served, met_by, on_link, owes}
 use Rattle.irc_line.specs.Reading.{read_of}
@@ -43,9 +45,9 @@ use Rattle.irc_follow.specs.Fits.{Fits}
 use Rattle.irc_follow.specs.Laws.{SaidDeedShows}
 use Rattle.irc_follow.specs.Says.{neighbour_served, Says, IsDoableLoss}
 use Rattle.irc_follow.proofs.ClientLines.{client_shown, to_one, told_line}
-use Rattle.irc_follow.proofs.DeedEffects.{AllCalm, AllQuiet, IsCounted, members_calm, members_quiet, quiet_counted, quits_calm}
+use Rattle.irc_follow.proofs.DeedEffects.{AllCalm, IsCounted, at_room, quiet_counted, quits_calm}
 use Rattle.irc_follow.proofs.LostUsers.{lost_are_of, lost_counted}
-use Rattle.irc_follow.proofs.SaidDeed.{deed_served, not_it, there}
+use Rattle.irc_follow.proofs.SaidDeed.{IsQuietDeed, brings_quietly, deed_served, not_it, same_effects, sets_quietly, there, tops_quietly}
 use Rattle.irc_follow.proofs.SaidEffect.{own_name}
 use Rattle.irc_follow.proofs.SaidShows.{all_lines, append_nil, but_links, client_along, client_is, lines_behind, rooms, said_effect_shows, shown_so, well_here}
 use Rattle.irc_registering.specs.Closing.{error_line}
@@ -92,7 +94,7 @@ module _ (s : Fixed) (p t : Name) (w : of_side.Part) (view : View) (takes : Take
 
   -- what the effects of a deed show, and nothing else
   along_sees : (deed : Deed) → ((viewer : List ℕ) → told_end deed viewer ≡ []) → (client : Option Client)
-      → client_along who view.room (effects_of view.room deed) client ≡ client_sees deed w.hall.room client
+      → client_along who (titled view.room deed) (effects_of view.room deed) client ≡ client_sees deed w.hall.room client
   unfolding shown_by
   along_sees deed none None = refl
   along_sees deed none (Some (Registering pending)) = refl
@@ -101,15 +103,26 @@ module _ (s : Fixed) (p t : Name) (w : of_side.Part) (view : View) (takes : Take
       ∙ sym (append_nil (shown_by nick w.hall.room deed))
       ∙ ap (λ l. shown_by nick w.hall.room deed ++ l) (sym (none nick))
 
-  effects_lines : (effects : List Effect) → AllCalm effects → EachInTurn (IsCounted view) w.hall.room effects
-      → lines_to who (all_changed effects (in_silence view)).out ≡ client_along who view.room effects mine
-  effects_lines effects calm counted =
-      all_lines who view effects view.room w.hall.room [] (rooms s p t w view takes fits who at_home) calm counted (well_here s p t w view takes fits who at_home)
-      ∙ ap (client_along who view.room effects) (client_is s p t w view takes fits who at_home)
+  effects_lines : (effects : List Effect) (room other : Room) → AreAlike room other → IsWellFormed room → AllCalm effects
+      → EachInTurn (IsCounted view) other effects
+      → lines_to who (all_changed effects (at_room view room [])).out ≡ client_along who room effects mine
+  effects_lines effects room other alike well calm counted =
+      all_lines who view effects room other [] alike calm counted well
+      ∙ ap (client_along who room effects) (client_is s p t w view takes fits who at_home)
 
-  quiet_lines : (effects : List Effect) → AllCalm effects → AllQuiet effects → EachInTurn DoesSomething w.hall.room effects
-      → lines_to who (all_changed effects (in_silence view)).out ≡ client_along who view.room effects mine
-  quiet_lines effects calm quiet each = effects_lines effects calm (quiet_counted view w.hall.room effects quiet each)
+  quiet_lines : (deed : Deed) → IsQuietDeed s p t w view takes fits deed → IsWellFormed (titled view.room deed)
+      → lines_to who (all_changed (effects_of view.room deed) (at_room view (titled view.room deed) [])).out
+      ≡ client_along who (titled view.room deed) (effects_of view.room deed) mine
+  quiet_lines deed is well =
+      let effects = effects_of w.hall.room deed in
+      let same = same_effects s p t w view takes fits deed in
+      ap (λ es. lines_to who (all_changed es (at_room view (titled view.room deed) [])).out) same
+      ∙ effects_lines effects (titled view.room deed) (titled w.hall.room deed) is.alike well is.calm
+      (quiet_counted view (titled w.hall.room deed) effects is.quiet is.each)
+      ∙ ap (λ es. client_along who (titled view.room deed) es mine) (sym same)
+
+  well : IsWellFormed view.room
+  well = well_here s p t w view takes fits who at_home
 
   on_all : (arrival : Option ℕ) (parts : Written) (before : Served) → lines_to who (told_on_all arrival parts before).out ≡ lines_to who before.out
   on_all arrival parts before = but_links who before.out (but arrival (met_links before.view.ends)) parts
@@ -122,8 +135,9 @@ module _ (s : Fixed) (p t : Name) (w : of_side.Part) (view : View) (takes : Take
   said_brings_shows server channel members line says =
       let effects = effects_of view.room (brings server channel members) in
       ap (λ (so : Served). lines_to who so.out) (deed_served s p t w view takes fits (brings server channel members) line says.end says.is_end says.means)
-      ∙ on_all (Some (number s p)) (deed_parts view.room view.routes (brings server channel members)) (all_changed effects (in_silence view))
-      ∙ quiet_lines effects (members_calm channel members) (members_quiet channel members) says.doable.each
+      ∙ on_all (Some (number s p)) (deed_parts view.room view.routes (brings server channel members)) (all_changed effects (titled_view channel (in_silence view)))
+      ∙ quiet_lines (brings server channel members) (brings_quietly s p t w view takes fits server channel members says.doable)
+      (respelled_is_well_formed channel view.room well)
       ∙ along_sees (brings server channel members) (λ _. refl) mine
 
   pub said_sets_shows : (server channel : List ℕ) (changes : List ModeChange) (line : List ℕ) → Says s p t w view (sets server channel changes) line
@@ -133,7 +147,7 @@ module _ (s : Fixed) (p t : Name) (w : of_side.Part) (view : View) (takes : Take
       let effects = effects_of view.room (sets server channel changes) in
       ap (λ (so : Served). lines_to who so.out) (deed_served s p t w view takes fits (sets server channel changes) line says.end says.is_end says.means)
       ∙ on_all (Some (number s p)) (deed_parts view.room view.routes (sets server channel changes)) (all_changed effects (in_silence view))
-      ∙ quiet_lines effects (refl, tt) (refl, tt) says.doable.each
+      ∙ quiet_lines (sets server channel changes) (sets_quietly s p t w view takes fits server channel changes says.doable) well
       ∙ along_sees (sets server channel changes) (λ _. refl) mine
 
   pub said_tops_shows : (server channel topic : List ℕ) (line : List ℕ) → Says s p t w view (tops server channel topic) line
@@ -143,7 +157,7 @@ module _ (s : Fixed) (p t : Name) (w : of_side.Part) (view : View) (takes : Take
       let effects = effects_of view.room (tops server channel topic) in
       ap (λ (so : Served). lines_to who so.out) (deed_served s p t w view takes fits (tops server channel topic) line says.end says.is_end says.means)
       ∙ on_all (Some (number s p)) (deed_parts view.room view.routes (tops server channel topic)) (all_changed effects (in_silence view))
-      ∙ quiet_lines effects (refl, tt) (refl, tt) says.doable.each
+      ∙ quiet_lines (tops server channel topic) (tops_quietly s p t w view takes fits server channel topic says.doable) well
       ∙ along_sees (tops server channel topic) (λ _. refl) mine
 
   quits_lines : (server name text : List ℕ) → IsDoableLoss s w server name text
@@ -152,7 +166,8 @@ module _ (s : Fixed) (p t : Name) (w : of_side.Part) (view : View) (takes : Take
   quits_lines server name text doable =
       let same_users = (rooms s p t w view takes fits who at_home).users in
       ap (λ users. lines_to who (all_changed (quits_of text (users_at name (record view.room { users = users }))) (in_silence view)).out) same_users
-      ∙ effects_lines (quits_of text (users_at name w.hall.room)) (quits_calm text (users_at name w.hall.room))
+      ∙ effects_lines (quits_of text (users_at name w.hall.room)) view.room w.hall.room (rooms s p t w view takes fits who at_home) well
+      (quits_calm text (users_at name w.hall.room))
       (lost_counted view t name (own_name s p t w view takes fits) (not_it s p t w view takes fits server name text doable) w.hall.room text
       (users_at name w.hall.room) (lost_are_of name w.hall.room sound.well) doable.by_server.each)
       ∙ sym (ap (λ users. client_along who view.room (quits_of text (users_at name (record view.room { users = users }))) mine) same_users)

@@ -1,8 +1,8 @@
 -- Deeds of a server, other than a KILL, go on to each other neighbour as lines that say them there.
-use Rattle.std.proofs.Common.{◌≡◌, ◌≢◌, ℕ, Bool, true, false, not, ◌&&◌, ◌||◌, is_some, Option, Some, None, Ok, List, [], ◌∷◌, ◌++◌, codes, length, lit≤, map, refl, sym, ◌∙◌, ap, option_map, if◌then◌else◌}
+use Rattle.std.proofs.Common.{◌≡◌, ◌≢◌, ◌⊎◌, inl, inr, ℕ, Bool, true, false, not, ◌&&◌, ◌||◌, is_some, Option, Some, None, Ok, List, [], ◌∷◌, ◌++◌, codes, length, lit≤, map, refl, sym, ◌∙◌, ap, option_map, if◌then◌else◌}
 use Rattle.std.proofs.lemmas.Bool.{le-leb}
 use Rattle.std.specs.FinMap.{get, keys}
-use Rattle.std.specs.List.{list_all, AllByRecursion}
+use Rattle.std.specs.List.{list_any, AllByRecursion}
 use Rattle.std.specs.Option.{option_map_or}
 use Rattle.irc_line.specs.Messages.{IsPlain, Written, line_text, message_of}
 use Rattle.irc_names.specs.Limits.{max_words}
@@ -17,13 +17,17 @@ use Rattle.irc_modes.specs.declared.modes.ModeChange.{ModeChange}
 use Rattle.irc_room.specs.Seen.{stored_nick}
 use Rattle.irc_room.specs.OtherInvitations.{AreAlike}
 use Rattle.irc_room.specs.Readers.{home_under}
+use Rattle.irc_room.specs.Room.{Room}
+use Rattle.irc_room.specs.After.{titled_by}
 use Rattle.irc_room.specs.Lemmas.Rows.{is_some_map, same_some}
 use Rattle.irc_room.specs.Lemmas.AlikeLaw.{alike_have_alike, alike_stay_alike, alike_take_alike}
+use Rattle.irc_room.specs.Lemmas.RespelledRooms.{alike_are_respelled_alike}
 use Rattle.irc_merge.specs.Bursts.{home_passes}
 use Rattle.irc_merge.specs.AsideInvitations.{AreReadAlike}
-use Rattle.irc_merge.specs.BurstRead.{all_far, brought}
-use Rattle.irc_merge.specs.Deeds.{Deed, brings, loses, sets, tops, effects_of}
+use Rattle.irc_merge.specs.BurstRead.{brought, new_members, some_far}
+use Rattle.irc_merge.specs.Deeds.{Deed, brings, loses, sets, tops, titled, effects_of}
 use Rattle.irc_merge.specs.Quits.{quits_of, users_at}
+use Rattle.irc_merge.proofs.Bringing.{new_titled}
 use Rattle.irc_merge.proofs.LookingAside.{alike_read_alike}
 use Rattle.irc_relay.specs.Links.{Name}
 use Rattle.irc_relay.specs.Relay.{TakesFrom}
@@ -43,7 +47,8 @@ use Rattle.irc_follow.specs.Part.{Fixed, number, IsFixed, IsSoundPart}
 use Rattle.irc_follow.specs.Part as of_side
 use Rattle.irc_follow.specs.Fits.{Fits}
 use Rattle.irc_follow.specs.Laws.{GoesOn, SaidLossGoesOn, SaidMembersGoOn, SaidModesGoOn, SaidTopicGoesOn}
-use Rattle.irc_follow.specs.Says.{neighbour_served, lines_on, machine, Says, AreOfFar, AreToldMembers, IsDoableByServer, IsDoableLoss, IsFar, IsFarChannel, IsOfFar, IsToldMember}
+use Rattle.irc_follow.specs.Says.{neighbour_served, lines_on, machine, Says, AreToldMembers, HasOneOfFar, IsDoableByServer, IsDoableLoss, IsFar, IsFarChannel, IsOfFar, IsOneOfFar, IsToldMember}
+use Rattle.irc_follow.proofs.DeedEffects.{at_room}
 use Rattle.irc_follow.proofs.CarriedLines.{members_carried, modes_carried, squit_carried, topic_carried}
 use Rattle.irc_follow.proofs.LinesOn.{ends_by_all, none_by_all}
 use Rattle.irc_follow.proofs.MemberLines.{AreNicks, all_new}
@@ -81,18 +86,18 @@ module _ (known : IsKnownOfLines) (s : Fixed) (p t u : Name) (w : of_side.Part) 
   rooms : AreAlike other.room w.hall.room
   rooms = rooms_alike s t u w other next reader
 
-  -- what goes to the neighbour of a deed whose effects are done one by one
-  lines_of : (deed : Deed) (effects : List Effect) (parts : Written) (after : Served → Served)
+  -- what goes to the neighbour of a deed whose effects are done one by one, in the room as the deed has spelled it
+  lines_of : (deed : Deed) (room : Room) (effects : List Effect) (parts : Written) (after : Served → Served)
       → ((before : Served) → (after before).out ≡ before.out) → ((before : Served) → (after before).view.ends ≡ before.view.ends)
-      → told_by (number s p) (a_deed deed) (in_silence view) ≡ told_on_all (Some (number s p)) parts (after (all_changed effects (in_silence view)))
+      → told_by (number s p) (a_deed deed) (in_silence view) ≡ told_on_all (Some (number s p)) parts (after (all_changed effects (at_room view room [])))
       → told_by (number s p) (a_deed deed) (in_silence view) ≡ neighbour_served s p view line → lines_on (number s u) (neighbour_served s p view line).out ≡ line_text parts ∷ []
-  lines_of deed effects parts after same_out same_ends is asked_is =
-      let before = all_changed effects (in_silence view) in
+  lines_of deed room effects parts after same_out same_ends is asked_is =
+      let before = all_changed effects (at_room view room []) in
       ap (λ (so : Served). lines_on (number s u) so.out) (sym asked_is ∙ is)
       ∙ beside.told_all s p t u w view other takes next apart writer reader false parts (after before)
-      (ap (λ ends. get ends (number s u)) (same_ends before ∙ ends_by_all effects (in_silence view)))
+      (ap (λ ends. get ends (number s u)) (same_ends before ∙ ends_by_all effects (at_room view room [])))
       ∙ ap (λ out. lines_on (number s u) out ++ (line_text parts ∷ [])) (same_out before)
-      ∙ ap (λ l. l ++ (line_text parts ∷ [])) (none_by_all (number s u) effects (in_silence view))
+      ∙ ap (λ l. l ++ (line_text parts ∷ [])) (none_by_all (number s u) effects (at_room view room []))
 
   -- ---- a server is lost
 
@@ -126,7 +131,7 @@ module _ (known : IsKnownOfLines) (s : Fixed) (p t u : Name) (w : of_side.Part) 
 
     loss_lines : lines_on (number s u) (neighbour_served s p view line).out ≡ line_text parts ∷ []
     unfolding told_by deed_told
-    loss_lines = lines_of (loses server name text) (quits_of text (users_at name view.room)) parts (forgotten name) (λ _. refl) (λ _. refl) refl
+    loss_lines = lines_of (loses server name text) view.room (quits_of text (users_at name view.room)) parts (forgotten name) (λ _. refl) (λ _. refl) refl
         (sym (deed_served s p t w view takes writer (loses server name text) line says.end says.is_end says.means))
 
     pub loss_goes : GoesOn s t u w other (loses server name text) ((machine s client).sends t p view line u)
@@ -135,29 +140,30 @@ module _ (known : IsKnownOfLines) (s : Fixed) (p t u : Name) (w : of_side.Part) 
         (squit_carried known.names server server_named name text name_named doable.by_server.told) (loses server name text) (a_deed (loses server name text) ∷ []) line client
         refl meant doable loss_lines
 
-  -- ---- a channel all of whose members are far
+  -- ---- a channel with a member that is far
 
   abbrev far : Name → Bool
   far = is_behind_link other.routes (number s t)
 
-  far_members : (folds : List (List ℕ)) → AllByRecursion (λ fold. IsOfFar s w (home_under w.hall.room fold)) folds
-      → list_all (home_passes far w.hall.room.users) folds ≡ true
-  far_members [] all = refl
-  far_members (fold ∷ folds) all =
-      both (home_passes far w.hall.room.users fold) _ (by (row w.hall.room.users fold) refl all.0) (far_members folds all.1)
+  far_members : (folds : List (List ℕ)) → IsOneOfFar s w folds → list_any (home_passes far w.hall.room.users) folds ≡ true
+  far_members [] none = absurd none
+  far_members (fold ∷ folds) (inr later) =
+      or_so (home_passes far w.hall.room.users fold) (list_any (home_passes far w.hall.room.users) folds) (far_members folds later)
+  far_members (fold ∷ folds) (inl now) =
+      ap (λ b. b || list_any (home_passes far w.hall.room.users) folds) (by (row w.hall.room.users fold) refl now)
     where
       by : (o : Option User) → row w.hall.room.users fold ≡ o → IsOfFar s w (option_map (λ (user : User). user.home) o)
           → option_map_or (λ (user : User). is_behind_link other.routes (number s t) user.home) o false ≡ true
       by None at none = absurd none
       by (Some user) at some = far_behind user.home (sound.at_known fold user at) some
 
-  far_channel : (channel : List ℕ) → IsFarChannel s w channel → all_far far w.hall.room channel ≡ true
-  far_channel channel is = by (row w.hall.room.channels (key channel)) is.members
+  far_channel : (channel : List ℕ) → IsFarChannel s w channel → some_far far w.hall.room channel ≡ true
+  far_channel channel is = by (row w.hall.room.channels (key channel)) is.some
     where
-      by : (o : Option Channel) → AreOfFar s w o
-          → option_map_or (λ (c : Channel). list_all (home_passes (is_behind_link other.routes (number s t)) w.hall.room.users) (keys c.members)) o false ≡ true
+      by : (o : Option Channel) → HasOneOfFar s w o
+          → option_map_or (λ (c : Channel). list_any (home_passes (is_behind_link other.routes (number s t)) w.hall.room.users) (keys c.members)) o false ≡ true
       by None none = absurd none
-      by (Some c) all = far_members (keys c.members) all
+      by (Some c) one = far_members (keys c.members) one
 
   -- a line is read there as in the whole room
   read_alike : AreReadAlike server far other.room w.hall.room
@@ -174,21 +180,21 @@ module _ (known : IsKnownOfLines) (s : Fixed) (p t u : Name) (w : of_side.Part) 
 
     topic_meant : deeds_meant other.room other.routes (number s t) (message_of topic_written) ≡ Ok (a_deed (tops server channel topic) ∷ [])
     topic_meant =
-        topic_read known.names other.room other.routes (number s t) server server_named server_behind server channel topic by_server.told.named
-        by_server.within.0
+        topic_read known.names other.room other.routes (number s t) server server_named server_behind server channel topic by_server.told.far.named
+        by_server.told.carried
         ∙ ap (λ (deeds : List Deed). Ok (map a_deed deeds))
-        (read_alike.one (tops server channel topic) ∙ ap (λ b. if b then tops server channel topic ∷ [] else []) (far_channel channel by_server.told))
+        (read_alike.one (tops server channel topic) ∙ ap (λ b. if b then tops server channel topic ∷ [] else []) (far_channel channel by_server.told.far))
 
     topic_lines : lines_on (number s u) (neighbour_served s p view line).out ≡ line_text topic_written ∷ []
     unfolding told_by deed_told
-    topic_lines = lines_of (tops server channel topic) (effects_of view.room (tops server channel topic)) topic_written (λ before. before) (λ _. refl) (λ _. refl) refl
+    topic_lines = lines_of (tops server channel topic) view.room (effects_of view.room (tops server channel topic)) topic_written (λ before. before) (λ _. refl) (λ _. refl) refl
         (sym (deed_served s p t w view takes writer (tops server channel topic) line says.end says.is_end says.means))
 
     pub topic_goes : GoesOn s t u w other (tops server channel topic) ((machine s client).sends t p view line u)
     topic_goes = beside.goes_on s p t u w view other takes next apart writer reader known topic_written
-        (topic_plain known.names server server_named channel topic by_server.told.named by_server.within.0)
-        (topic_whole known.names server server_named channel topic by_server.told.named by_server.within.0)
-        (topic_carried known.names server server_named channel topic by_server.told.named by_server.within.0)
+        (topic_plain known.names server server_named channel topic by_server.told.far.named by_server.told.carried)
+        (topic_whole known.names server server_named channel topic by_server.told.far.named by_server.told.carried)
+        (topic_carried known.names server server_named channel topic by_server.told.far.named by_server.told.carried)
         (tops server channel topic) (a_deed (tops server channel topic) ∷ []) line client refl topic_meant by_server topic_lines
 
   -- ---- modes
@@ -209,7 +215,7 @@ module _ (known : IsKnownOfLines) (s : Fixed) (p t u : Name) (w : of_side.Part) 
 
     modes_lines : lines_on (number s u) (neighbour_served s p view line).out ≡ line_text modes_written ∷ []
     unfolding told_by deed_told
-    modes_lines = lines_of (sets server channel changes) (effects_of view.room (sets server channel changes)) modes_written (λ before. before) (λ _. refl) (λ _. refl)
+    modes_lines = lines_of (sets server channel changes) view.room (effects_of view.room (sets server channel changes)) modes_written (λ before. before) (λ _. refl) (λ _. refl)
         refl (sym (deed_served s p t w view takes writer (sets server channel changes) line says.end says.is_end says.means))
 
     pub modes_go : GoesOn s t u w other (sets server channel changes) ((machine s client).sends t p view line u)
@@ -266,19 +272,27 @@ module _ (known : IsKnownOfLines) (s : Fixed) (p t u : Name) (w : of_side.Part) 
             by None is = refl
             by (Some user) is = same_some user.nick member.0 is
 
+    -- all of them are new there, whichever spelling it has of the channel
+    new_there : AllByRecursion (λ (member : List ℕ × Flags). home_passes far other.room.users (key member.0) ≡ true) members
+        → new_members far other.room channel members ≡ members
+    new_there homes =
+        sym (new_titled far channel members other.room)
+        ∙ all_new far other.room.users channel members (titled_by channel other.room) (titled_by channel w.hall.room)
+        (alike_are_respelled_alike channel other.room w.hall.room rooms) refl by_bringer.each homes
+
     members_meant : deeds_meant other.room other.routes (number s t) (message_of members_written) ≡ Ok (a_deed (brings server channel members) ∷ [])
     members_meant =
         members_read known.names other.room other.routes (number s t) server server_named server_behind channel members told_members.named told_members.some
         nicks told_members.few
         ∙ ap (λ (deeds : List Deed). Ok (map a_deed deeds))
         (ap (λ more. brought server channel (map (as_stored other.room) more))
-        (all_new far other.room.users channel members other.room w.hall.room rooms refl by_bringer.each (homes_far members told_members.each))
+        (new_there (homes_far members told_members.each))
         ∙ ap (brought server channel) (spelled members told_members.each)
         ∙ brought_some server channel members told_members.some)
 
     members_lines : lines_on (number s u) (neighbour_served s p view line).out ≡ line_text members_written ∷ []
     unfolding told_by deed_told
-    members_lines = lines_of (brings server channel members) (effects_of view.room (brings server channel members)) members_written (λ before. before) (λ _. refl)
+    members_lines = lines_of (brings server channel members) (titled view.room (brings server channel members)) (effects_of view.room (brings server channel members)) members_written (λ before. before) (λ _. refl)
         (λ _. refl) refl (sym (deed_served s p t w view takes writer (brings server channel members) line says.end says.is_end says.means))
 
     pub members_go : GoesOn s t u w other (brings server channel members) ((machine s client).sends t p view line u)

@@ -5,7 +5,7 @@ use Rattle.std.proofs.lemmas.Bool.{and_from, le-leb}
 use Rattle.std.proofs.lemmas.Bool.Decides.{nat_tests}
 use Rattle.std.specs.Cmp.{first_so, second_so}
 use Rattle.std.specs.FinMap.{keys}
-use Rattle.std.specs.List.{list_all, AllByRecursion}
+use Rattle.std.specs.List.{list_all, list_any, AllByRecursion}
 use Rattle.std.specs.Option.{option_map_or}
 use Rattle.irc_line.specs.Bytes.{has_nul}
 use Rattle.irc_line.specs.Laws.{WrittenIsRead, IsReadSoAlone}
@@ -35,7 +35,7 @@ use Rattle.irc_room.specs.Readers.{home_under}
 use Rattle.irc_room.specs.Room.{Room}
 use Rattle.irc_room.specs.Seen.{names_member}
 use Rattle.irc_room.specs.Sendable.{IsSentChange}
-use Rattle.irc_merge.specs.BurstRead.{all_far, brought, new_members, read_deed}
+use Rattle.irc_merge.specs.BurstRead.{brought, new_members, read_deed, some_far}
 use Rattle.irc_merge.specs.Bursts.{home_passes, members_a_line}
 use Rattle.irc_merge.specs.Deeds.{Deed, brings, sets, tops}
 use Rattle.irc_routes.specs.Known.{Known}
@@ -191,20 +191,20 @@ module _ (names : NamesAreLineWords) (room : Room) (routes : Known) (link : ℕ)
       ap (λ b. if b then far server else (if is_nick server then option_map_or far (reader.home server) true else true)) named_so
       ∙ behind
 
-  -- a channel all of whose members are behind the link
+  -- a channel with a member behind the link
   passed : (o : Option User) → option_map_or far (option_map (λ (user : User). user.home) o) false ≡ option_map_or (λ (user : User). far user.home) o false
   passed None = refl
   passed (Some user) = refl
 
-  members_far : (folds : List (List ℕ)) → list_all (λ fold. option_map_or far (home_under room fold) false) folds ≡ list_all (home_passes far room.users) folds
+  members_far : (folds : List (List ℕ)) → list_any (λ fold. option_map_or far (home_under room fold) false) folds ≡ list_any (home_passes far room.users) folds
   members_far [] = refl
-  members_far (fold ∷ folds) = λ i. passed (row room.users fold) i && members_far folds i
+  members_far (fold ∷ folds) = λ i. passed (row room.users fold) i || members_far folds i
 
-  far_channel : (channel : List ℕ) → reader.is_far_channel channel ≡ all_far far room channel
+  far_channel : (channel : List ℕ) → reader.has_far channel ≡ some_far far room channel
   far_channel channel = by (row room.channels (key channel))
     where
-      by : (o : Option Channel) → option_map_or (λ (c : Channel). list_all (λ fold. option_map_or far (home_under room fold) false) (keys c.members)) o false
-          ≡ option_map_or (λ (c : Channel). list_all (home_passes far room.users) (keys c.members)) o false
+      by : (o : Option Channel) → option_map_or (λ (c : Channel). list_any (λ fold. option_map_or far (home_under room fold) false) (keys c.members)) o false
+          ≡ option_map_or (λ (c : Channel). list_any (home_passes far room.users) (keys c.members)) o false
       by None = refl
       by (Some c) = members_far (keys c.members)
 
@@ -212,15 +212,15 @@ module _ (names : NamesAreLineWords) (room : Room) (routes : Known) (link : ℕ)
   either_read : (parameters spelled : Bool) (channel : List ℕ) (effect : By → Effect) (deed : Deed) → parameters ≡ true → spelled ≡ true
       → collided routes.name room (Some server) (effect by.Home) ≡ deed ∷ []
       → effects_told routes.name room (Some server) (first_fault (of_either reader server parameters spelled channel effect))
-      ≡ Ok (map a_deed (if all_far far room channel then deed ∷ [] else []))
+      ≡ Ok (map a_deed (if some_far far room channel then deed ∷ [] else []))
   either_read parameters spelled channel effect deed parameters_so spelled_so is =
       ap (effects_told routes.name room (Some server))
       (all_checked parameters (may_come reader server) ((is_nick server || is_server server) && spelled) _ parameters_so comes
       (and_from (is_nick server || is_server server) spelled (or_so (is_nick server) (is_server server) named_so) spelled_so)
       ∙ ap Ok
-      (ap (λ b. if b then (if reader.is_far_channel channel then effect by.Home ∷ [] else []) else if_there reader (effect (by.User server))) named_so
+      (ap (λ b. if b then (if reader.has_far channel then effect by.Home ∷ [] else []) else if_there reader (effect (by.User server))) named_so
       ∙ ap (λ b. if b then effect by.Home ∷ [] else []) (far_channel channel)))
-      ∙ told_so (all_far far room channel)
+      ∙ told_so (some_far far room channel)
     where
       told_so : (b : Bool) → effects_told routes.name room (Some server) (Ok (if b then effect by.Home ∷ [] else []))
           ≡ Ok (map a_deed (if b then deed ∷ [] else []))

@@ -1,8 +1,8 @@
 -- What a server that fits its side makes of one line of a burst, by which a server of the other side tells of that: it says its deed, or it stands aside.
-use Rattle.std.proofs.Common.{◌≡◌, ◌≢◌, ◌⊎◌, inl, inr, ℕ, ◌+◌, ◌≤◌, ◌<◌, suc, Bool, true, false, not, is_some, Option, Some, None, Ok, List, [], ◌∷◌, arith, length, map, nat_eq, option_map, unwrap_or, refl, sym, ◌∙◌, ap, subst, if◌then◌else◌}
-use Rattle.std.proofs.lemmas.Bool.{and_parts, eq-eqb, eqb-true}
+use Rattle.std.proofs.Common.{◌≡◌, ◌≢◌, ◌⊎◌, inl, inr, ℕ, ◌+◌, ◌≤◌, ◌<◌, suc, Bool, true, false, not, ◌||◌, is_some, Option, Some, None, Ok, List, [], ◌∷◌, arith, length, map, nat_eq, option_map, unwrap_or, refl, sym, ◌∙◌, ap, subst, if◌then◌else◌}
+use Rattle.std.proofs.lemmas.Bool.{eq-eqb, eqb-true}
 use Rattle.std.specs.FinMap.{keys}
-use Rattle.std.specs.List.{list_all, AllByRecursion}
+use Rattle.std.specs.List.{list_any, AllByRecursion}
 use Rattle.std.specs.Option.{option_map_or, IfSome}
 use Rattle.irc_line.specs.Lines.{IsLine}
 use Rattle.irc_line.specs.Messages.{IsPlain, Written, line_text, message_of}
@@ -14,10 +14,8 @@ use Rattle.irc_users.specs.declared.user.User.{User}
 use Rattle.irc_channels.specs.declared.channel.Channel.{Channel}
 use Rattle.irc_channels.specs.declared.flags.Flags.{Flags}
 use Rattle.irc_modes.specs.declared.modes.ModeChange.{ModeChange}
-use Rattle.irc_room.specs.effect.By.TheVariants as by
-use Rattle.irc_room.specs.effect.Effect.TheVariants.{AddUser, ChangeModes, SetTopic}
+use Rattle.irc_room.specs.effect.Effect.TheVariants.{AddUser}
 use Rattle.irc_room.specs.Effects.{brings_free}
-use Rattle.irc_room.specs.InTurn.{EachInTurn}
 use Rattle.irc_room.specs.Laws.{IsWhole}
 use Rattle.irc_room.specs.Limits.{IsUserWithin, IsWithinLimits}
 use Rattle.irc_room.specs.OtherInvitations.{AreAlike}
@@ -27,10 +25,10 @@ use Rattle.irc_room.specs.Sendable.{IsStoredNick}
 use Rattle.irc_room.specs.Lemmas.Rows.{same_some}
 use Rattle.irc_room.specs.Lemmas.AlikeLaw.{alike_have_alike, alike_stay_alike, alike_take_alike}
 use Rattle.irc_merge.specs.AsideInvitations.{AreReadAlike}
-use Rattle.irc_merge.specs.BurstRead.{all_far, brought, new_members}
+use Rattle.irc_merge.specs.BurstRead.{some_far, brought, new_members}
 use Rattle.irc_merge.specs.Bursts.{home_passes}
-use Rattle.irc_merge.specs.CanBeDone.{DoesSomething}
-use Rattle.irc_merge.specs.Deeds.{Deed, does, brings, sets, tops}
+use Rattle.irc_merge.specs.Deeds.{Deed, does, brings, sets, tops, is_greater_topic, raised_in}
+use Rattle.irc_merge.proofs.CanBeDone.{changes_do, greater_does, some_there}
 use Rattle.irc_merge.proofs.LookingAside.{alike_read_alike}
 use Rattle.irc_relay.specs.Distances.{IsAmong}
 use Rattle.irc_relay.specs.Lemmas.TellingNames.{Telling, alike, unlike, tell, same_when}
@@ -55,7 +53,7 @@ use Rattle.irc_wire.specs.ReadBack.{IsReadable}
 use Rattle.irc_follow.specs.AtRest.{AreRight}
 use Rattle.irc_follow.specs.Fits.{Fits}
 use Rattle.irc_follow.specs.Part.{Fixed, Part, info_in, number, IsFixed, IsSoundPart}
-use Rattle.irc_follow.specs.Says.{Aside, AreOfFar, IsDoableEffect, IsFar, IsNothing, IsOfFar, IsToldMember, Says}
+use Rattle.irc_follow.specs.Says.{Aside, HasOneOfFar, IsDoableEffect, IsFar, IsNothing, IsOfFar, IsOneOfFar, IsToldMember, Says}
 use Rattle.irc_follow.specs.Tree.{Shape, shape, shape_in, IsSoundTree}
 use Rattle.irc_follow.proofs.BehindLinks.{row_is_there}
 use Rattle.irc_follow.proofs.MemberLines.{AreNicks}
@@ -67,6 +65,7 @@ use Rattle.irc_follow.proofs.SaidEffect.{far_is_another, rooms_alike}
 use Rattle.irc_follow.proofs.SaidGainOn.{low_number, low_token_number}
 use Rattle.irc_follow.proofs.SaidOn.{effect_heard}
 use Rattle.irc_follow.proofs.ServerLines.{brought_some, line_heard, members_plain, members_read, members_whole, modes_plain, modes_read, modes_whole, topic_plain, topic_read, topic_whole}
+use Rattle.irc_items.proofs.BurstTaken.{changes_within, topic_within}
 use Rattle.irc_items.proofs.BurstTold.{AreComing, AreTheirChanges, AreTheirMembers, IsTheirMember, IsTheirTopic}
 use Rattle.irc_items.proofs.LinkOver.{IsOver, way_over}
 
@@ -214,101 +213,103 @@ module _ (laws : IsKnownOfLines) (s : Fixed) (b t : Name) (w : Part) (view : Vie
         → Aside s b t w view (line_text (njoin_parts b channel members))
     members_aside none = stands_aside (line_text (njoin_parts b channel members)) members_line (members_heard [] (members_meant [] none))
 
-  -- ---- a channel all of whose members are far, or not
+  -- ---- a channel that has a member who is far, or none
 
-  all_of_far : (folds : List (List ℕ)) → list_all (home_passes far w.hall.room.users) folds ≡ true
-      → AllByRecursion (λ fold. IsOfFar s w (home_under w.hall.room fold)) folds
-  all_of_far [] passes = tt
-  all_of_far (fold ∷ folds) passes =
-      let parts = and_parts (home_passes far w.hall.room.users fold) (list_all (home_passes far w.hall.room.users) folds) passes in
-      (of_far fold parts.0, all_of_far folds parts.1)
+  one_of_far : (folds : List (List ℕ)) → list_any (home_passes far w.hall.room.users) folds ≡ true → IsOneOfFar s w folds
+  one_of_far [] passes = absurd (let e = passes in cc e)
+  one_of_far (fold ∷ folds) passes = by (home_passes far w.hall.room.users fold) refl passes (one_of_far folds)
+    where
+      by : (c : Bool) → home_passes far w.hall.room.users fold ≡ c
+          → (c || list_any (home_passes far w.hall.room.users) folds) ≡ true
+          → (list_any (home_passes far w.hall.room.users) folds ≡ true → IsOneOfFar s w folds)
+          → IsOneOfFar s w (fold ∷ folds)
+      by true first passes later = inl (of_far fold first)
+      by false first passes later = inr (later passes)
 
-  are_of_far : (channel : List ℕ) → all_far far w.hall.room channel ≡ true → AreOfFar s w (row w.hall.room.channels (key channel))
-  are_of_far channel = by (row w.hall.room.channels (key channel))
+  has_one : (channel : List ℕ) → some_far far w.hall.room channel ≡ true → HasOneOfFar s w (row w.hall.room.channels (key channel))
+  has_one channel = by (row w.hall.room.channels (key channel))
     where
       by : (o : Option Channel)
-          → option_map_or (λ (c : Channel). list_all (home_passes (is_behind_link view.routes (number s b)) w.hall.room.users) (keys c.members)) o false ≡ true
-          → AreOfFar s w o
+          → option_map_or (λ (c : Channel). list_any (home_passes (is_behind_link view.routes (number s b)) w.hall.room.users) (keys c.members)) o false ≡ true
+          → HasOneOfFar s w o
       by None passes = absurd (let e = passes in cc e)
-      by (Some c) passes = all_of_far (keys c.members) passes
+      by (Some c) passes = one_of_far (keys c.members) passes
 
   -- ---- modes
 
   module _ (channel : List ℕ) (changes : List ModeChange) (theirs : AreTheirChanges channel changes) where
-    modes_heard : (c : Bool) → all_far far w.hall.room channel ≡ c
+    modes_heard : (c : Bool) → some_far far w.hall.room channel ≡ c
         → heard view (number s b) met.end (read_of (line_text (mode_parts b channel changes)))
         ≡ tells (map a_deed (if c then sets b channel changes ∷ [] else []))
-    modes_heard c all =
+    modes_heard c some =
         heard_so (mode_parts b channel changes) (map a_deed (if c then sets b channel changes ∷ [] else []))
         (modes_plain laws.names b b_named channel changes w.hall.room theirs.named theirs.readable (theirs.sent w.hall.room))
         (modes_whole laws.names b b_named channel changes theirs.named theirs.readable)
         (modes_read laws.names view.room view.routes (number s b) b b_named b_behind b channel changes theirs.named theirs.readable
         ∙ ap (λ (deeds : List Deed). Ok (map a_deed deeds))
-        (read_alike.one (sets b channel changes) ∙ ap (λ d. if d then sets b channel changes ∷ [] else []) all))
+        (read_alike.one (sets b channel changes) ∙ ap (λ d. if d then sets b channel changes ∷ [] else []) some))
 
     modes_line : IsLine (line_text (mode_parts b channel changes))
     modes_line =
         laws.as_line (mode_parts b channel changes)
         (modes_carried laws.names b b_named w.hall.room sound.within channel changes theirs.named (theirs.sent w.hall.room))
 
-    pub modes_said : all_far (is_behind_link view.routes (number s b)) w.hall.room channel ≡ true
-        → EachInTurn DoesSomething w.hall.room (ChangeModes by.Home channel changes ∷ [])
+    pub modes_said : some_far (is_behind_link view.routes (number s b)) w.hall.room channel ≡ true
         → Says s b t w view (sets b channel changes) (line_text (mode_parts b channel changes))
-    modes_said all each = record {
+    modes_said some = record {
       is_line = modes_line;
       end = met.end;
       is_end = met.there;
-      means = modes_heard true all;
+      means = modes_heard true some;
       doable = record {
         known = is.known;
         far = is.far;
-        each = each;
-        within = (theirs.kept, tt);
-        told = record { far = record { named = theirs.named; members = are_of_far channel all }; readable = theirs.readable; sent = theirs.sent w.hall.room };
+        each = changes_do w.hall.room channel (raised_in w.hall.room channel changes) (some_there far w.hall.room channel some);
+        within = changes_within w.hall.room channel changes theirs.kept;
+        told = record { far = record { named = theirs.named; some = has_one channel some }; readable = theirs.readable; sent = theirs.sent w.hall.room };
       };
     }
 
-    pub modes_aside : all_far (is_behind_link view.routes (number s b)) w.hall.room channel ≡ false
+    pub modes_aside : some_far (is_behind_link view.routes (number s b)) w.hall.room channel ≡ false
         → Aside s b t w view (line_text (mode_parts b channel changes))
-    modes_aside not_all = stands_aside (line_text (mode_parts b channel changes)) modes_line (modes_heard false not_all)
+    modes_aside none = stands_aside (line_text (mode_parts b channel changes)) modes_line (modes_heard false none)
 
   -- ---- a topic
 
   module _ (channel topic : List ℕ) (theirs : IsTheirTopic channel topic) where
-    topic_heard : (c : Bool) → all_far far w.hall.room channel ≡ c
+    topic_heard : (c : Bool) → some_far far w.hall.room channel ≡ c
         → heard view (number s b) met.end (read_of (line_text (topic_parts b channel topic)))
         ≡ tells (map a_deed (if c then tops b channel topic ∷ [] else []))
-    topic_heard c all =
+    topic_heard c some =
         heard_so (topic_parts b channel topic) (map a_deed (if c then tops b channel topic ∷ [] else []))
         (topic_plain laws.names b b_named channel topic theirs.named theirs.carried)
         (topic_whole laws.names b b_named channel topic theirs.named theirs.carried)
         (topic_read laws.names view.room view.routes (number s b) b b_named b_behind b channel topic theirs.named theirs.carried
         ∙ ap (λ (deeds : List Deed). Ok (map a_deed deeds))
-        (read_alike.one (tops b channel topic) ∙ ap (λ d. if d then tops b channel topic ∷ [] else []) all))
+        (read_alike.one (tops b channel topic) ∙ ap (λ d. if d then tops b channel topic ∷ [] else []) some))
 
     topic_line : IsLine (line_text (topic_parts b channel topic))
     topic_line = laws.as_line (topic_parts b channel topic) (topic_carried laws.names b b_named channel topic theirs.named theirs.carried)
 
-    pub topic_said : all_far (is_behind_link view.routes (number s b)) w.hall.room channel ≡ true
-        → EachInTurn DoesSomething w.hall.room (SetTopic by.Home channel topic ∷ [])
+    pub topic_said : some_far (is_behind_link view.routes (number s b)) w.hall.room channel ≡ true
         → Says s b t w view (tops b channel topic) (line_text (topic_parts b channel topic))
-    topic_said all each = record {
+    topic_said some = record {
       is_line = topic_line;
       end = met.end;
       is_end = met.there;
-      means = topic_heard true all;
+      means = topic_heard true some;
       doable = record {
         known = is.known;
         far = is.far;
-        each = each;
-        within = (theirs.carried, tt);
-        told = record { named = theirs.named; members = are_of_far channel all };
+        each = greater_does w.hall.room channel topic (some_there far w.hall.room channel some) (is_greater_topic w.hall.room channel topic);
+        within = topic_within channel topic theirs.carried (is_greater_topic w.hall.room channel topic);
+        told = record { far = record { named = theirs.named; some = has_one channel some }; carried = theirs.carried };
       };
     }
 
-    pub topic_aside : all_far (is_behind_link view.routes (number s b)) w.hall.room channel ≡ false
+    pub topic_aside : some_far (is_behind_link view.routes (number s b)) w.hall.room channel ≡ false
         → Aside s b t w view (line_text (topic_parts b channel topic))
-    topic_aside not_all = stands_aside (line_text (topic_parts b channel topic)) topic_line (topic_heard false not_all)
+    topic_aside none = stands_aside (line_text (topic_parts b channel topic)) topic_line (topic_heard false none)
 
   -- ---- a user
 

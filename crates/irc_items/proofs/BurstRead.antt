@@ -1,6 +1,6 @@
 -- A burst is read line by line: in the room that the lines before it have left, each line tells of what the other side has. Whoever holds the nickname
 -- of a user who is introduced was there before the burst.
-use Rattle.std.proofs.Common.{◌≡◌, ℕ, ◌≤◌, Bool, true, false, cond, ◌⊎◌, inl, inr, Option, Some, None, List, [], ◌∷◌, ◌++◌, length, map, refl, sym, ◌∙◌, ap, subst, is_some, option_map, arith}
+use Rattle.std.proofs.Common.{◌≡◌, ℕ, ◌≤◌, Bool, true, false, cond, ◌⊎◌, inl, inr, Option, Some, None, List, [], ◌∷◌, ◌++◌, length, map, refl, sym, ◌∙◌, ap, subst, is_some, option_map, arith, if◌then◌else◌}
 use Rattle.std.proofs.lemmas.Bool.{and_parts}
 use Rattle.std.proofs.lemmas.List.{append-nil, length-append}
 use Rattle.std.specs.Bool.{⊤}
@@ -9,12 +9,12 @@ use Rattle.std.specs.List.{flat_map, AllByRecursion}
 use Rattle.std.specs.Option.{option_map_or}
 use Rattle.irc_channels.specs.declared.channel.Channel.{Channel}
 use Rattle.irc_channels.specs.declared.flags.Flags.{Flags}
-use Rattle.irc_follow.proofs.DeedEffects.{members_quiet, users_stay}
-use Rattle.irc_merge.proofs.CanBeDone.{lines_can_be_done}
-use Rattle.irc_merge.specs.BurstRead.{introduced, new_members, brought, all_far, read_deed, read_all}
+use Rattle.irc_follow.proofs.DeedEffects.{changes_quiet, members_quiet, topic_quiet, users_stay}
+use Rattle.irc_merge.proofs.CanBeDone.{deeds_well, lines_can_be_done}
+use Rattle.irc_merge.specs.BurstRead.{introduced, new_members, brought, some_far, read_deed, read_all}
 use Rattle.irc_merge.specs.Bursts.{in_lines, members_a_line, bans_a_line, stored_members, burst, user_deeds, channel_deeds, settings_line}
-use Rattle.irc_merge.specs.CanBeDone.{DoesSomething, IsOfBurst, effects_in_turn}
-use Rattle.irc_merge.specs.Deeds.{Deed, does, kills, brings, sets, tops, member_comes, effects_of, after_deed, after_deeds}
+use Rattle.irc_merge.specs.CanBeDone.{IsOfBurst}
+use Rattle.irc_merge.specs.Deeds.{Deed, does, kills, brings, sets, tops, member_comes, changes_made, raised_in, is_greater_topic, after_deed, after_deeds}
 use Rattle.irc_merge.specs.Laws.{AreApart}
 use Rattle.irc_merge.specs.Lemmas.Introducing.{introductions, told_user}
 use Rattle.irc_merge.specs.Lemmas.TableWords.{true_is, first_there, above_first}
@@ -24,13 +24,11 @@ use Rattle.irc_modes.specs.declared.modes.ModeChange.{ModeChange}
 use Rattle.irc_names.specs.Fold.{key}
 use Rattle.irc_names.specs.Tables.{Table, fold_cmp, row}
 use Rattle.irc_names.specs.TableLaws.{same_fold, one_fold, row-alter}
-use Rattle.irc_room.specs.After.{after}
-use Rattle.irc_room.specs.effect.Effect.TheVariants.{AddUser}
-use Rattle.irc_room.specs.InTurn.{after_all}
-use Rattle.irc_room.specs.InTurnLaws.{after_all-append, each-keeps}
+use Rattle.irc_room.specs.After.{after, titled_by}
+use Rattle.irc_room.specs.effect.By.TheVariants as by
+use Rattle.irc_room.specs.effect.Effect.TheVariants.{AddUser, SetTopic}
 use Rattle.irc_room.specs.Lemmas.Rows.{not_none, not_true}
 use Rattle.irc_room.specs.Lemmas.ViewerLaws.{IsNamed, table_named}
-use Rattle.irc_room.specs.Lemmas.WellFormedLaw.{after_is_well_formed}
 use Rattle.irc_room.specs.Limits.{IsWithinLimits}
 use Rattle.irc_room.specs.Room.{Room, IsWellFormed}
 use Rattle.irc_room.specs.Sendable.{IsStoredNick}
@@ -80,8 +78,8 @@ read_as : (own server : List ℕ) (far : List ℕ → Bool) (other room : Room) 
     → IsReadAs own (read_deed own far room deed)
 read_as own server far other room (does (AddUser user)) told = introduced_one own room user
 read_as own server far other room (brings by channel members) told = brought_one own by channel (new_members far room channel members)
-read_as own server far other room (sets by channel changes) told = if_one own (all_far far room channel) (sets by channel changes) tt
-read_as own server far other room (tops by channel topic) told = if_one own (all_far far room channel) (tops by channel topic) tt
+read_as own server far other room (sets by channel changes) told = if_one own (some_far far room channel) (sets by channel changes) tt
+read_as own server far other room (tops by channel topic) told = if_one own (some_far far room channel) (tops by channel topic) tt
 read_as own server far other room deed told = absurd told.told
 
 pub read_one : (own server : List ℕ) (far : List ℕ → Bool) (other room : Room) (deed : Deed) → IsToldIn server far other room deed
@@ -97,21 +95,12 @@ of_burst server other (sets by channel changes) told = tt
 of_burst server other (tops by channel topic) told = tt
 of_burst server other deed told = absurd told
 
-effects_leave : (room : Room) (deeds : List Deed) → after_all room (effects_in_turn room deeds) ≡ after_deeds room deeds
-unfolding after_deed
-effects_leave room [] = refl
-effects_leave room (deed ∷ deeds) =
-    after_all-append room (effects_of room deed) (effects_in_turn (after_all room (effects_of room deed)) deeds)
-    ∙ effects_leave (after_all room (effects_of room deed)) deeds
-
 pub read_well : (own : List ℕ) (far : List ℕ → Bool) (room : Room) (deed : Deed) → IsOfBurst deed → IsWellFormed room
     → IsWellFormed (after_deeds room (read_deed own far room deed))
 read_well own far room deed is well =
-    let done = lines_can_be_done own far room (deed ∷ []) (is, tt) well in
-    subst IsWellFormed
-    (effects_leave room (read_deed own far room deed ++ []) ∙ ap (after_deeds room) (append-nil (read_deed own far room deed)))
-    (each-keeps DoesSomething IsWellFormed (λ now effect does_it good. after_is_well_formed now effect good does_it.possible) room
-    (effects_in_turn room (read_deed own far room deed ++ [])) done well)
+    let read = read_deed own far room deed ++ [] in
+    subst IsWellFormed (ap (after_deeds room) (append-nil (read_deed own far room deed)))
+    (deeds_well room read (lines_can_be_done own far room (deed ∷ []) (is, tt) well) well)
 
 -- lines about channels bring no user
 brought_users : (room : Room) (server channel : List ℕ) (members : List (List ℕ × Flags))
@@ -119,18 +108,22 @@ brought_users : (room : Room) (server channel : List ℕ) (members : List (List 
 unfolding after_deed
 brought_users room server channel [] = refl
 brought_users room server channel (member ∷ members) =
-    users_stay room (flat_map (member_comes channel) (member ∷ members)) (members_quiet channel (member ∷ members))
+    users_stay (titled_by channel room) (flat_map (member_comes channel) (member ∷ members)) (members_quiet channel (member ∷ members))
 
 set_users : (room : Room) (b : Bool) (server channel : List ℕ) (changes : List ModeChange)
     → (after_deeds room (cond b (sets server channel changes ∷ []) [])).users ≡ room.users
-unfolding after_deed after
-set_users room true server channel changes = refl
+unfolding after_deed
+set_users room true server channel changes =
+    let raised = raised_in room channel changes in
+    users_stay room (changes_made channel raised) (changes_quiet channel raised)
 set_users room false server channel changes = refl
 
 topped_users : (room : Room) (b : Bool) (server channel topic : List ℕ)
     → (after_deeds room (cond b (tops server channel topic ∷ []) [])).users ≡ room.users
-unfolding after_deed after
-topped_users room true server channel topic = refl
+unfolding after_deed
+topped_users room true server channel topic =
+    let greater = is_greater_topic room channel topic in
+    users_stay room (if greater then SetTopic by.Home channel topic ∷ [] else []) (topic_quiet channel topic greater)
 topped_users room false server channel topic = refl
 
 -- whoever is introduced stands in the room where the nickname was free, nobody does where it was held, and all others stay
@@ -169,11 +162,11 @@ read_theirs own server far other room (brings by channel members) told =
     same_theirs far other room (after_deeds room (brought by channel (new_members far room channel members)))
     (brought_users room by channel (new_members far room channel members)) told.theirs
 read_theirs own server far other room (sets by channel changes) told =
-    same_theirs far other room (after_deeds room (cond (all_far far room channel) (sets by channel changes ∷ []) []))
-    (set_users room (all_far far room channel) by channel changes) told.theirs
+    same_theirs far other room (after_deeds room (cond (some_far far room channel) (sets by channel changes ∷ []) []))
+    (set_users room (some_far far room channel) by channel changes) told.theirs
 read_theirs own server far other room (tops by channel topic) told =
-    same_theirs far other room (after_deeds room (cond (all_far far room channel) (tops by channel topic ∷ []) []))
-    (topped_users room (all_far far room channel) by channel topic) told.theirs
+    same_theirs far other room (after_deeds room (cond (some_far far room channel) (tops by channel topic ∷ []) []))
+    (topped_users room (some_far far room channel) by channel topic) told.theirs
 read_theirs own server far other room deed told = absurd told.told
 
 -- ---- all lines

@@ -1,28 +1,32 @@
 -- What a room takes of the lines of a burst: who comes is known there by the same nickname, and each change can be made and does something.
-use Rattle.std.proofs.Common.{◌≡◌, ℕ, ◌≤◌, Bool, true, false, cond, not, Option, Some, None, suc, List, [], ◌∷◌, ◌++◌, length, map, refl, sym, ◌∙◌, ap, subst, is_some, arith}
+use Rattle.std.proofs.Common.{◌≡◌, ℕ, ◌≤◌, Bool, true, false, cond, Option, Some, None, suc, List, [], ◌∷◌, ◌++◌, length, map, refl, sym, ◌∙◌, ap, subst, arith, if◌then◌else◌}
 use Rattle.std.proofs.lemmas.List.{append-nil}
-use Rattle.std.specs.FinMap.{keys}
-use Rattle.std.specs.List.{flat_map, list_all, AllByRecursion}
+use Rattle.std.specs.List.{flat_map, AllByRecursion}
 use Rattle.std.specs.Option.{option_map, option_map_or}
 use Rattle.irc_burst.specs.DeedsMeant.{as_stored}
 use Rattle.irc_channels.specs.declared.channel.Channel.{Channel}
 use Rattle.irc_channels.specs.declared.flags.Flags.{Flags}
 use Rattle.irc_follow.proofs.DeedEffects.{members_quiet, users_stay}
-use Rattle.irc_merge.proofs.CanBeDone.{lines_can_be_done}
+use Rattle.irc_merge.proofs.Bringing.{new_titled}
+use Rattle.irc_merge.proofs.CanBeDone.{members_do}
 use Rattle.irc_merge.proofs.Tests.{and_not}
-use Rattle.irc_merge.specs.BurstRead.{is_new_member, new_members, brought, all_far}
+use Rattle.irc_merge.specs.BurstRead.{is_new_member, new_members}
 use Rattle.irc_merge.specs.Bursts.{home_passes}
-use Rattle.irc_merge.specs.CanBeDone.{DoesSomething, effects_in_turn}
-use Rattle.irc_merge.specs.Deeds.{brings, flag_given, member_comes}
+use Rattle.irc_merge.specs.CanBeDone.{DoesSomething}
+use Rattle.irc_merge.specs.Deeds.{flag_given, member_comes, changes_made, raised_in}
 use Rattle.irc_modes.specs.declared.modes.ModeChange.{ModeChange}
 use Rattle.irc_modes.specs.declared.modes.ModeLetter.{ModeLetter}
 use Rattle.irc_modes.specs.declared.modes.ModeLetter.TheVariants as letter
+use Rattle.irc_modes.specs.declared.modes.Modes.{Modes}
+use Rattle.irc_modes.specs.Modes.{mode_step}
+use Rattle.irc_modes.specs.Raised.{raises, raising}
 use Rattle.irc_names.specs.Fold.{key}
 use Rattle.irc_names.specs.Names.{IsChannel}
 use Rattle.irc_names.specs.Tables.{row}
+use Rattle.irc_room.specs.After.{titled_by}
 use Rattle.irc_room.specs.effect.By.TheVariants as by
-use Rattle.irc_room.specs.effect.Effect.TheVariants.{AddUser, ChangeModes, SetTopic}
-use Rattle.irc_room.specs.Effects.{has_channel, is_member}
+use Rattle.irc_room.specs.effect.Effect.TheVariants.{SetTopic}
+use Rattle.irc_room.specs.Effects.{is_member}
 use Rattle.irc_room.specs.InTurn.{after_all, EachInTurn}
 use Rattle.irc_room.specs.Lemmas.Rows.{not_true, same_some}
 use Rattle.irc_room.specs.Limits.{IsBanCarried, KeepsLimits}
@@ -126,17 +130,13 @@ all_within channel (member ∷ members) named =
     both_all KeepsLimits (member_comes channel member) (flat_map (member_comes channel) members)
     (comes_within channel member named) (all_within channel members named)
 
--- the effects of one line, by the deeds that are read of it
-line_effects : (room : Room) (server channel : List ℕ) (members : List (List ℕ × Flags))
-    → effects_in_turn room (brought server channel members ++ []) ≡ flat_map (member_comes channel) members
-line_effects room server channel [] = refl
-line_effects room server channel (member ∷ members) = append-nil (flat_map (member_comes channel) (member ∷ members))
-
-all_done : (far : List ℕ → Bool) (room : Room) (channel : List ℕ) (members : List (List ℕ × Flags)) → IsWellFormed room
-    → EachInTurn DoesSomething room (flat_map (member_comes channel) (new_members far room channel members))
-all_done far room channel members well =
-    subst (EachInTurn DoesSomething room) (line_effects room [] channel (new_members far room channel members))
-    (lines_can_be_done [] far room (brings [] channel members ∷ []) (tt, tt) well)
+-- who comes is judged in the room before the spelling, and comes in the room behind it
+all_done : (far : List ℕ → Bool) (room : Room) (channel : List ℕ) (members : List (List ℕ × Flags))
+    → EachInTurn DoesSomething (titled_by channel room)
+    (flat_map (member_comes channel) (new_members far room channel members))
+all_done far room channel members =
+    subst (λ come. EachInTurn DoesSomething (titled_by channel room) (flat_map (member_comes channel) come))
+    (new_titled far channel members room) (members_do far channel members (titled_by channel room))
 
 pub members_come : (far : List ℕ → Bool) (other room : Room) (channel : List ℕ) (members : List (List ℕ × Flags)) → IsWellFormed room → IsWellFormed other
     → AreTheirs far other room → AreTheirMembers other channel members → AreComing far room channel (new_members far room channel members)
@@ -148,7 +148,7 @@ members_come far other room channel members well well_other theirs told =
       stored = all_stored far room channel (new_members far room channel members) each;
       far = all_behind far room channel (new_members far room channel members) each;
       few = omega (arith, fewer, few);
-      done = all_done far room channel members well;
+      done = all_done far room channel members;
       within = all_within channel (new_members far room channel members) told.named;
     }
 
@@ -169,31 +169,38 @@ members_spelled far other room channel members well well_other theirs told =
     let come : AreComing far room channel (new_members far room channel members) = members_come far other room channel members well well_other theirs told in
     spelled room (new_members far room channel members) come.stored
 
--- ---- modes, topics and users
+-- ---- modes and topics
 
-far_there : (far : List ℕ → Bool) (room : Room) (channel : List ℕ) → all_far far room channel ≡ true → has_channel room channel ≡ true
-far_there far room channel all = by_row (row room.channels (key channel)) all
+-- of some changes those that raise something are what each of them is
+raising_each : (P : ModeChange → Type 0) (changes : List ModeChange) (modes : Modes) → AllByRecursion P changes
+    → AllByRecursion P (raising changes modes)
+raising_each P [] modes each = tt
+raising_each P (change ∷ changes) modes each =
+    by_test (raises change.plus change.letter change.word modes)
+    (raising_each P changes (mode_step modes change) each.1) (raising_each P changes modes each.1)
   where
-    by_row : (o : Option Channel) → option_map_or (λ (c : Channel). list_all (home_passes far room.users) (keys c.members)) o false ≡ true → is_some o ≡ true
-    by_row None all = all
-    by_row (Some c) all = refl
+    by_test : (b : Bool) → AllByRecursion P (raising changes (mode_step modes change))
+        → AllByRecursion P (raising changes modes)
+        → AllByRecursion P (cond b (change ∷ raising changes (mode_step modes change)) (raising changes modes))
+    by_test true more less = (each.0, more)
+    by_test false more less = less
 
-pub changes_do : (far : List ℕ → Bool) (room : Room) (channel : List ℕ) (changes : List ModeChange) → all_far far room channel ≡ true
-    → EachInTurn DoesSomething room (ChangeModes by.Home channel changes ∷ [])
-changes_do far room channel changes all = record {
-  now = record { possible = record { users_there = refl; channel_there = far_there far room channel all; nick_free = refl }; busy = refl };
-  later = tt;
-}
+abbrev AreKept : List ModeChange → Type 0
+AreKept changes = AllByRecursion (λ (c : ModeChange). IsBanCarried c.letter c.word) changes
 
-pub topic_does : (far : List ℕ → Bool) (room : Room) (channel topic : List ℕ) → all_far far room channel ≡ true
-    → EachInTurn DoesSomething room (SetTopic by.Home channel topic ∷ [])
-topic_does far room channel topic all = record {
-  now = record { possible = record { users_there = refl; channel_there = far_there far room channel all; nick_free = refl }; busy = refl };
-  later = tt;
-}
+pub changes_within : (room : Room) (channel : List ℕ) (changes : List ModeChange) → AreKept changes
+    → AllByRecursion KeepsLimits (changes_made channel (raised_in room channel changes))
+changes_within room channel changes kept = made (raised_in room channel changes) (raised (row room.channels (key channel)))
+  where
+    raised : (o : Option Channel) → AreKept (option_map_or (λ (c : Channel). raising changes c.modes) o [])
+    raised None = tt
+    raised (Some c) = raising_each (λ (change : ModeChange). IsBanCarried change.letter change.word) changes c.modes kept
 
-pub user_does : (room : Room) (user : User) → row room.users (key user.nick) ≡ None → DoesSomething room (AddUser user)
-user_does room user none = record {
-  possible = record { users_there = refl; channel_there = refl; nick_free = ap (λ (o : Option User). not (is_some o)) none };
-  busy = refl;
-}
+    made : (those : List ModeChange) → AreKept those → AllByRecursion KeepsLimits (changes_made channel those)
+    made [] kept = tt
+    made (change ∷ those) kept = (kept, tt)
+
+pub topic_within : (channel topic : List ℕ) → IsCarriedText topic → (greater : Bool)
+    → AllByRecursion KeepsLimits (if greater then SetTopic by.Home channel topic ∷ [] else [])
+topic_within channel topic carried true = (carried, tt)
+topic_within channel topic carried false = tt

@@ -8,6 +8,7 @@ use Rattle.irc_names.specs.Fold.{key}
 use Rattle.irc_names.specs.Names.{IsChannel}
 use Rattle.irc_names.specs.Tables.{row}
 use Rattle.irc_users.specs.declared.user.User.{User}
+use Rattle.irc_room.specs.After.{titled_by}
 use Rattle.irc_room.specs.effect.Effect.TheVariants.{AddUser}
 use Rattle.irc_room.specs.InTurn.{EachInTurn}
 use Rattle.irc_room.specs.Limits.{IsBanCarried, IsCarriedText, IsUserWithin, KeepsLimits}
@@ -56,10 +57,10 @@ IsTold server other deed = ⊥
 abbrev pub AreTheirs : (List ℕ → Bool) → Room → Room → Type 0
 AreTheirs far other room = (fold : List ℕ) (user : User) → row room.users fold ≡ Some user → far user.home ≡ true → row other.users fold ≡ Some user
 
--- those of some members who come to a channel
+-- those of some members who come to a channel, once that is spelled as their line has it
 pub record AreComing (behind : List ℕ → Bool) (room : Room) (channel : List ℕ) (members : List (List ℕ × Flags)) : Type 0 where
   pub stored : AllByRecursion (λ (m : List ℕ × Flags). IsStoredNick room m.0) members
   pub far : AllByRecursion (λ (m : List ℕ × Flags). home_passes behind room.users (key m.0) ≡ true) members
   pub few : length members ≤ members_a_line
-  pub done : EachInTurn DoesSomething room (flat_map (member_comes channel) members)
+  pub done : EachInTurn DoesSomething (titled_by channel room) (flat_map (member_comes channel) members)
   pub within : AllByRecursion KeepsLimits (flat_map (member_comes channel) members)

@@ -9,8 +9,10 @@ use Rattle.irc_channels.specs.declared.flags.Flags.{Flags}
 use Rattle.irc_line.specs.Messages.{Written, line_text}
 use Rattle.irc_line.specs.Reading.{read_of}
 use Rattle.irc_modes.specs.declared.modes.ModeChange.{ModeChange}
+use Rattle.irc_room.specs.After.{titled_by}
 use Rattle.irc_room.specs.effect.Effect.{Effect}
 use Rattle.irc_room.specs.effect.Effect.TheVariants.{AddUser, Rename, Quit, Join, Part, Kick, ChangeModes, SetTopic, Say, Invite, UserMode}
+use Rattle.irc_room.specs.Room.{Room}
 use Rattle.irc_room.specs.Seen.{Showing, seen}
 use Rattle.irc_burst.specs.DeedsMeant.{a_deed}
 use Rattle.irc_burst_lines.specs.DeedLines.{deed_parts}
@@ -113,12 +115,14 @@ module _ (client : ℕ) where
 
 -- ---- of what is put out so
 
--- What is put out is what clients are shown of effects in turn, and then a line on all links but that of arrival. The ends of links stay.
+-- What is put out is what clients are shown of effects in turn, done in a room, and then a line on all links but that of arrival. The ends
+-- of links stay.
 pub record IsToldOnce (s : Fixed) (p : Name) (view : View) (after : Served) : Type 0 where
+  pub room : Room
   pub effects : List Effect
   pub parts : Written
   pub ends : after.view.ends ≡ view.ends
-  pub out : after.out ≡ (all_changed effects (in_silence view)).out ++ on_links (but (Some (number s p)) (met_links view.ends)) parts
+  pub out : after.out ≡ (all_changed effects (in_silence (record view { room = room }))).out ++ on_links (but (Some (number s p)) (met_links view.ends)) parts
 
 module _ (s : Fixed) (links : List Link) (p t : Name) (w : of_side.Part) (view : View) (takes : TakesFrom s.streams t p) (fits : Fits s t w view)
     (forest : AreLinkedAlike links w.tree.forest t) where
@@ -126,19 +130,22 @@ module _ (s : Fixed) (links : List Link) (p t : Name) (w : of_side.Part) (view :
   others = but (Some (number s p)) (met_links view.ends)
 
   module _ (after : Served) (told : IsToldOnce s p view after) where
+    abbrev before : Served
+    before = in_silence (record view { room = told.room })
+
     abbrev shown : List Sent
-    shown = (all_changed told.effects (in_silence view)).out
+    shown = (all_changed told.effects before).out
 
     none_closed : closings after.out ≡ []
     none_closed =
         ap closings told.out
-        ∙ closed_behind shown (on_links others told.parts) (closed_by_all told.effects (in_silence view)) (none_closed_on_links others told.parts)
+        ∙ closed_behind shown (on_links others told.parts) (closed_by_all told.effects before) (none_closed_on_links others told.parts)
 
     lines_are : (u : Name) → lines_on (number s u) after.out ≡ lines_on (number s u) (on_links others told.parts)
     lines_are u =
         ap (lines_on (number s u)) told.out
         ∙ lines_behind (number s u) shown (on_links others told.parts)
-        ∙ ap (λ l. l ++ lines_on (number s u) (on_links others told.parts)) (none_by_all (number s u) told.effects (in_silence view))
+        ∙ ap (λ l. l ++ lines_on (number s u) (on_links others told.parts)) (none_by_all (number s u) told.effects before)
 
     to_linked : (u : Name) (line : List ℕ) (lines : List (List ℕ)) → lines_on (number s u) after.out ≡ line ∷ lines → AreLinked links t u
     to_linked u line lines is = by (nat_eq (number s p) (number s u)) refl
@@ -158,7 +165,7 @@ module _ (s : Fixed) (links : List Link) (p t : Name) (w : of_side.Part) (view :
         by false away =
             cc (sym (ap (lines_to client) told.out
             ∙ but_links client shown others told.parts
-            ∙ none_in_turn client told.effects (in_silence view)
+            ∙ none_in_turn client told.effects before
             (client_here s p t w view takes fits client ∙ ap (λ b. cond b (get w.hall.clients client) None) away)) ∙ is)
 
     -- nothing is owed to who has named itself, whatever is kept of other servers
@@ -204,18 +211,21 @@ module _ (s : Fixed) (links : List Link) (p t : Name) (w : of_side.Part) (view :
     knows_p : w.tree.knows p ≡ true
     knows_p = met_known s links t w view fits forest p end is_end (teller_is_met view (number s p) end (read_of line) (a_deed deed) [] means)
 
-    deed_goes_well : (effects : List Effect) (parts : Written) → told_of.view.ends ≡ (all_changed effects (in_silence view)).view.ends
-        → told_of.out ≡ (told_on_all (Some (number s p)) parts (all_changed effects (in_silence view))).out
+    deed_goes_well : (room : Room) (effects : List Effect) (parts : Written)
+        → told_of.view.ends ≡ (all_changed effects (in_silence (record view { room = room }))).view.ends
+        → told_of.out ≡ (told_on_all (Some (number s p)) parts (all_changed effects (in_silence (record view { room = room })))).out
         → ((u : Name) → AreLinked links t u → u ≢ p → w.tree.knows u ≡ true) → IsGoodReply s links p t view (neighbour_served s p view line) []
-    deed_goes_well effects parts same_ends same_out known =
+    deed_goes_well room effects parts same_ends same_out known =
+        let before = in_silence (record view { room = room }) in
         told_reply (neighbour_served s p view line)
         (record {
+          room = room;
           effects = effects;
           parts = parts;
-          ends = ap (λ (so : Served). so.view.ends) served_is ∙ same_ends ∙ ends_by_all effects (in_silence view);
+          ends = ap (λ (so : Served). so.view.ends) served_is ∙ same_ends ∙ ends_by_all effects before;
           out = ap (λ (so : Served). so.out) served_is ∙ same_out
-              ∙ ap (λ ends. (all_changed effects (in_silence view)).out ++ on_links (but (Some (number s p)) (met_links ends)) parts)
-              (ends_by_all effects (in_silence view));
+              ∙ ap (λ ends. (all_changed effects before).out ++ on_links (but (Some (number s p)) (met_links ends)) parts)
+              (ends_by_all effects before);
         })
         knows_p known
 
@@ -226,21 +236,22 @@ module _ (s : Fixed) (links : List Link) (p t : Name) (w : of_side.Part) (view :
       → OthersAreKnown → IsGoodReply s links p t view (neighbour_served s p view line) []
   unfolding told_by deed_told
   brings_goes_well server channel members line says known =
-      deed_goes_well (brings server channel members) line says.end says.is_end says.means (effects_of view.room (brings server channel members))
+      deed_goes_well (brings server channel members) line says.end says.is_end says.means (titled_by channel view.room)
+      (effects_of view.room (brings server channel members))
       (deed_parts view.room view.routes (brings server channel members)) refl refl known
 
   pub sets_goes_well : (server channel : List ℕ) (changes : List ModeChange) (line : List ℕ) → Says s p t w view (sets server channel changes) line
       → OthersAreKnown → IsGoodReply s links p t view (neighbour_served s p view line) []
   unfolding told_by deed_told
   sets_goes_well server channel changes line says known =
-      deed_goes_well (sets server channel changes) line says.end says.is_end says.means (effects_of view.room (sets server channel changes))
+      deed_goes_well (sets server channel changes) line says.end says.is_end says.means view.room (effects_of view.room (sets server channel changes))
       (deed_parts view.room view.routes (sets server channel changes)) refl refl known
 
   pub tops_goes_well : (server channel topic : List ℕ) (line : List ℕ) → Says s p t w view (tops server channel topic) line
       → OthersAreKnown → IsGoodReply s links p t view (neighbour_served s p view line) []
   unfolding told_by deed_told
   tops_goes_well server channel topic line says known =
-      deed_goes_well (tops server channel topic) line says.end says.is_end says.means (effects_of view.room (tops server channel topic))
+      deed_goes_well (tops server channel topic) line says.end says.is_end says.means view.room (effects_of view.room (tops server channel topic))
       (deed_parts view.room view.routes (tops server channel topic)) refl refl known
 
   -- One server less is known then, but none that it is linked to.
@@ -248,5 +259,5 @@ module _ (s : Fixed) (links : List Link) (p t : Name) (w : of_side.Part) (view :
       → OthersAreKnown → IsGoodReply s links p t view (neighbour_served s p view line) []
   unfolding told_by deed_told
   loses_goes_well server name text line says known =
-      deed_goes_well (loses server name text) line says.end says.is_end says.means (effects_of view.room (loses server name text))
+      deed_goes_well (loses server name text) line says.end says.is_end says.means view.room (effects_of view.room (loses server name text))
       (deed_parts view.room view.routes (loses server name text)) refl refl known

@@ -4,7 +4,6 @@ use Rattle.std.proofs.Common.{◌≡◌, ◌≢◌, inl, inr, ℕ, true, false, 
 use Rattle.std.specs.Cmp.Lexicographic.{bytes_decides}
 use Rattle.std.specs.FinMap.{get, retain_keys}
 use Rattle.std.specs.List.{AllByRecursion}
-use Rattle.irc_merge.specs.Agreeing.{agree, AgreeTells}
 use Rattle.irc_merge.specs.Deeds.{after_deeds}
 use Rattle.irc_merge.specs.Laws.{BurstReadIsMerge, MergeIsEven, ShownIsMergeShown}
 use Rattle.irc_merge.specs.LimitLaws.{WithinLimitsIsTold}
@@ -39,7 +38,7 @@ use Rattle.irc_items.proofs.LinkedSide.{IsRightAt, end_tokens, fits_side, linked
 use Rattle.irc_items.proofs.LinkSides.{IsReadDeed, deeds_of_link, room_deeds, routes_after, side_after, side_of}
 use Rattle.irc_items.proofs.OtherServers.{same_kept}
 
--- The world before a link is made between two parts that agree. Each line that the one tells of its room is read at the other as what it says, or as the KILL
+-- The world before a link is made between two parts. Each line that the one tells of its room is read at the other as what it says, or as the KILL
 -- of a user there.
 pub record IsLinkedWorld (s : Fixed) (l : Link) (world : World) (routes : Name → Known) : Type 0 where
   pub fixed : IsFixed s
@@ -49,7 +48,6 @@ pub record IsLinkedWorld (s : Fixed) (l : Link) (world : World) (routes : Name �
   pub near_among : IsAmong s.names l.near
   pub far_among : IsAmong s.names l.far
   pub right : AreRight s world.links routes
-  pub agreed : agree (world.hall l.near).room (world.hall l.far).room ≡ true
   pub near_read : AllByRecursion (IsReadDeed l.near) (room_deeds world l.near l.far)
   pub far_read : AllByRecursion (IsReadDeed l.far) (room_deeds world l.far l.near)
   pub after : IsWorld s.settings (link_made world l.near l.far).world
@@ -83,7 +81,6 @@ pub record IsKnownOfLinks : Type 0 where
   pub reads : BurstReadIsMerge
   pub shows : ShownIsMergeShown
   pub even : MergeIsEven
-  pub agree : AgreeTells
   pub told : WithinLimitsIsTold
 
 -- where a server is of a new link
@@ -271,8 +268,7 @@ module _ (s : Fixed) (l : Link) (world : World) (routes : Name → Known) (so : 
     far_room t there =
         room_read s.settings world so.holds l.far l.near far_are.apart known.reads known.told t there
         ∙ ap (of_home t)
-        (sym (known.even (world.hall l.near).room (world.hall l.far).room (so.holds.sound.well_formed l.near) (so.holds.sound.well_formed l.far)
-        ((known.agree (world.hall l.near).room (world.hall l.far).room).0 so.agreed)))
+        (sym (known.even (world.hall l.near).room (world.hall l.far).room (so.holds.sound.well_formed l.near) (so.holds.sound.well_formed l.far)))
 
     module _ (a b t : Name) (view : View) (among : IsAmong s.names t) (here : AreJoined world.links t a) (are_ends : AreEnds l world.links a b) where
       comes : (side_after s l world routes a b).tree.routes t ≡ routes_now t → now.hall t ≡ both
@@ -345,10 +341,10 @@ module _ (s : Fixed) (l : Link) (world : World) (routes : Name → Known) (so : 
       far_comes = far_comes;
       others = others;
       near_seen = λ client t among here home.
-          side_seen known.shows s l world routes so.holds l.near l.far near_are.apart so.near_read client t here home
+          side_seen known.shows known.told s l world routes so.holds l.near l.far near_are.apart so.near_read client t here home
           ∙ near_receives s world l.near l.far so.holds so.homes client t home (λ there. so.apart (sym here ∙ there));
       far_seen = λ client t among there home.
-          side_seen known.shows s l world routes so.holds l.far l.near far_are.apart so.far_read client t there home
+          side_seen known.shows known.told s l world routes so.holds l.far l.near far_are.apart so.far_read client t there home
           ∙ far_receives s world l.near l.far so.holds so.homes client t home (λ here. so.apart (sym here ∙ there));
       aside_seen = λ client t home. aside_receives s world l.near l.far so.holds so.homes client t home;
     }

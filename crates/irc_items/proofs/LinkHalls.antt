@@ -155,7 +155,7 @@ module _ (settings : List Setting) (world : World) (holds : IsWorld settings wor
   room_read reads told t here =
       ap (of_home t)
       (reads a b (λ home. joined world.links home b) (world.hall a).room (world.hall b).room (holds.sound.well_formed a) (holds.sound.well_formed b)
-      (told (world.hall b).room (holds.within b).room) rooms_apart)
+      (told (world.hall a).room (holds.within a).room) (told (world.hall b).room (holds.within b).room) rooms_apart)
       ∙ home_uninvited t (world.hall a).room (world.hall b).room (holds.sound.well_formed a) (holds.sound.well_formed b) elsewhere
     where
       elsewhere : (q : List ℕ) (user : User) → row (world.hall b).room.users q ≡ Some user → is_home t user ≡ false

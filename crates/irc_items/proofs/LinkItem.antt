@@ -32,7 +32,7 @@ use Rattle.irc_items.proofs.LinkComing.{link_comes_to, ComesToLinked, IsKnownOfL
 use Rattle.irc_items.proofs.LinkCount.{told_counted}
 use Rattle.irc_items.proofs.LinkGiven.{link_is_given, meeting}
 use Rattle.irc_items.proofs.LinkRoomTold.{AreRoomLaws}
-use Rattle.irc_items.proofs.LinkRooms.{agreed_so, rooms_meet, AreRooms}
+use Rattle.irc_items.proofs.LinkRooms.{rooms_meet, AreRooms}
 use Rattle.irc_items.proofs.LinkSide.{apart, covers, fixed_here, forest, meet, link_fixed, old_ends, right_here, IsLinkStep}
 use Rattle.irc_items.proofs.LinkSides.{deeds_of_link, routes_after, side_of}
 use Rattle.irc_items.proofs.LinkSound.{link_sound, AreLinkLaws, ComesToOne}
@@ -127,7 +127,6 @@ module _ (laws : AreLinkItemLaws) (net : Network) (sound : IsSound net) (rest : 
     near_among = given_so.meeting.near_among;
     far_among = given_so.meeting.far_among;
     right = right_here laws.link.after_link net new near far given_so;
-    agreed = agreed_so (settings_of net) world near far not_refused;
     near_read = near_rooms.read;
     far_read = far_rooms.read;
     after = given_so.holds_after;

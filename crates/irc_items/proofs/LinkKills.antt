@@ -9,9 +9,9 @@ use Rattle.std.specs.List.{flat_map, AllByRecursion}
 use Rattle.std.specs.Option.{option_and_then, option_map_or}
 use Rattle.irc_channels.specs.declared.channel.Channel.{Channel}
 use Rattle.irc_channels.specs.declared.flags.Flags.{Flags}
-use Rattle.irc_merge.specs.BurstRead.{introduced, new_members, brought, all_far, read_deed, read_all}
+use Rattle.irc_merge.specs.BurstRead.{introduced, new_members, brought, some_far, read_deed, read_all}
 use Rattle.irc_merge.specs.Bursts.{in_lines, members_a_line, bans_a_line, stored_members, burst, channel_deeds, settings_line}
-use Rattle.irc_merge.specs.Deeds.{Deed, does, gains, loses, kills, brings, sets, tops, effects_of, after_deed, after_deeds, shown_by, shown_by_all}
+use Rattle.irc_merge.specs.Deeds.{Deed, does, gains, loses, kills, brings, sets, tops, is_greater_topic, raised_in, titled, effects_of, after_deed, after_deeds, shown_by, shown_by_all}
 use Rattle.irc_merge.specs.Lemmas.Introducing.{met, met_by, is_met, met_well, introductions, other_met}
 use Rattle.irc_merge.specs.Lemmas.TableWords.{true_is, absent}
 use Rattle.irc_merge.specs.Quits.{collision_text}
@@ -42,7 +42,7 @@ use Rattle.irc_stage.specs.RoomMachine.{Clients}
 use Rattle.irc_users.specs.declared.user.User.{User}
 use Rattle.irc_follow.specs.Part.{Fixed, Part, client_sees, done, is_home_of, told_end}
 use Rattle.irc_follow.specs.Says.{play}
-use Rattle.irc_follow.proofs.DeedEffects.{AllQuiet, members_quiet, users_stay}
+use Rattle.irc_follow.proofs.DeedEffects.{AllQuiet, changes_quiet, members_quiet, topic_quiet, users_stay}
 use Rattle.irc_follow.proofs.PartEffects.{same_folds}
 use Rattle.irc_items.proofs.BurstStated.{both_all}
 use Rattle.irc_items.proofs.LinkGains.{clients_left, clients_spared, hall_left, in_hall, read_deed_done}
@@ -238,8 +238,8 @@ if_of_channel false deed is = tt
 -- what is read of them are such lines
 read_of_channel : (own : List ℕ) (far : List ℕ → Bool) (room : Room) (deed : Deed) → IsOfChannel deed → AllByRecursion IsOfChannel (read_deed own far room deed)
 read_of_channel own far room (brings server channel members) is = brought_of_channel server channel (new_members far room channel members)
-read_of_channel own far room (sets server channel changes) is = if_of_channel (all_far far room channel) (sets server channel changes) tt
-read_of_channel own far room (tops server channel topic) is = if_of_channel (all_far far room channel) (tops server channel topic) tt
+read_of_channel own far room (sets server channel changes) is = if_of_channel (some_far far room channel) (sets server channel changes) tt
+read_of_channel own far room (tops server channel topic) is = if_of_channel (some_far far room channel) (tops server channel topic) tt
 read_of_channel own far room deed is = absurd is
 
 all_of_channel : (own : List ℕ) (far : List ℕ → Bool) (deeds : List Deed) → AllByRecursion IsOfChannel deeds → (room : Room)
@@ -263,18 +263,25 @@ all_spared (deed ∷ deeds) all room nick =
 
 quiet_deed : (room : Room) (deed : Deed) → IsOfChannel deed → AllQuiet (effects_of room deed)
 quiet_deed room (brings server channel members) is = members_quiet channel members
-quiet_deed room (sets server channel changes) is = (refl, tt)
-quiet_deed room (tops server channel topic) is = (refl, tt)
+quiet_deed room (sets server channel changes) is = changes_quiet channel (raised_in room channel changes)
+quiet_deed room (tops server channel topic) is = topic_quiet channel topic (is_greater_topic room channel topic)
 quiet_deed room deed is = absurd is
+
+same_users : (room : Room) (deed : Deed) → IsOfChannel deed → (titled room deed).users ≡ room.users
+same_users room (brings server channel members) is = refl
+same_users room (sets server channel changes) is = refl
+same_users room (tops server channel topic) is = refl
+same_users room deed is = absurd is
 
 channels_unseen : (viewer : List ℕ) (deeds : List Deed) → AllByRecursion IsOfChannel deeds → (room : Room) → row room.users (key viewer) ≡ None
     → shown_by_all viewer room deeds ≡ []
 unfolding shown_by after_deed
 channels_unseen viewer [] all room none = refl
-channels_unseen viewer (deed ∷ deeds) all room none = λ i.
-    unseen_along viewer (effects_of room deed) (quiet_deed room deed all.0) room none i
+channels_unseen viewer (deed ∷ deeds) all room none =
+    let nobody = ap (λ us. row us (key viewer)) (same_users room deed all.0) ∙ none in
+    λ i. unseen_along viewer (effects_of room deed) (quiet_deed room deed all.0) (titled room deed) nobody i
     ++ channels_unseen viewer deeds all.1 (after_deed room deed)
-    (ap (λ us. row us (key viewer)) (users_stay room (effects_of room deed) (quiet_deed room deed all.0)) ∙ none) i
+    (ap (λ us. row us (key viewer)) (users_stay (titled room deed) (effects_of room deed) (quiet_deed room deed all.0)) ∙ nobody) i
 
 -- ---- one user is introduced
 

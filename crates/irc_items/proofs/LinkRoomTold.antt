@@ -18,7 +18,7 @@ use Rattle.irc_room.specs.Lemmas.SendingAlike.{alike_keep_limits}
 use Rattle.irc_burst.specs.DeedsMeant.{as_stored}
 use Rattle.irc_burst_lines.specs.DeedLines.{deed_parts}
 use Rattle.irc_link_reader.specs.Reader.{is_behind_link}
-use Rattle.irc_merge.specs.BurstRead.{all_far, brought, new_members, read_all, read_deed}
+use Rattle.irc_merge.specs.BurstRead.{some_far, brought, new_members, read_all, read_deed}
 use Rattle.irc_merge.specs.Bursts.{burst}
 use Rattle.irc_merge.specs.Deeds.{Deed, does, kills, brings, sets, tops, after_deeds}
 use Rattle.irc_relay.specs.Following.{nothing, by_line, aside_line}
@@ -40,7 +40,7 @@ use Rattle.irc_follow.proofs.Followed.{IsKnownOfLine}
 use Rattle.irc_follow.proofs.Places.{one_place}
 use Rattle.irc_items.proofs.BurstLines.{members_aside, members_said, modes_aside, modes_said, new_user_said, topic_aside, topic_said, IsBurstReader, IsNewNeighbour, KnowsBothSides}
 use Rattle.irc_items.proofs.BurstRead.{held_by, AreHeldFirst, AreToldIn, IsHeldFirst, IsToldIn}
-use Rattle.irc_items.proofs.BurstTaken.{changes_do, members_come, members_spelled, topic_does}
+use Rattle.irc_items.proofs.BurstTaken.{members_come, members_spelled}
 use Rattle.irc_items.proofs.BurstTold.{AreComing, AreTheirChanges, AreTheirMembers, IsTheirTopic}
 use Rattle.irc_items.proofs.Collisions.{answers_of, user_collides}
 use Rattle.irc_items.proofs.GoodLines.{MayKill}
@@ -224,32 +224,30 @@ module _ (laws : AreRoomLaws) (s : Fixed) (l : Link) (world : World) (routes : N
               ∙ members_spelled far their_room room channel members told.well (is.holds.sound.well_formed b) told.theirs theirs ∙ e))
 
       modes_one : (channel : List ℕ) (changes : List ModeChange) → IsToldIn b far their_room room (sets b channel changes)
-          → IsReadSo (line_of (sets b channel changes)) (if all_far far room channel then sets b channel changes ∷ [] else [])
-      modes_one channel changes told = by (all_far far room channel) refl
+          → IsReadSo (line_of (sets b channel changes)) (if some_far far room channel then sets b channel changes ∷ [] else [])
+      modes_one channel changes told = by (some_far far room channel) refl
         where
           theirs : AreTheirChanges channel changes
           theirs = told.told.1
 
-          by : (c : Bool) → all_far far room channel ≡ c → IsReadSo (line_of (sets b channel changes)) (if c then sets b channel changes ∷ [] else [])
+          by : (c : Bool) → some_far far room channel ≡ c → IsReadSo (line_of (sets b channel changes)) (if c then sets b channel changes ∷ [] else [])
           by true e = read_said (line_of (sets b channel changes)) (sets b channel changes) tt tt
-              (modes_said laws.sides.handshakes.lines s b t (w hall) view reader channel changes theirs (ap (λ f. all_far f room channel) far_is ∙ e)
-              (changes_do far room channel changes e))
+              (modes_said laws.sides.handshakes.lines s b t (w hall) view reader channel changes theirs (ap (λ f. some_far f room channel) far_is ∙ e))
           by false e = read_aside (line_of (sets b channel changes))
-              (modes_aside laws.sides.handshakes.lines s b t (w hall) view reader channel changes theirs (ap (λ f. all_far f room channel) far_is ∙ e))
+              (modes_aside laws.sides.handshakes.lines s b t (w hall) view reader channel changes theirs (ap (λ f. some_far f room channel) far_is ∙ e))
 
       topic_one : (channel topic : List ℕ) → IsToldIn b far their_room room (tops b channel topic)
-          → IsReadSo (line_of (tops b channel topic)) (if all_far far room channel then tops b channel topic ∷ [] else [])
-      topic_one channel topic told = by (all_far far room channel) refl
+          → IsReadSo (line_of (tops b channel topic)) (if some_far far room channel then tops b channel topic ∷ [] else [])
+      topic_one channel topic told = by (some_far far room channel) refl
         where
           theirs : IsTheirTopic channel topic
           theirs = told.told.1
 
-          by : (c : Bool) → all_far far room channel ≡ c → IsReadSo (line_of (tops b channel topic)) (if c then tops b channel topic ∷ [] else [])
+          by : (c : Bool) → some_far far room channel ≡ c → IsReadSo (line_of (tops b channel topic)) (if c then tops b channel topic ∷ [] else [])
           by true e = read_said (line_of (tops b channel topic)) (tops b channel topic) tt tt
-              (topic_said laws.sides.handshakes.lines s b t (w hall) view reader channel topic theirs (ap (λ f. all_far f room channel) far_is ∙ e)
-              (topic_does far room channel topic e))
+              (topic_said laws.sides.handshakes.lines s b t (w hall) view reader channel topic theirs (ap (λ f. some_far f room channel) far_is ∙ e))
           by false e = read_aside (line_of (tops b channel topic))
-              (topic_aside laws.sides.handshakes.lines s b t (w hall) view reader channel topic theirs (ap (λ f. all_far f room channel) far_is ∙ e))
+              (topic_aside laws.sides.handshakes.lines s b t (w hall) view reader channel topic theirs (ap (λ f. some_far f room channel) far_is ∙ e))
 
       module _ (user : User) (told : IsToldIn b far their_room room (does (AddUser user))) where
         home_far : joined links user.home b ≡ true

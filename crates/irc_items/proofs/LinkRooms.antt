@@ -1,13 +1,10 @@
 -- The rooms of the two sides of a new link: what each reads of the other's.
-use Rattle.std.proofs.Common.{◌≡◌, ◌≤◌, Bool, true, false, not, ◌&&◌, ◌||◌, None, Some, List, length, refl, sym, if◌then◌else◌}
+use Rattle.std.proofs.Common.{◌≤◌, List, length, sym}
 use Rattle.std.specs.List.{AllByRecursion}
-use Rattle.irc_merge.specs.Agreeing.{agree}
 use Rattle.irc_merge.specs.Bursts.{burst}
 use Rattle.irc_merge.specs.Laws.{AreApart}
 use Rattle.irc_relay.specs.Links.{Name, joined, AreJoined}
-use Rattle.irc_world.specs.Refused.{are_peers, disagree, link_refused, no_such_server, refused}
-use Rattle.irc_world.specs.Stepping.{link}
-use Rattle.irc_world.specs.World.{Setting, World, is_server}
+use Rattle.irc_world.specs.World.{Setting, World}
 use Rattle.irc_world.specs.WorldHolds.{IsWorld}
 use Rattle.irc_items.proofs.BurstRead.{AreHeldFirst, AreToldIn, burst_told_in, held_first, no_more_read, reads_deeds}
 use Rattle.irc_items.proofs.LinkHalls.{rooms_apart}
@@ -38,21 +35,3 @@ module _ (settings : List Setting) (world : World) (holds : IsWorld settings wor
     read = reads_deeds t b (λ home. joined world.links home b) (world.hall b).room (world.hall t).room (burst b (world.hall b).room) told;
     held = held_first t b (λ home. joined world.links home b) (world.hall t).room (world.hall b).room (holds.sound.well_formed t) (holds.sound.well_formed b);
   }
-
--- two sides that are not refused for that agree
-pub agreed_so : (settings : List Setting) (world : World) (near far : Name) → refused settings world (link near far) ≡ None
-    → agree (world.hall near).room (world.hall far).room ≡ true
-unfolding refused
-agreed_so settings world near far taken =
-    by (is_server settings near) (is_server settings far) (joined world.links near far) (are_peers settings near far)
-    (agree (world.hall near).room (world.hall far).room) taken
-  where
-    by : (one other two peers agreed : Bool)
-        → (if one && other then (if two || not peers then Some link_refused else (if agreed then None else Some disagree)) else Some no_such_server) ≡ None
-        → agreed ≡ true
-    by true true false true true is = refl
-    by true true false true false is = cc is
-    by true true false false agreed is = cc is
-    by true true true peers agreed is = cc is
-    by true false two peers agreed is = cc is
-    by false other two peers agreed is = cc is

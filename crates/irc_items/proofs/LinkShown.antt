@@ -3,6 +3,7 @@ use Rattle.std.proofs.Common.{◌≡◌, ℕ, true, Option, Some, None, is_some,
 use Rattle.std.specs.FinMap.{get}
 use Rattle.std.specs.List.{AllByRecursion}
 use Rattle.irc_merge.specs.Laws.{ShownIsMergeShown}
+use Rattle.irc_merge.specs.LimitLaws.{WithinLimitsIsTold}
 use Rattle.irc_names.specs.Fold.{key}
 use Rattle.irc_names.specs.Tables.{row}
 use Rattle.irc_relay.specs.Following.{all_done, all_seen}
@@ -23,8 +24,8 @@ use Rattle.irc_items.proofs.LinkedSide.{told_rows}
 
 -- ---- one side
 
-module _ (shows : ShownIsMergeShown) (s : Fixed) (l : Link) (world : World) (routes : Name → Known) (holds : IsWorld s.settings world) (a b : Name)
-    (apart : AreJoined world.links b a → ⊥) (read : AllByRecursion (IsReadDeed a) (room_deeds world a b)) where
+module _ (shows : ShownIsMergeShown) (told : WithinLimitsIsTold) (s : Fixed) (l : Link) (world : World) (routes : Name → Known)
+    (holds : IsWorld s.settings world) (a b : Name) (apart : AreJoined world.links b a → ⊥) (read : AllByRecursion (IsReadDeed a) (room_deeds world a b)) where
   shown_meeting : (client : ℕ) → seen_in (world.hall a).room (room_deeds world a b) (get (world.hall a).clients client)
       ≡ meeting_lines (world.hall a) (world.hall b) (get (world.hall a).clients client)
   shown_meeting client = by (get (world.hall a).clients client) refl
@@ -38,7 +39,8 @@ module _ (shows : ShownIsMergeShown) (s : Fixed) (l : Link) (world : World) (rou
           (client_fares s.settings world holds a b client nick is).seen
           ∙ ap (λ lines. lines ++ end_line (is_some (row (world.hall b).room.users (key nick))))
           (shows a b (λ home. joined world.links home b) (world.hall a).room (world.hall b).room (holds.sound.well_formed a) (holds.sound.well_formed b)
-          (rooms_apart s.settings world holds a b apart) nick user.0 user.1)
+          (told (world.hall a).room (holds.within a).room) (told (world.hall b).room (holds.within b).room) (rooms_apart s.settings world holds a b apart) nick
+          user.0 user.1)
 
   pub side_seen : (client : ℕ) (t : Name) → AreJoined world.links t a → is_home_of s.homes t client ≡ true
       → all_seen (play s client) t (side_of s l world routes t) (deeds_of_link s world routes a b)

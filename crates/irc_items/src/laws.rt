@@ -23,7 +23,6 @@ pub fn given_stays_sound()
     irc_room::laws::names_are_line_words();
     irc_handshake::laws::lines_fit();
     irc_merge::laws::merge_is_even();
-    irc_merge::laws::agree_tells();
     irc_merge::laws::whole_side();
     irc_merge::laws::burst_tells_no_invitation();
     irc_merge::laws::burst_read_is_merge();

@@ -117,7 +117,7 @@ module _ (between : LinkBetweenParts) (even : MergeIsEven) (tells : AgreeTells) 
   one_hall_of_both : merged (world.hall near) (world.hall far) ≡ merged (world.hall far) (world.hall near)
   one_hall_of_both =
       ap (λ room. record { clients = (merged (world.hall near) (world.hall far)).clients; room = room })
-      (even (world.hall near).room (world.hall far).room (sound.well_formed near) (sound.well_formed far) agreed)
+      (even (world.hall near).room (world.hall far).room (sound.well_formed near) (sound.well_formed far))
       ∙ ap (λ clients. record { clients = clients; room = merge (world.hall far).room (world.hall near).room })
       (same_clients (merged (world.hall near) (world.hall far)).clients (merged (world.hall far) (world.hall near)).clients (λ client.
       get-merged (world.hall near) (world.hall far) client

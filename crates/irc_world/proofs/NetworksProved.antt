@@ -14,6 +14,7 @@ use Rattle.irc_room.specs.Examples.{room_after}
 use Rattle.irc_room.specs.Lemmas.ListedRooms.{ListedRoom, room_of, no_list, all_listed}
 use Rattle.irc_room.specs.Lemmas.ExampleRooms.{list_room}
 use Rattle.irc_merge.specs.Agreeing.{agree}
+use Rattle.irc_merge.specs.Bursts.{in_lines}
 use Rattle.irc_merge.specs.Split.{split}
 use Rattle.irc_merge.specs.Lemmas.ListedMerge.{AreInOrder, CanBeListed, list_without}
 use Rattle.irc_stage.specs.declared.clients.Client.{Client}
@@ -95,7 +96,7 @@ meet_agreed =
     ∙ agree_listed als bos als_in_order bos_in_order als_left
 
 pub people_meet : PeopleMeet
-unfolding refused part fold fold_table cut_line line_text
+unfolding refused part fold fold_table cut_line line_text in_lines
 people_meet = record {
   taken = ap (λ b. if b then None else Some disagree) meet_agreed;
   to_al = meet_listed 1;
@@ -354,7 +355,7 @@ sides_agree =
     ∙ agree_listed als_side others_side als_side_in_order others_side_in_order als_side_left
 
 pub link_is_back : LinkIsBack
-unfolding refused step part links_without fold fold_table cut_line line_text
+unfolding refused step part links_without fold fold_table cut_line line_text in_lines
 link_is_back = record {
   taken = ap (λ b. if b then None else Some disagree) sides_agree;
   to_al = back_lines 1;

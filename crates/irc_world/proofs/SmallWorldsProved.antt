@@ -348,7 +348,7 @@ voice_listed_back = record {
 }
 
 pub operator_before_voice : OperatorBeforeVoice
-unfolding step part fold fold_table cut_line line_text
+unfolding step part fold fold_table cut_line line_text in_lines
 operator_before_voice = met ((1, Registered (codes "al")) ∷ []) ((3, Registered (codes "bo")) ∷ []) als_channel bos_voice 1 voice_listed voice_listed_back
 
 abbrev four : ListedRoom

@@ -139,7 +139,7 @@ const THREE: &str = "\
 ";
 
 /// The link between the first two is lost: who was on the other side quits, once, with the near end's name in front. As it is back, each side sees the
-/// other's members come, channel by channel; both sides have the topic, so nobody is told of it.
+/// other's members come, channel by channel. Both sides have the topic, so nobody is told of it, but the middle server passes its line on.
 const LOST_AND_BACK: &str = "\
 > say 1 JOIN #c
 1 :al!u@h JOIN #c
@@ -210,7 +210,7 @@ const LOST_AND_BACK: &str = "\
 3 :c.net MODE #c +o al
 3 :al!u@h JOIN #d
 3 :c.net MODE #d +o al
-= 18
+= 19
 ";
 
 #[test]

@@ -111,7 +111,6 @@ returns c = given_stays_sound (record { rest = c.rest_is_one_room.ensures; world
         reads = c.burst_read_is_merge.ensures;
         shows = c.shown_is_merge_shown.ensures;
         even = c.merge_is_even.ensures;
-        agree = c.agree_tells.ensures;
         told = c.within_limits_is_told.ensures;
       };
       kept = c.keeps_its_setting.ensures;
