@@ -23,7 +23,7 @@ use Rattle.irc_modes.specs.Lemmas.JoinedBans.{rises-joined_bans, find-joined_ban
 use Rattle.irc_modes.specs.Modes.{is_nil, no_modes}
 use Rattle.irc_modes.specs.ModesSet.{AreWithinLimits, set_changes, ban_changes}
 use Rattle.irc_modes.specs.Raised.{raising}
-use Rattle.irc_modes.specs.RaisedLaws.{told, line_raised, raised_is_joined}
+use Rattle.irc_modes.specs.RaisedLaws.{all_set, line_raised, raised_is_joined}
 use Rattle.irc_channels.specs.declared.channel.Channel.{Channel}
 use Rattle.irc_channels.specs.Channels.{new_channel, while_members}
 use Rattle.irc_room.specs.Lemmas.Rows.{not_true, some_key, some_row, no_row, alter_same}
@@ -108,7 +108,7 @@ stored_folded users (e ∷ es) there =
 -- ---- modes and topic, joined
 
 -- the lines of modes say all that is set
-all_mode_lines : (modes : Modes) → joined_lines (mode_lines modes) ≡ told modes
+all_mode_lines : (modes : Modes) → joined_lines (mode_lines modes) ≡ all_set modes
 all_mode_lines modes = by (set_changes modes)
   where
     by : (changes : List ModeChange)
