@@ -2,7 +2,7 @@
 use Rattle.std.specs.Prelude.{Bool, true, false, Option, Some, if◌then◌else◌}
 use Rattle.std.specs.Option.{option_map}
 use Rattle.irc_relay.specs.Links.{Name}
-use Rattle.irc_world.specs.Refused.{Refusal, disagree, link_refused, no_such_client, no_such_server, not_linked}
+use Rattle.irc_world.specs.Refused.{Refusal, link_refused, no_such_client, no_such_server, not_linked}
 use Rattle.irc_world.specs.Stepping.{Item}
 use Rattle.irc_net.specs.declared.fault.NetFault.{NetFault}
 use Rattle.irc_net.specs.declared.fault.NetFault.TheVariants as fault
@@ -15,7 +15,6 @@ fault_by no_such_server = fault.NoSuchServer
 fault_by no_such_client = fault.NoSuchClient
 fault_by not_linked = fault.NotLinked
 fault_by link_refused = fault.LinkRefused
-fault_by disagree = fault.Disagree
 
 -- Nothing is taken while a byte is on its way, or a part of a line has come somewhere.
 unfoldable pub item_fault : ByteNetwork → Item → Option NetFault

@@ -6,8 +6,8 @@ use irc_network::Refusal;
 use std::alloc::AllocError;
 use thiserror::Error;
 
-/// Why a network refuses what it is asked for, in the order in which causes are looked for after [`NetFault::Failed`]; each has its number. The first six
-/// change nothing.
+/// Why a network refuses what it is asked for, in the order in which causes are looked for after
+/// [`NetFault::Failed`]; each has its number, and 6 is none. The first five change nothing.
 #[derive(Clone, Copy, Debug, Drop, Error, PartialEq, Eq)]
 pub enum NetFault {
     /// A byte is on its way between servers, or a part of a line has come.
@@ -25,9 +25,6 @@ pub enum NetFault {
     /// The two servers are in one part already, or do not keep one password for each other.
     #[error("the servers cannot be linked")]
     LinkRefused = 5,
-    /// A channel that is on both sides has another spelling, other modes or another topic there.
-    #[error("the two sides disagree on a channel")]
-    Disagree = 6,
     /// Memory ran out. The network answers [`NetFault::Failed`] from then on.
     #[error("out of memory")]
     Memory = 7,
@@ -60,7 +57,6 @@ impl From<Refusal> for NetFault {
             Refusal::NoSuchClient => NetFault::NoSuchClient,
             Refusal::NotLinked => NetFault::NotLinked,
             Refusal::LinkRefused => NetFault::LinkRefused,
-            Refusal::Disagree => NetFault::Disagree,
         }
     }
 }

@@ -113,7 +113,8 @@ impl Net {
         self.network.network().lines_taken()
     }
 
-    /// Whether two servers agree on all channels that both would have if they were linked; false where no server has one of these names.
+    /// Whether two servers agree on all channels that both would have if they were linked; false
+    /// where no server has one of these names. A link asks for no agreement: it joins what both have.
     pub fn agrees(&self, one: &ServerName, other: &ServerName) -> bool
         ensures { result ≡ do_agree self.now.network.network one.now other.now }
     {
@@ -123,7 +124,7 @@ impl Net {
     /// An item is given. At rest just that is refused which the network as its people know it refuses.
     ///
     /// # Errors
-    /// [`NetFault`]s 1 to 6, with nothing changed, and 7 and 8.
+    /// [`NetFault`]s 1 to 5, with nothing changed, and 7 and 8.
     pub fn item(&mut self, item: Item) -> Result<Answer, NetFault>
         requires line { IsGivable (item_of item) }
         ensures given { IsGiven self.old (item_of item) result self.new }
@@ -257,7 +258,7 @@ impl Net {
         let _ = &self.network;
     }
 
-    /// Does steps one after another. A refusal 1 to 6 is that step's answer.
+    /// Does steps one after another. A refusal 1 to 5 is that step's answer.
     ///
     /// # Errors
     /// [`NetFault::Memory`], [`NetFault::Failed`]: those before it are done, and those behind it are not. Where it is the answers that memory is wanting

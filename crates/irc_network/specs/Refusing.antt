@@ -6,7 +6,7 @@ use Rattle.irc_merge.specs.Agreeing.{agree}
 use Rattle.irc_relay.specs.Links.{Name, joined}
 use Rattle.irc_relay.specs.Links.{linked as are_linked}
 use Rattle.irc_stage.specs.View.{View, password_for}
-use Rattle.irc_world.specs.Refused.{Refusal, are_equal, disagree, link_refused, no_such_client, no_such_server, not_linked}
+use Rattle.irc_world.specs.Refused.{Refusal, are_equal, link_refused, no_such_client, no_such_server, not_linked}
 use Rattle.irc_world.specs.Stepping.{Item, connect, line, gone, link, cut}
 use Rattle.irc_world.specs.World.{home_in}
 use Rattle.irc_network.specs.Network.{Network, server_place, site_view}
@@ -25,11 +25,11 @@ client_fault net client = if is_there net client then None else Some no_such_cli
 abbrev pub are_peers : Name → Name → View → View → Bool
 are_peers one other one_view other_view = are_equal (password_for one_view other) (password_for other_view one)
 
--- The two are in one part, or are no peers; or a channel of both is not the same on both sides.
+-- The two are in one part, or are no peers.
 abbrev pub meeting_fault : Network → Name → Name → View → View → Option Refusal
 meeting_fault net near far near_view far_view =
-    if joined net.links near far || not (are_peers near far near_view far_view) then Some link_refused
-    else (if agree near_view.room far_view.room then None else Some disagree)
+    if joined net.links near far || not (are_peers near far near_view far_view)
+    then Some link_refused else None
 
 abbrev pub link_fault : Network → Name → Name → Option View → Option View → Option Refusal
 link_fault net near far (Some near_view) (Some far_view) = meeting_fault net near far near_view far_view
@@ -54,7 +54,7 @@ fault_at_rest net (gone client) = client_fault net client
 fault_at_rest net (link near far) = link_fault net near far (site_view net near) (site_view net far)
 fault_at_rest net (cut near far) = way_fault net near far
 
--- whether two servers are there, and agree
+-- Whether two servers are there, and agree. Nothing is refused for it.
 abbrev pub are_agreed : Option View → Option View → Bool
 are_agreed (Some one) (Some other) = agree one.room other.room
 are_agreed one other = false

@@ -1,10 +1,10 @@
 -- What the code's items, receipts and refusals say.
 use Rattle.std.specs.Prelude.{List, map}
-use Rattle.irc_world.specs.Refused.{Refusal, disagree, link_refused, no_such_client, no_such_server, not_linked}
+use Rattle.irc_world.specs.Refused.{Refusal, link_refused, no_such_client, no_such_server, not_linked}
 use Rattle.irc_world.specs.Stepping.{Item, connect, line, gone, link, cut}
 use Rattle.irc_network.specs.declared.receipt.Receipt.{Receipt as KeptReceipt}
 use Rattle.irc_network.specs.declared.refusal.Refusal.{Refusal as GivenRefusal}
-use Rattle.irc_network.specs.declared.refusal.Refusal.TheVariants.{NoSuchServer, NoSuchClient, NotLinked, LinkRefused, Disagree}
+use Rattle.irc_network.specs.declared.refusal.Refusal.TheVariants.{NoSuchServer, NoSuchClient, NotLinked, LinkRefused}
 use Rattle.irc_network.specs.declared.item.Item.{Item as GivenItem}
 use Rattle.irc_network.specs.declared.item.Item.TheVariants.{Connect, Line, Gone, Link, Cut}
 use Rattle.irc_network.specs.Network.{Receipt, receipt}
@@ -30,4 +30,3 @@ refusal_of NoSuchServer = no_such_server
 refusal_of NoSuchClient = no_such_client
 refusal_of NotLinked = not_linked
 refusal_of LinkRefused = link_refused
-refusal_of Disagree = disagree

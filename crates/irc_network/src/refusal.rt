@@ -11,6 +11,4 @@ pub enum Refusal {
     NotLinked,
     /// The two servers are in one part already, or do not keep one password for each other.
     LinkRefused,
-    /// A channel that is on both sides has another spelling, other modes or another topic there.
-    Disagree,
 }

@@ -85,7 +85,7 @@ impl Network {
         }
     }
 
-    /// Two servers are not there, are not to be linked, or disagree.
+    /// Two servers are not there, or are not to be linked.
     fn link_fault(&self, near: &ServerName, far: &ServerName) -> Option<Refusal>
         ensures { option_map refusal_of result ≡ linking_fault self.now near.now far.now }
     {
@@ -98,7 +98,7 @@ impl Network {
         }
     }
 
-    /// Two servers are in one part, or are no peers; or a channel of both is not the same on both sides.
+    /// Two servers are in one part, or are no peers.
     fn meeting_fault(&self, one: Party<'_>, other: Party<'_>) -> Option<Refusal>
         requires one { IsPartyOf self.now one.name.now one }
         requires other { IsPartyOf self.now other.name.now other }
@@ -106,14 +106,13 @@ impl Network {
     {
         if self.forest.are_joined(one.place, other.place) || !are_peers(one, other) {
             Some(Refusal::LinkRefused)
-        } else if agree(one.room, other.room) {
-            None
         } else {
-            Some(Refusal::Disagree)
+            None
         }
     }
 
-    /// Whether two servers are there, and agree on all channels that both would have if they were linked.
+    /// Whether two servers are there, and agree on all channels that both would have if they were
+    /// linked. Nothing is refused for it.
     pub fn agrees(&self, one: &ServerName, other: &ServerName) -> bool
         ensures { result ≡ are_agreed (site_view self.now one.now) (site_view self.now other.now) }
     {

@@ -4,7 +4,7 @@ use Rattle.std.specs.List.{flat_map}
 use Rattle.std.specs.Str.{bytes_eq}
 use Rattle.irc_line.specs.Bytes.{crlf, space, line_feed}
 use Rattle.irc_net.specs.declared.fault.NetFault.{NetFault}
-use Rattle.irc_net.specs.declared.fault.NetFault.TheVariants.{NotAtRest, NoSuchServer, NoSuchClient, NotLinked, LinkRefused, Disagree, Memory, Failed}
+use Rattle.irc_net.specs.declared.fault.NetFault.TheVariants.{NotAtRest, NoSuchServer, NoSuchClient, NotLinked, LinkRefused, Memory, Failed}
 use Rattle.irc_net.specs.Faults.{is_refusal}
 use Rattle.irc_net.specs.Network.{Receipt}
 
@@ -27,14 +27,13 @@ count_line count = codes "= " ++ decimal count ++ line_feed ∷ []
 abbrev pub taken_text : ℕ → List Receipt → List ℕ
 taken_text count receipts = flat_map printed receipts ++ count_line count
 
--- the place of a fault among those of a network
+-- The number of a fault of a network. 6 is none.
 abbrev pub fault_number : NetFault → ℕ
 fault_number NotAtRest = 1
 fault_number NoSuchServer = 2
 fault_number NoSuchClient = 3
 fault_number NotLinked = 4
 fault_number LinkRefused = 5
-fault_number Disagree = 6
 fault_number Memory = 7
 fault_number Failed = 8
 

@@ -20,7 +20,6 @@ fn refusal_number(fault: NetFault) -> Option<u64>
         NetFault::NoSuchClient => Some(3),
         NetFault::NotLinked => Some(4),
         NetFault::LinkRefused => Some(5),
-        NetFault::Disagree => Some(6),
         NetFault::Memory | NetFault::Failed => None,
     }
 }

@@ -1,17 +1,23 @@
 -- Small networks, by example: what each client receives when two parts are linked, when a link is lost, and when it is back.
-use Rattle.std.specs.Prelude.{◌≡◌, ℕ, true, false, Some, None, List, [], ◌∷◌, ◌++◌, codes}
+use Rattle.std.specs.Prelude.{◌≡◌, ℕ, true, false, Option, Some, None, List, [], ◌∷◌, ◌++◌, codes}
+use Rattle.std.specs.Option.{option_map}
 use Rattle.std.specs.FinMap.{from_entries}
+use Rattle.irc_names.specs.Fold.{key}
+use Rattle.irc_names.specs.Tables.{row}
 use Rattle.irc_line.specs.Bytes.{crlf}
+use Rattle.irc_modes.specs.declared.modes.ModeLetter.TheVariants as letter
+use Rattle.irc_channels.specs.declared.channel.Channel.{Channel}
 use Rattle.irc_room.specs.effect.By.TheVariants as by
 use Rattle.irc_room.specs.effect.Effect.{Effect}
-use Rattle.irc_room.specs.effect.Effect.TheVariants.{AddUser, Join, SetTopic}
-use Rattle.irc_room.specs.Examples.{room_after, somebody}
-use Rattle.irc_relay.specs.Links.{Link}
+use Rattle.irc_room.specs.effect.Effect.TheVariants.{AddUser, Join, ChangeModes, SetTopic}
+use Rattle.irc_room.specs.Examples.{room_after, somebody, set}
+use Rattle.irc_merge.specs.Examples.{modes_written}
+use Rattle.irc_relay.specs.Links.{Name, Link}
 use Rattle.irc_stage.specs.declared.clients.Client.{Client}
 use Rattle.irc_stage.specs.declared.clients.Client.TheVariants.{Registered}
 use Rattle.irc_world.specs.World.{Setting, Hall, World, new_world, with_hall}
 use Rattle.irc_world.specs.Stepping.{line, link, cut, Stepped, step}
-use Rattle.irc_world.specs.Refused.{refused, disagree, no_such_client}
+use Rattle.irc_world.specs.Refused.{refused, no_such_client}
 use Rattle.irc_world.specs.Examples.{with_peers, peer}
 
 -- a.net, b.net and c.net; b.net is a peer of both others
@@ -77,25 +83,73 @@ pub record PeopleMeet : Type 0 where
       ≡ (codes ":al!u@h JOIN #c" ++ crlf) ∷ (codes ":b.net MODE #c +o al" ++ crlf) ∷ []
   pub to_cy : (step three_peers (two_apart als_people bos_people) (link (codes "a.net") (codes "b.net"))).lines 4 ≡ []
 
--- ---- two rooms that differ
+-- ---- two sides that differ
 
--- as before, and each of the two has given its #c a topic
-abbrev pub als_topic : List Effect
-als_topic = on_a (codes "al") ∷ on_a (codes "an") ∷ Join (codes "al") (codes "#c") true ∷ SetTopic (by.User (codes "al")) (codes "#c") (codes "hello") ∷ []
+-- as before, and al's #c has modes s and k and a topic, bo's n and another key
+abbrev pub als_settings : List Effect
+als_settings =
+    on_a (codes "al") ∷ on_a (codes "an") ∷ Join (codes "al") (codes "#c") true
+    ∷ ChangeModes (by.User (codes "al")) (codes "#c")
+    (set letter.Secret None ∷ set letter.Key (Some (codes "aa")) ∷ [])
+    ∷ SetTopic (by.User (codes "al")) (codes "#c") (codes "x") ∷ []
 
-abbrev pub bos_topic : List Effect
-bos_topic = on_b (codes "bo") ∷ on_b (codes "cy") ∷ Join (codes "bo") (codes "#c") true ∷ SetTopic (by.User (codes "bo")) (codes "#c") (codes "goodbye") ∷ []
+abbrev pub bos_settings : List Effect
+bos_settings =
+    on_b (codes "bo") ∷ on_b (codes "cy") ∷ Join (codes "bo") (codes "#c") true
+    ∷ ChangeModes (by.User (codes "bo")) (codes "#c")
+    (set letter.NoOutside None ∷ set letter.Key (Some (codes "bb")) ∷ []) ∷ []
 
 abbrev pub als_room : Hall
-als_room = hall_after als_clients als_topic
+als_room = hall_after als_clients als_settings
 
 abbrev pub bos_room : Hall
-bos_room = hall_after bos_clients bos_topic
+bos_room = hall_after bos_clients bos_settings
 
--- Two servers whose rooms have one channel with two topics are not linked, whichever of them connects.
-pub record TopicsDiffer : Type 0 where
-  pub from_a : refused three_peers (two_apart als_room bos_room) (link (codes "a.net") (codes "b.net")) ≡ Some disagree
-  pub from_b : refused three_peers (two_apart als_room bos_room) (link (codes "b.net") (codes "a.net")) ≡ Some disagree
+-- the two linked, a.net connecting, and b.net
+abbrev pub a_connects : Stepped
+a_connects = step three_peers (two_apart als_room bos_room) (link (codes "a.net") (codes "b.net"))
+
+abbrev pub b_connects : Stepped
+b_connects = step three_peers (two_apart als_room bos_room) (link (codes "b.net") (codes "a.net"))
+
+-- what al sees, and what bo
+abbrev pub bo_comes : List (List ℕ)
+bo_comes =
+    (codes ":bo!u@h JOIN #c" ++ crlf) ∷ (codes ":a.net MODE #c +o bo" ++ crlf)
+    ∷ (codes ":a.net MODE #c +nk bb" ++ crlf) ∷ []
+
+abbrev pub al_comes : List (List ℕ)
+al_comes =
+    (codes ":al!u@h JOIN #c" ++ crlf) ∷ (codes ":b.net MODE #c +o al" ++ crlf)
+    ∷ (codes ":b.net MODE #c +s" ++ crlf) ∷ (codes ":b.net TOPIC #c :x" ++ crlf) ∷ []
+
+-- the modes of #c at a server, with their parameters, and its topic
+abbrev pub modes_at : Stepped → Name → Option (List (List ℕ))
+modes_at stepped server =
+    option_map modes_written (row (stepped.world.hall server).room.channels (key (codes "#c")))
+
+abbrev pub topic_at : Stepped → Name → Option (List ℕ)
+topic_at stepped server =
+    option_map (λ (c : Channel). c.topic)
+    (row (stepped.world.hall server).room.channels (key (codes "#c")))
+
+-- Nothing that is set on either side is lost, and of two keys the greater is taken. The members of
+-- #c see what theirs had not; whichever of the two servers connects, it is the same.
+pub record SidesAreJoined : Type 0 where
+  pub taken :
+      refused three_peers (two_apart als_room bos_room) (link (codes "a.net") (codes "b.net")) ≡ None
+  pub to_al : a_connects.lines 1 ≡ bo_comes
+  pub to_an : a_connects.lines 2 ≡ []
+  pub to_bo : a_connects.lines 3 ≡ al_comes
+  pub to_cy : a_connects.lines 4 ≡ []
+  pub modes_here : modes_at a_connects (codes "a.net") ≡ Some (codes "+nsk" ∷ codes "bb" ∷ [])
+  pub modes_there : modes_at a_connects (codes "b.net") ≡ Some (codes "+nsk" ∷ codes "bb" ∷ [])
+  pub topic_there : topic_at a_connects (codes "b.net") ≡ Some (codes "x")
+  pub taken_back :
+      refused three_peers (two_apart als_room bos_room) (link (codes "b.net") (codes "a.net")) ≡ None
+  pub back_to_al : b_connects.lines 1 ≡ bo_comes
+  pub back_to_bo : b_connects.lines 3 ≡ al_comes
+  pub modes_back : modes_at b_connects (codes "a.net") ≡ Some (codes "+nsk" ∷ codes "bb" ∷ [])
 
 -- ---- a nickname on both sides
 
@@ -175,7 +229,7 @@ pub record LinkIsLost : Type 0 where
   pub to_bo : cut_off.lines 2 ≡ (codes ":al!u@h QUIT :b.net a.net" ++ crlf) ∷ []
   pub to_cy : cut_off.lines 3 ≡ (codes ":al!u@h QUIT :b.net a.net" ++ crlf) ∷ []
 
--- The link is back: each side sees those of the other come to #c and #d. No topic is told, since both sides have it.
+-- The link is back: each side sees those of the other come to #c and #d. No topic is seen, since both sides have it.
 pub record LinkIsBack : Type 0 where
   pub taken : refused three_peers cut_off.world (link (codes "a.net") (codes "b.net")) ≡ None
   pub to_al : back_again.lines 1

@@ -5,7 +5,6 @@ use Rattle.std.specs.Option.{option_and_then, option_map}
 use Rattle.std.specs.FinMap.{get}
 use Rattle.irc_relay.specs.Links.{Name, same, joined}
 use Rattle.irc_relay.specs.Links.{linked as are_linked}
-use Rattle.irc_merge.specs.Agreeing.{agree}
 use Rattle.irc_stage.specs.declared.clients.Client.{Client}
 use Rattle.irc_stage.specs.View.{KnownPeer}
 use Rattle.irc_world.specs.World.{Setting, World, setting_of, is_server, home_of}
@@ -20,8 +19,6 @@ pub data Refusal : Type 0 where
   not_linked : Refusal
   -- the two are joined already, or one is no peer of the other, or they keep different passwords for each other
   link_refused : Refusal
-  -- a channel that is on both sides has different modes, topics or spellings there
-  disagree : Refusal
 
 -- the client of a number, while it is connected
 abbrev pub open_client : World → ℕ → Option Client
@@ -41,11 +38,11 @@ are_equal one other = false
 abbrev pub are_peers : List Setting → Name → Name → Bool
 are_peers settings one other = are_equal (password_for settings one other) (password_for settings other one)
 
--- why two servers that are there are not linked
+-- Why two servers that are there are not linked. Nobody looks at their rooms: a link joins them.
 abbrev pub link_refusal : List Setting → World → Name → Name → Option Refusal
 link_refusal settings world near far =
-    if joined world.links near far || not (are_peers settings near far) then Some link_refused
-    else (if agree (world.hall near).room (world.hall far).room then None else Some disagree)
+    if joined world.links near far || not (are_peers settings near far)
+    then Some link_refused else None
 
 abbrev pub needs_servers : List Setting → Name → Name → Option Refusal → Option Refusal
 needs_servers settings one other refusal = if is_server settings one && is_server settings other then refusal else Some no_such_server

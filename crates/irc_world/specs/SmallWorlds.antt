@@ -14,11 +14,11 @@ use Rattle.irc_stage.specs.declared.clients.Client.{Client}
 use Rattle.irc_stage.specs.declared.clients.Client.TheVariants.{Registered}
 use Rattle.irc_world.specs.World.{Setting, Hall, new_world, place_at}
 use Rattle.irc_world.specs.Stepping.{line, link, cut, Stepped, step}
-use Rattle.irc_world.specs.Refused.{refused, disagree, link_refused}
+use Rattle.irc_world.specs.Refused.{refused, link_refused}
 use Rattle.irc_world.specs.Bounds.{most}
 use Rattle.irc_world.specs.Parts.{view_at}
 use Rattle.irc_world.specs.Examples.{with_peers, peer}
-use Rattle.irc_world.specs.Networks.{three_peers, on_a, on_b, on_c, hall_after, two_apart, a_to_b, b_to_c, als_people, bos_people, als_room, bos_room, zeds_clients, with_zed, with_other_zed, in_a_line, three_people, cut_off}
+use Rattle.irc_world.specs.Networks.{three_peers, on_a, on_b, on_c, hall_after, two_apart, a_to_b, b_to_c, als_people, bos_people, als_room, bos_room, zeds_clients, zed_quits, with_zed, with_other_zed, in_a_line, three_people, cut_off}
 
 -- How many lines servers need at most: for the first link of two servers; for a link of two on each of which there are two people and a channel; where a nickname
 -- is on both sides; for a text, which two other servers are told of; for a lost link, of which one server is told; and for that link when it is back.
@@ -30,7 +30,7 @@ pub record LinesAtMost : Type 0 where
   pub lost : most three_peers (in_a_line three_people) (cut (codes "a.net") (codes "b.net")) ≡ 1
   pub back : most three_peers cut_off.world (link (codes "a.net") (codes "b.net")) ≡ 31
 
--- ---- who is killed quits first, and then halves have to agree
+-- ---- who is killed quits first, and then halves are joined
 
 -- al (1) made #y on a.net; zed (2) joined it, and made #z and gave it a topic
 abbrev pub zeds_topic : List Effect
@@ -48,22 +48,36 @@ bos_z = on_b (codes "bo") ∷ Join (codes "bo") (codes "#z") true ∷ []
 abbrev pub without_zed : Hall
 without_zed = hall_after ((3, Registered (codes "bo")) ∷ []) bos_z
 
--- Where another zed is on b.net both are killed, #z of a.net ends by that, and with it its topic; so nothing is left to disagree on. Where there is none, the
--- two #z disagree.
-pub record KillsComeFirst : Type 0 where
-  pub killed : refused three_peers (two_apart with_topic with_other_zed) (link (codes "a.net") (codes "b.net")) ≡ None
-  pub killed_back : refused three_peers (two_apart with_topic with_other_zed) (link (codes "b.net") (codes "a.net")) ≡ None
-  pub not_killed : refused three_peers (two_apart with_topic without_zed) (link (codes "a.net") (codes "b.net")) ≡ Some disagree
-  pub not_killed_back : refused three_peers (two_apart with_topic without_zed) (link (codes "b.net") (codes "a.net")) ≡ Some disagree
+-- what bo sees of the link, whichever server connects
+abbrev pub bo_sees : Hall → List (List ℕ)
+bo_sees theirs =
+    (step three_peers (two_apart with_topic theirs) (link (codes "a.net") (codes "b.net"))).lines 3
 
--- ---- passwords come before topics
+abbrev pub bo_sees_back : Hall → List (List ℕ)
+bo_sees_back theirs =
+    (step three_peers (two_apart with_topic theirs) (link (codes "b.net") (codes "a.net"))).lines 3
+
+abbrev pub zed_comes : List (List ℕ)
+zed_comes =
+    (codes ":zed!u@h JOIN #z" ++ crlf) ∷ (codes ":b.net MODE #z +o zed" ++ crlf)
+    ∷ (codes ":b.net TOPIC #z :old" ++ crlf) ∷ []
+
+-- Where another zed is on b.net both are killed, #z of a.net ends by that, and with it its topic:
+-- bo sees zed quit, and no topic. Where there is none, the two #z are joined.
+pub record KillsComeFirst : Type 0 where
+  pub killed : bo_sees with_other_zed ≡ zed_quits
+  pub killed_back : bo_sees_back with_other_zed ≡ zed_quits
+  pub not_killed : bo_sees without_zed ≡ zed_comes
+  pub not_killed_back : bo_sees_back without_zed ≡ zed_comes
+
+-- ---- passwords are asked for, and rooms are not
 
 abbrev pub two_passwords : List Setting
 two_passwords =
     with_peers (codes "a.net") (peer (codes "b.net") (codes "pw") ∷ []) ∷ with_peers (codes "b.net") (peer (codes "a.net") (codes "other") ∷ []) ∷ []
 
--- Servers that keep different passwords for each other, and whose rooms differ, are not linked for their passwords.
-pub record PasswordsComeFirst : Type 0 where
+-- Servers that keep different passwords for each other are not linked.
+pub record PasswordsDiffer : Type 0 where
   pub from_a : refused two_passwords (two_apart als_room bos_room) (link (codes "a.net") (codes "b.net")) ≡ Some link_refused
   pub from_b : refused two_passwords (two_apart als_room bos_room) (link (codes "b.net") (codes "a.net")) ≡ Some link_refused
 

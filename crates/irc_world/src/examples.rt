@@ -1,7 +1,7 @@
 //! A small network, by example.
 ghost use Rattle.irc_world.specs.Examples.{WhoIsRefused};
-ghost use Rattle.irc_world.specs.Networks.{BoIsHeard, LinkIsBack, LinkIsLost, NicknamesClash, PeopleMeet, TopicsDiffer};
-ghost use Rattle.irc_world.specs.SmallWorlds.{ErrorComesLast, InvitedAtHome, KillsComeFirst, LinesAtMost, LostInOrder, OperatorBeforeVoice, PasswordsComeFirst, Whereabouts};
+ghost use Rattle.irc_world.specs.Networks.{BoIsHeard, LinkIsBack, LinkIsLost, NicknamesClash, PeopleMeet, SidesAreJoined};
+ghost use Rattle.irc_world.specs.SmallWorlds.{ErrorComesLast, InvitedAtHome, KillsComeFirst, LinesAtMost, LostInOrder, OperatorBeforeVoice, PasswordsDiffer, Whereabouts};
 
 /// What is refused where there are three servers, no link and nobody: names of no server, numbers of no client, a link that is not there to be cut, and
 /// links between servers of which one is no peer, keeps another password, or is the same server.
@@ -14,9 +14,10 @@ pub fn people_meet()
     ensures { PeopleMeet }
 {}
 
-/// Two servers whose rooms have one channel with two topics are not linked.
-pub fn topics_differ()
-    ensures { TopicsDiffer }
+/// Two servers are linked that have one channel with other modes, another key and another topic. It
+/// has all that was set on either side then, with the greater key, and its members see what is new.
+pub fn sides_are_joined()
+    ensures { SidesAreJoined }
 {}
 
 /// Two servers are linked that have users of one nickname: both are killed, and nobody sees anybody come by a channel that one of them alone was in.
@@ -45,14 +46,14 @@ pub fn lines_at_most()
     ensures { LinesAtMost }
 {}
 
-/// Halves have to agree on what is left once whoever is killed has quit, and not on what was there before.
+/// Halves join what is left once whoever is killed has quit, and not what was there before.
 pub fn kills_come_first()
     ensures { KillsComeFirst }
 {}
 
-/// A link is refused for its passwords before the rooms are looked at.
-pub fn passwords_come_first()
-    ensures { PasswordsComeFirst }
+/// A link is refused where two servers keep different passwords for each other.
+pub fn passwords_differ()
+    ensures { PasswordsDiffer }
 {}
 
 /// What each of three servers in a line knows of the network, and what is left of that after a cut.

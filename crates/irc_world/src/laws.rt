@@ -82,7 +82,6 @@ pub fn link_is_even()
     irc_relay::laws_of_forests::turned_are_the_same();
     irc_relay::laws_of_forests::link_between_parts();
     irc_merge::laws::merge_is_even();
-    irc_merge::laws::agree_tells();
 }
 
 /// Where a link is lost, it comes to the same whichever of its ends is named first.
