@@ -11,14 +11,13 @@ use Rattle.irc_relay.specs.TurnedLinks.{AreTurned, TurnedAreTheSame, TakenOutEit
 use Rattle.irc_relay.specs.Lemmas.TellingNames.{Telling, alike, unlike, tell, same_when}
 use Rattle.irc_room.specs.Room.{Room}
 use Rattle.irc_room.specs.Lemmas.Rows.{same_some}
-use Rattle.irc_merge.specs.Agreeing.{agree, AgreeTells}
 use Rattle.irc_merge.specs.Laws.{MergeIsEven}
-use Rattle.irc_merge.specs.Merge.{Agree, merge}
+use Rattle.irc_merge.specs.Merge.{merge}
 use Rattle.irc_stage.specs.declared.clients.Client.{Client}
 use Rattle.irc_stage.specs.Lemmas.Numbers.{same_clients}
 use Rattle.irc_world.specs.World.{Setting, Hall, World, is_server, home_of}
 use Rattle.irc_world.specs.Stepping.{link, cut, step, merged, link_made, clashes_in, meeting_lines, remaining, leaving_lines, parted}
-use Rattle.irc_world.specs.Refused.{Refusal, refused, password_for, are_equal, are_peers, needs_servers, no_such_server, not_linked, link_refused, disagree}
+use Rattle.irc_world.specs.Refused.{Refusal, refused, password_for, are_equal, are_peers, needs_servers, no_such_server, not_linked, link_refused}
 use Rattle.irc_world.specs.Sound.{IsSound}
 use Rattle.irc_world.specs.Even.{AreTheSame, LinkIsEven, CutIsEven}
 use Rattle.irc_world.proofs.Halls.{hall_with}
@@ -36,24 +35,19 @@ passwords_turned (Some one) (Some other) is = elim (tell one other) [
   | unlike two _ ↦ absurd (let none : false ≡ true = sym two ∙ is in cc none)
 ]
 
-agree_turned : (one other : Room) → Agree one other → Agree other one
-agree_turned one other agreed = record {
-  alike = λ fold c d c_is d_is. let both = agreed.alike fold d c d_is c_is in
-      record { name = sym both.name; modes = sym both.modes; topic = sym both.topic };
-}
+abbrev verdict : Bool → Bool → Bool → Bool → Option Refusal
+verdict one other one_part with_peers =
+    if one && other then (if one_part || not with_peers then Some link_refused else None)
+    else Some no_such_server
 
-abbrev verdict : Bool → Bool → Bool → Bool → Bool → Option Refusal
-verdict one other one_part with_peers agreeing =
-    if one && other then (if one_part || not with_peers then Some link_refused else (if agreeing then None else Some disagree)) else Some no_such_server
-
-passes : (one other one_part with_peers agreeing : Bool) → one ≡ true → other ≡ true → one_part ≡ false → with_peers ≡ true → agreeing ≡ true
-    → verdict one other one_part with_peers agreeing ≡ None
-passes one other one_part with_peers agreeing a b c d e =
-    ap (λ x. verdict x other one_part with_peers agreeing) a
-    ∙ ap (λ x. verdict true x one_part with_peers agreeing) b
-    ∙ ap (λ x. verdict true true x with_peers agreeing) c
-    ∙ ap (λ x. verdict true true false x agreeing) d
-    ∙ ap (λ x. verdict true true false true x) e
+passes : (one other one_part with_peers : Bool)
+    → one ≡ true → other ≡ true → one_part ≡ false → with_peers ≡ true
+    → verdict one other one_part with_peers ≡ None
+passes one other one_part with_peers a b c d =
+    ap (λ x. verdict x other one_part with_peers) a
+    ∙ ap (λ x. verdict true x one_part with_peers) b
+    ∙ ap (λ x. verdict true true x with_peers) c
+    ∙ ap (λ x. verdict true true false x) d
 
 -- ---- two that are never both there
 
@@ -73,7 +67,7 @@ swap_lines one other None y apart = sym (append-nil (meeting_lines other one y))
 swap_lines one other (Some c) None apart = append-nil (meeting_lines one other (Some c))
 swap_lines one other (Some c) (Some d) apart = absurd (apart refl refl)
 
-module _ (between : LinkBetweenParts) (even : MergeIsEven) (tells : AgreeTells) (settings : List Setting) (world : World) (near far : Name)
+module _ (between : LinkBetweenParts) (even : MergeIsEven) (settings : List Setting) (world : World) (near far : Name)
     (sound : IsSound settings world) (taken : LinkIsTaken settings world near far) where
   abbrev there_link : Link
   there_link = record { near = near; far = far }
@@ -110,9 +104,6 @@ module _ (between : LinkBetweenParts) (even : MergeIsEven) (tells : AgreeTells) 
       let far_home = sound.clients_home far client behind in
       let one = same_some near_home.home far_home.home (sym near_home.is_home ∙ far_home.is_home) in
       apart (sym near_home.joined ∙ (ap (part world.links) one ∙ far_home.joined))
-
-  agreed : Agree (world.hall near).room (world.hall far).room
-  agreed = (tells (world.hall near).room (world.hall far).room).0 taken.alike
 
   one_hall_of_both : merged (world.hall near) (world.hall far) ≡ merged (world.hall far) (world.hall near)
   one_hall_of_both =
@@ -154,21 +145,20 @@ module _ (between : LinkBetweenParts) (even : MergeIsEven) (tells : AgreeTells) 
   taken_too : refused settings world (link far near) ≡ None
   unfolding refused
   taken_too = passes (is_server settings far) (is_server settings near) (joined world.links far near) (are_peers settings far near)
-      (agree (world.hall far).room (world.hall near).room) taken.far_known taken.near_known
+      taken.far_known taken.near_known
       (elim (tell (part world.links far) (part world.links near)) [
         | alike _ one ↦ absurd (apart (sym one))
         | unlike two _ ↦ two
       ])
       (passwords_turned (password_for settings near far) (password_for settings far near) taken.peers)
-      ((tells (world.hall far).room (world.hall near).room).1 (agree_turned (world.hall near).room (world.hall far).room agreed))
 
-pub link_is_even : TurnedAreTheSame → LinkBetweenParts → MergeIsEven → AgreeTells → LinkIsEven
+pub link_is_even : TurnedAreTheSame → LinkBetweenParts → MergeIsEven → LinkIsEven
 unfolding step
-link_is_even turned_same between even tells settings world near far sound is =
+link_is_even turned_same between even settings world near far sound is =
     let taken = link_taken settings world near far is in
     record {
-      taken = taken_too between even tells settings world near far sound taken;
-      same = linked_same between even tells settings world near far sound taken turned_same;
+      taken = taken_too between even settings world near far sound taken;
+      same = linked_same between even settings world near far sound taken turned_same;
     }
 
 -- ---- either may lose the link

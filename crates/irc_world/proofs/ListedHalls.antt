@@ -1,7 +1,7 @@
--- Halls whose rooms are made of lists: whether they agree, and what their clients receive when they become one, and when one is parted; all of it computes.
+-- Halls whose rooms are made of lists: what their clients receive when they become one, and when one is parted; all of it computes.
 use Rattle.std.proofs.Common.{◌≡◌, ℕ, Bool, true, false, cond, not, ◌&&◌, ◌||◌, T, Option, Some, None, List, [], ◌∷◌, ◌++◌, refl, sym, ◌∙◌, ap, map, fold, filter, is_some, option_map, codes, if◌then◌else◌}
 use Rattle.std.specs.Prelude.{option_to_list}
-use Rattle.std.specs.List.{list_all, list_any, flat_map}
+use Rattle.std.specs.List.{list_any, flat_map}
 use Rattle.std.specs.Option.{option_map_or, option_and_then}
 use Rattle.std.specs.FinMap.{entries, values, keys, get-empty}
 use Rattle.std.specs.FinMap.Entries.{find, is_sorted}
@@ -23,7 +23,6 @@ use Rattle.irc_room.specs.Lemmas.Listed.{map_itself, table_of, row_listed, entri
 use Rattle.irc_room.specs.Lemmas.ListedRooms.{ListedChannel, ListedRoom, channel_of, room_of, lists_member, member_listed, list_after, after_listed, all_listed}
 use Rattle.irc_room.specs.Lemmas.ListedSeen.{user_listed, channel_listed}
 use Rattle.irc_relay.specs.Links.{Name, Link}
-use Rattle.irc_merge.specs.Agreeing.{are_alike, agree}
 use Rattle.irc_merge.specs.Merge.{room_without}
 use Rattle.irc_merge.specs.Quits.{quits_of, collision_text}
 use Rattle.irc_merge.specs.ShownAlong.{shown_along}
@@ -62,27 +61,6 @@ without_listed room other order =
     (λ i. after_all (room_of room) (quits_of collision_text
     (filter (λ (user : User). is_some (user_listed other (key user.nick) i)) (users_listed room order i))))
     ∙ after_all_listed room (quits_of collision_text (filter (λ (user : User). is_some (find fold_cmp (key user.nick) other.users)) (map (λ e. e.1) room.users)))
-
-abbrev list_alike : List (List ℕ × ListedChannel) → List ℕ × ListedChannel → Bool
-list_alike others e = option_map_or (are_alike (channel_of e.1)) (option_map channel_of (find fold_cmp e.0 others)) true
-
-abbrev pub list_agree : ListedRoom → ListedRoom → Bool
-list_agree one other = list_all (list_alike (list_without other one).channels) (list_without one other).channels
-
-alike_listed : (other : ListedRoom) (es : List (List ℕ × ListedChannel))
-    → list_all (λ (e : List ℕ × Channel). option_map_or (are_alike e.1) (row (room_of other).channels e.0) true) (map (λ e. (e.0, channel_of e.1)) es)
-    ≡ list_all (list_alike other.channels) es
-alike_listed other [] = refl
-alike_listed other (e ∷ es) = λ i. option_map_or (are_alike (channel_of e.1)) (channel_listed other e.0 i) true && alike_listed other es i
-
-pub agree_listed : (one other : ListedRoom) → AreInOrder one → AreInOrder other → AreInOrder (list_without one other)
-    → agree (room_of one) (room_of other) ≡ list_agree one other
-agree_listed one other first second left =
-    (λ i. list_all (λ (e : List ℕ × Channel). option_map_or (are_alike e.1) (row (without_listed other one second i).channels e.0) true)
-    (entries (without_listed one other first i).channels))
-    ∙ ap (list_all (λ (e : List ℕ × Channel). option_map_or (are_alike e.1) (row (room_of (list_without other one)).channels e.0) true))
-    (entries_listed channel_of (list_without one other).channels left.channels)
-    ∙ alike_listed (list_without other one) (list_without one other).channels
 
 -- what a client receives
 abbrev pub list_meeting : ListedRoom → ListedRoom → Option Client → List (List ℕ)

@@ -1,30 +1,34 @@
 -- The small networks, computed.
-use Rattle.std.proofs.Common.{◌≡◌, ℕ, false, Option, Some, None, List, [], ◌∷◌, ◌++◌, true, not, cond, is_some, refl, ◌∙◌, ap, codes, if◌then◌else◌}
+use Rattle.std.proofs.Common.{◌≡◌, ℕ, false, Option, Some, None, List, [], ◌∷◌, ◌++◌, true, not, cond, is_some, option_map, refl, ◌∙◌, ap, codes, if◌then◌else◌}
 use Rattle.std.specs.Cmp.{nat_cmp_total}
 use Rattle.std.specs.Option.{option_map_or}
 use Rattle.std.specs.FinMap.{get, from_entries, retain_keys, get-from_entries}
 use Rattle.std.specs.FinMap.Entries.{find}
 use Rattle.std.specs.Ordering.{nat_cmp}
-use Rattle.irc_names.specs.Fold.{fold, fold_table}
+use Rattle.irc_names.specs.Fold.{fold, fold_table, key}
+use Rattle.irc_names.specs.Names.{is_key}
+use Rattle.irc_names.specs.Tables.{fold_cmp, row}
+use Rattle.irc_channels.specs.declared.channel.Channel.{Channel}
 use Rattle.irc_line.specs.Bytes.{cut as cut_line}
 use Rattle.irc_line.specs.Messages.{line_text}
 use Rattle.irc_relay.specs.Links.{Name, Link, part, joined, links_without}
 use Rattle.irc_room.specs.effect.Effect.{Effect}
 use Rattle.irc_room.specs.Examples.{room_after}
-use Rattle.irc_room.specs.Lemmas.ListedRooms.{ListedRoom, room_of, no_list, all_listed}
+use Rattle.irc_room.specs.Lemmas.ListedRooms.{ListedRoom, channel_of, room_of, no_list, all_listed}
 use Rattle.irc_room.specs.Lemmas.ExampleRooms.{list_room}
-use Rattle.irc_merge.specs.Agreeing.{agree}
+use Rattle.irc_merge.specs.Examples.{modes_written}
 use Rattle.irc_merge.specs.Bursts.{in_lines}
 use Rattle.irc_merge.specs.Split.{split}
-use Rattle.irc_merge.specs.Lemmas.ListedMerge.{AreInOrder, CanBeListed, list_without}
+use Rattle.irc_merge.specs.Merge.{joined_channel, merge}
+use Rattle.irc_merge.specs.Lemmas.ListedMerge.{AreInOrder, CanBeListed, list_without, channel_merged}
 use Rattle.irc_stage.specs.declared.clients.Client.{Client}
 use Rattle.irc_stage.specs.RoomMachine.{Clients}
 use Rattle.irc_world.specs.World.{home_of}
 use Rattle.irc_world.specs.Stepping.{link, step, clashes_in, merged, meeting_lines, split_text, servers_on_side, leaving_lines}
-use Rattle.irc_world.specs.Refused.{refused, disagree, no_such_client}
-use Rattle.irc_world.specs.Networks.{TopicsDiffer, als_topic, bos_topic, als_room, bos_room, PeopleMeet, LinkIsLost, LinkIsBack, back_again, b_to_c, three_clients, three_doings, three_people, in_a_line, cut_off, als_clients, als_doings, bos_clients, bos_doings, NicknamesClash, zeds_clients, zeds_doings, other_zeds_clients, other_zeds_doings, with_zed, with_other_zed, hall_after, three_peers, two_apart, als_people, bos_people}
+use Rattle.irc_world.specs.Refused.{refused, no_such_client}
+use Rattle.irc_world.specs.Networks.{SidesAreJoined, als_settings, bos_settings, a_connects, b_connects, PeopleMeet, LinkIsLost, LinkIsBack, back_again, b_to_c, three_clients, three_doings, three_people, in_a_line, cut_off, als_clients, als_doings, bos_clients, bos_doings, NicknamesClash, zeds_clients, zeds_doings, other_zeds_clients, other_zeds_doings, with_zed, with_other_zed, hall_after, three_peers, two_apart, als_people, bos_people}
 use Rattle.irc_world.proofs.StaysSound.{first_of, survivor, get-kept, get-merged}
-use Rattle.irc_world.proofs.ListedHalls.{list_lost, list_split, split_listed, InOrderLeaving, list_seen_leaving, leaving_listed, servers_listed, hall_of, list_clashes, clashes_listed, list_meeting, meeting_listed, agree_listed}
+use Rattle.irc_world.proofs.ListedHalls.{list_lost, list_split, split_listed, InOrderLeaving, list_seen_leaving, leaving_listed, servers_listed, hall_of, list_clashes, clashes_listed, list_meeting, meeting_listed}
 
 made : (clients : List (ℕ × Client)) (effects : List Effect) → hall_after clients effects ≡ hall_of (from_entries clients) (list_room effects)
 made clients effects = λ i. record { clients = from_entries clients; room = all_listed no_list effects i }
@@ -88,64 +92,90 @@ meet_listed client = met als_clients bos_clients
     als_doings
     bos_doings client als_listed bos_listed
 
-meet_agreed : agree als_people.room bos_people.room ≡ true
-unfolding fold fold_table
-meet_agreed =
-    (λ i. agree (all_listed no_list als_doings i)
-    (all_listed no_list bos_doings i))
-    ∙ agree_listed als bos als_in_order bos_in_order als_left
-
 pub people_meet : PeopleMeet
 unfolding refused part fold fold_table cut_line line_text in_lines
 people_meet = record {
-  taken = ap (λ b. if b then None else Some disagree) meet_agreed;
+  taken = refl;
   to_al = meet_listed 1;
   to_an = meet_listed 2;
   to_bo = meet_listed 3;
   to_cy = meet_listed 4;
 }
 
--- ---- two rooms that differ
+-- ---- two sides that differ
 
-abbrev als_titled : ListedRoom
-als_titled = list_room als_topic
+abbrev als_set : ListedRoom
+als_set = list_room als_settings
 
-abbrev bos_titled : ListedRoom
-bos_titled = list_room bos_topic
+abbrev bos_set : ListedRoom
+bos_set = list_room bos_settings
 
-als_titled_in_order : AreInOrder als_titled
-unfolding fold fold_table
-als_titled_in_order = record { users = tt; channels = tt; members = (tt, tt) }
+als_set_in_order : AreInOrder als_set
+unfolding fold fold_table is_key
+als_set_in_order = record { users = tt; channels = tt; members = (tt, tt) }
 
-bos_titled_in_order : AreInOrder bos_titled
-unfolding fold fold_table
-bos_titled_in_order = record { users = tt; channels = tt; members = (tt, tt) }
+bos_set_in_order : AreInOrder bos_set
+unfolding fold fold_table is_key
+bos_set_in_order = record { users = tt; channels = tt; members = (tt, tt) }
 
-als_titled_left : AreInOrder (list_without als_titled bos_titled)
-unfolding fold fold_table
-als_titled_left = record { users = tt; channels = tt; members = (tt, tt) }
+als_set_listed : CanBeListed als_set bos_set
+unfolding fold fold_table is_key
+als_set_listed = record { first = als_set_in_order; second = bos_set_in_order; along = tt; left = bos_set_in_order }
 
-bos_titled_left : AreInOrder (list_without bos_titled als_titled)
-unfolding fold fold_table
-bos_titled_left = record { users = tt; channels = tt; members = (tt, tt) }
+bos_set_listed : CanBeListed bos_set als_set
+unfolding fold fold_table is_key
+bos_set_listed = record { first = bos_set_in_order; second = als_set_in_order; along = tt; left = als_set_in_order }
 
-titles_disagree : agree als_room.room bos_room.room ≡ false
-unfolding fold fold_table
-titles_disagree =
-    (λ i. agree (all_listed no_list als_topic i) (all_listed no_list bos_topic i))
-    ∙ agree_listed als_titled bos_titled als_titled_in_order bos_titled_in_order als_titled_left
+joined_there : (client : ℕ) → a_connects.lines client
+    ≡ list_meeting als_set bos_set (find nat_cmp client als_clients) ++ list_meeting bos_set als_set (find nat_cmp client bos_clients)
+unfolding step part
+joined_there client = met als_clients bos_clients als_settings bos_settings client als_set_listed bos_set_listed
 
-titles_disagree_back : agree bos_room.room als_room.room ≡ false
-unfolding fold fold_table
-titles_disagree_back =
-    (λ i. agree (all_listed no_list bos_topic i) (all_listed no_list als_topic i))
-    ∙ agree_listed bos_titled als_titled bos_titled_in_order als_titled_in_order bos_titled_left
+joined_back : (client : ℕ) → b_connects.lines client
+    ≡ list_meeting bos_set als_set (find nat_cmp client bos_clients) ++ list_meeting als_set bos_set (find nat_cmp client als_clients)
+unfolding step part
+joined_back client = met bos_clients als_clients bos_settings als_settings client bos_set_listed als_set_listed
 
-pub topics_differ : TopicsDiffer
-unfolding refused part fold fold_table
-topics_differ = record {
-  from_a = ap (λ b. if b then None else Some disagree) titles_disagree;
-  from_b = ap (λ b. if b then None else Some disagree) titles_disagree_back;
+-- #c of both rooms
+abbrev both_channels : List Effect → List Effect → Option Channel
+both_channels one other = row (merge (room_after one) (room_after other)).channels (key (codes "#c"))
+
+abbrev listed_channels : ListedRoom → ListedRoom → Option Channel
+listed_channels one other =
+    joined_channel (option_map channel_of (find fold_cmp (key (codes "#c")) (list_without one other).channels))
+    (option_map channel_of (find fold_cmp (key (codes "#c")) (list_without other one).channels))
+
+both_listed : (one other : List Effect) → AreInOrder (list_room one) → AreInOrder (list_room other)
+    → both_channels one other ≡ listed_channels (list_room one) (list_room other)
+both_listed one other first second =
+    (λ i. row (merge (all_listed no_list one i) (all_listed no_list other i)).channels (key (codes "#c")))
+    ∙ channel_merged (list_room one) (list_room other) first second (key (codes "#c"))
+
+-- what is set in it, and its topic
+modes_of_both : (one other : List Effect) → AreInOrder (list_room one) → AreInOrder (list_room other)
+    → option_map modes_written (both_channels one other) ≡ option_map modes_written (listed_channels (list_room one) (list_room other))
+modes_of_both one other first second = ap (option_map modes_written) (both_listed one other first second)
+
+topic_of_both : (one other : List Effect) → AreInOrder (list_room one) → AreInOrder (list_room other)
+    → option_map (λ (c : Channel). c.topic) (both_channels one other)
+    ≡ option_map (λ (c : Channel). c.topic) (listed_channels (list_room one) (list_room other))
+topic_of_both one other first second = ap (option_map (λ (c : Channel). c.topic)) (both_listed one other first second)
+
+pub sides_are_joined : SidesAreJoined
+unfolding refused step part fold fold_table is_key cut_line line_text in_lines
+sides_are_joined = record {
+  taken = refl;
+  to_al = joined_there 1;
+  to_an = joined_there 2;
+  to_bo = joined_there 3;
+  to_cy = joined_there 4;
+  modes_here = modes_of_both als_settings bos_settings als_set_in_order bos_set_in_order;
+  modes_there = modes_of_both als_settings bos_settings als_set_in_order bos_set_in_order;
+  topic_there = topic_of_both als_settings bos_settings als_set_in_order bos_set_in_order;
+  taken_back = refl;
+  back_to_al = joined_back 1;
+  back_to_bo = joined_back 3;
+  modes_back = modes_of_both bos_settings als_settings bos_set_in_order als_set_in_order;
 }
 
 -- ---- a nickname on both sides
@@ -188,12 +218,6 @@ clash_listed : (client : ℕ) → clash_lines client
 unfolding step part
 clash_listed client = met zeds_clients other_zeds_clients zeds_doings other_zeds_doings client zeds_listed other_zeds_listed
 
-clash_agreed : agree with_zed.room with_other_zed.room ≡ true
-unfolding fold fold_table
-clash_agreed =
-    (λ i. agree (all_listed no_list zeds_doings i) (all_listed no_list other_zeds_doings i))
-    ∙ agree_listed zeds other_zeds zeds_in_order other_zeds_in_order zeds_left
-
 -- a client of one side that survives
 survivor_listed : (clients : List (ℕ × Client)) (effects : List Effect) (client : ℕ)
     → survivor (room_after effects) (from_entries {R = nat_cmp} clients) client
@@ -213,7 +237,7 @@ killed =
 pub nicknames_clash : NicknamesClash
 unfolding refused step part fold fold_table cut_line line_text
 nicknames_clash = record {
-  taken = ap (λ b. if b then None else Some disagree) clash_agreed;
+  taken = refl;
   to_al = clash_listed 1;
   to_zed = clash_listed 2;
   to_bo = clash_listed 3;
@@ -348,16 +372,10 @@ back_lines client =
     ∙ (λ i. meeting_listed (kept_on a_net) (kept_on b_net) als_side others_side als_side_listed (left_on a_net client) i
     ++ meeting_listed (kept_on b_net) (kept_on a_net) others_side als_side others_side_listed (left_on b_net client) i)
 
-sides_agree : agree (cut_off.world.hall a_net).room (cut_off.world.hall b_net).room ≡ true
-unfolding fold fold_table
-sides_agree =
-    (λ i. agree (als_hall i).room (others_hall i).room)
-    ∙ agree_listed als_side others_side als_side_in_order others_side_in_order als_side_left
-
 pub link_is_back : LinkIsBack
 unfolding refused step part links_without fold fold_table cut_line line_text in_lines
 link_is_back = record {
-  taken = ap (λ b. if b then None else Some disagree) sides_agree;
+  taken = refl;
   to_al = back_lines 1;
   to_bo = back_lines 2;
   to_cy = back_lines 3;

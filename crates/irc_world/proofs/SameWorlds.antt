@@ -11,7 +11,6 @@ use Rattle.irc_room.specs.Room.{Room}
 use Rattle.irc_relay.specs.Links.{Name, same, Link, HasEnds, joined, links_without, distance, IsForest}
 use Rattle.irc_relay.specs.Laws.{TestsTell, LinkBetweenParts, LinkTakenOut}
 use Rattle.irc_relay.specs.TurnedLinks.{AreTurned, AreTheSameLinks, TurnedAreTheSame}
-use Rattle.irc_merge.specs.Agreeing.{agree}
 use Rattle.irc_merge.specs.ShownAlong.{shown_along}
 use Rattle.irc_merge.specs.Split.{split, split_effects}
 use Rattle.irc_routes.specs.Place.{KnownServer, alone}
@@ -21,7 +20,7 @@ use Rattle.irc_stage.specs.Handle.{Happening, connects, says, goes, handled}
 use Rattle.irc_server.specs.Owed.{lines_to}
 use Rattle.irc_world.specs.World.{Setting, World, setting_of, servers_where, home_in, home_of, known_from, has_end, joined_place, place_at, machine_at}
 use Rattle.irc_world.specs.Stepping.{Item, connect, line, gone, link, cut, Stepped, step, still, by_machine, by_client, merged, meeting_lines, link_made, split_text, remaining, leaving_lines, parted}
-use Rattle.irc_world.specs.Refused.{refused, open_client, are_peers, needs_servers, no_such_client, link_refused, not_linked, disagree}
+use Rattle.irc_world.specs.Refused.{refused, open_client, are_peers, needs_servers, no_such_client, link_refused, not_linked}
 use Rattle.irc_world.specs.Laws.{StepStaysSound}
 use Rattle.irc_world.specs.Sound.{IsSound, AreTaken}
 use Rattle.irc_world.specs.Even.{AreTheSameWorlds, LookTheSame, GoOnTheSame, SameWorldsGoOn}
@@ -192,8 +191,7 @@ module _ (turned_same : TurnedAreTheSame) (settings : List Setting) (one other :
   refused_same (line client bytes) = ap (λ o. if is_some o then None else Some no_such_client) (client_there_same client)
   refused_same (gone client) = ap (λ o. if is_some o then None else Some no_such_client) (client_there_same client)
   refused_same (link near far) = λ i. needs_servers settings near far
-      (if are.joined_same near far i || not (are_peers settings near far) then Some link_refused
-      else (if agree (as_one.hall near i).room (as_one.hall far i).room then None else Some disagree))
+      (if are.joined_same near far i || not (are_peers settings near far) then Some link_refused else None)
   refused_same (cut near far) = λ i. needs_servers settings near far (if are.linked_same near far i then None else Some not_linked)
 
 module _ (turned_same : TurnedAreTheSame) (tests : TestsTell) (between : LinkBetweenParts) (taken_out : LinkTakenOut) (settings : List Setting) where

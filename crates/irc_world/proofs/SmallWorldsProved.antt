@@ -28,7 +28,6 @@ use Rattle.irc_room.specs.Lemmas.ListedRooms.{ListedRoom, ListedChannel, channel
 use Rattle.irc_room.specs.Lemmas.ListedSeen.{user_listed, channel_listed}
 use Rattle.irc_room.specs.Lemmas.ExampleRooms.{list_room}
 use Rattle.irc_routes.specs.Place.{KnownServer}
-use Rattle.irc_merge.specs.Agreeing.{agree}
 use Rattle.irc_merge.specs.Bursts.{burst, in_lines}
 use Rattle.irc_merge.specs.Lemmas.ListedMerge.{AreInOrder, CanBeListed, list_without, burst_listed}
 use Rattle.irc_merge.specs.Lemmas.TableWords.{row-kept}
@@ -41,11 +40,11 @@ use Rattle.irc_commands.specs.Decisions.{Decided}
 use Rattle.irc_routes.specs.Place.{Place}
 use Rattle.irc_world.specs.World.{servers_where, known_from, home_of, machine_at}
 use Rattle.irc_world.specs.Stepping.{link, step, split_text, servers_on_side, leaving_lines}
-use Rattle.irc_world.specs.Refused.{refused, disagree}
+use Rattle.irc_world.specs.Refused.{refused}
 use Rattle.irc_world.specs.Bounds.{effects_at, effects_said, effects_of_user, most}
-use Rattle.irc_world.specs.Networks.{three_peers, hall_after, als_doings, bos_doings, zeds_doings, other_zeds_doings, three_people, three_clients, in_a_line, cut_off, a_to_b, b_to_c, two_apart}
-use Rattle.irc_world.specs.SmallWorlds.{LinesAtMost, zeds_topic, bos_z, KillsComeFirst, PasswordsComeFirst, told_apart, line_of_links, Whereabouts, two_clients, two_doings, other_two_clients, other_two_doings, ErrorComesLast, als_channel, bos_voice, OperatorBeforeVoice, four_doings, four_clients, four_lose, four_lose_back, LostInOrder, inviting, InvitedAtHome}
-use Rattle.irc_world.proofs.ListedHalls.{list_lost, InOrderLeaving, list_seen_leaving, leaving_listed, servers_listed, agree_listed, list_meeting}
+use Rattle.irc_world.specs.Networks.{three_peers, hall_after, als_doings, bos_doings, zeds_clients, zeds_doings, other_zeds_clients, other_zeds_doings, three_people, three_clients, in_a_line, cut_off, a_to_b, b_to_c, two_apart}
+use Rattle.irc_world.specs.SmallWorlds.{LinesAtMost, zeds_topic, bos_z, bos_client, KillsComeFirst, PasswordsDiffer, told_apart, line_of_links, Whereabouts, two_clients, two_doings, other_two_clients, other_two_doings, ErrorComesLast, als_channel, bos_voice, OperatorBeforeVoice, four_doings, four_clients, four_lose, four_lose_back, LostInOrder, inviting, InvitedAtHome}
+use Rattle.irc_world.proofs.ListedHalls.{list_lost, InOrderLeaving, list_seen_leaving, leaving_listed, servers_listed, list_meeting}
 use Rattle.irc_world.proofs.NetworksProved.{met, als_in_order, bos_in_order, zeds_in_order, other_zeds_in_order, als_hall, others_hall, als_side, others_side, als_side_in_order, others_side_in_order}
 use Rattle.irc_world.proofs.BoSpeaks.{message, is_read, bo_there, decides, spoken}
 use Rattle.irc_world.proofs.StaysSound.{get-kept}
@@ -168,53 +167,34 @@ others_left : AreInOrder (list_without other_zeds titled)
 unfolding fold fold_table
 others_left = record { users = tt; channels = tt; members = (tt, tt) }
 
-titled_stays : AreInOrder (list_without titled bos)
+killed_here : CanBeListed titled other_zeds
 unfolding fold fold_table
-titled_stays = record { users = tt; channels = tt; members = (tt, (tt, tt)) }
+killed_here = record { first = titled_in_order; second = other_zeds_in_order; along = (titled_in_order, tt); left = others_left }
 
-bos_stay : AreInOrder (list_without bos titled)
+killed_there : CanBeListed other_zeds titled
 unfolding fold fold_table
-bos_stay = record { users = tt; channels = tt; members = (tt, tt) }
+killed_there = record { first = other_zeds_in_order; second = titled_in_order; along = (other_zeds_in_order, tt); left = titled_left }
 
-abbrev both_made : List Effect → List Effect → Bool
-both_made one other = agree (room_after one) (room_after other)
-
-agreed_of : (one other : List Effect) → AreInOrder (list_room one) → AreInOrder (list_room other) → AreInOrder (list_without (list_room one) (list_room other))
-    → both_made one other ≡ agree (room_of (list_room one)) (room_of (list_room other))
-agreed_of one other first second left = λ i. agree (all_listed no_list one i) (all_listed no_list other i)
-
-killed_agree : both_made zeds_topic other_zeds_doings ≡ true
+alive_here : CanBeListed titled bos
 unfolding fold fold_table
-killed_agree = agreed_of zeds_topic other_zeds_doings titled_in_order other_zeds_in_order titled_left
-    ∙ agree_listed titled other_zeds titled_in_order other_zeds_in_order titled_left
+alive_here = record { first = titled_in_order; second = bos_z_in_order; along = tt; left = bos_z_in_order }
 
-killed_agree_back : both_made other_zeds_doings zeds_topic ≡ true
+alive_there : CanBeListed bos titled
 unfolding fold fold_table
-killed_agree_back = agreed_of other_zeds_doings zeds_topic other_zeds_in_order titled_in_order others_left
-    ∙ agree_listed other_zeds titled other_zeds_in_order titled_in_order others_left
-
-alive_differ : both_made zeds_topic bos_z ≡ false
-unfolding fold fold_table
-alive_differ = agreed_of zeds_topic bos_z titled_in_order bos_z_in_order titled_stays
-    ∙ agree_listed titled bos titled_in_order bos_z_in_order titled_stays
-
-alive_differ_back : both_made bos_z zeds_topic ≡ false
-unfolding fold fold_table
-alive_differ_back = agreed_of bos_z zeds_topic bos_z_in_order titled_in_order bos_stay
-    ∙ agree_listed bos titled bos_z_in_order titled_in_order bos_stay
+alive_there = record { first = bos_z_in_order; second = titled_in_order; along = tt; left = titled_in_order }
 
 pub kills_come_first : KillsComeFirst
-unfolding refused part fold fold_table
+unfolding step part fold fold_table cut_line line_text in_lines
 kills_come_first = record {
-  killed = ap (λ b. if b then None else Some disagree) killed_agree;
-  killed_back = ap (λ b. if b then None else Some disagree) killed_agree_back;
-  not_killed = ap (λ b. if b then None else Some disagree) alive_differ;
-  not_killed_back = ap (λ b. if b then None else Some disagree) alive_differ_back;
+  killed = met zeds_clients other_zeds_clients zeds_topic other_zeds_doings 3 killed_here killed_there;
+  killed_back = met other_zeds_clients zeds_clients other_zeds_doings zeds_topic 3 killed_there killed_here;
+  not_killed = met zeds_clients bos_client zeds_topic bos_z 3 alive_here alive_there;
+  not_killed_back = met bos_client zeds_clients bos_z zeds_topic 3 alive_there alive_here;
 }
 
-pub passwords_come_first : PasswordsComeFirst
+pub passwords_differ : PasswordsDiffer
 unfolding refused part
-passwords_come_first = record { from_a = refl; from_b = refl }
+passwords_differ = record { from_a = refl; from_b = refl }
 
 -- ---- what each server knows
 

@@ -16,14 +16,13 @@ use Rattle.irc_room.specs.Lemmas.Rows.{same_some}
 use Rattle.irc_room.specs.Lemmas.WellFormedLaw.{no_room_is_well_formed}
 use Rattle.irc_commands.specs.Possible.{DecidedIsPossible, RegisteringIsPossible}
 use Rattle.irc_merge.specs.Laws.{MergeIsWellFormed, SplitIsWellFormed}
-use Rattle.irc_merge.specs.Agreeing.{agree}
 use Rattle.irc_stage.specs.declared.clients.Client.{Client}
 use Rattle.irc_stage.specs.RoomMachine.{Clients}
 use Rattle.irc_stage.specs.Lemmas.Numbers.{same_number}
 use Rattle.irc_stage.specs.Handle.{Happening, connects, says, goes, handled}
 use Rattle.irc_world.specs.World.{Setting, Hall, World, new_world, is_server, home_in, home_of, machine_at, with_hall}
 use Rattle.irc_world.specs.Stepping.{Item, connect, line, gone, link, cut, step, still as unmoved, by_machine, by_client, merged, link_made, remaining, parted as cut_apart, surviving, clashes_in, split_text, servers_on_side}
-use Rattle.irc_world.specs.Refused.{Refusal, refused, are_peers, link_refusal, no_such_server, link_refused, not_linked, disagree}
+use Rattle.irc_world.specs.Refused.{Refusal, refused, are_peers, link_refusal, no_such_server, link_refused, not_linked}
 use Rattle.irc_world.specs.Owed.{after_items}
 use Rattle.irc_world.specs.Sound.{HasHomeBy, IsSound, AreTaken}
 use Rattle.irc_world.specs.Laws.{NewWorldIsSound, StepStaysSound, WorldIsSound}
@@ -159,7 +158,6 @@ pub record LinkIsTaken (settings : List Setting) (world : World) (near far : Nam
   pub far_known : is_server settings far ≡ true
   pub apart : joined world.links near far ≡ false
   pub peers : are_peers settings near far ≡ true
-  pub alike : agree (world.hall near).room (world.hall far).room ≡ true
 
 pub link_taken : (settings : List Setting) (world : World) (near far : Name) → refused settings world (link near far) ≡ None
     → LinkIsTaken settings world near far
@@ -167,15 +165,13 @@ unfolding refused
 link_taken settings world near far is =
     let there = if_taken (is_server settings near && is_server settings far) no_such_server (link_refusal settings world near far) is in
     let both_known = and_parts _ _ there.0 in
-    let may = if_passed (joined world.links near far || not (are_peers settings near far)) link_refused
-    (if agree (world.hall near).room (world.hall far).room then None else Some disagree) there.1 in
+    let may = if_passed (joined world.links near far || not (are_peers settings near far)) link_refused None there.1 in
     let two = neither (joined world.links near far) (are_peers settings near far) may.0 in
     record {
       near_known = both_known.0;
       far_known = both_known.1;
       apart = two.0;
       peers = two.1;
-      alike = (if_taken (agree (world.hall near).room (world.hall far).room) disagree None may.1).0;
     }
 
 pub two_parts : (links : List Link) (s t : Name) → joined links s t ≡ false → AreJoined links s t → ⊥

@@ -45,8 +45,11 @@ with_topic = hall_after zeds_clients zeds_topic
 abbrev pub bos_z : List Effect
 bos_z = on_b (codes "bo") ∷ Join (codes "bo") (codes "#z") true ∷ []
 
+abbrev pub bos_client : List (ℕ × Client)
+bos_client = (3, Registered (codes "bo")) ∷ []
+
 abbrev pub without_zed : Hall
-without_zed = hall_after ((3, Registered (codes "bo")) ∷ []) bos_z
+without_zed = hall_after bos_client bos_z
 
 -- what bo sees of the link, whichever server connects
 abbrev pub bo_sees : Hall → List (List ℕ)
