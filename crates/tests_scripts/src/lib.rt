@@ -6,6 +6,8 @@ mod channel_tests;
 #[cfg(test)]
 mod invite_tests;
 #[cfg(test)]
+mod joined_tests;
+#[cfg(test)]
 mod kick_tests;
 #[cfg(test)]
 mod leaving_tests;

@@ -1,6 +1,6 @@
 //! Links carry bytes, which come in pieces cut anywhere (RFC 2813 section 3.3, RFC 2812 section 2.3).
 use crate::network_tests::LINKED;
-use crate::running::{add_text, is_run, prints_network};
+use crate::running::{add_parts, is_run, prints_network};
 use std::alloc::{AllocError, Global};
 
 /// The CR of the first line comes, and with it the line; its LF is on its way still. Then all that is left comes, and is answered with two lines.
@@ -59,7 +59,7 @@ fn a_line_feed_alone(rt: HostRuntime) {
 }
 
 /// What each client of two servers receives as two bursts cross.
-const RECEIVED: [&str; 4] = [
+static RECEIVED: [&str; 4] = [
     "1 :bo!u@h JOIN #c\n1 :a.net MODE #c +o bo\n",
     "",
     "3 :al!u@h JOIN #c\n3 :b.net MODE #c +o al\n",
@@ -97,12 +97,28 @@ fn has_received(alloc: Global, client: u8, received: &str, output: &[u8]) -> boo
     add_lines(client, output, &mut lines).is_ok() && lines.as_slice() == received.as_bytes()
 }
 
-/// Whether the bursts cross in so many pieces of so many bytes, and each client receives its lines by them, none left for the settle.
-fn crosses(alloc: Global, count: usize, size: &str) -> bool {
+/// Whether each client of these, the first one first, has received just its lines.
+fn have_received(alloc: Global, received: &[&str], output: &[u8]) -> bool {
+    for (client, lines) in b"1234".iter().zip(received) {
+        if !has_received(alloc, *client, lines, output) {
+            return false;
+        }
+    }
+    true
+}
+
+/// Whether the bursts of a link cross in so many pieces of so many bytes, and each client receives its lines by them, none left for the settle.
+pub fn crosses(
+    alloc: Global,
+    linked: &[&str],
+    received: &[&str],
+    count: usize,
+    size: &str,
+) -> bool {
     let mut script = Vec::new(alloc);
     let mut printed = Vec::new(alloc);
     let mut output = Vec::new(alloc);
-    if add_text(LINKED, &mut script, &mut printed).is_err()
+    if add_parts(linked, &mut script, &mut printed).is_err()
         || add_pieces(count, size, &mut script).is_err()
         || !is_run(alloc, &script, usize::MAX, &mut output)
     {
@@ -111,16 +127,12 @@ fn crosses(alloc: Global, count: usize, size: &str) -> bool {
     let Some(behind) = output.strip_prefix(printed.as_slice()) else {
         return false;
     };
-    behind.ends_with(b"= 0\n= 0\n")
-        && has_received(alloc, b'1', RECEIVED[0], behind)
-        && has_received(alloc, b'2', RECEIVED[1], behind)
-        && has_received(alloc, b'3', RECEIVED[2], behind)
-        && has_received(alloc, b'4', RECEIVED[3], behind)
+    behind.ends_with(b"= 0\n= 0\n") && have_received(alloc, received, behind)
 }
 
 #[test]
 fn bursts_cross_in_pieces(rt: HostRuntime) {
-    assert!(rt; crosses(rt.alloc(), 200, "1"));
-    assert!(rt; crosses(rt.alloc(), 100, "2"));
-    assert!(rt; crosses(rt.alloc(), 5, "509"));
+    assert!(rt; crosses(rt.alloc(), &[LINKED], &RECEIVED, 200, "1"));
+    assert!(rt; crosses(rt.alloc(), &[LINKED], &RECEIVED, 100, "2"));
+    assert!(rt; crosses(rt.alloc(), &[LINKED], &RECEIVED, 5, "509"));
 }

@@ -57,6 +57,16 @@ pub fn prints_network(alloc: Global, text: &str) -> bool {
     prints(alloc, 0, text)
 }
 
+/// The same of texts, one behind the other.
+pub fn prints_parts(alloc: Global, parts: &[&str]) -> bool {
+    let mut script = Vec::new(alloc);
+    let mut printed = Vec::new(alloc);
+    let mut output = Vec::new(alloc);
+    add_parts(parts, &mut script, &mut printed).is_ok()
+        && is_run(alloc, &script, usize::MAX, &mut output)
+        && output == printed
+}
+
 /// Whether the script of a text, behind the registration of so many clients, is run so where a read gives at most so many bytes.
 pub fn prints_in_pieces(alloc: Global, size: usize, clients: usize, text: &str) -> bool {
     let mut script = Vec::new(alloc);
@@ -81,6 +91,18 @@ fn add_clients(
 ) -> Result<(), AllocError> {
     for client in CLIENTS.iter().take(clients) {
         add_text(client, script, printed)?;
+    }
+    Ok(())
+}
+
+/// Appends texts, one behind the other.
+pub fn add_parts(
+    parts: &[&str],
+    script: &mut Vec<u8>,
+    printed: &mut Vec<u8>,
+) -> Result<(), AllocError> {
+    for part in parts {
+        add_text(part, script, printed)?;
     }
     Ok(())
 }
