@@ -1,6 +1,6 @@
 -- A burst is read line by line: in the room that the lines before it have left, each line tells of what the other side has. Whoever holds the nickname
 -- of a user who is introduced was there before the burst.
-use Rattle.std.proofs.Common.{◌≡◌, ℕ, ◌≤◌, Bool, true, false, cond, ◌⊎◌, inl, inr, Option, Some, None, List, [], ◌∷◌, ◌++◌, length, map, refl, sym, ◌∙◌, ap, subst, is_some, option_map, arith, if◌then◌else◌}
+use Rattle.std.proofs.Common.{◌≡◌, ℕ, ◌≤◌, Bool, true, false, cond, ◌⊎◌, inl, inr, Option, Some, None, List, [], ◌∷◌, ◌++◌, length, map, refl, sym, ◌∙◌, ap, subst, is_some, option_map, arith}
 use Rattle.std.proofs.lemmas.Bool.{and_parts}
 use Rattle.std.proofs.lemmas.List.{append-nil, length-append}
 use Rattle.std.specs.Bool.{⊤}
@@ -9,12 +9,12 @@ use Rattle.std.specs.List.{flat_map, AllByRecursion}
 use Rattle.std.specs.Option.{option_map_or}
 use Rattle.irc_channels.specs.declared.channel.Channel.{Channel}
 use Rattle.irc_channels.specs.declared.flags.Flags.{Flags}
-use Rattle.irc_follow.proofs.DeedEffects.{changes_quiet, members_quiet, topic_quiet, users_stay}
+use Rattle.irc_follow.proofs.DeedEffects.{members_quiet, sets_quiet, tops_quiet, users_stay}
 use Rattle.irc_merge.proofs.CanBeDone.{deeds_well, lines_can_be_done}
 use Rattle.irc_merge.specs.BurstRead.{introduced, new_members, brought, some_far, read_deed, read_all}
 use Rattle.irc_merge.specs.Bursts.{in_lines, members_a_line, bans_a_line, stored_members, burst, user_deeds, channel_deeds, settings_line}
 use Rattle.irc_merge.specs.CanBeDone.{IsOfBurst}
-use Rattle.irc_merge.specs.Deeds.{Deed, does, kills, brings, sets, tops, member_comes, changes_made, raised_in, is_greater_topic, after_deed, after_deeds}
+use Rattle.irc_merge.specs.Deeds.{Deed, does, kills, brings, sets, tops, member_comes, effects_of, after_deed, after_deeds}
 use Rattle.irc_merge.specs.Laws.{AreApart}
 use Rattle.irc_merge.specs.Lemmas.Introducing.{introductions, told_user}
 use Rattle.irc_merge.specs.Lemmas.TableWords.{true_is, first_there, above_first}
@@ -25,8 +25,7 @@ use Rattle.irc_names.specs.Fold.{key}
 use Rattle.irc_names.specs.Tables.{Table, fold_cmp, row}
 use Rattle.irc_names.specs.TableLaws.{same_fold, one_fold, row-alter}
 use Rattle.irc_room.specs.After.{after, titled_by}
-use Rattle.irc_room.specs.effect.By.TheVariants as by
-use Rattle.irc_room.specs.effect.Effect.TheVariants.{AddUser, SetTopic}
+use Rattle.irc_room.specs.effect.Effect.TheVariants.{AddUser}
 use Rattle.irc_room.specs.Lemmas.Rows.{not_none, not_true}
 use Rattle.irc_room.specs.Lemmas.ViewerLaws.{IsNamed, table_named}
 use Rattle.irc_room.specs.Limits.{IsWithinLimits}
@@ -114,16 +113,14 @@ set_users : (room : Room) (b : Bool) (server channel : List ℕ) (changes : List
     → (after_deeds room (cond b (sets server channel changes ∷ []) [])).users ≡ room.users
 unfolding after_deed
 set_users room true server channel changes =
-    let raised = raised_in room channel changes in
-    users_stay room (changes_made channel raised) (changes_quiet channel raised)
+    users_stay room (effects_of room (sets server channel changes)) (sets_quiet room server channel changes)
 set_users room false server channel changes = refl
 
 topped_users : (room : Room) (b : Bool) (server channel topic : List ℕ)
     → (after_deeds room (cond b (tops server channel topic ∷ []) [])).users ≡ room.users
 unfolding after_deed
 topped_users room true server channel topic =
-    let greater = is_greater_topic room channel topic in
-    users_stay room (if greater then SetTopic by.Home channel topic ∷ [] else []) (topic_quiet channel topic greater)
+    users_stay room (effects_of room (tops server channel topic)) (tops_quiet room server channel topic)
 topped_users room false server channel topic = refl
 
 -- whoever is introduced stands in the room where the nickname was free, nobody does where it was held, and all others stay

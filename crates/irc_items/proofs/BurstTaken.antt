@@ -29,7 +29,7 @@ use Rattle.irc_room.specs.effect.Effect.TheVariants.{SetTopic}
 use Rattle.irc_room.specs.Effects.{is_member}
 use Rattle.irc_room.specs.InTurn.{after_all, EachInTurn}
 use Rattle.irc_room.specs.Lemmas.Rows.{not_true, same_some}
-use Rattle.irc_room.specs.Limits.{IsBanCarried, KeepsLimits}
+use Rattle.irc_room.specs.Limits.{IsBanCarried, IsCarriedText, KeepsLimits}
 use Rattle.irc_room.specs.Room.{Room, IsWellFormed}
 use Rattle.irc_room.specs.Sendable.{IsStoredNick}
 use Rattle.irc_users.specs.declared.user.User.{User}

@@ -11,7 +11,7 @@ use Rattle.irc_channels.specs.declared.channel.Channel.{Channel}
 use Rattle.irc_channels.specs.declared.flags.Flags.{Flags}
 use Rattle.irc_merge.specs.BurstRead.{introduced, new_members, brought, some_far, read_deed, read_all}
 use Rattle.irc_merge.specs.Bursts.{in_lines, members_a_line, bans_a_line, stored_members, burst, channel_deeds, settings_line}
-use Rattle.irc_merge.specs.Deeds.{Deed, does, gains, loses, kills, brings, sets, tops, is_greater_topic, raised_in, titled, effects_of, after_deed, after_deeds, shown_by, shown_by_all}
+use Rattle.irc_merge.specs.Deeds.{Deed, does, gains, loses, kills, brings, sets, tops, titled, effects_of, after_deed, after_deeds, shown_by, shown_by_all}
 use Rattle.irc_merge.specs.Lemmas.Introducing.{met, met_by, is_met, met_well, introductions, other_met}
 use Rattle.irc_merge.specs.Lemmas.TableWords.{true_is, absent}
 use Rattle.irc_merge.specs.Quits.{collision_text}
@@ -42,7 +42,7 @@ use Rattle.irc_stage.specs.RoomMachine.{Clients}
 use Rattle.irc_users.specs.declared.user.User.{User}
 use Rattle.irc_follow.specs.Part.{Fixed, Part, client_sees, done, is_home_of, told_end}
 use Rattle.irc_follow.specs.Says.{play}
-use Rattle.irc_follow.proofs.DeedEffects.{AllQuiet, changes_quiet, members_quiet, topic_quiet, users_stay}
+use Rattle.irc_follow.proofs.DeedEffects.{AllQuiet, members_quiet, sets_quiet, tops_quiet, users_stay}
 use Rattle.irc_follow.proofs.PartEffects.{same_folds}
 use Rattle.irc_items.proofs.BurstStated.{both_all}
 use Rattle.irc_items.proofs.LinkGains.{clients_left, clients_spared, hall_left, in_hall, read_deed_done}
@@ -263,8 +263,8 @@ all_spared (deed ∷ deeds) all room nick =
 
 quiet_deed : (room : Room) (deed : Deed) → IsOfChannel deed → AllQuiet (effects_of room deed)
 quiet_deed room (brings server channel members) is = members_quiet channel members
-quiet_deed room (sets server channel changes) is = changes_quiet channel (raised_in room channel changes)
-quiet_deed room (tops server channel topic) is = topic_quiet channel topic (is_greater_topic room channel topic)
+quiet_deed room (sets server channel changes) is = sets_quiet room server channel changes
+quiet_deed room (tops server channel topic) is = tops_quiet room server channel topic
 quiet_deed room deed is = absurd is
 
 same_users : (room : Room) (deed : Deed) → IsOfChannel deed → (titled room deed).users ≡ room.users
