@@ -1,5 +1,5 @@
 -- Deeds of a server, other than a KILL, go on to each other neighbour as lines that say them there.
-use Rattle.std.proofs.Common.{◌≡◌, ◌≢◌, ◌⊎◌, inl, inr, ℕ, Bool, true, false, not, ◌&&◌, ◌||◌, is_some, Option, Some, None, Ok, List, [], ◌∷◌, ◌++◌, codes, length, lit≤, map, refl, sym, ◌∙◌, ap, option_map, if◌then◌else◌}
+use Rattle.std.proofs.Common.{◌≡◌, ◌≢◌, inl, inr, ℕ, Bool, true, false, not, ◌&&◌, ◌||◌, is_some, Option, Some, None, Ok, List, [], ◌∷◌, ◌++◌, codes, length, lit≤, map, refl, sym, ◌∙◌, ap, option_map, if◌then◌else◌}
 use Rattle.std.proofs.lemmas.Bool.{le-leb}
 use Rattle.std.specs.FinMap.{get, keys}
 use Rattle.std.specs.List.{list_any, AllByRecursion}
@@ -16,7 +16,6 @@ use Rattle.irc_room.specs.effect.Effect.{Effect}
 use Rattle.irc_modes.specs.declared.modes.ModeChange.{ModeChange}
 use Rattle.irc_room.specs.Seen.{stored_nick}
 use Rattle.irc_room.specs.OtherInvitations.{AreAlike}
-use Rattle.irc_room.specs.Readers.{home_under}
 use Rattle.irc_room.specs.Room.{Room}
 use Rattle.irc_room.specs.After.{titled_by}
 use Rattle.irc_room.specs.Lemmas.Rows.{is_some_map, same_some}

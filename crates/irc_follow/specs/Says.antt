@@ -115,8 +115,8 @@ pub record IsFarChannel (s : Fixed) (w : Part) (channel : List ℕ) : Type 0 whe
   pub named : IsChannel channel
   pub some : HasOneOfFar s w (row w.hall.room.channels (key channel))
 
--- Changes of its modes that are read as they are written, with words that a line can carry. All of them are told on, whether they raise
--- something in the channel or not.
+-- Changes of its modes that are read as they are written, with words that a line can carry. All of
+-- them are told on, whether they raise something in the channel or not.
 pub record AreToldChanges (s : Fixed) (w : Part) (channel : List ℕ) (changes : List ModeChange) : Type 0 where
   pub far : IsFarChannel s w channel
   pub readable : AreReadable changes
@@ -148,8 +148,8 @@ CanBeTold s w (does effect) = ⊤
 CanBeTold s w (gains uplink name info) = ⊤
 CanBeTold s w (kills server nick) = ⊤
 
--- A deed of a far server: each of its effects, if there are any, is possible in its turn, does something, and keeps the limits; and a line
--- can tell of it.
+-- A deed of a far server: each of its effects, if there are any, is possible in its turn, does
+-- something, and keeps the limits; and a line can tell of it.
 pub record IsDoableByServer (s : Fixed) (w : Part) (server : Name) (deed : Deed) : Type 0 where
   pub known : w.tree.knows server ≡ true
   pub far : IsFar s w server

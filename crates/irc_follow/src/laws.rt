@@ -57,7 +57,8 @@ pub fn said_loss_goes_on()
     irc_room::laws::names_are_line_words();
 }
 
-/// So it does with the topic that a server tells of a channel with a member of a far server, whether the topic is greater there or not.
+/// So it does with the topic that a server tells of a channel with a member of a far server,
+/// whether the topic is greater there or not.
 pub fn said_topic_goes_on()
     ensures { SaidTopicGoesOn }
 {
@@ -67,7 +68,8 @@ pub fn said_topic_goes_on()
     irc_room::laws::names_are_line_words();
 }
 
-/// So it does with a MODE of a server, for such a channel: all its changes go on, also those that raise nothing there.
+/// So it does with a MODE of a server, for such a channel: all its changes go on, also those that
+/// raise nothing there.
 pub fn said_modes_go_on()
     ensures { SaidModesGoOn }
 {
@@ -77,7 +79,8 @@ pub fn said_modes_go_on()
     irc_room::laws::names_are_line_words();
 }
 
-/// So it does with an NJOIN of users of far servers, at most ten of them, whose spelling of the channel goes on with it.
+/// So it does with an NJOIN of users of far servers, at most ten of them, whose spelling of the
+/// channel goes on with it.
 pub fn said_members_go_on()
     ensures { SaidMembersGoOn }
 {
