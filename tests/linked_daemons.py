@@ -1036,9 +1036,8 @@ def probed(program):
         return told("probed", len(table) == 2 and count == 2, f"of two ends of a link the system asks after {count}")
 
 
-PARTS = [people, clash, lost, burst, wild, deaf, small, liars, doors, silent, knocking, reset, waiting, refused, files, late, again, crossing, ring,
-         flooding, probed]
-PARTS = [people, clash, lost, burst, joined, wild, deaf, small, liars, doors, silent, knocking, reset, waiting, refused, files]
+PARTS = [people, clash, lost, burst, joined, wild, deaf, small, liars, doors, silent, knocking, reset, waiting, refused, files, late, again, crossing,
+         ring, flooding, probed]
 
 
 def holds(part, program):

@@ -232,7 +232,7 @@ static OURS: [Row; 5] = [
 ];
 
 /// Lines of servers in channels of al's, bo of b.net in some of them.
-static LATER: [Row; 6] = [
+static LATER: [Row; 7] = [
     // A topic that is not greater is shown to nobody, and goes on.
     (
         &[
@@ -273,14 +273,44 @@ static LATER: [Row; 6] = [
     // Changes are judged one after another.
     (
         &[
-            Step::Hears(7, b":b.net NJOIN #key :bo"),
-            Step::Hears(7, b":b.net MODE #key +kk bb ab"),
+            Step::Hears(7, b":b.net NJOIN #ban :bo"),
+            Step::Hears(7, b":b.net MODE #ban +bb Z!*@* z!*@*"),
+            Step::Hears(7, b":b.net MODE #ban +bb y!*@* Y!*@*"),
+            Step::Hears(7, b":b.net MODE #ban +ps"),
+            Step::Hears(7, b":b.net NJOIN #Spelled :bo"),
+            Step::Hears(7, b":b.net MODE #Spelled +sp"),
         ],
         &[
+            Out::Line(1, b":bo!u@h JOIN #ban"),
+            Out::LinkLine(8, b":b.net NJOIN #ban :bo"),
+            Out::Line(1, b":a.net MODE #ban +bb Z!*@* z!*@*"),
+            Out::LinkLine(8, b":b.net MODE #ban +bb Z!*@* z!*@*"),
+            Out::Line(1, b":a.net MODE #ban +b y!*@*"),
+            Out::LinkLine(8, b":b.net MODE #ban +bb y!*@* Y!*@*"),
+            Out::Line(1, b":a.net MODE #ban +ps"),
+            Out::LinkLine(8, b":b.net MODE #ban +ps"),
+            Out::Line(1, b":bo!u@h JOIN #Spelled"),
+            Out::LinkLine(8, b":b.net NJOIN #Spelled :bo"),
+            Out::Line(1, b":a.net MODE #Spelled +s"),
+            Out::LinkLine(8, b":b.net MODE #Spelled +sp"),
+        ],
+    ),
+    // A server's line counts by whoever is behind its link, a user of another server too.
+    (
+        &[
+            Step::Hears(7, b":b.net SERVER d.net 2 2 :D"),
+            Step::Hears(7, b":b.net NJOIN #KEY :bo"),
+            Step::Hears(7, b":d.net MODE #KEY +nk bb"),
+            Step::Hears(7, b":d.net TOPIC #KEY :y"),
+        ],
+        &[
+            Out::LinkLine(8, b":b.net SERVER d.net 3 4 :D"),
             Out::Line(1, b":bo!u@h JOIN #key"),
-            Out::LinkLine(8, b":b.net NJOIN #key :bo"),
-            Out::Line(1, b":a.net MODE #key +k bb"),
-            Out::LinkLine(8, b":b.net MODE #key +kk bb ab"),
+            Out::LinkLine(8, b":b.net NJOIN #KEY :bo"),
+            Out::Line(1, b":a.net MODE #key +nk bb"),
+            Out::LinkLine(8, b":d.net MODE #KEY +nk bb"),
+            Out::Line(1, b":a.net TOPIC #key :y"),
+            Out::LinkLine(8, b":d.net TOPIC #KEY :y"),
         ],
     ),
     // A channel that nobody behind the link is in, and one that is not there.
@@ -400,6 +430,45 @@ static ZEDS: [Row; 2] = [
     ),
 ];
 
+/// The same the other way round: al, client 1, is in no channel, and zed, client 2, alone in #zoo.
+static ALONE: [Step; 16] = [
+    Step::Connects(1),
+    Step::Says(1, b"NICK al"),
+    Step::Says(1, b"USER u 0 * :Al"),
+    Step::Connects(2),
+    Step::Says(2, b"NICK zed"),
+    Step::Says(2, b"USER u 0 * :Zed"),
+    Step::Says(2, b"JOIN #zoo"),
+    Step::Says(2, b"MODE #zoo +i"),
+    Step::Says(2, b"TOPIC #zoo :x"),
+    Step::IsCalled(8),
+    Step::Hears(8, b"PASS pq 0210010001 TREE|"),
+    Step::Hears(8, b"SERVER c.net 1 1 :C"),
+    Step::IsCalled(7),
+    Step::Hears(7, b"PASS pw 0210010001 TREE|"),
+    Step::Hears(7, b"SERVER b.net 1 1 :B"),
+    Step::Hears(7, b"NICK ben 1 u h 1 + :Ben"),
+];
+
+/// The channel of this side has ended before the one of the other is told: that is made anew, with its own spelling, modes and topic.
+static ENDED: [Row; 1] = [(
+    &[
+        Step::Hears(7, b"NICK zed 1 u h 1 + :Zed"),
+        Step::Hears(7, b":b.net NJOIN #ZOO :@ben,zed"),
+        Step::Says(1, b"MODE #zoo"),
+        Step::Says(1, b"TOPIC #zoo"),
+    ],
+    &[
+        Out::Line(2, b"ERROR :Closing link (Killed (Nick collision))"),
+        Out::Close(2),
+        Out::LinkLine(7, b":a.net KILL zed :Nick collision"),
+        Out::LinkLine(8, b":a.net KILL zed :Nick collision"),
+        Out::LinkLine(8, b":b.net NJOIN #ZOO :@ben"),
+        Out::Line(1, b":a.net 324 al #ZOO +"),
+        Out::Line(1, b":a.net 331 al #ZOO :No topic is set"),
+    ],
+)];
+
 /// Three in a row: b.net with bo by 7, a.net, c.net with cy by 8. al, client 1, is in no channel.
 static MIDDLE: [Step; 11] = [
     Step::Connects(1),
@@ -441,6 +510,39 @@ static PASSED_ON: [Row; 1] = [(
         Out::Line(1, b":a.net 353 al = #c :al @bo @cy"),
         Out::Line(1, b":a.net 366 al #c :End of NAMES list"),
         Out::Line(1, b":a.net 324 al #c +mnk bb"),
+    ],
+)];
+
+/// Three in a row: cy, client 1, of a.net is in #c, and a.net knows c.net behind b.net, with bo.
+static LAST: [Step; 11] = [
+    Step::Connects(1),
+    Step::Says(1, b"NICK cy"),
+    Step::Says(1, b"USER u 0 * :Cy"),
+    Step::Says(1, b"JOIN #c"),
+    Step::Says(1, b"MODE #c +mnk bb"),
+    Step::Says(1, b"TOPIC #c :w"),
+    Step::IsCalled(7),
+    Step::Hears(7, b"PASS pw 0210010001 TREE|"),
+    Step::Hears(7, b"SERVER b.net 1 1 :B"),
+    Step::Hears(7, b":b.net SERVER c.net 2 2 :C"),
+    Step::Hears(7, b"NICK bo 2 u h 2 + :Bo"),
+];
+
+/// The last of them has the same channel as the one in the middle: in its spelling, with all modes and the greater topic.
+static COME_TO_THE_LAST: [Row; 1] = [(
+    &[
+        Step::Hears(7, b":c.net NJOIN #C :@bo"),
+        Step::Hears(7, b":c.net MODE #C +mk aa"),
+        Step::Hears(7, b":c.net TOPIC #C :x"),
+        Step::Says(1, b"MODE #c"),
+        Step::Says(1, b"TOPIC #c"),
+    ],
+    &[
+        Out::Line(1, b":bo!u@h JOIN #c"),
+        Out::Line(1, b":a.net MODE #c +o bo"),
+        Out::Line(1, b":a.net TOPIC #c :x"),
+        Out::Line(1, b":a.net 324 cy #c +mnk bb"),
+        Out::Line(1, b":a.net 332 cy #c :x"),
     ],
 )];
 
@@ -503,11 +605,13 @@ fn a_servers_line_counts_where_somebody_is_behind_the_link(rt: HostRuntime) {
 #[test]
 fn a_channel_that_has_ended_tells_nothing(rt: HostRuntime) {
     assert!(rt; rows_hold(rt.alloc(), &ZED, &ZEDS));
+    assert!(rt; rows_hold(rt.alloc(), &ALONE, &ENDED));
 }
 
 #[test]
 fn a_server_between_two_sides_joins_them(rt: HostRuntime) {
     assert!(rt; rows_hold(rt.alloc(), &MIDDLE, &PASSED_ON));
+    assert!(rt; rows_hold(rt.alloc(), &LAST, &COME_TO_THE_LAST));
 }
 
 #[test]
