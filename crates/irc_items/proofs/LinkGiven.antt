@@ -9,7 +9,6 @@ use Rattle.irc_batch.specs.Batches.{end_of_link}
 use Rattle.irc_batch.specs.declared.close_reason.CloseReason.TheVariants as reason
 use Rattle.irc_handshake.specs.Passwords.{is_password}
 use Rattle.irc_line.specs.Messages.{Written, line_text, text}
-use Rattle.irc_merge.specs.Agreeing.{agree}
 use Rattle.irc_relay.specs.Distances.{IsAmong}
 use Rattle.irc_relay.specs.Lemmas.TellingNames.{Telling, alike, unlike, tell}
 use Rattle.irc_relay.specs.Links.{Name, part, same, joined, linked}
@@ -20,7 +19,7 @@ use Rattle.irc_stage.specs.View.{KnownPeer, View, is_named, password_for, with_e
 use Rattle.irc_deeds.specs.LinkServed.{on_link, opening_parts}
 use Rattle.irc_server.specs.Owed.{lines_to}
 use Rattle.irc_server.specs.Served.{Served, ServedKeepsItsSetting, link_up, served}
-use Rattle.irc_world.specs.Refused.{are_equal, disagree, link_refused}
+use Rattle.irc_world.specs.Refused.{are_equal, link_refused}
 use Rattle.irc_world.specs.Stepping.{link}
 use Rattle.irc_world.specs.World.{home_in}
 use Rattle.irc_follow.specs.Fits.{far_of}
@@ -41,7 +40,7 @@ use Rattle.irc_items.proofs.ClientGiven.{reply_taken, set_up_besides}
 use Rattle.irc_items.proofs.OpenedWays.{is_opened, opened_at, way_opened, IsOpened}
 use Rattle.irc_items.specs.Lemmas.SetUpFacts.{there, viewed, viewed_nowhere}
 
--- Two servers of different parts may be linked: they keep one password for each other, and agree.
+-- Two servers of different parts may be linked: they keep one password for each other.
 pub record IsMeeting (net : Network) (near far : Name) : Type 0 where
   pub near_among : IsAmong net.names near
   pub far_among : IsAmong net.names far
@@ -50,7 +49,6 @@ pub record IsMeeting (net : Network) (near far : Name) : Type 0 where
   pub near_word : password_for (view_at net near) far ≡ Some word
   pub far_word : password_for (view_at net far) near ≡ Some word
   pub is_word : is_password word ≡ true
-  pub agreed : agree (view_at net near).room (view_at net far).room ≡ true
 
 -- Both ends are open, and the near end has called: PASS and SERVER are on their way. Nothing else has changed.
 pub record IsLinked (net new : Network) (near far : Name) : Type 0 where
@@ -107,24 +105,22 @@ shared (Some one) (Some other) equal = record { word = one; is_one = refl; is_ot
 shared (Some one) None equal = absurd (cc equal)
 shared None other equal = absurd (cc equal)
 
-record NothingAgainst (are_one are_peers agreed : Bool) : Type 0 where
+record NothingAgainst (are_one are_peers : Bool) : Type 0 where
   pub two : are_one ≡ false
   pub peers : are_peers ≡ true
-  pub agreed_so : agreed ≡ true
 
-nothing_against : (are_one are_peers agreed : Bool)
-    → (if are_one || not are_peers then Some link_refused else (if agreed then None else Some disagree)) ≡ None → NothingAgainst are_one are_peers agreed
-nothing_against true peers agreed e = absurd (cc e)
-nothing_against false false agreed e = absurd (cc e)
-nothing_against false true false e = absurd (cc e)
-nothing_against false true true e = record { two = refl; peers = refl; agreed_so = refl }
+nothing_against : (are_one are_peers : Bool)
+    → (if are_one || not are_peers then Some link_refused else None) ≡ None
+    → NothingAgainst are_one are_peers
+nothing_against true peers e = absurd (cc e)
+nothing_against false false e = absurd (cc e)
+nothing_against false true e = record { two = refl; peers = refl }
 
 pub meeting : (net : Network) → IsSetUp net → (near far : Name) → fault_at_rest net (link near far) ≡ None → IsMeeting net near far
 meeting net set_up near far taken = by (list_any (same near) net.names) refl (list_any (same far) net.names) refl
   where
     both : IsAmong net.names near → IsAmong net.names far
         → NothingAgainst (joined net.links near far) (are_peers near far (view_at net near) (view_at net far))
-        (agree (view_at net near).room (view_at net far).room)
         → IsShared (password_for (view_at net near) far) (password_for (view_at net far) near) → IsMeeting net near far
     both near_among far_among fine words = record {
       near_among = near_among;
@@ -134,14 +130,12 @@ meeting net set_up near far taken = by (list_any (same near) net.names) refl (li
       near_word = words.is_one;
       far_word = words.is_other;
       is_word = is_word_for (view_at net near) far words.word (set_up.configured near near_among).passwords words.is_one;
-      agreed = fine.agreed_so;
     }
 
     there_both : IsAmong net.names near → IsAmong net.names far → meeting_fault net near far (view_at net near) (view_at net far) ≡ None
         → IsMeeting net near far
     there_both near_among far_among fault =
-        let fine = nothing_against (joined net.links near far) (are_peers near far (view_at net near) (view_at net far))
-        (agree (view_at net near).room (view_at net far).room) fault in
+        let fine = nothing_against (joined net.links near far) (are_peers near far (view_at net near) (view_at net far)) fault in
         both near_among far_among fine (shared (password_for (view_at net near) far) (password_for (view_at net far) near) fine.peers)
 
     by : (b : Bool) → list_any (same near) net.names ≡ b → (c : Bool) → list_any (same far) net.names ≡ c → IsMeeting net near far

@@ -3,15 +3,13 @@ use Rattle.std.proofs.Common.{◌≡◌, ℕ, Bool, true, false, cond, not, ◌&
 use Rattle.std.specs.FinMap.{get, get-retain_keys, nat_cmp-IsAntisymmetric}
 use Rattle.std.specs.List.{find}
 use Rattle.std.specs.Option.{option_and_then, option_map, option_map_or}
-use Rattle.irc_merge.specs.Agreeing.{agree}
-use Rattle.irc_merge.specs.AsideInvitations.{AgreeLooksAtNoInvitation}
 use Rattle.irc_relay.specs.Distances.{IsAmong}
 use Rattle.irc_relay.specs.Lemmas.TellingNames.{same_when}
 use Rattle.irc_relay.specs.Links.{Name, same, joined}
 use Rattle.irc_relay.specs.Links.{linked as are_linked}
 use Rattle.irc_stage.specs.View.{KnownPeer, password_for}
 use Rattle.irc_world.specs.Laws.{WorldIsSound}
-use Rattle.irc_world.specs.Refused.{Refusal, are_equal, disagree, link_refusal, link_refused, needs_servers, no_such_client, no_such_server, not_linked, open_client, refused}
+use Rattle.irc_world.specs.Refused.{Refusal, are_equal, link_refusal, link_refused, needs_servers, no_such_client, no_such_server, not_linked, open_client, refused}
 use Rattle.irc_world.specs.Refused.{password_for as password_kept}
 use Rattle.irc_world.specs.Sound.{IsSound}
 use Rattle.irc_world.specs.Stepping.{Item, connect, line, gone, link, cut}
@@ -26,7 +24,7 @@ use Rattle.irc_items.specs.SetUp.{settings_of, view_at, IsSetUp}
 use Rattle.irc_items.specs.Sound.{world_now}
 use Rattle.irc_items.specs.Lemmas.SetUpFacts.{listed, placed_if, setting_there, viewed, viewed_nowhere}
 
-module _ (aside : AgreeLooksAtNoInvitation) (net : Network) (set_up : IsSetUp net) (links : net.links ≡ (world_now net).links)
+module _ (net : Network) (set_up : IsSetUp net) (links : net.links ≡ (world_now net).links)
     (homes : net.homes ≡ (world_now net).homes) (room : IsOneRoom net) (sound : IsSound (settings_of net) (world_now net)) where
   abbrev settings : List Setting
   settings = settings_of net
@@ -76,22 +74,15 @@ module _ (aside : AgreeLooksAtNoInvitation) (net : Network) (set_up : IsSetUp ne
       sym (ap (option_and_then (λ (s : Setting). option_map (λ (p : KnownPeer). p.password) (find (λ (p : KnownPeer). same p.name peer) s.peers)))
       (setting_there net set_up server here))
 
-  rooms_agree : (near far : Name) → IsAmong net.names near → IsAmong net.names far
-      → agree (view_at net near).room (view_at net far).room ≡ agree (world.hall near).room (world.hall far).room
-  rooms_agree near far near_here far_here =
-      (λ i. agree ((room.servers near near_here).room i) ((room.servers far far_here).room i))
-      ∙ aside near far (world.hall near).room (world.hall far).room (sound.well_formed near) (sound.well_formed far)
-
   -- why two servers that are there are not linked
-  refusal_of : Bool → Bool → Bool → Option Refusal
-  refusal_of are_joined have_one agreed = if are_joined || not have_one then Some link_refused else (if agreed then None else Some disagree)
+  refusal_of : Bool → Bool → Option Refusal
+  refusal_of are_joined have_one = if are_joined || not have_one then Some link_refused else None
 
   a_meeting : (near far : Name) → IsAmong net.names near → IsAmong net.names far
       → meeting_fault net near far (view_at net near) (view_at net far) ≡ link_refusal settings world near far
   unfolding refusal_of
   a_meeting near far near_here far_here =
       λ i. refusal_of (joined (links i) near far) (are_equal (a_password near far near_here i) (a_password far near far_here i))
-      (rooms_agree near far near_here far_here i)
 
   a_link : (near far : Name) → link_fault net near far (site_view net near) (site_view net far)
       ≡ needs_servers settings near far (link_refusal settings world near far)
@@ -130,6 +121,6 @@ module _ (aside : AgreeLooksAtNoInvitation) (net : Network) (set_up : IsSetUp ne
   each_item (link near far) = a_link near far
   each_item (cut near far) = a_cut near far
 
-pub refusals_are_the_worlds : RestIsOneRoom → WorldIsSound → AgreeLooksAtNoInvitation → RefusalsAreTheWorlds
-refusals_are_the_worlds one_room world_sound aside net item sound at_rest =
-    each_item aside net sound.set_up sound.links sound.homes (one_room net sound at_rest) (world_sound (settings_of net) net.items sound.taken) item
+pub refusals_are_the_worlds : RestIsOneRoom → WorldIsSound → RefusalsAreTheWorlds
+refusals_are_the_worlds one_room world_sound net item sound at_rest =
+    each_item net sound.set_up sound.links sound.homes (one_room net sound at_rest) (world_sound (settings_of net) net.items sound.taken) item

@@ -124,7 +124,6 @@ pub fn refusals_are_the_worlds()
 {
     rest_is_one_room();
     irc_world::laws::world_is_sound();
-    irc_merge::laws::agree_looks_at_no_invitation();
 }
 
 /// By an item each client receives just what one room sends it, in whatever order lines are delivered then.
