@@ -44,7 +44,7 @@ use Rattle.irc_deeds.specs.LinkServed.{after_heard, line_served}
 use Rattle.irc_server.specs.Served.{served}
 use Rattle.irc_world.specs.ClientsUsers.{fold_of}
 use Rattle.irc_follow.specs.Tree.{shape, shape_in}
-use Rattle.irc_follow.specs.Part.{Fixed, clients_left, done, hall_after, info_in, is_home_of, number, IsSoundPart}
+use Rattle.irc_follow.specs.Part.{Fixed, clients_left, done, info_in, is_home_of, number, IsSoundPart}
 use Rattle.irc_follow.specs.Part as of_side
 use Rattle.irc_follow.specs.Fits.{Fits}
 use Rattle.irc_follow.specs.Says.{neighbour_served, Says, IsDoableEffect, IsFar}

@@ -26,7 +26,6 @@ use Rattle.irc_merge.specs.AsideInvitations.{AreReadAlike}
 use Rattle.irc_merge.specs.BurstRead.{brought, new_members, some_far}
 use Rattle.irc_merge.specs.Deeds.{Deed, brings, loses, sets, tops, titled, effects_of}
 use Rattle.irc_merge.specs.Quits.{quits_of, users_at}
-use Rattle.irc_merge.proofs.Bringing.{new_titled}
 use Rattle.irc_merge.proofs.LookingAside.{alike_read_alike}
 use Rattle.irc_relay.specs.Links.{Name}
 use Rattle.irc_relay.specs.Relay.{TakesFrom}
@@ -57,6 +56,7 @@ use Rattle.irc_follow.proofs.Neighbours as beside
 use Rattle.irc_follow.proofs.SaidDeed.{deed_served}
 use Rattle.irc_follow.proofs.SaidEffect.{far_is_another, rooms_alike}
 use Rattle.irc_follow.proofs.ServerLines.{all_so, brought_some, members_plain, members_read, members_whole, modes_plain, modes_read, modes_whole, or_so, topic_plain, topic_read, topic_whole}
+use Rattle.irc_follow.proofs.SpelledMembers.{new_respelled}
 
 module _ (known : IsKnownOfLines) (s : Fixed) (p t u : Name) (w : of_side.Part) (view other : View) (line : List ℕ) (client : ℕ)
     (fixed : IsFixed s) (takes : TakesFrom s.streams t p) (next : TakesFrom s.streams u t) (apart : u ≢ p) (writer : Fits s t w view)
@@ -186,7 +186,8 @@ module _ (known : IsKnownOfLines) (s : Fixed) (p t u : Name) (w : of_side.Part) 
 
     topic_lines : lines_on (number s u) (neighbour_served s p view line).out ≡ line_text topic_written ∷ []
     unfolding told_by deed_told
-    topic_lines = lines_of (tops server channel topic) view.room (effects_of view.room (tops server channel topic)) topic_written (λ before. before) (λ _. refl) (λ _. refl) refl
+    topic_lines = lines_of (tops server channel topic) view.room (effects_of view.room (tops server channel topic)) topic_written
+        (λ before. before) (λ _. refl) (λ _. refl) refl
         (sym (deed_served s p t w view takes writer (tops server channel topic) line says.end says.is_end says.means))
 
     pub topic_goes : GoesOn s t u w other (tops server channel topic) ((machine s client).sends t p view line u)
@@ -214,8 +215,9 @@ module _ (known : IsKnownOfLines) (s : Fixed) (p t u : Name) (w : of_side.Part) 
 
     modes_lines : lines_on (number s u) (neighbour_served s p view line).out ≡ line_text modes_written ∷ []
     unfolding told_by deed_told
-    modes_lines = lines_of (sets server channel changes) view.room (effects_of view.room (sets server channel changes)) modes_written (λ before. before) (λ _. refl) (λ _. refl)
-        refl (sym (deed_served s p t w view takes writer (sets server channel changes) line says.end says.is_end says.means))
+    modes_lines = lines_of (sets server channel changes) view.room (effects_of view.room (sets server channel changes)) modes_written
+        (λ before. before) (λ _. refl) (λ _. refl) refl
+        (sym (deed_served s p t w view takes writer (sets server channel changes) line says.end says.is_end says.means))
 
     pub modes_go : GoesOn s t u w other (sets server channel changes) ((machine s client).sends t p view line u)
     modes_go = beside.goes_on s p t u w view other takes next apart writer reader known modes_written
@@ -275,7 +277,7 @@ module _ (known : IsKnownOfLines) (s : Fixed) (p t u : Name) (w : of_side.Part) 
     new_there : AllByRecursion (λ (member : List ℕ × Flags). home_passes far other.room.users (key member.0) ≡ true) members
         → new_members far other.room channel members ≡ members
     new_there homes =
-        sym (new_titled far channel members other.room)
+        sym (new_respelled far channel members other.room)
         ∙ all_new far other.room.users channel members (titled_by channel other.room) (titled_by channel w.hall.room)
         (alike_are_respelled_alike channel other.room w.hall.room rooms) refl by_bringer.each homes
 
@@ -291,8 +293,9 @@ module _ (known : IsKnownOfLines) (s : Fixed) (p t u : Name) (w : of_side.Part) 
 
     members_lines : lines_on (number s u) (neighbour_served s p view line).out ≡ line_text members_written ∷ []
     unfolding told_by deed_told
-    members_lines = lines_of (brings server channel members) (titled view.room (brings server channel members)) (effects_of view.room (brings server channel members)) members_written (λ before. before) (λ _. refl)
-        (λ _. refl) refl (sym (deed_served s p t w view takes writer (brings server channel members) line says.end says.is_end says.means))
+    members_lines = lines_of (brings server channel members) (titled view.room (brings server channel members))
+        (effects_of view.room (brings server channel members)) members_written (λ before. before) (λ _. refl) (λ _. refl) refl
+        (sym (deed_served s p t w view takes writer (brings server channel members) line says.end says.is_end says.means))
 
     pub members_go : GoesOn s t u w other (brings server channel members) ((machine s client).sends t p view line u)
     members_go = beside.goes_on s p t u w view other takes next apart writer reader known members_written

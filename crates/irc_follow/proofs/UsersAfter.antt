@@ -1,9 +1,8 @@
 -- Where a user is after an effect: under what fold, and with the home that it had.
 use Rattle.std.proofs.Common.{◌≡◌, ℕ, Bool, true, false, cond, not, ◌||◌, Option, Some, None, List, refl, sym, ◌∙◌, ap, option_map, is_some, if◌then◌else◌}
-use Rattle.std.specs.Prelude.{⊤}
 use Rattle.std.specs.Cmp.Lexicographic.{bytes_decides}
 use Rattle.irc_names.specs.Fold.{key, same}
-use Rattle.irc_names.specs.Tables.{Table, row, alter, moved}
+use Rattle.irc_names.specs.Tables.{row, alter, moved}
 use Rattle.irc_names.specs.TableLaws.{same_fold, same_fold-refl, one_fold, row-alter, row-moved, row-moved_none}
 use Rattle.irc_users.specs.declared.user.User.{User}
 use Rattle.irc_users.specs.UserTable.{with_nick, with_invisible}
@@ -13,7 +12,6 @@ use Rattle.irc_room.specs.Room.{Room}
 use Rattle.irc_room.specs.After.{after}
 use Rattle.irc_room.specs.Effects.{brings_free}
 use Rattle.irc_room.specs.Readers.{home_under}
-use Rattle.irc_room.specs.Lemmas.Rows.{same_some}
 
 -- the fold of a user's nickname afterwards, if it stays
 abbrev pub fold_after : Effect → List ℕ → List ℕ
