@@ -115,8 +115,8 @@ module _ (client : ℕ) where
 
 -- ---- of what is put out so
 
--- What is put out is what clients are shown of effects in turn, done in a room, and then a line on all links but that of arrival. The ends
--- of links stay.
+-- What is put out is what clients are shown of effects in turn, done in a room, and then a line on all
+-- links but that of arrival. The ends of links stay.
 pub record IsToldOnce (s : Fixed) (p : Name) (view : View) (after : Served) : Type 0 where
   pub room : Room
   pub effects : List Effect
