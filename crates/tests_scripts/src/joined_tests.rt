@@ -434,8 +434,8 @@ const CY_COMES: &str = "\
 3 :b.net 341 zed #zoo cy
 4 :zed!u@h INVITE cy #zoo
 > say 4 JOIN #zoo
-3 :cy!u@h JOIN #zoo
 4 :cy!u@h JOIN #zoo
+3 :cy!u@h JOIN #zoo
 4 :b.net 332 cy #zoo :old
 4 :b.net 353 cy = #zoo :cy @zed
 4 :b.net 366 cy #zoo :End of NAMES list
