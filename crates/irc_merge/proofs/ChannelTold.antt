@@ -108,7 +108,7 @@ stored_folded users (e ∷ es) there =
 -- ---- modes and topic, joined
 
 -- the lines of modes say all that is set
-all_mode_lines : (modes : Modes) → joined_lines (mode_lines modes) ≡ all_set modes
+pub all_mode_lines : (modes : Modes) → joined_lines (mode_lines modes) ≡ all_set modes
 all_mode_lines modes = by (set_changes modes)
   where
     by : (changes : List ModeChange)

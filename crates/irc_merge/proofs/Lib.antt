@@ -1,4 +1,5 @@
 pub mod Tests
+pub mod EvenMerge
 pub mod Splitting
 pub mod MembersStaying
 pub mod Lines
@@ -15,6 +16,7 @@ pub mod Sides
 pub mod ExamplesProved
 pub mod JudgedAtOnce
 pub mod AgreeTells
+pub mod Rejoined
 pub mod CanBeDone
 pub mod OwnInvitations
 pub mod LookingAside

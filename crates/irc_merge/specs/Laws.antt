@@ -1,5 +1,5 @@
 -- What holds of rooms that become one, and of one that comes apart.
-use Rattle.std.specs.Prelude.{◌≡◌, ℕ, Bool, true, false, not, ◌&&◌, Some, List, [], ◌∷◌, ◌⊎◌, filter}
+use Rattle.std.specs.Prelude.{◌≡◌, ℕ, Bool, true, false, not, ◌&&◌, Some, List, [], ◌∷◌, ◌⊎◌, filter, is_some}
 use Rattle.std.specs.List.{list_any}
 use Rattle.irc_names.specs.Tables.{row}
 use Rattle.irc_users.specs.declared.user.User.{User}
@@ -23,6 +23,18 @@ use Rattle.irc_merge.specs.Split.{lost_home, lost_homes, split, split_effects, s
 abbrev pub MergeIsEven : Type 0
 MergeIsEven = (one other : Room) → IsWellFormed one → IsWellFormed other
     → merge one other ≡ merge other one
+
+-- no nickname is held in both of two rooms
+abbrev pub ShareNoNickname : Room → Room → Type 0
+ShareNoNickname one other = (fold : List ℕ)
+    → (is_some (row one.users fold) && is_some (row other.users fold)) ≡ false
+
+-- Of three rooms it makes no difference which two become one first, where no nickname is held in two
+-- of them. (Who is killed by one link is no longer there to be killed by the next.)
+abbrev pub MergeAssociates : Type 0
+MergeAssociates = (one next last : Room) → IsWellFormed one → IsWellFormed next → IsWellFormed last
+    → ShareNoNickname one next → ShareNoNickname one last → ShareNoNickname next last
+    → merge (merge one next) last ≡ merge one (merge next last)
 
 -- two well-formed rooms become one that is well formed
 abbrev pub MergeIsWellFormed : Type 0

@@ -11,6 +11,7 @@ pub mod Laws
 pub mod LimitLaws
 pub mod Examples
 pub mod Agreeing
+pub mod Rejoined
 pub mod CanBeDone
 pub mod OwnInvitations
 pub mod AsideInvitations

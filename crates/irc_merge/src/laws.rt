@@ -7,6 +7,7 @@ ghost use Rattle.irc_merge.specs.Laws.{
   BurstReadIsMerge,
   HomesOneByOne,
   MembersAtOnce,
+  MergeAssociates,
   MergeHasNothingNew,
   MergeIsEven,
   MergeIsWellFormed,
@@ -21,11 +22,31 @@ ghost use Rattle.irc_merge.specs.Laws.{
 };
 ghost use Rattle.irc_merge.specs.LimitLaws.{MergeIsWithinLimits, SplitIsWithinLimits, WithinLimitsIsTold};
 ghost use Rattle.irc_merge.specs.OwnInvitations.{ServerReadsMerge, ServerShowsMerge};
+ghost use Rattle.irc_merge.specs.Rejoined.{AgreedShowComers, RejoinShowsComers, SidesAgree};
 ghost use Rattle.irc_merge.specs.StayingMembers.{MembersStay};
 
 /// The room that two halves of a network become is the same whichever is named first.
 pub fn merge_is_even()
     ensures { MergeIsEven }
+{}
+
+/// Of three sides it makes no difference which two are linked first, where no nickname is on two of
+/// them.
+pub fn merge_associates()
+    ensures { MergeAssociates }
+{}
+
+/// Where both halves have the same of each channel but for who is in it, a link shows who quits and
+/// who comes, and neither modes nor topics.
+pub fn agreed_show_comers()
+    ensures { AgreedShowComers }
+{}
+
+/// A lost link leaves two sides that have the same of each channel. So where it is made again, and
+/// nothing was changed meanwhile, each user sees who comes and nothing more.
+pub fn rejoin_shows_comers()
+    ensures agree { SidesAgree }
+    ensures comers { RejoinShowsComers }
 {}
 
 /// Two well-formed rooms become a well-formed one.

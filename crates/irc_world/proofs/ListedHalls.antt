@@ -2,8 +2,8 @@
 use Rattle.std.proofs.Common.{◌≡◌, ℕ, Bool, true, false, cond, not, ◌&&◌, ◌||◌, T, Option, Some, None, List, [], ◌∷◌, ◌++◌, refl, sym, ◌∙◌, ap, map, fold, filter, is_some, option_map, codes, if◌then◌else◌}
 use Rattle.std.specs.Prelude.{option_to_list}
 use Rattle.std.specs.List.{list_any, flat_map}
-use Rattle.std.specs.Option.{option_map_or, option_and_then}
-use Rattle.std.specs.FinMap.{entries, values, keys, get-empty}
+use Rattle.std.specs.Option.{option_and_then}
+use Rattle.std.specs.FinMap.{values, keys, get-empty}
 use Rattle.std.specs.FinMap.Entries.{find, is_sorted}
 use Rattle.irc_names.specs.Fold.{key, same}
 use Rattle.irc_names.specs.Tables.{Table, fold_cmp, row, tabulate}
@@ -21,7 +21,7 @@ use Rattle.irc_room.specs.Seen.{share_channel, full_sender, line_from}
 use Rattle.irc_room.specs.Viewers.{shows_to}
 use Rattle.irc_room.specs.Lemmas.Listed.{map_itself, table_of, row_listed, entries_listed}
 use Rattle.irc_room.specs.Lemmas.ListedRooms.{ListedChannel, ListedRoom, channel_of, room_of, lists_member, member_listed, list_after, after_listed, all_listed}
-use Rattle.irc_room.specs.Lemmas.ListedSeen.{user_listed, channel_listed}
+use Rattle.irc_room.specs.Lemmas.ListedSeen.{user_listed}
 use Rattle.irc_relay.specs.Links.{Name, Link}
 use Rattle.irc_merge.specs.Merge.{room_without}
 use Rattle.irc_merge.specs.Quits.{quits_of, collision_text}

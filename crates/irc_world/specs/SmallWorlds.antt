@@ -1,5 +1,5 @@
 -- Small networks, by example: how many lines servers need at most, what comes first, and what each server knows.
-use Rattle.std.specs.Prelude.{◌≡◌, ℕ, true, false, Some, None, List, [], ◌∷◌, ◌++◌, codes}
+use Rattle.std.specs.Prelude.{◌≡◌, ℕ, true, false, Some, List, [], ◌∷◌, ◌++◌, codes}
 use Rattle.irc_names.specs.Fold.{key}
 use Rattle.irc_line.specs.Bytes.{crlf}
 use Rattle.irc_modes.specs.declared.modes.ModeLetter.TheVariants as letter

@@ -1,20 +1,18 @@
--- Two rooms become one: it is well formed, and the same whichever is named first.
+-- Two rooms become one: the rows of it, and that it is well formed.
 use Rattle.std.proofs.Common.{◌≡◌, ℕ, Bool, true, false, cond, Option, Some, None, List, refl, sym, ◌∙◌, ap, subst, is_some}
 use Rattle.std.specs.Ordering.{is_lt}
 use Rattle.irc_names.specs.Fold.{key}
 use Rattle.irc_names.specs.Greater.{bytes_cmp, greater}
-use Rattle.irc_names.specs.GreaterLaws.{greater_is_even}
 use Rattle.irc_names.specs.Tables.{Table, row, both}
-use Rattle.irc_names.specs.TableLaws.{same_table, row-both}
-use Rattle.irc_modes.specs.JoinedLaws.{joined_is_even}
+use Rattle.irc_names.specs.TableLaws.{row-both}
 use Rattle.irc_users.specs.declared.user.User.{User}
 use Rattle.irc_channels.specs.declared.channel.Channel.{Channel}
 use Rattle.irc_room.specs.Room.{Room, IsWellFormed, IsSoundRow}
 use Rattle.irc_room.specs.Lemmas.Rows.{not_true, same_some, some_row, some_key}
 use Rattle.irc_room.specs.Lemmas.SoundRows.{IsWithin, sound_more}
 use Rattle.irc_merge.specs.Merge.{either, one_channel, joined_channel, union, merge, room_without}
-use Rattle.irc_merge.specs.Laws.{MergeIsEven, MergeIsWellFormed}
-use Rattle.irc_merge.specs.Lemmas.Clashing.{without_well, held_apart}
+use Rattle.irc_merge.specs.Laws.{MergeIsWellFormed}
+use Rattle.irc_merge.specs.Lemmas.Clashing.{without_well}
 
 -- ---- rows of one table or another
 
@@ -31,17 +29,6 @@ either_first (Some x) y there = refl
 pub either_second : {X : Type 0} (x y : Option X) → is_some y ≡ true → is_some (either x y) ≡ true
 either_second None y there = there
 either_second (Some x) y there = refl
-
-either_turned : {X : Type 0} (x y : Option X) → (is_some x ≡ true → is_some y ≡ true → ⊥) → either x y ≡ either y x
-either_turned None None apart = refl
-either_turned None (Some y) apart = refl
-either_turned (Some x) None apart = refl
-either_turned (Some x) (Some y) apart = absurd (apart refl refl)
-
-turned : {X : Type 0} (one other : Table X) → ((q : List ℕ) → is_some (row one q) ≡ true → is_some (row other q) ≡ true → ⊥)
-    → both either one other ≡ both either other one
-turned one other apart = same_table (both either one other) (both either other one) (λ q.
-    row-either one other q ∙ either_turned (row one q) (row other q) (apart q) ∙ sym (row-either other one q))
 
 -- ---- the union is well formed
 
@@ -108,44 +95,3 @@ pub merge_is_well_formed : MergeIsWellFormed
 unfolding merge
 merge_is_well_formed one other well_one well_other =
     union_well (room_without one other) (room_without other one) (without_well one other well_one) (without_well other one well_other)
-
--- ---- and even
-
-one_turned : (c d : Channel) → ((q : List ℕ) → is_some (row c.members q) ≡ true → is_some (row d.members q) ≡ true → ⊥)
-    → ((q : List ℕ) → is_some (row c.invited q) ≡ true → is_some (row d.invited q) ≡ true → ⊥) → one_channel c d ≡ one_channel d c
-one_turned c d members invited = λ i. record {
-  name = greater_is_even c.name d.name i;
-  modes = joined_is_even c.modes d.modes i;
-  topic = greater_is_even c.topic d.topic i;
-  members = turned c.members d.members members i;
-  invited = turned c.invited d.invited invited i;
-}
-
-channels_turned : (x y : Room) → IsWellFormed x → IsWellFormed y → ((q : List ℕ) → is_some (row x.users q) ≡ true → is_some (row y.users q) ≡ true → ⊥)
-    → both joined_channel x.channels y.channels ≡ both joined_channel y.channels x.channels
-channels_turned x y well_x well_y apart = same_table (both joined_channel x.channels y.channels) (both joined_channel y.channels x.channels) (λ f.
-    row-joined x.channels y.channels f
-    ∙ by_rows f (row x.channels f) refl (row y.channels f) refl
-    ∙ sym (row-joined y.channels x.channels f))
-  where
-    by_rows : (f : List ℕ) (o : Option Channel) → row x.channels f ≡ o → (p : Option Channel) → row y.channels f ≡ p → joined_channel o p ≡ joined_channel p o
-    by_rows f None at None that = refl
-    by_rows f None at (Some d) that = refl
-    by_rows f (Some c) at None that = refl
-    by_rows f (Some c) at (Some d) that =
-        let here = well_x.channels_sound f c at in
-        let there = well_y.channels_sound f d that in
-        ap Some (one_turned c d
-        (λ q one other. apart q (here.members_known q one) (there.members_known q other))
-        (λ q one other. apart q (here.invited_known q one) (there.invited_known q other)))
-
-pub merge_is_even : MergeIsEven
-unfolding merge
-merge_is_even one other well_one well_other =
-    let x = room_without one other in
-    let y = room_without other one in
-    let apart : (q : List ℕ) → is_some (row x.users q) ≡ true → is_some (row y.users q) ≡ true → ⊥ = λ q. held_apart one other well_one well_other q in
-    λ i. record {
-      users = turned x.users y.users apart i;
-      channels = channels_turned x y (without_well one other well_one) (without_well other one well_other) apart i;
-    }
