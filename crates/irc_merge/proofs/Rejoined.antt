@@ -167,11 +167,14 @@ side_channel text homes room other well fold channel is =
     let left = (without_comes (split text homes room) other (split_is_well_formed text homes room well)).channels fold channel is in
     let was = (split_has_nothing_new text homes room well).channels fold left.0 left.1.0 in (
       was.0,
-      (was.1.0, record {
-        name = (left.1.1).name ∙ (was.1.1).name;
-        modes = (left.1.1).modes ∙ (was.1.1).modes;
-        topic = (left.1.1).topic ∙ (was.1.1).topic;
-      }),
+      (
+        was.1.0,
+        record {
+          name = (left.1.1).name ∙ (was.1.1).name;
+          modes = (left.1.1).modes ∙ (was.1.1).modes;
+          topic = (left.1.1).topic ∙ (was.1.1).topic;
+        },
+      ),
     )
 
 pub sides_agree : SidesAgree

@@ -745,11 +745,11 @@ static TO_A: [&str; 3] = [
 
 /// All orders in which they can be taken, by the server that takes each.
 static ORDERS: [&str; 35] = [
-    "aaabbbb", "aababbb", "aabbabb", "aabbbab", "aabbbba", "abaabbb", "abababb",
-    "ababbab", "ababbba", "abbaabb", "abbabab", "abbabba", "abbbaab", "abbbaba",
-    "abbbbaa", "baaabbb", "baababb", "baabbab", "baabbba", "babaabb", "bababab",
-    "bababba", "babbaab", "babbaba", "babbbaa", "bbaaabb", "bbaabab", "bbaabba",
-    "bbabaab", "bbababa", "bbabbaa", "bbbaaab", "bbbaaba", "bbbabaa", "bbbbaaa",
+    "aaabbbb", "aababbb", "aabbabb", "aabbbab", "aabbbba", "abaabbb", "abababb", "ababbab",
+    "ababbba", "abbaabb", "abbabab", "abbabba", "abbbaab", "abbbaba", "abbbbaa", "baaabbb",
+    "baababb", "baabbab", "baabbba", "babaabb", "bababab", "bababba", "babbaab", "babbaba",
+    "babbbaa", "bbaaabb", "bbaabab", "bbaabba", "bbabaab", "bbababa", "bbabbaa", "bbbaaab",
+    "bbbaaba", "bbbabaa", "bbbbaaa",
 ];
 
 /// Whether just this is printed where the lines are taken in an order.
