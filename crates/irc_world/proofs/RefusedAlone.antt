@@ -9,7 +9,7 @@ use Rattle.irc_server.specs.declared.event.Event.TheVariants.{Connect, Line, Gon
 use Rattle.irc_server.specs.declared.event.ServerFault.TheVariants.{NoSuchConnection}
 use Rattle.irc_stage.specs.RoomMachine.{client_of}
 use Rattle.irc_server.specs.Happening.{occurrence_of}
-use Rattle.irc_server.specs.Served.{Occurrence, of_client}
+use Rattle.irc_server.specs.Served.{of_client}
 use Rattle.irc_server.specs.Served.{fault_of, not_there}
 use Rattle.irc_stage.specs.View.{View, machine_of}
 use Rattle.irc_stage.specs.Handle.{Happening, connects, says, goes}
