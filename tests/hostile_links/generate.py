@@ -33,6 +33,9 @@ def each(text):
 
 MODES = each(b"+i,+nt,-i+m,+k key,-k key,+l 5,-l,+b *!*@h,-b *!*@H,+p,+s,-p,-s,+bbb a* b? c\\*,+bb-b D[ d{ a*,+b *!u@*,+ob bo e!*@*,"
              b"+ntkl k2 65535,-m+s-p,+l 1")
+# what a burst tells of a channel: of some of these the greater stays
+TOLD_MODES = each(b"+nt,+im,+p,+s,+ps,+sp,+k key,+k kez,+k KEY,+l 5,+l 9,+l 10,+ntkl kez 10,+bbb A* b? x*,+bbb a* B? y*,+bb a* A*,+bb A* a*,+b *!*@H")
+TOLD_TOPICS = [b"", b"a", b"b", b"aa", b"A"]
 WRONG_MODES = each(b"+,+bbbb 1 2 3 4,+bbb 1 2,+bbb 1 2 3 4,+ii,+i-i,+n+t,nt,+nt-,-+n,+k,-k,+k :a,+kk a b,+l-l 3,+l 0,+l 05,+l 65536,+l,-l 5,"
                    b"+b,+b :m,+s-s,+q,+i i,+o,+vovo bo bo bo bo,+p-s+p")
 WRONG_MODES += [[b""], [b"+k", b"a,b"], [b"+k", b"k" * 24], [b"+b", b"m" * 91], [b"+bb", b"m" * 90, b"m" * 90], [b"+o", b"m" * 90],
@@ -128,6 +131,19 @@ class Generator:
         for line in self.pick(((), (b"NICK " + self.pick(NICKS),), (b"PART #c",))) + (b"JOIN " + name, b"PART " + name, b"JOIN " + name):
             if conn in self.server.nicks:
                 self.event(f"say {conn} {line.hex()}")
+
+    def told(self, link):
+        """A channel is told as in a burst: somebody comes, in one spelling or another, then modes and topics, of which some raise nothing."""
+        users = self.users_behind(link)
+        if not users:
+            return
+        front, name = self.pick(self.behind(link)), self.a_channel()
+        name = self.pick((name, name, name.swapcase()))
+        lines = [Words(front, b"NJOIN", name, self.pick(MARKS) + self.pick(users))]
+        lines += [Words(front, b"MODE", name, *self.pick(TOLD_MODES)) for _ in range(self.pick((1, 2, 3, 4)))]
+        lines += [Words(front, b"TOPIC", name, self.pick(TOLD_TOPICS)) for _ in range(self.pick((0, 1, 2)))]
+        for words in lines:
+            self.hear(link, words.line(), "fill")
 
     def many_channels(self):
         """A client joins more channels than it may."""
@@ -385,6 +401,8 @@ class Generator:
             self.client()
         if self.chance(0.01) and link in self.server.links:
             self.closed_door(link)
+        if self.chance(0.15) and link in self.server.links:
+            self.told(link)
         if self.chance(0.001):
             self.many_channels()
         if link not in self.server.links:
