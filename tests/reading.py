@@ -9,7 +9,7 @@ A variable that is named like a word in scope counts as that word, so there may 
 
 It prints crate by crate, from the network down to bytes, each file, its number of lines, and how many words of it are read; with --words which ones. What one
 server does, to which the word `site_asked` leads, comes apart, behind all others. Other functions of `Net` may be named. With --check it prints what
-docs/THEOREM.md has wrong of the list, and then its status is 1: a file that is not there, one that is left out, or another number of lines.
+docs/THEOREM.md has wrong of the list, and then its status is 1: a file that is not there or is not read, one that is left out, another number of lines.
 """
 
 import argparse
@@ -21,14 +21,13 @@ import sys
 REPOSITORY = pathlib.Path(__file__).resolve().parent.parent
 CRATES = REPOSITORY / "crates"
 NET = CRATES / "irc_net/src/net.rt"
-THEOREM = REPOSITORY / "docs/THEOREM.md"
 USE = re.compile(r"^ *(?:ghost |pub )?use Rattle\.(?P<crate>\w+)\.specs\.(?P<module>\w+(?:\.\w+)*)"
                  r"(?:\.\{(?P<words>[^}]*)\}|(?: as (?P<alias>\w+))?);?$", re.MULTILINE)
 HEAD = re.compile(r"(?:(?:abbrev|unfoldable|pub|record|data) )*([A-Za-z_][\w-]*)(?=[ :])")
 WORD = re.compile(r"(?<![\w.])[A-Za-z_][\w-]*(?:\.[A-Za-z_]\w*)?")
-# what a server puts out where it is asked for something: how it does that, and not what clients are owed
 SERVER = "site_asked"
-NAMED = re.compile(r"(irc_\w+/(?:specs|src)/[\w/]+\.(?:antt|rt))`? *\|? *(\d+)?")
+# a file and its number of lines, with its folder or behind one of the same folder
+NAMED = re.compile(r"(irc_\w+/(?:specs|src)/)?(\w+(?:/\w+)*\.(?:antt|rt))(?: (\d+))?")
 
 
 class File:
@@ -57,8 +56,7 @@ def definitions_of(text):
     """Each word that is defined with its definition's text; a constructor with that of its type."""
     found, name = {}, None
     for line in text.split("\n"):
-        head = HEAD.match(line)
-        name = head[1] if head else name
+        name = head[1] if (head := HEAD.match(line)) else name
         if name:
             found[name] = found.get(name, "") + line + "\n"
     for name, body in list(found.items()):
@@ -86,7 +84,7 @@ def module_at(crate, parts):
     top = CRATES / crate
     spec = top / "specs" / ("/".join(parts) + ".antt")
     if not top.is_dir() or parts[0] == "contracts":
-        return None
+        return None, None
     if spec.is_file():
         return spec, None
     if parts[0] == "declared":
@@ -100,14 +98,10 @@ def module_at(crate, parts):
 
 def defined_in(module, word):
     """Where a word that a module offers is defined: the file, and the word there; none where it is of the kit."""
-    found = module_at(*module)
-    if found is None:
-        return None
-    path, of_code = found
-    if of_code:
-        return path, of_code
-    file = file_at(path)
-    return (path, word) if word in file.definitions else looked_up(file, word)
+    path, of_code = module_at(*module)
+    if path is None or of_code:
+        return path and (path, of_code)
+    return (path, word) if word in file_at(path).definitions else looked_up(file_at(path), word)
 
 
 def looked_up(file, word):
@@ -117,9 +111,7 @@ def looked_up(file, word):
         return file.path, first
     if first in file.brought:
         return defined_in(*file.brought[first])
-    if second and first in file.modules:
-        return defined_in(file.modules[first], second)
-    return None
+    return defined_in(file.modules[first], second) if second and first in file.modules else None
 
 
 def words_of(file, text):
@@ -158,26 +150,35 @@ def in_order(seen):
     return sorted(seen, key=lambda path: -crates.index(path.relative_to(CRATES).parts[0]))
 
 
+def listed():
+    """Each file that the document names, with the number of lines that it has there, or 0."""
+    for line in (REPOSITORY / "docs/THEOREM.md").read_text(encoding="utf-8").split("\n"):
+        folder = None
+        for named in NAMED.finditer(line):
+            folder = named[1] or folder
+            if folder:
+                yield CRATES / (folder + named[2]), int(named[3] or 0)
+
+
 def faults(seen):
     """What the document has wrong of the files that are read."""
-    told = {}
-    for name, lines in NAMED.findall(THEOREM.read_text(encoding="utf-8")):
-        told.setdefault(CRATES / name, []).append(lines)
-    for path in sorted(set(told) | set(seen)):
-        name = path.relative_to(CRATES)
-        if path not in told:
-            yield f"{name} is left out"
-        elif not path.is_file():
-            yield f"{name} is no file"
-        elif any(lines and int(lines) != file_at(path).lines for lines in told[path]):
-            yield f"{name} has {file_at(path).lines} lines"
+    told = dict(sorted(listed()))
+    for path in sorted({*told, *seen}):
+        if not path.is_file():
+            yield path, "is no file"
+        elif not told.get(path):
+            yield path, "is left out"
+        elif path not in seen:
+            yield path, "is not read"
+        elif told[path] != file_at(path).lines:
+            yield path, f"has {file_at(path).lines} lines"
 
 
 def show(title, seen, with_words):
     print(f"{title}: {len(seen)} files, {sum(file_at(path).lines for path in seen)} lines; words: {sum(map(len, seen.values()))}")
     for path in in_order(seen):
-        words = ": " + ", ".join(seen[path]) if with_words else ""
-        print(f"  {path.relative_to(CRATES)} {file_at(path).lines} lines; words: {len(seen[path])}{words}")
+        words = ", ".join(seen[path]) if with_words else len(seen[path])
+        print(f"  {path.relative_to(CRATES)} {file_at(path).lines} lines; words: {words}")
 
 
 def main():
@@ -188,7 +189,7 @@ def main():
     given = options.parse_args()
     first, servers = both_parts(given.functions)
     if given.check:
-        wrong = list(faults({**first, **servers}))
+        wrong = [f"{path.relative_to(CRATES)} {fault}" for path, fault in faults({**first, **servers})]
         print("\n".join(wrong) or "docs/THEOREM.md has all of them")
         sys.exit(1 if wrong else 0)
     show("What clients are owed", first, given.words)
