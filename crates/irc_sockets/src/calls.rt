@@ -1,5 +1,6 @@
 //! Calls of other servers.
-ghost use Rattle.std.specs.Prelude.{◌≡◌, IfOk, OnOk};
+ghost use Rattle.std.specs.Prelude.{◌≡◌, if◌then◌else◌, IfOk, OnOk};
+ghost use Rattle.irc_turns.specs.Spreads.{spread_on};
 
 use irc_names::ServerName;
 use irc_turns::Retries;
@@ -59,18 +60,19 @@ impl Calls {
     ///
     /// # Errors
     /// Where memory runs out.
-    pub fn begin<T: Net>(
-        _net: &T,
+    pub fn begin(
         alloc: Global,
         asked: Vec<Callee, Global>,
+        spread: u64,
         registry: &Registry,
         token: Token,
     ) -> Result<Self, AllocError>
-        ensures { IfOk result (λ calls. calls.asked ≡ asked) }
+        ensures asked { IfOk result (λ calls. calls.asked ≡ asked) }
+        ensures spread { IfOk result (λ calls. calls.retries.spread ≡ spread) }
     {
         let mut calls = Calls {
             under_way: Vec::with_capacity(alloc, asked.len())?,
-            retries: Retries::new(alloc),
+            retries: Retries::new(alloc, spread),
             asked,
             may_have: false,
             looked_at: None,
@@ -80,7 +82,8 @@ impl Calls {
     }
 
     fn begin_all(&mut self, registry: &Registry, token: Token) -> Result<(), AllocError>
-        ensures { OnOk result (self.new.asked ≡ self.old.asked) }
+        ensures asked { OnOk result (self.new.asked ≡ self.old.asked) }
+        ensures spread { OnOk result (self.new.retries.spread ≡ self.old.retries.spread) }
     {
         for place in 0..self.asked.len() {
             let after = self.retry_of(place);
@@ -98,7 +101,8 @@ impl Calls {
 
     /// Calls the one at a place, the first time or again.
     fn call(&mut self, place: usize, is_again: bool, registry: &Registry, token: Token)
-        ensures { self.new.asked ≡ self.old.asked }
+        ensures asked { self.new.asked ≡ self.old.asked }
+        ensures spread { self.new.retries.spread ≡ (if is_again then spread_on self.old.retries.spread 1 else self.old.retries.spread) }
     {
         self.retries.begin(place, is_again);
         if self.try_call(place, registry, token).is_none() {
@@ -108,7 +112,8 @@ impl Calls {
 
     /// Begins a call; nothing, where the system refuses, or memory runs out.
     fn try_call(&mut self, place: usize, registry: &Registry, token: Token) -> Option<()>
-        ensures { self.new.asked ≡ self.old.asked }
+        ensures asked { self.new.asked ≡ self.old.asked }
+        ensures retries { self.new.retries ≡ self.old.retries }
     {
         let address = self.asked.get(place)?.address;
         let stream = begin_call(address, registry, token)?;

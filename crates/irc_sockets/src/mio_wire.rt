@@ -11,22 +11,13 @@ use crate::listening::Listening;
 use crate::sockets::Sockets;
 use irc_names::ServerName;
 use irc_outbox::{Got, IoFault, Ready, Wire};
-use irc_turns::{Crowd, Round};
+use irc_turns::{Crowd, Round, wait_for};
 use mio::net::TcpStream;
 use mio::{Events, Interest, Poll, Token};
 use std::alloc::Global;
 use std::io;
 use std::net::{IpAddr, Net, SocketAddr};
 use std::time::Duration;
-
-/// How many milliseconds one call of `ready` waits at most.
-const WAIT: u64 = 100;
-
-/// And how many while somebody is held back, since these waits are all that tells the time.
-const SHORT_WAIT: u64 = 10;
-
-/// And how many while a server is waited for that is to be called again: only a wait that nothing has ended counts for that.
-const SHORTEST_WAIT: u64 = 1;
 
 /// How many things the system reports at once.
 const EVENTS: usize = 1024;
@@ -59,7 +50,8 @@ pub struct MioWire {
 
 impl MioWire {
     /// Listens for clients, and for links if there is an address for them, and then calls each of these servers. No call is waited for. One that
-    /// cannot be reached, or whose link ends, is called again where it is to be, while it is not known.
+    /// cannot be reached, or whose link ends, is called again where it is to be, while it is not known; by this server's own spread
+    /// ([`irc_turns::name_spread`]) not when others call it.
     ///
     /// # Errors
     /// Where the system does not let it listen; where memory runs out.
@@ -68,9 +60,11 @@ impl MioWire {
         alloc: Global,
         listening: Listening,
         callees: Vec<Callee, Global>,
+        spread: u64,
     ) -> io::Result<Self>
         ensures listens { IfOk result (λ wire. ListensAt listening wire) }
         ensures callees { IfOk result (λ wire. wire.calls.asked ≡ callees) }
+        ensures spread { IfOk result (λ wire. wire.calls.retries.spread ≡ spread) }
     {
         let poll = Poll::new(net)?;
         let events = Events::with_capacity(alloc, EVENTS)?;
@@ -79,7 +73,7 @@ impl MioWire {
             Some(address) => Some(Door::open(net, address, poll.registry(), Token(LINKS))?),
             None => None,
         };
-        let calls = Calls::begin(net, alloc, callees, poll.registry(), Token(CALLS))?;
+        let calls = Calls::begin(alloc, callees, spread, poll.registry(), Token(CALLS))?;
         Ok(MioWire {
             poll,
             events,
@@ -137,15 +131,11 @@ impl MioWire {
     /// How many milliseconds to wait for something to do.
     fn wait(&self) -> u64 {
         let is_busy = self.sockets.waiting() > 0 || self.has_arrivals() || self.round.has_more;
-        if is_busy {
-            0
-        } else if self.calls.retries.are_waiting() {
-            SHORTEST_WAIT
-        } else if self.sockets.holding.is_empty() {
-            WAIT
-        } else {
-            SHORT_WAIT
-        }
+        wait_for(
+            is_busy,
+            self.calls.retries.wait(),
+            !self.sockets.holding.is_empty(),
+        )
     }
 
     /// Takes in what the system tells, and whether somebody has come who was not waiting.

@@ -5,3 +5,5 @@ pub mod HeldBack
 pub mod Pacing
 pub mod Retries
 pub mod Rounds
+pub mod Spreads
+pub mod Waits

@@ -28,19 +28,24 @@ call_ended row comers = record row { has_crossed = not (nat_eq row.comers comers
 abbrev pub is_free : Retry → Bool
 is_free row = not row.is_calling && is_none row.link
 
+-- so many milliseconds more, of which no more is told than that they are as many as a number can be
+abbrev pub later_by : ℕ → ℕ → ℕ
+later_by now waited = min (now + waited) 18446744073709551615
+
 -- so long is waited, and twice as long by who yields behind a call that has crossed another, as far as a number goes
 abbrev pub wait_after : ℕ → Bool → ℕ
 wait_after after yields = if yields then min (after * 2) 18446744073709551615 else after
 
--- whether it is called again at all, and was seen unknown for that long
-abbrev pub has_waited : Option ℕ → Option ℕ → Bool → ℕ → Bool
-has_waited None since yields now = false
-has_waited (Some after) None yields now = false
-has_waited (Some after) (Some since) yields now = nat_le (wait_after after yields) (now - since)
+-- whether it is called again at all, and was seen unknown for that long, and for as much longer as this server's spread is
+abbrev pub has_waited : Option ℕ → Option ℕ → Bool → ℕ → ℕ → Bool
+has_waited None since yields spread now = false
+has_waited (Some after) None yields spread now = false
+has_waited (Some after) (Some since) yields spread now = nat_le (wait_after (later_by after spread) yields) (now - since)
 
 -- it is to be called: it is free, not known, and was so for long enough
-abbrev pub is_due : Retry → ℕ → Bool → Bool → Bool
-is_due row now is_known yields = (is_free row && not is_known) && has_waited row.after row.since (row.has_crossed && yields) now
+abbrev pub is_due : Retry → ℕ → Bool → Bool → ℕ → Bool
+is_due row now is_known yields spread =
+    (is_free row && not is_known) && has_waited row.after row.since (row.has_crossed && yields) spread now
 
 -- since when it is unknown: since now, where it was not so far
 abbrev pub unknown_since : Option ℕ → ℕ → Bool → Option ℕ
@@ -75,9 +80,9 @@ may_be_called None = false
 may_be_called (Some row) = is_some row.after && is_free row
 
 -- whether it is to be called
-abbrev pub is_due_at : Option Retry → ℕ → Bool → Bool → Bool
-is_due_at None now is_known yields = false
-is_due_at (Some row) now is_known yields = is_due row now is_known yields
+abbrev pub is_due_at : Option Retry → ℕ → Bool → Bool → ℕ → Bool
+is_due_at None now is_known yields spread = false
+is_due_at (Some row) now is_known yields spread = is_due row now is_known yields spread
 
 -- whether none was called again within the last second
 abbrev pub is_apart : Option ℕ → ℕ → Bool
@@ -91,7 +96,3 @@ is_of_link link row = is_some_link link row.link
     is_some_link : ℕ → Option ℕ → Bool
     is_some_link link None = false
     is_some_link link (Some other) = nat_eq other link
-
--- so many milliseconds more, of which no more is told than that they are as many as a number can be
-abbrev pub later_by : ℕ → ℕ → ℕ
-later_by now waited = min (now + waited) 18446744073709551615

@@ -9,7 +9,9 @@ mod rest;
 mod retries;
 mod retry;
 mod round;
+mod spread;
 mod waiting;
+mod waits;
 
 pub use crowd::Crowd;
 pub use holding::{Held, Holding};
@@ -18,4 +20,6 @@ pub use rest::{Rest, front_of};
 pub use retries::Retries;
 pub use retry::Retry;
 pub use round::Round;
+pub use spread::{name_spread, spread_on};
 pub use waiting::Waiting;
+pub use waits::{wait_behind, wait_for};

@@ -2,8 +2,12 @@
 ghost use Rattle.std.specs.Prelude.{◌≡◌, ◌++◌, ◌∷◌, [], ◌&&◌, None, Some, if◌then◌else◌, length, OnOk, is_some};
 ghost use Rattle.std.specs.List.{list_any, position, slice_get};
 ghost use Rattle.irc_turns.specs.Rounds.{arrivals_after};
+ghost use Rattle.irc_turns.specs.Spreads.{spread_on};
+ghost use Rattle.irc_turns.specs.Waits.{wait_behind};
 
 use crate::retry::Retry;
+use crate::spread::spread_on;
+use crate::waits::wait_behind;
 use std::alloc::{AllocError, Global};
 
 /// How many milliseconds are between two calls that are made again at least: the one is to be known, with all that are behind it, before the
@@ -22,16 +26,22 @@ pub struct Retries {
     pub called_at: Option<u64>,
     /// How many servers have connected.
     pub comers: u64,
+    /// How many milliseconds more than each is to be waited for the next call, by this server's own name: two that have lost a third at the same
+    /// moment are not to call it at the same moment.
+    pub spread: u64,
+    /// How long the next wait may last while some server is waited for.
+    pub wait: u64,
 }
 
 impl Retries {
     ghost use Rattle.irc_turns.specs.Retries.{not_called, row_changed, place_behind, may_be_called, is_due_at, is_apart, is_of_link, later_by, seen, call_begun, call_reached, call_ended};
 
-    /// None.
-    pub fn new(alloc: Global) -> Self
+    /// None, with the spread of the first call that is made again.
+    pub fn new(alloc: Global, spread: u64) -> Self
         ensures rows { result.rows.items ≡ [] }
         ensures passed { result.passed ≡ 0 }
         ensures called { result.called_at ≡ None }
+        ensures spread { result.spread ≡ spread }
     {
         Retries {
             rows: Vec::new(alloc),
@@ -39,6 +49,8 @@ impl Retries {
             passed: 0,
             called_at: None,
             comers: 0,
+            spread,
+            wait: wait_behind(0),
         }
     }
 
@@ -47,7 +59,8 @@ impl Retries {
     /// # Errors
     /// Where memory runs out.
     pub fn add(&mut self, after: Option<u64>) -> Result<(), AllocError>
-        ensures { OnOk result (self.new.rows.items ≡ self.old.rows.items ++ not_called after ∷ []) }
+        ensures added { OnOk result (self.new.rows.items ≡ self.old.rows.items ++ not_called after ∷ []) }
+        ensures spread { OnOk result (self.new.spread ≡ self.old.spread) }
     {
         match self.rows.push(Retry::new(after)) {
             Ok(()) => Ok(()),
@@ -55,11 +68,12 @@ impl Retries {
         }
     }
 
-    /// So many milliseconds have passed in a wait that nothing has ended.
+    /// So many milliseconds have passed in a wait that nothing has ended; none, where something has, or there was no wait.
     pub fn pass(&mut self, waited: u64)
-        ensures { self.new ≡ record self.old { passed = later_by self.old.passed waited } }
+        ensures { self.new ≡ record self.old { passed = later_by self.old.passed waited; wait = wait_behind waited } }
     {
         self.passed = self.passed.saturating_add(waited);
+        self.wait = wait_behind(waited);
     }
 
     /// A server has connected.
@@ -69,8 +83,15 @@ impl Retries {
         self.comers = self.comers.wrapping_add(1);
     }
 
+    /// How long the next wait may last, if some server is waited for.
+    pub fn wait(&self) -> Option<u64>
+        ensures { result ≡ (if list_any (λ row. is_some row.since) self.now.rows.items then Some self.now.wait else None) }
+    {
+        self.are_waiting().then_some(self.wait)
+    }
+
     /// Whether some server is waited for.
-    pub fn are_waiting(&self) -> bool
+    fn are_waiting(&self) -> bool
         ensures { result ≡ list_any (λ row. is_some row.since) self.now.rows.items }
     {
         self.rows.iter().any(|row| row.since.is_some())
@@ -89,15 +110,17 @@ impl Retries {
 
     /// Takes in whether the server at a place is known. It may be that it is to be called now; this side may have to yield.
     pub fn see(&mut self, place: usize, is_known: bool, yields: bool) -> bool
-        ensures due { result ≡ (is_due_at (slice_get self.old.rows.items place) self.old.passed is_known yields && is_apart self.old.called_at self.old.passed) }
+        ensures due { result ≡ (is_due_at (slice_get self.old.rows.items place) self.old.passed is_known yields self.old.spread && is_apart self.old.called_at self.old.passed) }
         ensures rows { self.new.rows.items ≡ row_changed (λ row. seen row self.old.passed is_known) place self.old.rows.items }
         ensures called { self.new.called_at ≡ self.old.called_at }
         ensures passed { self.new.passed ≡ self.old.passed }
+        ensures spread { self.new.spread ≡ self.old.spread }
     {
         let is_apart = self.is_apart();
         let now = self.passed;
+        let spread = self.spread;
         match self.rows.get_mut(place) {
-            Some(row) => row.see(now, is_known, yields) && is_apart,
+            Some(row) => row.see(now, is_known, yields, spread) && is_apart,
             None => false,
         }
     }
@@ -116,9 +139,11 @@ impl Retries {
     pub fn begin(&mut self, place: usize, is_again: bool)
         ensures rows { self.new.rows.items ≡ row_changed (λ row. call_begun row self.old.comers) place self.old.rows.items }
         ensures called { self.new.called_at ≡ (if is_again then Some self.old.passed else self.old.called_at) }
+        ensures spread { self.new.spread ≡ (if is_again then spread_on self.old.spread 1 else self.old.spread) }
     {
         if is_again {
             self.called_at = Some(self.passed);
+            self.spread = spread_on(self.spread, 1);
         }
         let comers = self.comers;
         if let Some(row) = self.rows.get_mut(place) {
@@ -137,7 +162,8 @@ impl Retries {
 
     /// The call of the server at a place has failed, or its link has ended.
     pub fn end(&mut self, place: usize)
-        ensures { self.new.rows.items ≡ row_changed (λ row. call_ended row self.old.comers) place self.old.rows.items }
+        ensures rows { self.new.rows.items ≡ row_changed (λ row. call_ended row self.old.comers) place self.old.rows.items }
+        ensures spread { self.new.spread ≡ self.old.spread }
     {
         let comers = self.comers;
         if let Some(row) = self.rows.get_mut(place) {

@@ -71,28 +71,29 @@ impl Retry {
     }
 
     /// Takes in whether the server is known at a moment. It may be that it is to be called then: this side yields where both should not call at
-    /// the same time again.
-    pub fn see(&mut self, now: u64, is_known: bool, yields: bool) -> bool
-        ensures due { result ≡ is_due self.old now is_known yields }
+    /// the same time again, and waits so much longer, as no other of its network does if that can be had.
+    pub fn see(&mut self, now: u64, is_known: bool, yields: bool, spread: u64) -> bool
+        ensures due { result ≡ is_due self.old now is_known yields spread }
         ensures seen { self.new ≡ seen self.old now is_known }
     {
         let is_away = self.is_free() && !is_known;
-        let is_due = is_away && self.has_waited(now, yields);
+        let is_due = is_away && self.has_waited(now, yields, spread);
         self.since = self.unknown_since(now, is_away);
         self.has_crossed = self.has_crossed && !is_known;
         is_due
     }
 
     /// Whether it was unknown for long enough.
-    fn has_waited(&self, now: u64, yields: bool) -> bool
-        ensures { result ≡ has_waited self.now.after self.now.since (self.now.has_crossed && yields) now }
+    fn has_waited(&self, now: u64, yields: bool, spread: u64) -> bool
+        ensures { result ≡ has_waited self.now.after self.now.since (self.now.has_crossed && yields) spread now }
     {
         match (self.after, self.since) {
             (Some(after), Some(since)) => {
+                let apart = after.saturating_add(spread);
                 let wait = if self.has_crossed && yields {
-                    after.saturating_mul(2)
+                    apart.saturating_mul(2)
                 } else {
-                    after
+                    apart
                 };
                 now.saturating_sub(since) >= wait
             }

@@ -12,6 +12,7 @@ use Rattle.irc_server.specs.declared.config.Config.{Config}
 use Rattle.irc_server.specs.Configuring.{config_fault, made_view}
 use Rattle.irc_stage.specs.View.{KnownPeer, known_peer}
 use Rattle.irc_engine.specs.Turning.{EngineView, IsNew, Turns}
+use Rattle.irc_turns.specs.Spreads.{name_spread}
 use Rattle.irc_sockets.specs.declared.calls.Callee.{Callee}
 use Rattle.irc_sockets.specs.declared.listening.Listening.{Listening}
 use Rattle.irc_sockets.specs.declared.mio_wire.MioWire.{MioWire}
@@ -69,8 +70,8 @@ pub record Configures (settings : Settings) (config : Config) : Type 0 where
   pub created : config.own.created.items ≡ string_bytes settings.created
   pub peers : map known_peer config.peers.items ≡ map peer_set settings.peers.items
 
--- The server is made of the settings, without clients; where it listens, whom it calls, and again when, how many connections an address may have and how much
--- may wait is theirs.
+-- The server is made of the settings, without clients; where it listens, whom it calls, and again when, by its own name too, how many connections an address
+-- may have and how much may wait is theirs.
 pub record IsSetUp (settings : Settings) (setup : Setup) : Type 0 where
   pub config : Config
   pub configures : Configures settings config
@@ -79,6 +80,7 @@ pub record IsSetUp (settings : Settings) (setup : Setup) : Type 0 where
   pub clients : IsSocketText (string_bytes settings.listen) setup.clients
   pub links : IsAddress (option_map string_bytes settings.listen_links) setup.links
   pub called : AreCalled settings.peers.items setup.callees.items
+  pub spread : setup.spread ≡ name_spread (string_bytes settings.name)
   pub connections_per_address : setup.connections_per_address ≡ settings.connections_per_address
   pub client_room : setup.client_room ≡ settings.client_room
   pub link_room : setup.link_room ≡ settings.link_room
@@ -121,11 +123,12 @@ listening_of setup =
     record { clients = setup.clients; links = setup.links; connections_per_address = setup.connections_per_address }
 
 -- An engine is open: it has served nobody, its server is the one that was set up, an outbox has room for as much as was set up, and its wire listens where that
--- was, and calls whom that was to call.
+-- was, and calls whom that was to call, again by that spread.
 pub record IsOpened (setup : Setup) (engine : EngineView MioWire) : Type 0 where
   pub wire : MioWire
   pub listens : ListensAt (listening_of setup) wire
   pub callees : wire.calls.asked ≡ setup.callees
+  pub spread : wire.calls.retries.spread ≡ setup.spread
   pub is_new : IsNew setup.server wire setup.client_room setup.link_room engine
 
 -- `ready` was printed, and all turns were taken; else a front of it was, and the program failed

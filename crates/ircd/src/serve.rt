@@ -68,7 +68,7 @@ fn open<T: Net>(net: &T, alloc: Global, setup: Setup) -> Result<Engine<MioWire>,
         links: setup.links,
         connections_per_address: setup.connections_per_address,
     };
-    let Ok(wire) = MioWire::listen(net, alloc, listening, setup.callees) else {
+    let Ok(wire) = MioWire::listen(net, alloc, listening, setup.callees, setup.spread) else {
         return Err(Stop::Failed);
     };
     let engine = Engine::new(

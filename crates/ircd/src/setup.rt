@@ -10,6 +10,7 @@ use irc_routes::Own;
 use irc_server::{Config, Peer, Server};
 use irc_settings::{PeerSettings, Settings, read_settings};
 use irc_sockets::Callee;
+use irc_turns::name_spread;
 use std::alloc::{AllocError, Global};
 use std::net::SocketAddr;
 
@@ -24,6 +25,8 @@ pub struct Setup {
     pub links: Option<SocketAddr>,
     /// The servers that it calls, in the order of its peers.
     pub callees: Vec<Callee, Global>,
+    /// How many milliseconds more it waits before the first call that it makes again, by its own name.
+    pub spread: u64,
     /// How many clients may be connected from one address, if there is a limit.
     pub connections_per_address: Option<u16>,
     /// How many bytes may wait for a client.
@@ -53,6 +56,7 @@ fn set_up(alloc: Global, settings: &Settings) -> Result<Setup, Stop>
         clients: address(settings.listen.as_str())?,
         links: optional_address(settings.listen_links.as_ref())?,
         server: Server::new(alloc, config(alloc, settings)?)?,
+        spread: name_spread(settings.name.as_bytes()),
         connections_per_address: settings.connections_per_address,
         client_room: settings.client_room,
         link_room: settings.link_room,

@@ -23,7 +23,7 @@ fn listens(rt: &HostRuntime) -> Option<MioWire> {
         links: Some(free),
         connections_per_address: None,
     };
-    MioWire::listen(rt, rt.alloc(), listening, Vec::new(rt.alloc())).ok()
+    MioWire::listen(rt, rt.alloc(), listening, Vec::new(rt.alloc()), 0).ok()
 }
 
 /// A wire that calls a server of this name there.
@@ -42,7 +42,7 @@ fn calls(rt: &HostRuntime, name: &[u8], address: SocketAddr) -> Option<MioWire> 
         links: None,
         connections_per_address: None,
     };
-    MioWire::listen(rt, rt.alloc(), listening, callees).ok()
+    MioWire::listen(rt, rt.alloc(), listening, callees, 0).ok()
 }
 
 /// The next thing that a wire reports, so many times asked; nothing where it stays idle.

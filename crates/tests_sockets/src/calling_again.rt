@@ -22,7 +22,7 @@ fn listens(rt: &HostRuntime) -> Option<MioWire> {
         links: Some(free),
         connections_per_address: None,
     };
-    MioWire::listen(rt, rt.alloc(), listening, Vec::new(rt.alloc())).ok()
+    MioWire::listen(rt, rt.alloc(), listening, Vec::new(rt.alloc()), 0).ok()
 }
 
 /// A wire that calls `b.net` there, and again after so many seconds.
@@ -41,7 +41,7 @@ fn calls(rt: &HostRuntime, address: SocketAddr, retry: Option<u16>) -> Option<Mi
         links: None,
         connections_per_address: None,
     };
-    MioWire::listen(rt, rt.alloc(), listening, callees).ok()
+    MioWire::listen(rt, rt.alloc(), listening, callees, 0).ok()
 }
 
 /// The number of the next link of a wire that is told each time whether the server that it would call is known.

@@ -14,7 +14,7 @@ fn listens(rt: &HostRuntime, connections_per_address: Option<u16>) -> Option<Mio
         links: None,
         connections_per_address,
     };
-    MioWire::listen(rt, rt.alloc(), listening, Vec::new(rt.alloc())).ok()
+    MioWire::listen(rt, rt.alloc(), listening, Vec::new(rt.alloc()), 0).ok()
 }
 
 /// So many sockets that have connected there.

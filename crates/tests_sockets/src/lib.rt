@@ -32,4 +32,6 @@ mod server;
 #[cfg(test)]
 mod sockets;
 #[cfg(test)]
+mod spreads;
+#[cfg(test)]
 mod steps;

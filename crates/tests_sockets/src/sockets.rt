@@ -28,7 +28,7 @@ fn listens(rt: &HostRuntime, address: &str) -> Option<MioWire> {
         links: None,
         connections_per_address: None,
     };
-    MioWire::listen(rt, rt.alloc(), listening, Vec::new(rt.alloc())).ok()
+    MioWire::listen(rt, rt.alloc(), listening, Vec::new(rt.alloc()), 0).ok()
 }
 
 /// A socket that has connected there, and said some lines.
