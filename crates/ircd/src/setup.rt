@@ -1,6 +1,7 @@
 //! What a configuration sets up: the server, where it listens, and whom it calls.
 ghost use Rattle.std.specs.Prelude.{◌≡◌, ◌++◌, ◌∷◌, [], IfOk, OnOk, map, option_map, option_to_list, string_bytes};
 ghost use Rattle.irc_stage.specs.View.{known_peer};
+ghost use Rattle.irc_turns.specs.Spreads.{name_spread};
 ghost use Rattle.ircd.specs.Serving.{Configures, IsReadSetup, SetsUp, peer_set};
 ghost use Rattle.ircd.specs.Loops.SettingUp.{FindsAddress, FindsCallee, FindsCallees, FindsName, FindsOptional};
 
@@ -56,11 +57,18 @@ fn set_up(alloc: Global, settings: &Settings) -> Result<Setup, Stop>
         clients: address(settings.listen.as_str())?,
         links: optional_address(settings.listen_links.as_ref())?,
         server: Server::new(alloc, config(alloc, settings)?)?,
-        spread: name_spread(settings.name.as_bytes()),
+        spread: own_spread(settings),
         connections_per_address: settings.connections_per_address,
         client_room: settings.client_room,
         link_room: settings.link_room,
     })
+}
+
+/// How many milliseconds more it waits before a call, by its own name.
+fn own_spread(settings: &Settings) -> u64
+    ensures { result ≡ name_spread (string_bytes settings.now.name) }
+{
+    name_spread(settings.name.as_bytes())
 }
 
 /// What the server is configured to be.

@@ -1,6 +1,5 @@
-use Rattle.std.proofs.Common.{Ok, Err, ◌∙◌, refl, ap, subst}
+use Rattle.std.proofs.Common.{Ok, Err, refl, subst}
 use Rattle.std.specs.Net.Grammar.{IsSocketText}
-use Rattle.irc_turns.specs.Spreads.{name_spread}
 use Rattle.ircd.specs.Serving.{AreCalled}
 use Rattle.ircd.specs.Loops.SettingUp.{FindsCallees}
 use Rattle.ircd.proofs.SettingUp.{calls_refused, found_in, links_refused, server_refused}
@@ -34,7 +33,7 @@ returns c = record {
   links = found_in c.as_ref.result c.args.settings.now.listen_links (Ok c.in_ok-optional_address.field-0) c.as_ref.ensures.value
       c.in_ok-optional_address.ensures;
   called = subst (λ peers. AreCalled peers c.in_ok-callees.field-0.items) c.deref.ensures.value c.in_ok-callees.ensures;
-  spread = c.name_spread.ensures ∙ ap name_spread c.as_bytes.ensures;
+  spread = c.own_spread.ensures;
   connections_per_address = refl;
   client_room = refl;
   link_room = refl;
