@@ -1,2 +1,0 @@
-pub mod FirstReported
-pub mod LettingGo

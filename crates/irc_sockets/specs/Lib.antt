@@ -1,3 +1,2 @@
+pub mod Answers
 pub mod Listening
-pub mod Numbered
-pub mod SocketTurns

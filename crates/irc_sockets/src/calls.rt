@@ -50,8 +50,6 @@ pub(crate) struct Calls {
     may_have: bool,
     /// When each is called again.
     pub retries: Retries,
-    /// The one that would be called, if it is not known.
-    looked_at: Option<usize>,
 }
 
 impl Calls {
@@ -75,7 +73,6 @@ impl Calls {
             retries: Retries::new(alloc, spread),
             asked,
             may_have: false,
-            looked_at: None,
         };
         calls.begin_all(registry, token)?;
         Ok(calls)
@@ -86,17 +83,16 @@ impl Calls {
         ensures spread { OnOk result (self.new.retries.spread ≡ self.old.retries.spread) }
     {
         for place in 0..self.asked.len() {
-            let after = self.retry_of(place);
-            self.retries.add(after)?;
+            let retry = self.retry_of(place);
+            self.retries.add(retry)?;
             self.call(place, false, registry, token);
         }
         Ok(())
     }
 
-    /// After how many milliseconds the one at a place is called again, if it is.
-    fn retry_of(&self, place: usize) -> Option<u64> {
-        let seconds = self.asked.get(place)?.retry?;
-        Some(u64::from(seconds) * 1000)
+    /// After how many seconds the one at a place is called again, if it is.
+    fn retry_of(&self, place: usize) -> Option<u16> {
+        self.asked.get(place)?.retry
     }
 
     /// Calls the one at a place, the first time or again.
@@ -164,22 +160,15 @@ impl Calls {
         }
     }
 
-    /// Looks at the next of those that are called.
-    pub fn look(&mut self) {
-        self.looked_at = self.retries.next();
-    }
-
     /// The one that would be called, if it is not known.
     pub fn would_call(&self) -> Option<&ServerName> {
-        let place = self.looked_at?;
+        let place = self.retries.looked_at?;
         Some(&self.asked.get(place)?.name)
     }
 
     /// Takes in whether that one is known, and calls it where that is due.
     pub fn know(&mut self, is_known: bool, yields: bool, registry: &Registry, token: Token) {
-        if let Some(place) = self.looked_at.take()
-            && self.retries.see(place, is_known, yields)
-        {
+        if let Some(place) = self.retries.know(is_known, yields) {
             self.call(place, true, registry, token);
         }
     }

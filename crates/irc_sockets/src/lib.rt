@@ -7,7 +7,6 @@ mod host;
 mod keep_alive;
 mod listening;
 mod mio_wire;
-mod socket;
 mod sockets;
 
 pub use calls::Callee;

@@ -119,65 +119,65 @@ impl MioWire {
             self.wake_doors();
         }
         let waited = if is_over { wait } else { 0 };
-        self.sockets.holding.pass(waited);
+        self.sockets.talkers.holding.pass(waited);
         self.calls.retries.pass(waited);
-        self.calls.look();
+        self.calls.retries.look();
         let has_arrived = self.take_events();
-        self.sockets.let_go();
-        self.round.begin(self.sockets.waiting(), has_arrived);
+        self.sockets.talkers.let_go();
+        self.round.begin(self.sockets.talkers.waiting(), has_arrived);
         Ok(())
     }
 
     /// How many milliseconds to wait for something to do.
     fn wait(&self) -> u64 {
-        let is_busy = self.sockets.waiting() > 0 || self.has_arrivals() || self.round.has_more;
-        wait_for(
-            is_busy,
-            self.calls.retries.wait(),
-            !self.sockets.holding.is_empty(),
-        )
+        let talkers = &self.sockets.talkers;
+        let is_busy = talkers.waiting() > 0 || self.has_arrivals() || self.round.has_more;
+        let is_holding = !talkers.holding.is_empty();
+        wait_for(is_busy, self.calls.retries.wait(), is_holding)
     }
 
     /// Takes in what the system tells, and whether somebody has come who was not waiting.
     fn take_events(&mut self) -> bool {
-        let before = self.sockets.waiting();
+        let before = self.sockets.talkers.waiting();
         let mut has_arrived = false;
         for event in &self.events {
             has_arrived |= match event.token() {
-                Token(CLIENTS) => self.clients.knock(),
-                Token(LINKS) => knock(&mut self.links),
+                Token(CLIENTS) => knock(&mut self.clients),
+                Token(LINKS) => self.links.as_mut().is_some_and(knock),
                 Token(CALLS) => self.calls.knock(),
                 Token(number) => self
                     .sockets
                     .note(number.saturating_sub(FIRST_SOCKET), event),
             };
         }
-        self.sockets.put_behind(before);
+        self.sockets.talkers.put_behind(before);
         has_arrived
     }
 
     /// A round of arrivals begins at the doors.
     fn begin_arrivals(&mut self) {
-        self.clients.begin_round();
+        self.clients.arrivals.begin_round();
         if let Some(links) = &mut self.links {
-            links.begin_round();
+            links.arrivals.begin_round();
         }
     }
 
     /// Whether connections may wait that are to be taken in this round.
     fn has_arrivals(&self) -> bool {
-        self.calls.may_have() || self.clients.may_have() || self.has_links()
+        self.calls.may_have() || self.clients.arrivals.may_be_taken() || self.has_links()
     }
 
     /// Whether servers may wait at the door for links.
     fn has_links(&self) -> bool {
-        self.links.as_ref().is_some_and(Door::may_have)
+        self.links
+            .as_ref()
+            .is_some_and(|links| links.arrivals.may_be_taken())
     }
 
     fn wake_doors(&mut self) {
-        self.clients.wake();
+        self.clients.arrivals.wake();
         if let Some(links) = &mut self.links {
-            links.wake();
+            links.arrivals.wake();
         }
     }
 
@@ -187,7 +187,7 @@ impl MioWire {
             self.called()
         } else if self.has_links() {
             self.link()
-        } else if self.clients.may_have() {
+        } else if self.clients.arrivals.may_be_taken() {
             self.client()
         } else {
             None
@@ -269,23 +269,15 @@ impl MioWire {
         if let Some(report) = self.arrival() {
             return report;
         }
-        self.round.left = self.round.left.saturating_sub(1);
+        self.round.report_one();
         self.sockets.report(&mut self.round).unwrap_or(Ready::Idle)
-    }
-
-    /// Whether another turn follows soon: of this round, or of the next one, where nobody has come for whom that would be late.
-    fn has_next_turn(&self) -> bool {
-        let is_waiting = self.sockets.waiting() > 0;
-        self.round.left > 0 || self.has_arrivals() || (self.round.is_quiet && is_waiting)
     }
 }
 
-/// Connections may wait.
-fn knock(door: &mut Option<Door>) -> bool {
-    match door {
-        Some(door) => door.knock(),
-        None => false,
-    }
+/// Connections may wait at a door. So somebody has come.
+fn knock(door: &mut Door) -> bool {
+    door.arrivals.knock();
+    true
 }
 
 /// It keeps no account of what was asked. A number is that of one connection from its report until it is closed.
@@ -296,8 +288,8 @@ impl Wire for MioWire {
     ghost is_after = { λ wire calls. ⊤ };
 
     fn ready(&mut self) -> Result<Ready, IoFault> {
-        self.sockets.end_turn(&self.round);
-        let is_over = self.round.left == 0 && !self.has_arrivals();
+        self.sockets.talkers.end_turn(&self.round);
+        let is_over = self.round.is_over(self.has_arrivals());
         if is_over && self.begin_round().is_err() {
             return Err(IoFault::Failed);
         }
@@ -311,7 +303,9 @@ impl Wire for MioWire {
     }
 
     fn write(&mut self, conn: u64, bytes: &[u8], behind: usize) -> Result<usize, IoFault> {
-        self.round.may_wait = self.has_next_turn();
+        let has_arrivals = self.has_arrivals();
+        let is_waiting = self.sockets.talkers.waiting() > 0;
+        self.round.note_next_turn(has_arrivals, is_waiting);
         self.sockets
             .write(conn as usize, bytes, behind, &mut self.round)
     }

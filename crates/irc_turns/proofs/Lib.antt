@@ -1,1 +1,3 @@
+pub mod FirstReported
 pub mod FrontSteps
+pub mod LettingGo

@@ -1,9 +1,12 @@
+pub mod Arriving
 pub mod Crowds
 pub mod Fronts
 pub mod Gathering
 pub mod HeldBack
+pub mod Numbered
 pub mod Pacing
 pub mod Retries
 pub mod Rounds
 pub mod Spreads
+pub mod Talking
 pub mod Waits

@@ -1,6 +1,7 @@
 -- When a server is called again.
-use Rattle.std.specs.Prelude.{ℕ, Bool, true, false, not, ◌&&◌, ◌-◌, ◌*◌, min, nat_eq, nat_le, nat_lt, if◌then◌else◌, Option, Some, None, is_none, is_some, List, ◌+◌, set}
+use Rattle.std.specs.Prelude.{ℕ, Bool, true, false, not, ◌&&◌, ◌-◌, ◌*◌, min, nat_eq, nat_le, nat_lt, if◌then◌else◌, Option, Some, None, is_none, is_some, List, length, ◌+◌, set}
 use Rattle.std.specs.List.{slice_get}
+use Rattle.irc_turns.specs.declared.retries.Retries.{Retries}
 use Rattle.irc_turns.specs.declared.retry.Retry.{Retry}
 
 -- one that is called after so many milliseconds again, or once, and was not called yet
@@ -13,6 +14,11 @@ not_called after = record {
   has_crossed = false;
   since = None;
 }
+
+-- so many seconds in milliseconds
+abbrev pub milliseconds : Option ℕ → Option ℕ
+milliseconds None = None
+milliseconds (Some seconds) = Some (seconds * 1000)
 
 abbrev pub call_begun : Retry → ℕ → Retry
 call_begun row comers = record row { is_calling = true; link = None; comers = comers; since = None }
@@ -36,16 +42,19 @@ later_by now waited = min (now + waited) 18446744073709551615
 abbrev pub wait_after : ℕ → Bool → ℕ
 wait_after after yields = if yields then min (after * 2) 18446744073709551615 else after
 
--- whether it is called again at all, and was seen unknown for that long, and for as much longer as this server's spread is
+-- whether it is called again at all, and was seen unknown for that long, and for as much longer as
+-- this server's spread is
 abbrev pub has_waited : Option ℕ → Option ℕ → Bool → ℕ → ℕ → Bool
 has_waited None since yields spread now = false
 has_waited (Some after) None yields spread now = false
-has_waited (Some after) (Some since) yields spread now = nat_le (wait_after (later_by after spread) yields) (now - since)
+has_waited (Some after) (Some since) yields spread now =
+    nat_le (wait_after (later_by after spread) yields) (now - since)
 
 -- it is to be called: it is free, not known, and was so for long enough
 abbrev pub is_due : Retry → ℕ → Bool → Bool → ℕ → Bool
 is_due row now is_known yields spread =
-    (is_free row && not is_known) && has_waited row.after row.since (row.has_crossed && yields) spread now
+    (is_free row && not is_known)
+    && has_waited row.after row.since (row.has_crossed && yields) spread now
 
 -- since when it is unknown: since now, where it was not so far
 abbrev pub unknown_since : Option ℕ → ℕ → Bool → Option ℕ
@@ -96,3 +105,32 @@ is_of_link link row = is_some_link link row.link
     is_some_link : ℕ → Option ℕ → Bool
     is_some_link link None = false
     is_some_link link (Some other) = nat_eq other link
+
+-- ---- which one would be called
+
+abbrev pub place_if_called : List Retry → ℕ → Option ℕ
+place_if_called rows place = if may_be_called (slice_get rows place) then Some place else None
+
+-- the next place is looked at, if its server may be called again
+abbrev pub looked_on : Retries → Retries
+looked_on retries = record retries {
+  at = place_behind retries.at (length retries.rows.items);
+  looked_at =
+      place_if_called retries.rows.items (place_behind retries.at (length retries.rows.items));
+}
+
+abbrev pub is_due_now : Retries → Bool → Bool → ℕ → Bool
+is_due_now retries is_known yields place =
+    is_due_at (slice_get retries.rows.items place) retries.passed is_known yields retries.spread
+    && is_apart retries.called_at retries.passed
+
+-- a place, if its server is to be called now
+abbrev pub due_place : Retries → Bool → Bool → Option ℕ → Option ℕ
+due_place retries is_known yields None = None
+due_place retries is_known yields (Some place) = if is_due_now retries is_known yields place then Some place else None
+
+-- what is known of a place then
+abbrev pub seen_at : Retries → Bool → Option ℕ → List Retry
+seen_at retries is_known None = retries.rows.items
+seen_at retries is_known (Some place) =
+    row_changed (λ row. seen row retries.passed is_known) place retries.rows.items

@@ -1,5 +1,5 @@
 -- A round, and the turn at hand.
-use Rattle.std.specs.Prelude.{ℕ, Bool, false, not, ◌&&◌, ◌+◌, ◌%◌, min, nat_eq, nat_lt, if◌then◌else◌, Option, Some, None}
+use Rattle.std.specs.Prelude.{ℕ, Bool, false, not, ◌&&◌, ◌||◌, ◌+◌, ◌-◌, ◌%◌, min, nat_eq, nat_lt, if◌then◌else◌, Option, Some, None}
 use Rattle.irc_turns.specs.declared.round.Round.{Round}
 
 -- before the first round, and before turn 65
@@ -49,4 +49,26 @@ wait_more round number more is_stuck =
     else record round {
       shown = at_most_word (round.shown + more);
       filled = if is_stuck && nat_lt 0 more then Some number else round.filled;
+    }
+
+-- bytes may wait though nothing is in their way
+abbrev pub more_noted : Round → Bool → Round
+more_noted round has_more = record round { has_more = round.has_more || has_more }
+
+-- ---- how it goes on
+
+-- all that were ready are reported, and nobody waits at a door
+abbrev pub is_round_over : Round → Bool → Bool
+is_round_over round has_arrivals = nat_eq round.left 0 && not has_arrivals
+
+-- one of those that were ready is reported
+abbrev pub one_reported : Round → Round
+one_reported round = record round { left = round.left - 1 }
+
+-- whether another turn follows soon: of this round; or of the next one, where somebody stands in the
+-- queue, and nobody came for whom that would be late
+abbrev pub next_turn_noted : Round → Bool → Bool → Round
+next_turn_noted round has_arrivals is_waiting =
+    record round {
+      may_wait = (nat_lt 0 round.left || has_arrivals) || (round.is_quiet && is_waiting);
     }

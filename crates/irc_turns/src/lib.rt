@@ -1,7 +1,8 @@
-//! Whose turn is next, how much one takes, and which call is due: rounds, gathered writes, paces, what was read, who is held back, who is let in, and
-//! who is called again. Nothing here knows a socket.
+//! Whose turn is next, how much one takes, and which call is due: rounds, gathered writes, paces, what was read, who talks, who is held back, who is let
+//! in, and who is called again. Nothing here knows a socket.
 #![tactic(auto)]
 
+mod arrivals;
 mod crowd;
 mod holding;
 mod pace;
@@ -10,9 +11,12 @@ mod retries;
 mod retry;
 mod round;
 mod spread;
+mod talker;
+mod talkers;
 mod waiting;
 mod waits;
 
+pub use arrivals::Arrivals;
 pub use crowd::Crowd;
 pub use holding::{Held, Holding};
 pub use pace::Pace;
@@ -21,5 +25,7 @@ pub use retries::Retries;
 pub use retry::Retry;
 pub use round::Round;
 pub use spread::{name_spread, spread_on};
+pub use talker::{Mark, Reading, Talker, Told};
+pub use talkers::{Report, Talkers};
 pub use waiting::Waiting;
 pub use waits::{wait_behind, wait_for};

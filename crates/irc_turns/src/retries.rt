@@ -1,6 +1,7 @@
 //! The servers that are called, and which of them is due.
 ghost use Rattle.std.specs.Prelude.{◌≡◌, ◌++◌, ◌∷◌, [], ◌&&◌, None, Some, if◌then◌else◌, length, OnOk, is_some};
 ghost use Rattle.std.specs.List.{list_any, position, slice_get};
+ghost use Rattle.irc_turns.specs.Retries.{milliseconds};
 ghost use Rattle.irc_turns.specs.Rounds.{arrivals_after};
 ghost use Rattle.irc_turns.specs.Spreads.{spread_on};
 ghost use Rattle.irc_turns.specs.Waits.{wait_behind};
@@ -20,6 +21,8 @@ pub struct Retries {
     pub rows: Vec<Retry, Global>,
     /// The place that was looked at last.
     pub at: usize,
+    /// The place of the one that would be called, if it is not known.
+    pub looked_at: Option<usize>,
     /// How many milliseconds have passed in waits that nothing has ended, so at least so many.
     pub passed: u64,
     /// When one was called again last.
@@ -34,7 +37,7 @@ pub struct Retries {
 }
 
 impl Retries {
-    ghost use Rattle.irc_turns.specs.Retries.{not_called, row_changed, place_behind, may_be_called, is_due_at, is_apart, is_of_link, later_by, seen, call_begun, call_reached, call_ended};
+    ghost use Rattle.irc_turns.specs.Retries.{not_called, row_changed, may_be_called, looked_on, due_place, seen_at, is_due_at, is_apart, is_of_link, later_by, seen, call_begun, call_reached, call_ended};
 
     /// None, with the spread of the first call that is made again.
     pub fn new(alloc: Global, spread: u64) -> Self
@@ -46,6 +49,7 @@ impl Retries {
         Retries {
             rows: Vec::new(alloc),
             at: 0,
+            looked_at: None,
             passed: 0,
             called_at: None,
             comers: 0,
@@ -54,15 +58,15 @@ impl Retries {
         }
     }
 
-    /// One more, which is called again after so many milliseconds, or once.
+    /// One more, which is called again after so many seconds, or once.
     ///
     /// # Errors
     /// Where memory runs out.
-    pub fn add(&mut self, after: Option<u64>) -> Result<(), AllocError>
-        ensures added { OnOk result (self.new.rows.items ≡ self.old.rows.items ++ not_called after ∷ []) }
+    pub fn add(&mut self, retry: Option<u16>) -> Result<(), AllocError>
+        ensures added { OnOk result (self.new.rows.items ≡ self.old.rows.items ++ not_called (milliseconds retry) ∷ []) }
         ensures spread { OnOk result (self.new.spread ≡ self.old.spread) }
     {
-        match self.rows.push(Retry::new(after)) {
+        match self.rows.push(Retry::new(milliseconds(retry))) {
             Ok(()) => Ok(()),
             Err(_) => Err(AllocError),
         }
@@ -97,24 +101,46 @@ impl Retries {
         self.rows.iter().any(|row| row.since.is_some())
     }
 
-    /// Goes on to the next place, and tells it if the server there may be called again.
-    pub fn next(&mut self) -> Option<usize>
-        ensures at { self.new ≡ record self.old { at = place_behind self.old.at (length self.old.rows.items) } }
-        ensures result { is_some result ≡ may_be_called (slice_get self.old.rows.items self.new.at) }
+    /// Looks at the next place: the server there would be called, if it may be called again, and is not known.
+    pub fn look(&mut self)
+        ensures { self.new ≡ looked_on self.old }
     {
         let behind = self.at.saturating_add(1);
         self.at = if behind < self.rows.len() { behind } else { 0 };
-        let row = self.rows.get(self.at)?;
-        (row.after.is_some() && row.is_free()).then_some(self.at)
+        self.looked_at = self.may_be_called(self.at).then_some(self.at);
+    }
+
+    /// Whether the server at a place may be called again: no call of it is under way, or open.
+    fn may_be_called(&self, place: usize) -> bool
+        ensures { result ≡ may_be_called (slice_get self.now.rows.items place) }
+    {
+        match self.rows.get(place) {
+            Some(row) => row.after.is_some() && row.is_free(),
+            None => false,
+        }
+    }
+
+    /// Takes in whether the server that was looked at is known, and tells its place where it is to be called now; this side may have to yield.
+    pub fn know(&mut self, is_known: bool, yields: bool) -> Option<usize>
+        ensures due { result ≡ due_place self.old is_known yields self.old.looked_at }
+        ensures rows { self.new.rows.items ≡ seen_at self.old is_known self.old.looked_at }
+        ensures looked { self.new.looked_at ≡ None }
+        ensures called { self.new.called_at ≡ self.old.called_at }
+        ensures passed { self.new.passed ≡ self.old.passed }
+        ensures spread { self.new.spread ≡ self.old.spread }
+    {
+        let place = self.looked_at.take()?;
+        self.see(place, is_known, yields).then_some(place)
     }
 
     /// Takes in whether the server at a place is known. It may be that it is to be called now; this side may have to yield.
-    pub fn see(&mut self, place: usize, is_known: bool, yields: bool) -> bool
+    fn see(&mut self, place: usize, is_known: bool, yields: bool) -> bool
         ensures due { result ≡ (is_due_at (slice_get self.old.rows.items place) self.old.passed is_known yields self.old.spread && is_apart self.old.called_at self.old.passed) }
         ensures rows { self.new.rows.items ≡ row_changed (λ row. seen row self.old.passed is_known) place self.old.rows.items }
         ensures called { self.new.called_at ≡ self.old.called_at }
         ensures passed { self.new.passed ≡ self.old.passed }
         ensures spread { self.new.spread ≡ self.old.spread }
+        ensures looked { self.new.looked_at ≡ self.old.looked_at }
     {
         let is_apart = self.is_apart();
         let now = self.passed;
@@ -176,5 +202,15 @@ impl Retries {
         ensures { result ≡ position (is_of_link link) self.now.rows.items }
     {
         self.rows.iter().position(|row| row.link == Some(link))
+    }
+}
+
+/// So many seconds, if there are any, in milliseconds.
+fn milliseconds(seconds: Option<u16>) -> Option<u64>
+    ensures { result ≡ milliseconds seconds }
+{
+    match seconds {
+        Some(seconds) => Some(u64::from(seconds) * 1000),
+        None => None,
     }
 }

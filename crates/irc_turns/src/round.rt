@@ -30,7 +30,7 @@ pub struct Round {
 }
 
 impl Round {
-    ghost use Rattle.irc_turns.specs.Rounds.{no_round, round_begun, turn_begun, wait_more};
+    ghost use Rattle.irc_turns.specs.Rounds.{no_round, round_begun, turn_begun, wait_more, more_noted, is_round_over, one_reported, next_turn_noted};
 
     /// No round.
     pub fn new() -> Self
@@ -85,5 +85,33 @@ impl Round {
         if is_stuck && more > 0 {
             self.filled = Some(number);
         }
+    }
+
+    /// Bytes may wait though nothing is in their way, or they do not.
+    pub fn note_more(&mut self, has_more: bool)
+        ensures { self.new ≡ more_noted self.old has_more }
+    {
+        self.has_more |= has_more;
+    }
+
+    /// Whether all that were ready as it began are reported, and nobody waits at a door.
+    pub fn is_over(&self, has_arrivals: bool) -> bool
+        ensures { result ≡ is_round_over self.now has_arrivals }
+    {
+        self.left == 0 && !has_arrivals
+    }
+
+    /// One of those that were ready is reported.
+    pub fn report_one(&mut self)
+        ensures { self.new ≡ one_reported self.old }
+    {
+        self.left = self.left.saturating_sub(1);
+    }
+
+    /// Takes in whether another turn follows soon: of this round, or of the next one, where nobody has come for whom that would be late.
+    pub fn note_next_turn(&mut self, has_arrivals: bool, is_waiting: bool)
+        ensures { self.new ≡ next_turn_noted self.old has_arrivals is_waiting }
+    {
+        self.may_wait = self.left > 0 || has_arrivals || (self.is_quiet && is_waiting);
     }
 }

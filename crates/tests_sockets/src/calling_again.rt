@@ -4,7 +4,7 @@ use irc_outbox::{Ready, Wire};
 use irc_sockets::{Callee, Listening, MioWire};
 use std::net::SocketAddr;
 
-/// How often a wire is asked while a second has to pass, in which it waits a millisecond each time, or 100 where it waits for nobody.
+/// How often a wire is asked while a second has to pass: it waits ten milliseconds each time, and one behind whatever has come.
 const TIMES: u64 = 20_000;
 
 /// How often one is asked which may not call. In so many waits of 100 ms two seconds pass.

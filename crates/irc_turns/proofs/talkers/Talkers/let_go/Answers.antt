@@ -1,10 +1,10 @@
 use Rattle.std.proofs.Common.{◌≡◌, ◌<◌, ◌≤◌, ℕ, true, false, get_or, refl, sym, ◌∙◌, ap, subst, arith}
 use Rattle.irc_turns.specs.declared.holding.Held.{Held}
-use Rattle.irc_sockets.specs.declared.sockets.Sockets.{Sockets}
-use Rattle.irc_sockets.specs.Numbered.{is_due, nobody, one_more}
-use Rattle.irc_sockets.proofs.LettingGo.{before_place, due_by_room, due_by_time, not_due, fuller, gone, one_further}
-use Rattle.irc_sockets.proofs.sockets.Sockets.let_go.Goals as goal
-use Rattle.irc_sockets.proofs.sockets.Sockets.let_go.Goals.{in_default-via-in-Some+else-is_full, in_default-via-in_default}
+use Rattle.irc_turns.specs.declared.talkers.Talkers.{Talkers}
+use Rattle.irc_turns.specs.Numbered.{is_due, nobody, one_more}
+use Rattle.irc_turns.proofs.LettingGo.{before_place, due_by_room, due_by_time, not_due, fuller, gone, one_further}
+use Rattle.irc_turns.proofs.talkers.Talkers.let_go.Goals as goal
+use Rattle.irc_turns.proofs.talkers.Talkers.let_go.Goals.{in_default-via-in-Some+else-is_full, in_default-via-in_default}
 
 pub loop-place-init : goal.loop-place-init
 loop-place-init c = record {
@@ -34,7 +34,7 @@ loop-place-preserved c =
     let place = c.loop-place.place in
     let held = c.let_go-held.result in
     let within = subst (λ n. place < n) c.len.ensures c.loop-place-test.true in
-    let left = ap (λ (s : Sockets). s.holding) c.ask_again.ensures.others ∙ ap (λ (s : Sockets). s.holding) c.try_again.ensures in
+    let left = ap (λ (s : Talkers). s.holding) c.ask_again.ensures.others ∙ ap (λ (s : Talkers). s.holding) c.try_again.ensures in
     let due : is_due between held ≡ true = elim c.in_default.branch [
       | in_default-via-in-Some+else-is_full w ↦
           due_by_room between place w.in-Some.by held c.let_go-held.ensures.who (sym c.at.ensures ∙ w.in-Some.is) (sym w.is_full.ensures ∙ w.if-is_full.false)
@@ -51,8 +51,8 @@ loop-place-preserved c =
           ∙ c.loop-place.invariant.all k below d;
       full = λ number full.
           c.loop-place.invariant.full number
-          (fuller between c.try_again.new.self c.ask_again.new.self held.by held.who (ap (λ (s : Sockets). s.by_number) c.try_again.ensures)
-          (ap (λ (s : Sockets). s.by_number) c.ask_again.ensures.others) number full);
+          (fuller between c.try_again.new.self c.ask_again.new.self held.by held.who (ap (λ (s : Talkers). s.by_number) c.try_again.ensures)
+          (ap (λ (s : Talkers). s.by_number) c.ask_again.ensures.others) number full);
       passed = ap (λ h. h.passed) left ∙ c.let_go-held.ensures.passed ∙ c.loop-place.invariant.passed;
     }
 

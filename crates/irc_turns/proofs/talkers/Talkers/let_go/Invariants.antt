@@ -1,14 +1,14 @@
 use Rattle.std.proofs.Common.{◌≡◌, ◌-◌, ◌<◌, ℕ, true, false, length, get_or}
 use Rattle.irc_turns.specs.declared.holding.Held.{Held}
-use Rattle.irc_sockets.specs.Numbered.{socket_at, is_full_one, is_due, LetsGo}
-use Rattle.irc_sockets.proofs.sockets.Sockets.let_go.Given as goal
+use Rattle.irc_turns.specs.Numbered.{talker_at, is_full_one, is_due, LetsGo}
+use Rattle.irc_turns.proofs.talkers.Talkers.let_go.Given as goal
 
--- those that were looked at and are held still were not due, and no socket has become full
+-- those that were looked at and are held still were not due, and no talker has become full
 abbrev pub invariant-loop-place : goal.invariant-loop-place
 invariant-loop-place l = record {
   one_by_one : LetsGo l.fn.self l.self;
   all : (k : ℕ) → k < l.place → (d : Held) → is_due l.fn.self (get_or l.self.holding.held k d) ≡ false;
-  full : (number : ℕ) → is_full_one (socket_at l.self number) ≡ true → is_full_one (socket_at l.fn.self number) ≡ true;
+  full : (number : ℕ) → is_full_one (talker_at l.self number) ≡ true → is_full_one (talker_at l.fn.self number) ≡ true;
   passed : l.self.holding.passed ≡ l.fn.self.holding.passed;
 }
 

@@ -9,9 +9,9 @@ use Rattle.slab.proofs.SlabLemmas.{Updates-with_value}
 use Rattle.std.specs.Option.{IsSome}
 use Rattle.irc_turns.specs.HeldBack.{HeldBack, held_still, held_at}
 use Rattle.irc_turns.specs.declared.holding.Held.{Held}
-use Rattle.irc_sockets.specs.declared.socket.Socket.{Socket}
-use Rattle.irc_sockets.specs.declared.sockets.Sockets.{Sockets}
-use Rattle.irc_sockets.specs.Numbered.{socket_at, socket_changed_if, socket_changed_at, only, tried_again, asked_again, is_new_again, is_full_one, is_due, ComesLast, QueuesUp, SameButQueue, LetsOneGo}
+use Rattle.irc_turns.specs.declared.talker.Talker.{Talker}
+use Rattle.irc_turns.specs.declared.talkers.Talkers.{Talkers}
+use Rattle.irc_turns.specs.Numbered.{talker_at, talker_changed_if, talker_changed_at, only, tried_again, asked_again, is_new_again, is_full_one, is_due, ComesLast, QueuesUp, SameButQueue, LetsOneGo}
 
 -- ---- those before the place from which one was taken stay
 
@@ -24,54 +24,54 @@ before_place xs i k last d before within =
 
 -- ---- who is due
 
--- whose time is not over, by a socket that takes bytes
-takes_bytes : (passed : ℕ) (sockets : Sockets) (held : Held) (by : ℕ) (b : Bool) → cond b (Some held.by) None ≡ Some by
-    → is_full_one (socket_at sockets by) ≡ false → not (b && is_full_one (socket_at sockets held.by)) ≡ true
-takes_bytes passed sockets held by true one free = ap (λ o. not (is_full_of o)) one ∙ ap not free
+-- whose time is not over, by a talker that takes bytes
+takes_bytes : (passed : ℕ) (talkers : Talkers) (held : Held) (by : ℕ) (b : Bool) → cond b (Some held.by) None ≡ Some by
+    → is_full_one (talker_at talkers by) ≡ false → not (b && is_full_one (talker_at talkers held.by)) ≡ true
+takes_bytes passed talkers held by true one free = ap (λ o. not (is_full_of o)) one ∙ ap not free
   where
     is_full_of : Option ℕ → Bool
     is_full_of None = false
-    is_full_of (Some number) = is_full_one (socket_at sockets number)
-takes_bytes passed sockets held by false one free = refl
+    is_full_of (Some number) = is_full_one (talker_at talkers number)
+takes_bytes passed talkers held by false one free = refl
 
-pub due_by_room : (sockets : Sockets) (place by : ℕ) (held : Held) → slice_get sockets.holding.held place ≡ Some held
-    → held_at sockets.holding place ≡ Some by → is_full_one (socket_at sockets by) ≡ false → is_due sockets held ≡ true
-due_by_room sockets place by held there one free =
-    takes_bytes sockets.holding.passed sockets held by (nat_lt sockets.holding.passed held.until)
-    (sym (ap (held_still sockets.holding.passed) there) ∙ one) free
+pub due_by_room : (talkers : Talkers) (place by : ℕ) (held : Held) → slice_get talkers.holding.held place ≡ Some held
+    → held_at talkers.holding place ≡ Some by → is_full_one (talker_at talkers by) ≡ false → is_due talkers held ≡ true
+due_by_room talkers place by held there one free =
+    takes_bytes talkers.holding.passed talkers held by (nat_lt talkers.holding.passed held.until)
+    (sym (ap (held_still talkers.holding.passed) there) ∙ one) free
 
-over : (sockets : Sockets) (held : Held) (b : Bool) → cond b (Some held.by) None ≡ None → not (b && is_full_one (socket_at sockets held.by)) ≡ true
-over sockets held true none = cc none
-over sockets held false none = refl
+over : (talkers : Talkers) (held : Held) (b : Bool) → cond b (Some held.by) None ≡ None → not (b && is_full_one (talker_at talkers held.by)) ≡ true
+over talkers held true none = cc none
+over talkers held false none = refl
 
-pub due_by_time : (sockets : Sockets) (place : ℕ) (held : Held) → slice_get sockets.holding.held place ≡ Some held
-    → held_at sockets.holding place ≡ None → is_due sockets held ≡ true
-due_by_time sockets place held there none =
-    over sockets held (nat_lt sockets.holding.passed held.until) (sym (ap (held_still sockets.holding.passed) there) ∙ none)
+pub due_by_time : (talkers : Talkers) (place : ℕ) (held : Held) → slice_get talkers.holding.held place ≡ Some held
+    → held_at talkers.holding place ≡ None → is_due talkers held ≡ true
+due_by_time talkers place held there none =
+    over talkers held (nat_lt talkers.holding.passed held.until) (sym (ap (held_still talkers.holding.passed) there) ∙ none)
 
-in_time : (old : Sockets) (held : Held) (by : ℕ) (b : Bool) → cond b (Some held.by) None ≡ Some by → is_full_one (socket_at old by) ≡ true
-    → not (b && is_full_one (socket_at old held.by)) ≡ false
+in_time : (old : Talkers) (held : Held) (by : ℕ) (b : Bool) → cond b (Some held.by) None ≡ Some by → is_full_one (talker_at old by) ≡ true
+    → not (b && is_full_one (talker_at old held.by)) ≡ false
 in_time old held by true one full = ap (λ o. not (is_full_of o)) one ∙ ap not full
   where
     is_full_of : Option ℕ → Bool
     is_full_of None = false
-    is_full_of (Some number) = is_full_one (socket_at old number)
+    is_full_of (Some number) = is_full_one (talker_at old number)
 in_time old held by false one full = cc one
 
--- whoever is held still was not due before, since no socket has become full
-pub not_due : (old sockets : Sockets) (place by : ℕ) (d : Held) → place < length sockets.holding.held → held_at sockets.holding place ≡ Some by
-    → is_full_one (socket_at sockets by) ≡ true → ((number : ℕ) → is_full_one (socket_at sockets number) ≡ true → is_full_one (socket_at old number) ≡ true)
-    → sockets.holding.passed ≡ old.holding.passed → is_due old (get_or sockets.holding.held place d) ≡ false
-not_due old sockets place by d within one full fuller passed =
-    let held = get_or sockets.holding.held place d in
+-- whoever is held still was not due before, since no talker has become full
+pub not_due : (old talkers : Talkers) (place by : ℕ) (d : Held) → place < length talkers.holding.held → held_at talkers.holding place ≡ Some by
+    → is_full_one (talker_at talkers by) ≡ true → ((number : ℕ) → is_full_one (talker_at talkers number) ≡ true → is_full_one (talker_at old number) ≡ true)
+    → talkers.holding.passed ≡ old.holding.passed → is_due old (get_or talkers.holding.held place d) ≡ false
+not_due old talkers place by d within one full fuller passed =
+    let held = get_or talkers.holding.held place d in
     in_time old held by (nat_lt old.holding.passed held.until)
     (ap (λ p. cond (nat_lt p held.until) (Some held.by) None) (sym passed)
-    ∙ sym (ap (held_still sockets.holding.passed) (slice_get-get_or sockets.holding.held place d within)) ∙ one)
+    ∙ sym (ap (held_still talkers.holding.passed) (slice_get-get_or talkers.holding.held place d within)) ∙ one)
     (fuller by full)
 
--- ---- no socket becomes full
+-- ---- no talker becomes full
 
-written : (slab : Slab Socket) (number n : ℕ) (old new : Socket) → get slab number ≡ Some old → (new.is_full ≡ true → old.is_full ≡ true)
+written : (slab : Slab Talker) (number n : ℕ) (old new : Talker) → get slab number ≡ Some old → (new.is_full ≡ true → old.is_full ≡ true)
     → is_full_one (get (with_value slab number new) n) ≡ true → is_full_one (get slab n) ≡ true
 written slab number n old new there keeps full =
     let changes = Updates-with_value slab number new (subst (λ o. IsSome o) (sym there) refl) in
@@ -83,14 +83,14 @@ written slab number n old new there keeps full =
       | false ↦ λ (e : (n == number) ≡ false). ap is_full_one (sym (changes.others n (eqb-false n number e))) ∙ full
     ] refl
 
-full_in : (change : Socket → Socket) (number n : ℕ) (slab : Slab Socket) (slot : Option Socket) → get slab number ≡ slot
-    → ((s : Socket) → (change s).is_full ≡ true → s.is_full ≡ true) → is_full_one (get (socket_changed_if change number slab slot) n) ≡ true
+full_in : (change : Talker → Talker) (number n : ℕ) (slab : Slab Talker) (slot : Option Talker) → get slab number ≡ slot
+    → ((s : Talker) → (change s).is_full ≡ true → s.is_full ≡ true) → is_full_one (get (talker_changed_if change number slab slot) n) ≡ true
     → is_full_one (get slab n) ≡ true
 full_in change number n slab None there keeps full = full
-full_in change number n slab (Some socket) there keeps full = written slab number n socket (change socket) there (keeps socket) full
+full_in change number n slab (Some talker) there keeps full = written slab number n talker (change talker) there (keeps talker) full
 
-pub fuller : (between after new : Sockets) (by who : ℕ) → after.by_number ≡ socket_changed_at tried_again by between.by_number
-    → new.by_number ≡ socket_changed_at asked_again who after.by_number → (n : ℕ) → is_full_one (socket_at new n) ≡ true → is_full_one (socket_at between n) ≡ true
+pub fuller : (between after new : Talkers) (by who : ℕ) → after.by_number ≡ talker_changed_at tried_again by between.by_number
+    → new.by_number ≡ talker_changed_at asked_again who after.by_number → (n : ℕ) → is_full_one (talker_at new n) ≡ true → is_full_one (talker_at between n) ≡ true
 fuller between after new by who tried asked n full =
     full_in tried_again by n between.by_number _ refl (λ s e. cc e)
     (ap (λ slab. is_full_one (get slab n)) (sym tried)
@@ -102,17 +102,17 @@ holding_is : (h : HeldBack) (held : List Held) (passed : ℕ) → h.held ≡ hel
 holding_is h held passed same_held same_passed =
     ap (λ xs. record { held = xs; passed = h.passed }) same_held ∙ ap (λ p. record { held = held; passed = p }) same_passed
 
-pub gone : (between after new : Sockets) (holding : HeldBack) (place : ℕ) (held : Held) → slice_get between.holding.held place ≡ Some held
+pub gone : (between after new : Talkers) (holding : HeldBack) (place : ℕ) (held : Held) → slice_get between.holding.held place ≡ Some held
     → is_due between held ≡ true → holding.held ≡ swap_remove between.holding.held place held → holding.passed ≡ between.holding.passed
-    → after ≡ only tried_again held.by (record between { holding = holding }) → ComesLast (is_new_again (socket_at after held.who)) held.who after new
+    → after ≡ only tried_again held.by (record between { holding = holding }) → ComesLast (is_new_again (talker_at after held.who)) held.who after new
     → SameButQueue (only asked_again held.who after) new → LetsOneGo between new place held
 gone between after new holding place held there due left passed tried queue others = record {
   there = there;
   due = due;
-  queue = subst (λ (s : Sockets). QueuesUp (is_new_again (socket_at s held.who)) held.who s.queue new.queue) tried queue;
+  queue = subst (λ (s : Talkers). QueuesUp (is_new_again (talker_at s held.who)) held.who s.queue new.queue) tried queue;
   others =
       others
-      ∙ ap (λ (s : Sockets). record (only asked_again held.who s) { queue = new.queue }) tried
+      ∙ ap (λ (s : Talkers). record (only asked_again held.who s) { queue = new.queue }) tried
       ∙ ap (λ h. record (only asked_again held.who (only tried_again held.by (record between { holding = h }))) { queue = new.queue })
       (holding_is holding _ _ left passed);
 }

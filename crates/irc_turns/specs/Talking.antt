@@ -1,0 +1,179 @@
+-- One that talks to the server, a client or a link: what is asked of it, what is told of it, and
+-- what a turn leaves of it.
+use Rattle.std.specs.Prelude.{◌≡◌, ◌≤◌, ◌⊎◌, ⊤, ℕ, Bool, true, false, not, ◌&&◌, ◌||◌, ◌-◌, nat_eq, nat_lt, if◌then◌else◌, Option, Some, None, List, [], ◌++◌, length, take, drop}
+use Rattle.irc_turns.specs.Fronts.{GivesLines, IsFront}
+use Rattle.irc_turns.specs.Gathering.{nothing_waits, much_for, waits_behind, is_put_off as waits_for_more}
+use Rattle.irc_turns.specs.Pacing.{at_first, at_rest, at_turn, behind_turn, paced_lines}
+use Rattle.irc_turns.specs.declared.talker.Mark.{Mark}
+use Rattle.irc_turns.specs.declared.talker.Reading.{Reading}
+use Rattle.irc_turns.specs.declared.talker.Reading.TheVariants as reading
+use Rattle.irc_turns.specs.declared.talker.Talker.{Talker}
+use Rattle.irc_turns.specs.declared.talker.Told.{Told}
+
+-- one of which the system has told nothing yet
+abbrev pub new_talker : Bool → ℕ → Talker
+new_talker is_client serial = record {
+  is_client = is_client;
+  serial = serial;
+  is_readable = false;
+  is_full = false;
+  is_behind = false;
+  is_ending = false;
+  is_queued = false;
+  is_held = false;
+  was_held = false;
+  may_have_more = false;
+  rest = [];
+  pace = at_first;
+  waiting = nothing_waits;
+  fills = None;
+}
+
+-- ---- what is asked of it
+
+-- it has something to say, and is no client that is held back or has not taken its answers
+abbrev pub is_asked : Talker → Bool
+is_asked talker = talker.is_readable && not (talker.is_client && (talker.is_held || talker.is_behind))
+
+-- it takes bytes, and some wait
+abbrev pub may_take_more : Talker → Bool
+may_take_more talker = not talker.is_full && nat_lt 0 talker.waiting.bytes
+
+-- it takes no bytes, and more wait for it than may for a client or for a link
+abbrev pub is_stuck : Talker → Bool
+is_stuck talker = talker.is_full && nat_lt (much_for talker.is_client) talker.waiting.bytes
+
+-- ---- what the system tells of it
+
+-- its socket took no bytes, and does again; or it has failed, which the next write shows
+abbrev pub takes_again : Talker → Told → Bool
+takes_again talker told = talker.is_full && told.has_room
+
+-- bytes may be there to read, or their end, until a read shows that none are
+abbrev pub may_have_more : Talker → Told → Bool
+may_have_more talker told = talker.may_have_more || (told.is_readable || told.is_over)
+
+abbrev pub told_so : Talker → Told → Talker
+told_so talker told = record talker {
+  is_ending = talker.is_ending || told.is_over;
+  may_have_more = may_have_more talker told;
+  is_readable = talker.is_readable || may_have_more talker told;
+  is_full = talker.is_full && not (takes_again talker told);
+}
+
+-- ---- its turns
+
+-- its pace goes by the turn where something of it is left; whom it has filled is known until its next turn
+abbrev pub turn_over : Talker → ℕ → ℕ → Option Mark → Talker
+turn_over talker answered shown filled = record talker {
+  pace = if nat_eq 0 (length talker.rest) then talker.pace else behind_turn talker.pace answered shown;
+  fills = filled;
+}
+
+abbrev pub held_back : Talker → Talker
+held_back talker = record talker { is_held = true; pace = at_rest talker.pace }
+
+abbrev pub held_no_more : Talker → Talker
+held_no_more talker = record talker { was_held = talker.is_held; is_held = false }
+
+-- ---- a read
+
+-- one begins, where somebody has come so often
+abbrev pub read_begun : ℕ → Talker → Talker
+read_begun arrivals talker = record talker { pace = at_turn talker.pace arrivals }
+
+-- of what was left of the last read so many lines are given, as far as the buffer has room
+pub record GivesRest (arrivals : ℕ) (old : Talker) (buffer : List ℕ) (count : ℕ) (new : Talker)
+    (filled : List ℕ) : Type 0 where
+  pub some : nat_eq 0 (length old.rest) ≡ false
+  pub lines : GivesLines (paced_lines old.pace arrivals) (length buffer) old.rest count
+  pub given : filled ≡ take count old.rest ++ drop count buffer
+  pub left : new ≡ record (read_begun arrivals old) { rest = drop count old.rest }
+
+-- nothing was left, so the system is asked, and so many lines are for this turn
+pub record AsksAnew (arrivals : ℕ) (old : Talker) (buffer : List ℕ) (lines : ℕ) (new : Talker)
+    (filled : List ℕ) : Type 0 where
+  pub none : nat_eq 0 (length old.rest) ≡ true
+  pub lines_are : lines ≡ paced_lines old.pace arrivals
+  pub begun : new ≡ read_begun arrivals old
+  pub same : filled ≡ buffer
+
+abbrev pub BeginsRead : ℕ → Talker → List ℕ → Reading → Talker → List ℕ → Type 0
+BeginsRead arrivals old buffer (reading.Given count) new filled =
+    GivesRest arrivals old buffer count new filled
+BeginsRead arrivals old buffer (reading.Anew lines) new filled =
+    AsksAnew arrivals old buffer lines new filled
+
+abbrev pub IsWithin : Reading → ℕ → Type 0
+IsWithin (reading.Given count) room = count ≤ room
+IsWithin (reading.Anew lines) room = ⊤
+
+-- how many of the bytes that were read are for this turn: so many lines of a client, and all of a
+-- link
+abbrev pub IsTurnFront : Bool → ℕ → List ℕ → ℕ → Type 0
+IsTurnFront true lines read front = IsFront lines read front
+IsTurnFront false lines read front = front ≡ length read
+
+-- these wait for the next turn; there may be more behind what filled a buffer, and at the end
+abbrev pub kept : List ℕ → Bool → Talker → Talker
+kept bytes is_whole talker = record talker {
+  rest = bytes;
+  may_have_more = talker.is_ending || is_whole;
+}
+
+-- what is behind a front waits; or, where no memory is left for it, all that was read is for this
+-- turn
+abbrev pub KeepsBehind : List ℕ → Bool → ℕ → Talker → ℕ → Talker → Type 0
+KeepsBehind read is_whole front old count new =
+    ((count ≡ front) × (new ≡ kept (drop front read) is_whole old))
+    ⊎ ((count ≡ length read) × (new ≡ kept [] is_whole old))
+
+pub record Keeps (lines : ℕ) (read : List ℕ) (is_whole : Bool) (old : Talker) (count : ℕ)
+    (new : Talker) : Type 0 where
+  pub front : ℕ
+  pub is_front : IsTurnFront old.is_client lines read front
+  pub behind : KeepsBehind read is_whole front old count new
+
+-- no bytes were read, and there may be some
+abbrev pub none_read : Bool → Talker → Talker
+none_read may_have talker = record talker { may_have_more = may_have }
+
+-- something of it is left to be given, or to be read
+abbrev pub is_left : Talker → Bool
+is_left talker = talker.may_have_more || not (nat_eq 0 (length talker.rest))
+
+-- a read is over: it has something to say where something is left; else it begins anew
+abbrev pub read_over : Talker → Talker
+read_over talker = record talker {
+  is_readable = talker.is_readable || is_left talker;
+  pace = if is_left talker then talker.pace else at_rest talker.pace;
+}
+
+-- ---- a write
+
+-- so many bytes in all wait for later: its socket is full; or another turn follows, and the last
+-- write took all
+abbrev pub is_put_off : Talker → ℕ → ℕ → Bool → Bool
+is_put_off talker turn all may_wait =
+    talker.is_full || ((may_wait && not talker.is_behind) && waits_for_more talker.waiting turn all)
+
+-- its socket took so many of so many bytes; one that took fewer is full
+abbrev pub has_taken : ℕ → ℕ → Talker → Talker
+has_taken taken given talker = record talker {
+  is_full = nat_lt taken given;
+  is_behind = nat_lt taken given;
+}
+
+-- it took none, and does not for now, or was interrupted or has failed
+abbrev pub took_none : Bool → Talker → Talker
+took_none is_blocked talker = record talker {
+  is_behind = true;
+  is_full = talker.is_full || is_blocked;
+}
+
+-- a write is over, of so many bytes in all, and has taken so many; where it failed no more is known
+abbrev pub written : ℕ → ℕ → Option ℕ → Talker → Talker
+written turn all None talker = talker
+written turn all (Some taken) talker = record talker {
+  waiting = waits_behind talker.waiting turn all (all - taken);
+}

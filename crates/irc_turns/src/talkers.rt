@@ -1,0 +1,322 @@
+//! Those who talk to the server, by their numbers, and which of them are to be reported.
+ghost use Rattle.std.specs.Prelude.{◌≡◌, ℕ, not, false, length, drop, [], None, IfSome, IfNone};
+ghost use Rattle.std.specs.List.{All};
+ghost use Rattle.std.specs.Option.{option_copied_mut};
+ghost use Rattle.slab.specs.Slab.{Updates, SameValues};
+ghost use Rattle.irc_turns.specs.HeldBack.{nobody_held};
+ghost use Rattle.irc_turns.specs.Rounds.{arrivals_after};
+ghost use Rattle.irc_turns.specs.Numbered.{QueuesUp, talker_queued};
+
+use crate::holding::Holding;
+use crate::round::Round;
+use crate::talker::{Mark, Talker, Told};
+use slab::Slab;
+use std::alloc::Global;
+use std::collections::VecDeque;
+
+/// What is told of one that was in the queue.
+#[derive(Clone, Copy, Drop)]
+pub enum Report {
+    /// It has something to say, and is asked for it.
+    Readable(usize),
+    /// It is not to be asked now, and may take bytes.
+    Writable(usize),
+}
+
+/// Those who talk to the server, by their numbers.
+#[derive(Drop)]
+pub struct Talkers {
+    by_number: Slab<Talker>,
+    /// The numbers of those that are to be reported, each once. There is room in it for all talkers.
+    queue: VecDeque<usize, Global>,
+    /// Who is held back.
+    pub holding: Holding,
+    /// How many talkers there were.
+    count: u64,
+    alloc: Global,
+}
+
+impl Talkers {
+    ghost use Rattle.irc_turns.specs.Numbered.{talker_at, talker_queue, turned_queue, queue_without, ComesLast, SameButQueue, IsTalkerAdded, only, tried_again, noted, has_come, is_new_at, queued_if_asked, is_new_if_asked_at, is_first, put_off_at, behind_write, is_new_behind, round_behind, asked_again, is_new_again_at, talker_mark, mark_of_one, is_full_one, turn_ended, filled_by, IsHeldBy, ReportsFirst, LetsGo, is_due};
+
+    /// Nobody.
+    pub fn new(alloc: Global) -> Self
+        ensures talkers { (number : ℕ) → talker_at result number ≡ None }
+        ensures queue { talker_queue result ≡ [] }
+        ensures held { result.holding ≡ nobody_held }
+        ensures count { result.count ≡ 0 }
+    {
+        Talkers {
+            by_number: Slab::new(alloc),
+            queue: VecDeque::new(alloc),
+            holding: Holding::new(alloc),
+            count: 0,
+            alloc,
+        }
+    }
+
+    /// How many are to be reported.
+    pub fn waiting(&self) -> usize
+        ensures { result ≡ length (talker_queue self.now) }
+    {
+        self.queue.len()
+    }
+
+    /// Takes a client or a link in, and gives it a number, if there is memory for it.
+    pub fn add(&mut self, is_client: bool) -> Option<usize>
+        ensures free { IfSome result (λ number. talker_at self.old number ≡ None) }
+        ensures serial { IfSome result (λ number. self.new.count ≡ arrivals_after self.old.count) }
+        ensures added { IfSome result (IsTalkerAdded is_client self.old self.new) }
+        ensures none { IfNone result (SameValues self.old.by_number self.new.by_number) }
+        ensures queue { talker_queue self.new ≡ talker_queue self.old }
+        ensures held { self.new.holding ≡ self.old.holding }
+    {
+        self.queue
+            .reserve(self.by_number.len().saturating_add(1))
+            .ok()?;
+        self.count = self.count.wrapping_add(1);
+        let talker = Talker::new(self.alloc, is_client, self.count);
+        self.by_number.insert(talker).ok()
+    }
+
+    /// The one under a number.
+    pub fn at(&mut self, number: usize) -> Option<&mut Talker>
+        ensures { option_copied_mut result ≡ talker_at self.old number }
+    {
+        self.by_number.get_mut(number)
+    }
+
+    /// One is gone. Its number is free again.
+    pub fn remove(&mut self, number: usize)
+        ensures removed { Updates self.old.by_number self.new.by_number number None }
+        ensures queue { talker_queue self.new ≡ queue_without number self.old }
+        ensures held { self.new.holding ≡ self.old.holding }
+        ensures count { self.new.count ≡ self.old.count }
+    {
+        if let Some(talker) = self.by_number.try_remove(number) {
+            if talker.is_queued {
+                self.queue.retain(|queued| *queued != number);
+            }
+        }
+    }
+
+    /// Takes in what the system tells of a socket, and whether somebody has come by it who was not waiting.
+    pub fn note(&mut self, number: usize, told: Told) -> bool
+        ensures come { result ≡ has_come told (talker_at self.old number) }
+        ensures queue { ComesLast (is_new_at told number self.old) number self.old self.new }
+        ensures others { SameButQueue (only (noted told) number self.old) self.new }
+    {
+        let Some(talker) = self.by_number.get_mut(number) else {
+            return false;
+        };
+        let has_room = talker.note(told);
+        let has_come = talker.is_asked() && !talker.is_queued;
+        if has_room || has_come {
+            queue_up(talker, number, &mut self.queue);
+        }
+        has_come
+    }
+
+    /// Puts so many who are first in the queue behind those who came after them: who has just come does not wait for those who have more to say.
+    pub fn put_behind(&mut self, count: usize)
+        ensures queue { talker_queue self.new ≡ turned_queue count (talker_queue self.old) }
+        ensures others { SameButQueue self.old self.new }
+    {
+        if count < self.queue.len() {
+            self.queue.rotate_left(count);
+        }
+    }
+
+    /// The report of the one that is first in the queue. It leaves the queue: only what is left after the read that follows puts it back,
+    /// behind the others, so that nobody who sends without end keeps them waiting. Of one that is not to be asked now nothing is told but that it
+    /// may take bytes.
+    pub fn report(&mut self, round: &mut Round) -> Option<Report>
+        ensures queue { talker_queue self.new ≡ drop 1 (talker_queue self.old) }
+        ensures first { ReportsFirst self.old self.new round.old result round.new }
+    {
+        let number = self.queue.pop_front()?;
+        self.hold(number);
+        let talker = self.by_number.get_mut(number)?;
+        talker.is_queued = false;
+        if !talker.is_asked() {
+            return Some(Report::Writable(number));
+        }
+        talker.is_readable = false;
+        talker.was_held = false;
+        if talker.is_client {
+            round.reader = Some(number);
+        }
+        Some(Report::Readable(number))
+    }
+
+    /// One of whom something is left, and who is to be asked, is reported again.
+    pub fn queue_again(&mut self, number: usize)
+        ensures queue { ComesLast (is_new_if_asked_at number self.old) number self.old self.new }
+        ensures others { SameButQueue (only queued_if_asked number self.old) self.new }
+    {
+        if let Some(talker) = self.by_number.get_mut(number)
+            && talker.is_asked()
+        {
+            queue_up(talker, number, &mut self.queue);
+        }
+    }
+
+    /// Whether a write to one waits, where so many bytes do in all. Who is next to be reported waits for nothing but its socket, so that there is
+    /// room for its answers.
+    pub fn puts_off(&self, number: usize, all: usize, round: &Round) -> Option<bool>
+        ensures { result ≡ put_off_at self.now round.now number all }
+    {
+        let may_wait = round.may_wait && !self.is_next(number);
+        let talker = self.by_number.get(number)?;
+        Some(talker.is_put_off(round.turn, all, may_wait))
+    }
+
+    /// Whether one is next to be reported.
+    fn is_next(&self, number: usize) -> bool
+        ensures { result ≡ is_first number (talker_queue self.now) }
+    {
+        match self.queue.front() {
+            Some(first) => *first == number,
+            None => false,
+        }
+    }
+
+    /// A write to one is over, of so many bytes in all. It took so many of them, or failed. One that has taken its answers is asked again.
+    pub fn end_write(
+        &mut self,
+        number: usize,
+        all: usize,
+        taken: Option<usize>,
+        round: &mut Round,
+    )
+        ensures queue { ComesLast (is_new_behind round.old all taken (talker_at self.old number)) number self.old self.new }
+        ensures others { SameButQueue (only (behind_write round.old all taken) number self.old) self.new }
+        ensures round { round.new ≡ round_behind number all taken round.old (talker_at self.old number) }
+    {
+        let Some(talker) = self.by_number.get_mut(number) else {
+            return;
+        };
+        let more = talker.waiting.more(all);
+        talker.end_write(round.turn, all, taken);
+        round.note_write(number, more, talker.is_stuck());
+        // where it failed, what others are told of that was put into their outboxes behind the writes of this turn
+        round.note_more(taken.is_none() || talker.may_take_more());
+        if talker.is_asked() {
+            queue_up(talker, number, &mut self.queue);
+        }
+    }
+
+    /// A turn is over. A client that was read in it may have added to a full outbox.
+    pub fn end_turn(&mut self, round: &Round)
+        ensures { self.new ≡ turn_ended round.now round.now.reader self.old }
+    {
+        let filled = self.mark_of(round.filled);
+        let Some(reader) = round.reader else {
+            return;
+        };
+        if let Some(talker) = self.by_number.get_mut(reader) {
+            talker.end_turn(round.answered, round.shown, filled);
+        }
+    }
+
+    /// What tells somebody from each other talker, if there is one.
+    fn mark_of(&self, number: Option<usize>) -> Option<Mark>
+        ensures { result ≡ mark_of_one self.now number }
+    {
+        match number {
+            Some(number) => self.mark(number),
+            None => None,
+        }
+    }
+
+    /// What tells a talker from each other, also from one that gets its number later.
+    fn mark(&self, number: usize) -> Option<Mark>
+        ensures { result ≡ talker_mark self.now number }
+    {
+        let serial = self.by_number.get(number)?.serial;
+        Some(Mark { number, serial })
+    }
+
+    /// Holds a client back that has filled somebody's outbox, if that one's socket is full; but one that was let go has a turn first.
+    fn hold(&mut self, number: usize)
+        ensures { IsHeldBy (filled_by self.old number) number self.old self.new }
+    {
+        if let Some(by) = self.filled_by(number)
+            && self.holding.hold(number, by)
+            && let Some(talker) = self.by_number.get_mut(number)
+        {
+            talker.hold();
+        }
+    }
+
+    /// Whose outbox a client has filled that is to be asked, if that one's socket is full.
+    fn filled_by(&self, number: usize) -> Option<usize>
+        ensures { result ≡ filled_by self.now number }
+    {
+        let talker = self.by_number.get(number)?;
+        let mark = talker.fills?;
+        let filled = self.by_number.get(mark.number)?;
+        let is_full = filled.is_full && filled.serial == mark.serial;
+        (is_full && talker.is_asked() && !talker.was_held).then_some(mark.number)
+    }
+
+    /// Whether a socket is full.
+    fn is_full(&self, number: usize) -> bool
+        ensures { result ≡ is_full_one (talker_at self.now number) }
+    {
+        self.by_number
+            .get(number)
+            .is_some_and(|talker| talker.is_full)
+    }
+
+    /// Lets go whoever was held back long enough, or by a socket that takes bytes again or is gone.
+    pub fn let_go(&mut self)
+        ensures one_by_one { LetsGo self.old self.new }
+        ensures all { All (λ held. is_due self.old held ≡ false) self.new.holding.held }
+    {
+        let mut place = 0;
+        while place < self.holding.len() {
+            match self.holding.at(place) {
+                Some(by) if self.is_full(by) => place += 1,
+                _ => {
+                    let held = self.holding.let_go(place);
+                    self.try_again(held.by);
+                    self.ask_again(held.who);
+                }
+            }
+        }
+    }
+
+    /// A socket that was full is tried again: the system tells only of much room that it takes bytes.
+    fn try_again(&mut self, number: usize)
+        ensures { self.new ≡ only tried_again number self.old }
+    {
+        if let Some(talker) = self.by_number.get_mut(number) {
+            talker.is_full = false;
+        }
+    }
+
+    /// A client is held back no more.
+    fn ask_again(&mut self, number: usize)
+        ensures queue { ComesLast (is_new_again_at number self.old) number self.old self.new }
+        ensures others { SameButQueue (only asked_again number self.old) self.new }
+    {
+        if let Some(talker) = self.by_number.get_mut(number) {
+            talker.let_go();
+            if talker.is_asked() {
+                queue_up(talker, number, &mut self.queue);
+            }
+        }
+    }
+}
+
+/// Has one reported, if it is not to be already. There is room: it was made as it came.
+fn queue_up(talker: &mut Talker, number: usize, queue: &mut VecDeque<usize, Global>)
+    ensures talker { talker.new ≡ talker_queued talker.old }
+    ensures queue { QueuesUp (not talker.old.is_queued) number queue.old queue.new }
+{
+    if !talker.is_queued {
+        talker.is_queued = true;
+        let _queued = queue.push_back(number);
+    }
+}
