@@ -189,7 +189,7 @@ module _ {W : Type 0} (is_after : W → List Call → Type 0) where
       → FlushesSoFar is_after pending core (record core { connections = record core.connections { waiting = rest } })
   flushes_none core rest pending none is = record {
     exchanges = [];
-    ran = ran_marked is_after core.server _ core.connections rest;
+    ran = ran_marked is_after core.server core.journal _ core.connections rest;
     told = λ told. told;
     halfway = λ order. record {
       all_told = order.all_told;
@@ -227,7 +227,7 @@ module _ {W : Type 0} (is_after : W → List Call → Type 0) where
     where
       more : Ran is_after wrote.exchanges [] nothing_of (moment_of now) (moment_of new)
       more = ran_after is_after wrote.exchanges [] nothing_of (moment_of now) (moment_of (record now { connections = mid })) (moment_of new)
-          (ran_connections is_after now.server _ wrote.exchanges now.connections mid wrote.carries) ran
+          (ran_connections is_after now.server now.journal _ wrote.exchanges now.connections mid wrote.carries) ran
 
   module _ (pending : BTreeSet ℕ) (old new : Core W) (none : (q : ℕ) → has pending q ≡ false) (so_far : FlushesSoFar is_after pending old new) where
     -- all have been written to

@@ -1,3 +1,4 @@
+pub mod NotingLaws
 pub mod HearingLaws
 pub mod TableLaws
 pub mod KindLaws
@@ -9,3 +10,4 @@ pub mod WriteSteps
 pub mod FlushLaws
 pub mod RunLaws
 pub mod TurnLaws
+pub mod TellingLaws

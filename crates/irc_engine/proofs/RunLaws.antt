@@ -24,8 +24,12 @@ use Rattle.irc_engine.specs.Carrying.{is_exchange, bytes_owed, is_open_at, is_cu
 use Rattle.irc_line.specs.Lines.{Begun}
 use Rattle.irc_line.specs.Framed.{found_in}
 use Rattle.irc_engine.specs.Hearing.{begun_at, end_event_of, line_event_of, lines_by, times_gone, nothing_of, only_of, Hears}
-use Rattle.irc_engine.specs.Running.{Moment, AreAsked, AsksOnce, IsNews, a_line, an_end, Ran, RanOn, Standing, standing_of, TellsServer}
+use Rattle.irc_journal.specs.declared.journal.Journal.{Journal}
+use Rattle.irc_journal.specs.Signs.{EntersAll}
+use Rattle.irc_engine.specs.Noting.{event_signs, out_signs}
+use Rattle.irc_engine.specs.Running.{Moment, Asked, AreAsked, asked, asked_at, AsksOnce, IsNews, a_line, an_end, Ran, RanOn, Standing, standing_of, TellsServer}
 use Rattle.irc_engine.specs.Writing.{one_if}
+use Rattle.irc_engine.proofs.NotingLaws.{enters_both}
 use Rattle.irc_engine.proofs.HearingLaws.{lines_by-append, times_gone-append, hears_on, hears_kept, hears_same, hears_gone, hears_deaf}
 use Rattle.irc_engine.specs.Loops.Tables.{connection_of, at_connection, no_connection, FramesAt}
 use Rattle.irc_engine.specs.Loops.Connections.{has, lost_at, lost_by, Carries, Loses}
@@ -48,15 +52,16 @@ pub none_there : (connection : Option Connection) → is_some connection ≡ fal
 none_there None none = refl
 none_there (Some connection) none = cc none
 
-pub asked_on : (old mid new : Option View) (a b : List Event) (x y : List Sent) → AreAsked old a x mid → AreAsked mid b y new → AreAsked old (a ++ b) (x ++ y) new
+pub asked_on : (old mid new : Asked) (a b : List Event) (x y : List Sent) → AreAsked old a x mid → AreAsked mid b y new → AreAsked old (a ++ b) (x ++ y) new
 asked_on old mid new [] b x y one other =
-    subst (λ (o : Option View). AreAsked o b (x ++ y) new) one.1 (subst (λ (os : List Sent). AreAsked mid b (os ++ y) new) (sym one.0) other)
+    subst (λ (o : Asked). AreAsked o b (x ++ y) new) one.1 (subst (λ (os : List Sent). AreAsked mid b (os ++ y) new) (sym one.0) other)
 asked_on old mid new (event ∷ a) b x y one other = record {
   result = one.result;
   between = one.between;
   first = one.first;
   more = one.more ++ y;
   is_handled = one.is_handled;
+  is_noted = one.is_noted;
   outs_are = ap (λ os. os ++ y) one.outs_are ∙ append_assoc one.first one.more y;
   rest_is = asked_on one.between mid new a b one.more y one.rest_is other;
 }
@@ -274,9 +279,10 @@ news_before old mid keep event (a_line kind conn line is told) = a_line kind con
 news_before old mid keep event (an_end kind conn is told) = an_end kind conn (keep conn kind is) told
 
 -- the engine's connections, and what else there is of it, at one moment
-abbrev pub at_connections : {W : Type 0} → Option View → ℕ → Connections W → Moment W
-at_connections server room connections = record {
+abbrev pub at_connections : {W : Type 0} → Option View → Journal → ℕ → Connections W → Moment W
+at_connections server journal room connections = record {
   server = server;
+  journal = journal;
   wire = connections.wire;
   connections = connection_of connections.table;
   lost = lost_at connections.lost;
@@ -291,8 +297,8 @@ module _ {W : Type 0} (is_after : W → List Call → Type 0) where
     events = one.events ++ other.events;
     outs = one.outs ++ other.outs;
     calls = one.calls ++ other.calls;
-    are_asked = subst (λ (es : List Event). AreAsked old.server es (one.outs ++ other.outs) new.server) (append_assoc first one.events other.events)
-        (asked_on old.server mid.server new.server (first ++ one.events) other.events one.outs other.outs one.are_asked other.are_asked);
+    are_asked = subst (λ (es : List Event). AreAsked (asked_at old) es (one.outs ++ other.outs) (asked_at new)) (append_assoc first one.events other.events)
+        (asked_on (asked_at old) (asked_at mid) (asked_at new) (first ++ one.events) other.events one.outs other.outs one.are_asked other.are_asked);
     account = adds_both is_after old.wire mid.wire new.wire one.calls other.calls one.account other.account;
     exchanged = filter-append is_exchange one.calls other.calls ∙ ap (λ cs. cs ++ filter is_exchange other.calls) one.exchanged ∙ ap
         (λ cs. a ++ cs) other.exchanged;
@@ -342,9 +348,9 @@ module _ {W : Type 0} (is_after : W → List Call → Type 0) where
   }
 
   -- nothing has happened, but that other connections are noted
-  pub ran_marked : (server : Option View) (room : ℕ) (connections : Connections W) (waiting : BTreeSet ℕ)
-      → RanOn is_after (at_connections server room connections) (at_connections server room (record connections { waiting = waiting }))
-  ran_marked server room connections waiting = record {
+  pub ran_marked : (server : Option View) (journal : Journal) (room : ℕ) (connections : Connections W) (waiting : BTreeSet ℕ)
+      → RanOn is_after (at_connections server journal room connections) (at_connections server journal room (record connections { waiting = waiting }))
+  ran_marked server journal room connections waiting = record {
     events = [];
     outs = [];
     calls = [];
@@ -355,24 +361,26 @@ module _ {W : Type 0} (is_after : W → List Call → Type 0) where
     are_news = tt;
     keep_kinds = λ conn kind is. is;
     hears = λ conn. hears_kept (begun_at (connection_of connections.table conn));
-    tells = λ conn. tells_still conn (standing_of conn (at_connections server room connections));
+    tells = λ conn. tells_still conn (standing_of conn (at_connections server journal room connections));
     same_room = refl;
   }
 
   -- what the server put out by an event is done
-  ran_event : (server after : Option View) (room : ℕ) (old new : Connections W) (event : Event) (result : Result (Unit {0}) ServerFault) (before outs : List Sent) → before ≡ []
-      → IsHandled server event before result after outs → Carries is_after [] old outs new
-      → Ran is_after [] (event ∷ []) nothing_of (at_connections server room old) (at_connections after room new)
-  ran_event server after room old new event result before outs none handled carries = record {
+  ran_event : (server after : Option View) (journal entered written : Journal) (room : ℕ) (old new : Connections W) (event : Event) (result : Result (Unit {0}) ServerFault) (before outs : List Sent) → before ≡ []
+      → IsHandled server event before result after outs → EntersAll (event_signs event after) journal entered → EntersAll (out_signs outs) entered written
+      → Carries is_after [] old outs new
+      → Ran is_after [] (event ∷ []) nothing_of (at_connections server journal room old) (at_connections after written room new)
+  ran_event server after journal entered written room old new event result before outs none handled noted closed carries = record {
     events = [];
     outs = outs;
     calls = carries.calls;
     are_asked = record {
       result = result;
-      between = after;
+      between = asked after written;
       first = outs;
       more = [];
       is_handled = subst (λ (os : List Sent). IsHandled server event os result after outs) none handled;
+      is_noted = enters_both (event_signs event after) (out_signs outs) journal entered written noted closed;
       outs_are = sym (append-nil outs);
       rest_is = (refl, refl);
     };
@@ -386,21 +394,21 @@ module _ {W : Type 0} (is_after : W → List Call → Type 0) where
     same_room = refl;
   }
 
-  pub asked_once : (server after : Option View) (room : ℕ) (old new : Connections W) (event : Event) (result : Result (Unit {0}) ServerFault) (before outs : List Sent)
-      → before ≡ [] → IsHandled server event before result after outs → Carries is_after [] old outs new
-      → AsksOnce is_after event (at_connections server room old) (at_connections after room new)
+  pub asked_once : (server after : Option View) (journal entered written : Journal) (room : ℕ) (old new : Connections W) (event : Event) (result : Result (Unit {0}) ServerFault) (before outs : List Sent)
+      → before ≡ [] → IsHandled server event before result after outs → EntersAll (event_signs event after) journal entered → EntersAll (out_signs outs) entered written
+      → Carries is_after [] old outs new → AsksOnce is_after event (at_connections server journal room old) (at_connections after written room new)
   unfolding ran_event
-  asked_once server after room old new event result before outs none handled carries =
-      (ran_event server after room old new event result before outs none handled carries, refl)
+  asked_once server after journal entered written room old new event result before outs none handled noted closed carries =
+      (ran_event server after journal entered written room old new event result before outs none handled noted closed carries, refl)
 
   -- the event by which the server is asked, called otherwise
   pub asks_as : (event told : Event) (old new : Moment W) → event ≡ told → AsksOnce is_after event old new → AsksOnce is_after told old new
   asks_as event told old new same asks = subst (λ (e : Event). AsksOnce is_after e old new) same asks
 
   -- something is done that no event asks for
-  pub ran_connections : (server : Option View) (room : ℕ) (exchanges : List Call) (old new : Connections W) → Carries is_after exchanges old [] new
-      → Ran is_after exchanges [] nothing_of (at_connections server room old) (at_connections server room new)
-  ran_connections server room exchanges old new carries = record {
+  pub ran_connections : (server : Option View) (journal : Journal) (room : ℕ) (exchanges : List Call) (old new : Connections W) → Carries is_after exchanges old [] new
+      → Ran is_after exchanges [] nothing_of (at_connections server journal room old) (at_connections server journal room new)
+  ran_connections server journal room exchanges old new carries = record {
     events = [];
     outs = [];
     calls = carries.calls;
@@ -450,10 +458,10 @@ module _ {W : Type 0} (is_after : W → List Call → Type 0) where
   still_lost true l = refl
   still_lost false l = refl
 
-  pub ran_gone : (server : Option View) (room conn : ℕ) (kind : Kind) (old mid : Connections W) (new : Moment W) → mid.wire ≡ old.wire → mid.table ≡ old.table
+  pub ran_gone : (server : Option View) (journal : Journal) (room conn : ℕ) (kind : Kind) (old mid : Connections W) (new : Moment W) → mid.wire ≡ old.wire → mid.table ≡ old.table
       → lost_at old.lost conn ≡ Some kind → ((q : ℕ) → lost_at mid.lost q ≡ cond (nat_eq conn q) None (lost_at old.lost q))
-      → Ran is_after [] (end_event_of kind conn ∷ []) nothing_of (at_connections server room mid) new → RanOn is_after (at_connections server room old) new
-  ran_gone server room conn kind old mid new wire table as_lost popped ran = record {
+      → Ran is_after [] (end_event_of kind conn ∷ []) nothing_of (at_connections server journal room mid) new → RanOn is_after (at_connections server journal room old) new
+  ran_gone server journal room conn kind old mid new wire table as_lost popped ran = record {
     events = end_event_of kind conn ∷ ran.events;
     outs = ran.outs;
     calls = ran.calls;
@@ -463,8 +471,8 @@ module _ {W : Type 0} (is_after : W → List Call → Type 0) where
     fates = λ q. subst (λ (s : Option Connection). Fate q s ran.calls ran.outs (new.connections q)) (at q) (ran.fates q);
     are_news = (
       an_end kind conn (kind_of_loss as_lost) refl,
-      all_as (IsNews (at_connections server room mid)) (IsNews (at_connections server room old))
-          (news_before (at_connections server room old) (at_connections server room mid) kept) ran.events ran.are_news,
+      all_as (IsNews (at_connections server journal room mid)) (IsNews (at_connections server journal room old))
+          (news_before (at_connections server journal room old) (at_connections server journal room mid) kept) ran.events ran.are_news,
     );
     keep_kinds = λ q one is. kept q one (ran.keep_kinds q one is);
     hears = λ q. subst (λ (ls : List (List ℕ)). Hears (begun_at (connection_of old.table q)) [] ls (begun_at (new.connections q))) (sym (no_line_of_an_end kind conn q ran.events))
@@ -504,10 +512,10 @@ module _ {W : Type 0} (is_after : W → List Call → Type 0) where
   goes_by conn room (Ok End) bytes n is q = cc is
   goes_by conn room (Err fault) bytes n is q = cc is
 
-  pub ran_read : (server : Option View) (old new : Connections W) (size later conn room : ℕ) (answer : Result Got IoFault) (bytes : List ℕ) (n : ℕ) → came answer ≡ Some n
+  pub ran_read : (server : Option View) (journal : Journal) (old new : Connections W) (size later conn room : ℕ) (answer : Result Got IoFault) (bytes : List ℕ) (n : ℕ) → came answer ≡ Some n
       → Adds is_after old.wire (reads conn room answer bytes) new.wire → new.table ≡ old.table → new.lost ≡ old.lost → later ≡ size
-      → Ran is_after (reads conn room answer bytes ∷ []) [] nothing_of (at_connections server size old) (at_connections server later new)
-  ran_read server old new size later conn room answer bytes n is account table lost as_large = record {
+      → Ran is_after (reads conn room answer bytes ∷ []) [] nothing_of (at_connections server journal size old) (at_connections server journal later new)
+  ran_read server journal old new size later conn room answer bytes n is account table lost as_large = record {
     events = [];
     outs = [];
     calls = reads conn room answer bytes ∷ [];
@@ -520,7 +528,7 @@ module _ {W : Type 0} (is_after : W → List Call → Type 0) where
     keep_kinds = λ q. kind_kept (connection_of old.table q) (connection_of new.table q) (lost_at old.lost q) (lost_at new.lost q) (ap kind_at (at q))
         (ap (λ l. lost_at l q) lost);
     hears = λ q. hears_same (begun_at (connection_of old.table q)) (begun_at (connection_of new.table q)) (ap begun_at (at q));
-    tells = λ q. tells_as q (standing_of q (at_connections server size old)) (standing_of q (at_connections server later new))
+    tells = λ q. tells_as q (standing_of q (at_connections server journal size old)) (standing_of q (at_connections server journal later new))
         (ap (λ l. is_some (lost_at l q)) lost) (ap is_open_at (at q));
     same_room = as_large;
   }
@@ -545,11 +553,11 @@ module _ {W : Type 0} (is_after : W → List Call → Type 0) where
   cut_here conn room (Ok End) bytes is = ap (λ t. t || false) (nat_eq-refl conn)
   cut_here conn room (Err fault) bytes is = ap (λ t. t || false) (nat_eq-refl conn)
 
-  pub ran_cut : (server : Option View) (size later : ℕ) (old mid new : Connections W) (conn room : ℕ) (answer : Result Got IoFault) (bytes : List ℕ) → came answer ≡ None
+  pub ran_cut : (server : Option View) (journal : Journal) (size later : ℕ) (old mid new : Connections W) (conn room : ℕ) (answer : Result Got IoFault) (bytes : List ℕ) → came answer ≡ None
       → is_open_at (connection_of old.table conn) ≡ true → Adds is_after old.wire (reads conn room answer bytes) mid.wire → mid.table ≡ old.table → mid.lost ≡ old.lost
       → Loses is_after conn mid new → later ≡ size
-      → Ran is_after (reads conn room answer bytes ∷ []) [] nothing_of (at_connections server size old) (at_connections server later new)
-  ran_cut server size later old mid new conn room answer bytes is is_open account same same_lost loses as_large = record {
+      → Ran is_after (reads conn room answer bytes ∷ []) [] nothing_of (at_connections server journal size old) (at_connections server journal later new)
+  ran_cut server journal size later old mid new conn room answer bytes is is_open account same same_lost loses as_large = record {
     events = [];
     outs = [];
     calls = calls;
@@ -595,15 +603,15 @@ module _ {W : Type 0} (is_after : W → List Call → Type 0) where
           (ap kind_at (set q) ∙ ap (λ t. kind_at (cond t None (connection_of old.table q))) two)
           (lost_as q ∙ ap (λ t. lost_by t (connection_of old.table conn) (lost_at old.lost q)) two)
 
-      tells_cut : (q : ℕ) (t : Bool) → nat_eq conn q ≡ t → TellsServer q (standing_of q (at_connections server size old)) [] [] (standing_of q (at_connections server later new))
+      tells_cut : (q : ℕ) (t : Bool) → nat_eq conn q ≡ t → TellsServer q (standing_of q (at_connections server journal size old)) [] [] (standing_of q (at_connections server journal later new))
       tells_cut q true one =
-          subst (λ (l : Bool). TellsServer q (standing_of q (at_connections server size old)) [] [] (record { lost = l; is_open = is_open_at (connection_of new.table q) })) (sym (lost_is q))
-          (subst (λ (s : Option Connection). TellsServer q (standing_of q (at_connections server size old)) [] []
+          subst (λ (l : Bool). TellsServer q (standing_of q (at_connections server journal size old)) [] [] (record { lost = l; is_open = is_open_at (connection_of new.table q) })) (sym (lost_is q))
+          (subst (λ (s : Option Connection). TellsServer q (standing_of q (at_connections server journal size old)) [] []
           (record { lost = is_some (lost_at old.lost q) || (nat_eq conn q && is_open_at (connection_of old.table conn)); is_open = is_open_at s })) (sym (set q))
           (lost_now q (is_some (lost_at old.lost q)) (is_open_at (connection_of old.table q)) (nat_eq conn q) (is_open_at (connection_of old.table conn)) (connection_of old.table q) one
           (ap (λ p. is_open_at (connection_of old.table p)) (sym (one_number conn q one)) ∙ is_open) is_open))
       tells_cut q false two =
-          tells_as q (standing_of q (at_connections server size old)) (standing_of q (at_connections server later new))
+          tells_as q (standing_of q (at_connections server journal size old)) (standing_of q (at_connections server journal later new))
           (lost_is q ∙ ap (λ t. is_some (lost_at old.lost q) || (t && is_open_at (connection_of old.table conn))) two ∙ or_false (is_some (lost_at old.lost q)))
           (ap is_open_at (set q) ∙ ap (λ t. is_open_at (cond t None (connection_of old.table q))) two)
 
@@ -617,13 +625,13 @@ module _ {W : Type 0} (is_after : W → List Call → Type 0) where
       }
 
   -- A framer has taken bytes, and the line that they complete is passed on.
-  pub ran_framed : (server : Option View) (size : ℕ) (old mid : Connections W) (new : Moment W) (conn : ℕ) (piece : List ℕ) (used : ℕ) (kind : Kind) (line : Option (ArrayVec ℕ))
+  pub ran_framed : (server : Option View) (journal : Journal) (size : ℕ) (old mid : Connections W) (new : Moment W) (conn : ℕ) (piece : List ℕ) (used : ℕ) (kind : Kind) (line : Option (ArrayVec ℕ))
       (result : Option (ℕ × Kind × Option (ArrayVec ℕ))) → result ≡ Some (used, kind, line) → FramesAt conn piece old.table result mid.table → mid.wire ≡ old.wire → mid.lost ≡ old.lost
-      → Ran is_after [] (passed_on kind conn line) nothing_of (at_connections server size mid) new
-      → Ran is_after [] [] (only_of conn (take used piece)) (at_connections server size old) new
-  ran_framed server size old mid new conn piece used kind line result is frames wire lost ran = by (subst (λ r. FramesAt conn piece old.table r mid.table) is frames)
+      → Ran is_after [] (passed_on kind conn line) nothing_of (at_connections server journal size mid) new
+      → Ran is_after [] [] (only_of conn (take used piece)) (at_connections server journal size old) new
+  ran_framed server journal size old mid new conn piece used kind line result is frames wire lost ran = by (subst (λ r. FramesAt conn piece old.table r mid.table) is frames)
     where
-      by : FramesAt conn piece old.table (Some (used, kind, line)) mid.table → Ran is_after [] [] (only_of conn (take used piece)) (at_connections server size old) new
+      by : FramesAt conn piece old.table (Some (used, kind, line)) mid.table → Ran is_after [] [] (only_of conn (take used piece)) (at_connections server journal size old) new
       by (no_connection none same never) = cc never
       by (at_connection connection now was set so) = record {
         events = passed_on kind conn line ++ ran.events;
@@ -645,8 +653,8 @@ module _ {W : Type 0} (is_after : W → List Call → Type 0) where
               never_cut = refl;
             }))) q)
             (ran.fates q);
-        are_news = all_both (IsNews (at_connections server size old)) (passed_on kind conn line) ran.events (line_is_news line)
-            (all_as (IsNews (at_connections server size mid)) (IsNews (at_connections server size old)) (news_before (at_connections server size old) (at_connections server size mid) kept)
+        are_news = all_both (IsNews (at_connections server journal size old)) (passed_on kind conn line) ran.events (line_is_news line)
+            (all_as (IsNews (at_connections server journal size mid)) (IsNews (at_connections server journal size old)) (news_before (at_connections server journal size old) (at_connections server journal size mid) kept)
             ran.events ran.are_news);
         keep_kinds = λ q one is. kept q one (ran.keep_kinds q one is);
         hears = λ q.
@@ -657,14 +665,14 @@ module _ {W : Type 0} (is_after : W → List Call → Type 0) where
             (hears_on (begun_at (connection_of old.table q)) (begun_at (connection_of mid.table q)) (begun_at (new.connections q)) (only_of conn (take used piece) q) []
             (lines_by q (passed_on kind conn line)) (lines_by q ran.events) (framed q (nat_eq conn q) refl) (ran.hears q)));
         tells = λ q. subst (λ (s : Standing). TellsServer q s (passed_on kind conn line ++ ran.events) ran.outs (standing_of q new)) (same_standing q)
-            (told_by_no_line q kind conn line (standing_of q (at_connections server size mid)) (standing_of q new) ran.events ran.outs (ran.tells q));
+            (told_by_no_line q kind conn line (standing_of q (at_connections server journal size mid)) (standing_of q new) ran.events ran.outs (ran.tells q));
         same_room = ran.same_room;
       }
         where
           is_now : connection_of mid.table conn ≡ Some now
           is_now = set_here (connection_of old.table) (connection_of mid.table) conn (Some now) set
 
-          line_is_news : (line : Option (ArrayVec ℕ)) → AllByRecursion (IsNews (at_connections server size old)) (passed_on kind conn line)
+          line_is_news : (line : Option (ArrayVec ℕ)) → AllByRecursion (IsNews (at_connections server journal size old)) (passed_on kind conn line)
           line_is_news None = tt
           line_is_news (Some l) = (a_line kind conn l (kind_of_connection (ap kind_at was ∙ ap Some (sym so.kind_is))) refl, tt)
 
@@ -684,7 +692,7 @@ module _ {W : Type 0} (is_after : W → List Call → Type 0) where
               ∙ sym (ap is_open_at was) ∙ ap (λ p. is_open_at (connection_of old.table p)) (one_number conn q one)
           open_as q false two = ap is_open_at (set_other (connection_of old.table) (connection_of mid.table) conn (Some now) set q two)
 
-          same_standing : (q : ℕ) → standing_of q (at_connections server size mid) ≡ standing_of q (at_connections server size old)
+          same_standing : (q : ℕ) → standing_of q (at_connections server journal size mid) ≡ standing_of q (at_connections server journal size old)
           same_standing q = ap (λ l. record { lost = is_some (lost_at l q); is_open = is_open_at (connection_of mid.table q) }) lost
               ∙ ap (λ o. record { lost = is_some (lost_at old.lost q); is_open = o }) (open_as q (nat_eq conn q) refl)
 
@@ -707,13 +715,13 @@ module _ {W : Type 0} (is_after : W → List Call → Type 0) where
               (ap begun_at (set_other (connection_of old.table) (connection_of mid.table) conn (Some now) set q two))))
 
   -- bytes come of a connection that is not open
-  pub ran_refused : (server : Option View) (size : ℕ) (old new : Connections W) (conn : ℕ) (piece bytes : List ℕ) (result : Option (ℕ × Kind × Option (ArrayVec ℕ))) → result ≡ None
+  pub ran_refused : (server : Option View) (journal : Journal) (size : ℕ) (old new : Connections W) (conn : ℕ) (piece bytes : List ℕ) (result : Option (ℕ × Kind × Option (ArrayVec ℕ))) → result ≡ None
       → FramesAt conn piece old.table result new.table → new.wire ≡ old.wire → new.lost ≡ old.lost
-      → Ran is_after [] [] (only_of conn bytes) (at_connections server size old) (at_connections server size new)
-  ran_refused server size old new conn piece bytes result is frames wire lost = by (subst (λ r. FramesAt conn piece old.table r new.table) is frames)
+      → Ran is_after [] [] (only_of conn bytes) (at_connections server journal size old) (at_connections server journal size new)
+  ran_refused server journal size old new conn piece bytes result is frames wire lost = by (subst (λ r. FramesAt conn piece old.table r new.table) is frames)
     where
       so_then : begun_at (connection_of old.table conn) ≡ None → ((q : ℕ) → connection_of new.table q ≡ connection_of old.table q)
-          → Ran is_after [] [] (only_of conn bytes) (at_connections server size old) (at_connections server size new)
+          → Ran is_after [] [] (only_of conn bytes) (at_connections server journal size old) (at_connections server journal size new)
       so_then closed same = record {
         events = [];
         outs = [];
@@ -726,7 +734,7 @@ module _ {W : Type 0} (is_after : W → List Call → Type 0) where
         keep_kinds = λ q. kind_kept (connection_of old.table q) (connection_of new.table q) (lost_at old.lost q) (lost_at new.lost q) (ap kind_at (same q))
             (ap (λ l. lost_at l q) lost);
         hears = λ q. subst (λ (s : Option Connection). Hears (begun_at (connection_of old.table q)) (only_of conn bytes q) [] (begun_at s)) (sym (same q)) (deaf q (nat_eq conn q) refl);
-        tells = λ q. tells_as q (standing_of q (at_connections server size old)) (standing_of q (at_connections server size new)) (ap (λ l. is_some (lost_at l q)) lost) (ap is_open_at (same q));
+        tells = λ q. tells_as q (standing_of q (at_connections server journal size old)) (standing_of q (at_connections server journal size new)) (ap (λ l. is_some (lost_at l q)) lost) (ap is_open_at (same q));
         same_room = refl;
       }
         where
@@ -741,7 +749,7 @@ module _ {W : Type 0} (is_after : W → List Call → Type 0) where
           set ∙ ap (λ t. cond t (Some now) (connection_of old.table q)) one ∙ ap Some now_is ∙ sym was ∙ ap (λ p. connection_of old.table p) (one_number conn q one)
       as_before q connection now false two was now_is set = set ∙ ap (λ t. cond t (Some now) (connection_of old.table q)) two
 
-      by : FramesAt conn piece old.table None new.table → Ran is_after [] [] (only_of conn bytes) (at_connections server size old) (at_connections server size new)
+      by : FramesAt conn piece old.table None new.table → Ran is_after [] [] (only_of conn bytes) (at_connections server journal size old) (at_connections server journal size new)
       by (no_connection none same never) = so_then (ap begun_at none) same
       by (at_connection connection now was set so) = so_then (ap begun_at was ∙ so.0) (λ q. as_before q connection now (nat_eq conn q) refl was so.1 (set q))
 

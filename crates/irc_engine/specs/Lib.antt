@@ -1,7 +1,9 @@
 pub mod Carrying
 pub mod Hearing
 pub mod Writing
+pub mod Noting
 pub mod Running
 pub mod Turning
+pub mod Telling
 pub mod Loops
 pub mod Laws

@@ -20,11 +20,15 @@ use Rattle.irc_engine.specs.declared.connection_table.Connection.{Connection}
 use Rattle.irc_engine.specs.Carrying.{has_some_at, is_closed_by, is_done_at, is_exchange, is_open_at, AddsAll, Fate, fresh_connection, IsOfKind, KeepsKind}
 use Rattle.irc_engine.specs.Hearing.{begun_at, end_event_of, line_event_of, lines_by, nothing_of, only_of, times_gone, Hears}
 use Rattle.irc_engine.specs.Writing.{one_if, WritesEach}
+use Rattle.irc_engine.specs.Noting.{signs_by}
+use Rattle.irc_journal.specs.declared.journal.Journal.{Journal}
+use Rattle.irc_journal.specs.Signs.{EntersAll}
 
--- an engine at one moment: its server, its wire, the connections, those that were lost and of which the server has yet to be told, with their
--- kinds, those that are noted to be written to, and how many bytes it reads at most
+-- an engine at one moment: its server, the journal of its links, its wire, the connections, those that were lost and of which the server has yet
+-- to be told, with their kinds, those that are noted to be written to, and how many bytes it reads at most
 pub record Moment (W : Type 0) : Type 0 where
   pub server : Option View
+  pub journal : Journal
   pub wire : W
   pub connections : ℕ → Option Connection
   pub lost : ℕ → Option Kind
@@ -58,18 +62,30 @@ pub record IsInOrder {W : Type 0} (now : Moment W) : Type 0 where
   pub noted : (conn : ℕ) → now.waiting conn ≡ has_some_at (now.connections conn)
   pub none_done : (conn : ℕ) → is_done_at (now.connections conn) ≡ false
 
--- the server is asked for an event, and then for others
-pub record AskedFirst (old : Option View) (event : Event) (outs : List Sent) (rest : Option View → List Sent → Type 0) : Type 0 where
+-- who is asked for events: the server, and the journal of its links with it
+pub record Asked : Type 0 where
+  pub server : Option View
+  pub journal : Journal
+
+abbrev pub asked : Option View → Journal → Asked
+asked server journal = record { server = server; journal = journal }
+
+abbrev pub asked_at : {W : Type 0} → Moment W → Asked
+asked_at now = asked now.server now.journal
+
+-- the server is asked for an event, what comes to light of links by it is entered in the journal, and then it is asked for others
+pub record AskedFirst (old : Asked) (event : Event) (outs : List Sent) (rest : Asked → List Sent → Type 0) : Type 0 where
   pub result : Result (Unit {0}) ServerFault
-  pub between : Option View
+  pub between : Asked
   pub first : List Sent
   pub more : List Sent
-  pub is_handled : IsHandled old event [] result between first
+  pub is_handled : IsHandled old.server event [] result between.server first
+  pub is_noted : EntersAll (signs_by event between.server first) old.journal between.journal
   pub outs_are : outs ≡ first ++ more
   pub rest_is : rest between more
 
 -- The server is asked for these events, one after another, and this is all that it puts out.
-abbrev pub AreAsked : Option View → List Event → List Sent → Option View → Type 0
+abbrev pub AreAsked : Asked → List Event → List Sent → Asked → Type 0
 AreAsked old [] outs new = (outs ≡ []) × (new ≡ old)
 AreAsked old (event ∷ events) outs new = AskedFirst old event outs (λ between more. AreAsked between events more new)
 
@@ -96,7 +112,7 @@ pub record Ran {W : Type 0} (is_after : W → List Call → Type 0) (exchanges :
   pub events : List Event
   pub outs : List Sent
   pub calls : List Call
-  pub are_asked : AreAsked old.server (first ++ events) outs new.server
+  pub are_asked : AreAsked (asked_at old) (first ++ events) outs (asked_at new)
   pub account : AddsAll is_after old.wire calls new.wire
   pub exchanged : filter is_exchange calls ≡ exchanges
   pub fates : (conn : ℕ) → Fate conn (old.connections conn) calls outs (new.connections conn)
@@ -136,7 +152,7 @@ pub record PassesOn {W : Type 0} (is_after : W → List Call → Type 0) (event 
 -- in use is passed over.
 pub data Starts {W : Type 0} (is_after : W → List Call → Type 0) (kind : Kind) (room conn : ℕ) (event : Event) (old new : Moment W) : Type 0 where
   in_use : is_some (old.connections conn) ≡ true → RanOn is_after old new → Starts is_after kind room conn event old new
-  makes_connection : (between : Moment W) → old.connections conn ≡ None → between.server ≡ old.server → between.wire ≡ old.wire
+  makes_connection : (between : Moment W) → old.connections conn ≡ None → between.server ≡ old.server → between.journal ≡ old.journal → between.wire ≡ old.wire
       → between.lost ≡ old.lost → between.waiting ≡ old.waiting → between.read_room ≡ old.read_room
       → ((q : ℕ) → between.connections q ≡ (if nat_eq conn q then Some (fresh_connection kind room) else old.connections q))
       → Ran is_after [] (event ∷ []) nothing_of between new

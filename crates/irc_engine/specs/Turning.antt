@@ -9,6 +9,7 @@ use Rattle.irc_engine.specs.declared.engine.Rooms.{Rooms}
 use Rattle.irc_engine.specs.declared.engine.EngineFault.{EngineFault}
 use Rattle.irc_engine.specs.declared.engine.EngineFault.TheVariants.{Memory, Failed, Device}
 use Rattle.irc_engine.specs.Carrying.{has_some_at}
+use Rattle.irc_journal.specs.Signs.{IsBlank}
 use Rattle.irc_engine.specs.Running.{Moment, IsInOrder, Does, Turn}
 
 -- An engine, as those who have one see it: whether memory ran out for it, how many bytes its outboxes have room for, and how it is now.
@@ -21,6 +22,7 @@ pub record EngineView (W : Type 0) : Type 0 where
 pub record IsNew {W : Type 0} (server : Option View) (wire : W) (client_room link_room : ℕ) (engine : EngineView W) : Type 0 where
   pub serves : engine.failed ≡ false
   pub server_is : engine.now.server ≡ server
+  pub is_blank : IsBlank engine.now.journal
   pub wire_is : engine.now.wire ≡ wire
   pub rooms_are : engine.rooms ≡ record { client = client_room; link = link_room }
   pub no_connections : (conn : ℕ) → engine.now.connections conn ≡ None

@@ -4,11 +4,14 @@ ghost use Rattle.std.specs.Ordering.{nat_cmp};
 ghost use Rattle.std.specs.BTreeMap.{btree_map_len, IsLowerBound, IsUnchanged, Updates};
 ghost use Rattle.irc_engine.specs.Loops.Connections.{lost_at, Carries, CarriesOne, Ends, IsLostAs, IsNoted, KeepsMarks, Loses, EndsOrWaits, Writes};
 ghost use Rattle.irc_engine.specs.Writing.{one_if};
+ghost use Rattle.irc_engine.specs.Noting.{out_signs};
 ghost use Rattle.irc_batch.specs.Batches.{end_of, line_to, sent_of};
+ghost use Rattle.irc_journal.specs.Signs.{sign_of, EntersAll};
 
 use crate::connection_table::{ConnectionTable, Pushed};
 use crate::kind::Kind;
 use irc_batch::{Batch, Out};
+use irc_journal::Journal;
 use irc_outbox::Wire;
 use std::alloc::{AllocError, Global};
 use std::collections::{BTreeMap, BTreeSet};
@@ -126,10 +129,11 @@ impl<W: Wire> Connections<W> {
         }
     }
 
-    /// Does one thing that the server has put out.
-    fn dispatch_one(&mut self, out: Out<'_>) -> Result<(), AllocError>
+    /// Does one thing that the server has put out. That a link is closed is entered in the journal.
+    fn dispatch_one(&mut self, out: Out<'_>, journal: &mut Journal) -> Result<(), AllocError>
         ensures carries { OnOk result (CarriesOne W.is_after self.old (sent_of out.entry) self.new) }
         ensures marks { OnOk result (KeepsMarks self.old self.new) }
+        ensures noted { OnOk result (EntersAll (sign_of (sent_of out.entry)) journal.old journal.new) }
     {
         match out {
             Out::Line(conn, line) => self.send(conn, line),
@@ -138,23 +142,24 @@ impl<W: Wire> Connections<W> {
                 self.close_when_written(conn);
                 Ok(())
             }
-            Out::LinkClose(link, _) => {
+            Out::LinkClose(link, reason) => {
                 self.close_when_written(link);
-                Ok(())
+                journal.close(link, reason)
             }
         }
     }
 
-    /// Does what the server has put out.
-    pub(crate) fn dispatch(&mut self, outs: &Batch) -> Result<(), AllocError>
+    /// Does what the server has put out. Which links are closed is entered in the journal.
+    pub(crate) fn dispatch(&mut self, outs: &Batch, journal: &mut Journal) -> Result<(), AllocError>
         ensures carries { OnOk result (Carries W.is_after [] self.old outs.now.outs self.new) }
         ensures marks { OnOk result (KeepsMarks self.old self.new) }
+        ensures noted { OnOk result (EntersAll (out_signs outs.now.outs) journal.old journal.new) }
     {
         for place in 0..outs.len() {
             let Some(out) = outs.get(place) else {
                 unreachable!();
             };
-            self.dispatch_one(out)?;
+            self.dispatch_one(out, journal)?;
         }
         Ok(())
     }

@@ -10,7 +10,9 @@ ghost use Rattle.irc_engine.specs.Turning.{brings_nothing, HasFailed, IsNew, Run
 use crate::connection_table::ConnectionTable;
 use crate::connections::{Connections, take_lowest};
 use crate::kind::Kind;
+use crate::noting::note;
 use irc_batch::Batch;
+use irc_journal::Journal;
 use irc_line::Line;
 use irc_names::{ServerName, compare};
 use irc_outbox::{Got, IoFault, Ready, Wire};
@@ -51,13 +53,15 @@ pub struct Rooms {
 pub struct Engine<W: Wire> {
     failed: bool,
     rooms: Rooms,
-    core: Core<W>,
+    pub(crate) core: Core<W>,
 }
 
 /// What an engine is made of.
 #[derive(Drop)]
 pub(crate) struct Core<W: Wire> {
     pub server: Server,
+    /// What comes to light of its links.
+    pub journal: Journal,
     pub connections: Connections<W>,
     /// What the server has put out by the event at hand.
     pub out: Batch,
@@ -90,6 +94,7 @@ impl<W: Wire + Drop> Engine<W> {
             },
             core: Core {
                 server,
+                journal: Journal::new(alloc),
                 connections: Connections {
                     wire,
                     table: ConnectionTable::new(alloc),
@@ -288,7 +293,10 @@ impl<W: Wire> Core<W> {
         self.out.clear();
         match self.server.handle(event, &mut self.out) {
             Err(ServerFault::Memory | ServerFault::Failed) => Err(AllocError),
-            _ => self.connections.dispatch(&self.out),
+            _ => {
+                note(&mut self.journal, event, &self.server)?;
+                self.connections.dispatch(&self.out, &mut self.journal)
+            }
         }
     }
 

@@ -6,5 +6,7 @@ mod connection_table;
 mod connections;
 mod engine;
 mod kind;
+mod noting;
+mod telling;
 
 pub use engine::{Engine, EngineFault};

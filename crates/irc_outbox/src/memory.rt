@@ -3,7 +3,7 @@ ghost use Rattle.std.specs.Prelude.{◌≡◌, ◌≤◌, ◌++◌, [], length, 
 ghost use Rattle.irc_outbox.specs.Memory.{fresh_told, same_told, told_by_far, told_at, told_or_none, with_close, with_taken, with_written, AllFresh, AllWiresTold, Changes, Gives, IsFarAdded, StillTold};
 ghost use Rattle.irc_outbox.specs.Steps.{step_bytes, step_conn, failed_once, fails, fails_at, giver_of, again_of, is_at_hand, is_reported, is_reported_at, left_of, longest_of, meets, step_report, GivesFirst, Reports, ServesNext};
 
-use crate::wire::{Got, IoFault, Ready, Wire};
+use crate::wire::{Got, IoFault, Ready, Unreached, Wire};
 use circular_buffer::HeapCircularBuffer;
 use irc_names::{Host, ServerName, first_bytes};
 use std::alloc::{AllocError, Global};
@@ -502,4 +502,8 @@ impl Wire for MemoryWire {
     }
 
     fn know(&mut self, _is_known: bool, _yields: bool) {}
+
+    fn unreached(&mut self) -> Option<Unreached> {
+        None
+    }
 }

@@ -3,6 +3,7 @@ ghost use Rattle.std.specs.Prelude.{List, ◌≤◌, length, IfOk};
 ghost use Rattle.irc_outbox.specs.Calls.{Call, asks, read_into, writes, closes, Adds, FitsIn, Keeps};
 
 use irc_names::{Host, ServerName};
+use std::io;
 use thiserror::Error;
 
 /// What is ready on a wire.
@@ -37,6 +38,15 @@ pub enum IoFault {
     /// The one kind that is told.
     #[error("the device failed")]
     Failed,
+}
+
+/// A call that has reached nobody.
+#[derive(Drop)]
+pub struct Unreached {
+    /// The server that was called.
+    pub name: ServerName,
+    /// Why the system says it has not.
+    pub error: io::Error,
 }
 
 /// A device with connections, each under a number. Each call is one step in the account of what was asked and answered.
@@ -79,5 +89,9 @@ pub trait Wire {
     /// Tells whether the server that the device would call is known here, by any way: if it is, it is not called. This side yields where the other
     /// one should call first. It is no part of the account.
     fn know(&mut self, is_known: bool, yields: bool)
+        ensures { Keeps is_after self.old self.new };
+
+    /// A call that has failed and was not told yet, if there is one. It is no part of the account.
+    fn unreached(&mut self) -> Option<Unreached>
         ensures { Keeps is_after self.old self.new };
 }

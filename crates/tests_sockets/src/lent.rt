@@ -4,7 +4,7 @@ ghost use Rattle.irc_outbox.specs.Calls.{Call, asks, reads, writes, closes, byte
 
 use arrayvec::ArrayVec;
 use irc_names::ServerName;
-use irc_outbox::{Got, IoFault, MemoryWire, Ready, Wire};
+use irc_outbox::{Got, IoFault, MemoryWire, Ready, Unreached, Wire};
 
 /// Whom an engine has closed, one after another, as far as there is room.
 pub(crate) type Closings = ArrayVec<u64, 8>;
@@ -43,5 +43,9 @@ impl<'a> Wire for Lent<'a> {
 
     fn know(&mut self, is_known: bool, yields: bool) {
         self.wire.know(is_known, yields)
+    }
+
+    fn unreached(&mut self) -> Option<Unreached> {
+        self.wire.unreached()
     }
 }

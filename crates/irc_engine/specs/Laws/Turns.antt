@@ -78,7 +78,7 @@ module _ {W : Type 0} (is_after : W → List Call → Type 0) (rooms : Rooms) (c
   starts_waits : (kind : Kind) (room which : ℕ) (event : Event) (old new : Moment W) → Starts is_after kind room which event old new
       → has_some_at (old.connections conn) ≡ true → is_some (new.connections conn) ≡ true → has_some_at (new.connections conn) ≡ true
   starts_waits kind room which event old new (in_use used ran) some there = ran_waits [] [] _ old new refl ran some there
-  starts_waits kind room which event old new (makes_connection between free server wire lost waiting size set ran) some there =
+  starts_waits kind room which event old new (makes_connection between free server journal wire lost waiting size set ran) some there =
       let same = other_connection (old.connections conn) (between.connections conn) (Some (fresh_connection kind room)) (nat_eq which conn)
       (λ one. ap old.connections (sym (eqb-true which conn one)) ∙ free) (set conn) some in
       ran_waits [] _ _ between new refl ran (ap has_some_at same ∙ some) there

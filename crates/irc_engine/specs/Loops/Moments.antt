@@ -23,6 +23,7 @@ use Rattle.irc_engine.specs.Loops.Tables.{connection_of}
 abbrev pub moment_of : {W : Type 0} → Core W → Moment W
 moment_of core = record {
   server = core.server;
+  journal = core.journal;
   wire = core.connections.wire;
   connections = connection_of core.connections.table;
   lost = lost_at core.connections.lost;

@@ -13,7 +13,7 @@ returns-in-Some-clause-done g c =
     (λ ran. read_once _ _ _ (sym c.is_open.ensures ∙ c.if-not-is_open.false) c.deref_mut.ensures.len
     (ran_fed _ _ _ _ _ _ _ _ _ _ (sym c.came.ensures ∙ c.in-Some.is)
     (front_after c.read.result c.read.new.buffer _ _ _ _ (sym c.came.ensures ∙ c.in-Some.is) c.read.ensures.within c.deref_mut.ensures.len c.read.auto.buffer)
-    (ran_read _ _ c.args.self.now.connections (record c.args.self.now.connections { wire = c.read.new.self }) _ _ _ _ _ _ _ (sym c.came.ensures ∙ c.in-Some.is) c.read.ensures.account refl refl refl) ran))
+    (ran_read _ _ _ c.args.self.now.connections (record c.args.self.now.connections { wire = c.read.new.self }) _ _ _ _ _ _ _ (sym c.came.ensures ∙ c.in-Some.is) c.read.ensures.account refl refl refl) ran))
     c.take_lines.ensures.ran
 
 pub returns-in_ok-lose-in-None-clause-done : goal.returns-in_ok-lose-in-None-clause-done
@@ -21,7 +21,7 @@ returns-in_ok-lose-in-None-clause-done g c =
     on_ok c.tell_losses.result _ _ (λ ran. read_once _ _ _ (sym c.is_open.ensures ∙ c.if-not-is_open.false) c.deref_mut.ensures.len
     (ran_ended _ _ _ _ _ _ _ (sym c.came.ensures ∙ c.in-None.is)
     (ran_after _ _ _ _ _ _ _
-    (ran_cut _ _ _ _ c.args.self.now.connections (record c.args.self.now.connections { wire = c.read.new.self }) c.lose.new.self _ _ _ _ (sym c.came.ensures ∙ c.in-None.is)
+    (ran_cut _ _ _ _ _ c.args.self.now.connections (record c.args.self.now.connections { wire = c.read.new.self }) c.lose.new.self _ _ _ _ (sym c.came.ensures ∙ c.in-None.is)
     (sym c.is_open.ensures ∙ c.if-not-is_open.false) c.read.ensures.account refl refl c.in_ok-lose-in-None.ensures refl) ran)))
     c.tell_losses.ensures.ran
 

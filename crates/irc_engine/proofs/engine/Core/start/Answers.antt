@@ -10,7 +10,7 @@ returns-then-contains-clause-done g c = in_use (sym c.contains.ensures ∙ c.if-
 pub returns-clause-done : goal.returns-clause-done
 returns-clause-done g c =
     on_ok c.pass.result _ _
-    (λ ran. makes_connection _ (none_there _ (sym c.contains.ensures ∙ c.if-contains.false)) refl refl refl refl refl c.in_ok-insert.ensures ran)
+    (λ ran. makes_connection _ (none_there _ (sym c.contains.ensures ∙ c.if-contains.false)) refl refl refl refl refl refl c.in_ok-insert.ensures ran)
     c.pass.ensures.ran
 
 pub returns-clause-told : goal.returns-clause-told

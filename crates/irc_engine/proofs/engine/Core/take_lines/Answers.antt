@@ -12,7 +12,7 @@ loop-used-preserved g c = record {
   ran = ran_step _ _ _ _ _ c.args.self.now.buffer.items _ c.loop-used.used _ c.args.count
       (ap (λ bs. slice_range bs c.loop-used.used c.args.count) (c.deref.ensures.value ∙ c.loop-used.invariant.items)) c.loop-used.invariant.within
       (frames_within _ _ _ _ _ c.in-Some.kind c.in-Some.line c.in-Some.ensures.at) c.loop-used.invariant.ran
-      (ran_framed _ _ _ c.loop-used.self.connections (record c.loop-used.self.connections { table = c.take.new.self }) _ _ _ _ c.in-Some.kind c.in-Some.line (Some _) refl c.in-Some.ensures.at refl refl
+      (ran_framed _ _ _ _ c.loop-used.self.connections (record c.loop-used.self.connections { table = c.take.new.self }) _ _ _ _ c.in-Some.kind c.in-Some.line (Some _) refl c.in-Some.ensures.at refl refl
       c.in_ok-pass_line.ensures.ran);
   told = λ told. c.in_ok-pass_line.ensures.told (c.loop-used.invariant.told told);
   marks = λ q pending is. c.in_ok-pass_line.ensures.marks q pending
@@ -26,7 +26,7 @@ loop-used-preserved g c = record {
 pub returns-in_default-clause-ran : goal.returns-in_default-clause-ran
 returns-in_default-clause-ran g c =
     ran_rest _ _ _ _ _ _ c.loop-used.used c.args.count c.loop-used.invariant.within c.loop-used.invariant.ran
-    (ran_refused _ _ _ c.loop-used.self.connections (record c.loop-used.self.connections { table = c.take.new.self }) _ _ _ c.take.result c.in_default.is c.take.ensures.at refl refl)
+    (ran_refused _ _ _ _ c.loop-used.self.connections (record c.loop-used.self.connections { table = c.take.new.self }) _ _ _ c.take.result c.in_default.is c.take.ensures.at refl refl)
 
 pub returns-in_default-clause-marks : goal.returns-in_default-clause-marks
 returns-in_default-clause-marks g c = λ q pending is.

@@ -19,7 +19,7 @@ loop-conn-preserved g c =
     let asks = asks_as _ _ _ _ _ c.end_event.ensures c.in_ok-handle.ensures.asks in
     record {
       ran = ran_on _ _ _ _ c.loop-conn.invariant.ran
-          (ran_gone _ _ _ _ _ c.loop-conn.self.connections (record c.loop-conn.self.connections { lost = c.take_lowest.new.lost }) _ refl refl c.in-Some.ensures.member
+          (ran_gone _ _ _ _ _ _ c.loop-conn.self.connections (record c.loop-conn.self.connections { lost = c.take_lowest.new.lost }) _ refl refl c.in-Some.ensures.member
           (λ q. c.in-Some.ensures.updates.0 q ∙ set_at (lost_at c.loop-conn.self.connections.lost) None _ q) asks.0);
       in_order = tells_lowest _ _ _ _ _ c.loop-conn.invariant.in_order (record { is_lost = c.in-Some.ensures.member; is_lowest = λ q there. le_from_not_gt _ q (c.in-Some.ensures.least q there) }) refl
           (λ q. c.in-Some.ensures.updates.0 q ∙ set_at (lost_at c.loop-conn.self.connections.lost) None _ q) asks;

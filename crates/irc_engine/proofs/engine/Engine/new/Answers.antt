@@ -10,13 +10,14 @@ pub returns : goal.returns
 returns g c = record {
   serves = refl;
   server_is = refl;
+  is_blank = c.new.ensures;
   wire_is = refl;
   rooms_are = refl;
-  no_connections = c.new.ensures;
+  no_connections = c.new-2.ensures;
   in_order = record {
-    all_told = λ conn. ap (lookup (is_at (nat_cmp conn))) c.new-3.ensures.empty;
-    noted = λ conn. ap (list_any (is_at (nat_cmp conn))) c.new-2.ensures.empty ∙ sym (ap has_some_at (c.new.ensures conn));
-    none_done = λ conn. ap is_done_at (c.new.ensures conn);
+    all_told = λ conn. ap (lookup (is_at (nat_cmp conn))) c.new-4.ensures.empty;
+    noted = λ conn. ap (list_any (is_at (nat_cmp conn))) c.new-3.ensures.empty ∙ sym (ap has_some_at (c.new-2.ensures conn));
+    none_done = λ conn. ap is_done_at (c.new-2.ensures conn);
   };
   reads_at_most = c.in_ok-buffer.ensures.len;
 }

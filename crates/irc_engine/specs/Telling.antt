@@ -1,0 +1,53 @@
+-- What an engine says of its links behind a turn, and behind each of several.
+use Rattle.std.specs.Prelude.{◌≡◌, ℕ, ◌+◌, ◌<◌, true, Option, Some, None, Result, Ok, Err, List}
+use Rattle.irc_outbox.specs.declared.wire.Unreached.{Unreached as FailedCall}
+use Rattle.irc_outbox.specs.Calls.{Call, Keeps}
+use Rattle.irc_journal.specs.declared.journal.Journal.{Journal}
+use Rattle.irc_journal.specs.declared.tidings.Tidings.{Tidings}
+use Rattle.irc_journal.specs.declared.tidings.Outcome.TheVariants.{Unreached}
+use Rattle.irc_journal.specs.Signs.{IsEmptied}
+use Rattle.irc_journal.specs.Saying.{AreSaid, IsSaid}
+use Rattle.irc_engine.specs.declared.engine.EngineFault.{EngineFault}
+use Rattle.irc_engine.specs.Turning.{EngineView, Turned}
+
+-- what is told of a call that has failed
+abbrev pub call_told : FailedCall → Tidings
+call_told call = record { name = Some call.name; is_called = true; outcome = Unreached call.error }
+
+-- it is said, if there is one
+abbrev pub IsCallSaid : Option FailedCall → Option (List ℕ) → Option (List ℕ) → Type 0
+IsCallSaid None held after = after ≡ held
+IsCallSaid (Some call) held after = IsSaid (call_told call) held after
+
+-- All that there was to tell of links is said, and then a call that the wire says has failed, if there is one; nothing else has changed.
+pub record Tells {W : Type 0} (is_after : W → List Call → Type 0) (old new : EngineView W) (held after : Option (List ℕ)) : Type 0 where
+  pub between : Option (List ℕ)
+  pub are_said : AreSaid old.now.journal.tidings.items held between
+  pub call : Option FailedCall
+  pub call_said : IsCallSaid call between after
+  pub journal : Journal
+  pub is_emptied : IsEmptied old.now.journal journal
+  pub wire : W
+  pub keeps : Keeps is_after old.now.wire wire
+  pub new_is : new ≡ record old { now = record old.now { journal = journal; wire = wire } }
+
+-- a turn is asked for, and then what there is to tell is said
+pub record TellsTurned {W : Type 0} (is_after : W → List Call → Type 0) (old new : EngineView W) (held after : Option (List ℕ))
+    (result : Result (Unit {0}) EngineFault) : Type 0 where
+  pub between : EngineView W
+  pub turned : Turned is_after old between result
+  pub tells : Tells is_after between new held after
+
+-- so many turns, one after another, with what is said behind each
+pub data ToldTurns {W : Type 0} (is_after : W → List Call → Type 0) (old : EngineView W) (held : Option (List ℕ)) : ℕ → EngineView W → Option (List ℕ) → Type 0 where
+  no_told : ToldTurns is_after old held 0 old held
+  told_more : (n : ℕ) (between new : EngineView W) (then after : Option (List ℕ)) → ToldTurns is_after old held n between then
+      → TellsTurned is_after between new then after (Ok tt) → ToldTurns is_after old held (n + 1) new after
+
+-- All of so many turns were taken; or the one behind some of them was not, and that is the last. What there is to tell is said behind each, that one too.
+pub data RunsTelling {W : Type 0} (is_after : W → List Call → Type 0) (old : EngineView W) (held : Option (List ℕ)) (turns : ℕ) (new : EngineView W) (after : Option (List ℕ))
+    : Result (Unit {0}) EngineFault → Type 0 where
+  all_told : ToldTurns is_after old held turns new after → RunsTelling is_after old held turns new after (Ok tt)
+  told_stopped : (taken : ℕ) (between : EngineView W) (then : Option (List ℕ)) (fault : EngineFault) → taken < turns
+      → ToldTurns is_after old held taken between then → TellsTurned is_after between new then after (Err fault)
+      → RunsTelling is_after old held turns new after (Err fault)
