@@ -1,10 +1,13 @@
 -- What is entered in a journal, in several stretches.
-use Rattle.std.proofs.Common.{◌≡◌, ℕ, List, [], ◌∷◌, ◌++◌, sym, ◌∙◌, ap, append-nil, subst}
+use Rattle.std.proofs.Common.{◌≡◌, ℕ, List, [], ◌∷◌, ◌++◌, sym, ◌∙◌, ap, append-nil, refl, subst}
 use Rattle.std.proofs.lemmas.List.Concat.{flat_map-append}
 use Rattle.irc_batch.specs.Batches.{Sent}
 use Rattle.irc_journal.specs.declared.journal.Journal.{Journal}
-use Rattle.irc_journal.specs.Signs.{EntersAll, Sign, sign_of}
+use Rattle.irc_journal.specs.Signs.{Enters, EntersAll, Sign, sign_of}
 use Rattle.irc_engine.specs.Noting.{out_signs}
+
+pub enters_one : (link : ℕ) (sign : Sign) (old new : Journal) → Enters link sign old new → EntersAll ((link, sign) ∷ []) old new
+enters_one link sign old new enters = record { between = new; enters = enters; rest_is = refl }
 
 pub enters_both : (a b : List (ℕ × Sign)) (old mid new : Journal) → EntersAll a old mid → EntersAll b mid new → EntersAll (a ++ b) old new
 enters_both [] b old mid new one other = subst (λ (j : Journal). EntersAll b j new) one other

@@ -1,7 +1,6 @@
 -- What is said line by line, and what is left to say.
-use Rattle.std.proofs.Common.{◌≡◌, ℕ, Option, Some, None, List, [], ◌∷◌, length, refl, sym, subst}
+use Rattle.std.proofs.Common.{◌≡◌, ℕ, Option, List, [], ◌∷◌, length, refl, sym, subst}
 use Rattle.std.proofs.lemmas.List.{nil_from_length}
-use Rattle.std.specs.Io.KnownBytes.{Keeps}
 use Rattle.irc_journal.specs.declared.tidings.Tidings.{Tidings}
 use Rattle.irc_journal.specs.Saying.{AreSaid, IsSaid}
 
@@ -17,10 +16,6 @@ pub leads_on : (rest more all : List Tidings) (told : Tidings) (held between sta
 leads_on rest more all told held between start is says leads after said =
     leads after (subst (λ (these : List Tidings). AreSaid these held after) (sym is) (record { between = between; says = says; rest_is = said }))
 
-kept : (held : Option (List ℕ)) → Keeps held held
-kept None = tt
-kept (Some bytes) = refl
-
 pub leads_nobody : (rest all : List Tidings) (held start : Option (List ℕ)) → length rest ≡ 0 → Leads rest held all start → AreSaid all start held
 leads_nobody rest all held start is leads =
-    leads held (subst (λ (these : List Tidings). AreSaid these held held) (sym (nil_from_length rest is)) (kept held))
+    leads held (subst (λ (these : List Tidings). AreSaid these held held) (sym (nil_from_length rest is)) refl)

@@ -1,3 +1,4 @@
 pub mod Signs
 pub mod Lines
 pub mod Saying
+pub mod Laws

@@ -1,6 +1,6 @@
 -- What is said on a stream, line by line: each whole, or a front of it where the stream does not take it.
-use Rattle.std.specs.Prelude.{ℕ, Option, List, [], ◌∷◌, take}
-use Rattle.std.specs.Io.KnownBytes.{Appends, Keeps}
+use Rattle.std.specs.Prelude.{◌≡◌, ℕ, Option, List, [], ◌∷◌, take}
+use Rattle.std.specs.Io.KnownBytes.{Appends}
 use Rattle.irc_journal.specs.declared.tidings.Tidings.{Tidings}
 use Rattle.irc_journal.specs.Lines.{IsLineOf}
 
@@ -19,5 +19,9 @@ pub record SaysFirst (told : Tidings) (old : Option (List ℕ)) (rest : Option (
 
 -- these are said, one after another, and nothing else
 abbrev pub AreSaid : List Tidings → Option (List ℕ) → Option (List ℕ) → Type 0
-AreSaid [] old new = Keeps old new
+AreSaid [] old new = new ≡ old
 AreSaid (told ∷ others) old new = SaysFirst told old (λ between. AreSaid others between new)
+
+-- some things are said, and nothing else
+abbrev pub AreSomeSaid : Option (List ℕ) → Option (List ℕ) → Type 0
+AreSomeSaid old new = (told : List Tidings) × AreSaid told old new

@@ -9,7 +9,7 @@
 --   a.net closes 1 for a reason    link to b.net: closed, for that reason
 --   2 is lost                      link from c.net: lost
 --   a.net closes 3, of which nobody has said who it is     link from an unknown server: refused
-use Rattle.std.specs.Prelude.{◌≡◌, ℕ, is_some, nat_eq, Option, Some, None, List, [], ◌∷◌, ◌++◌, if◌then◌else◌}
+use Rattle.std.specs.Prelude.{◌≡◌, ℕ, true, false, is_some, nat_eq, Option, Some, None, List, [], ◌∷◌, ◌++◌, if◌then◌else◌}
 use Rattle.std.specs.Ordering.{nat_cmp}
 use Rattle.std.specs.BTreeMap.{get}
 use Rattle.irc_batch.specs.declared.close_reason.CloseReason.{CloseReason}

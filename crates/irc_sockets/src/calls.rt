@@ -3,10 +3,12 @@ ghost use Rattle.std.specs.Prelude.{◌≡◌, if◌then◌else◌, IfOk, OnOk};
 ghost use Rattle.irc_turns.specs.Spreads.{spread_on};
 
 use irc_names::ServerName;
+use irc_outbox::Unreached;
 use irc_turns::Retries;
 use mio::net::TcpStream;
 use mio::{Interest, Registry, Token};
 use std::alloc::{AllocError, Global};
+use std::collections::VecDeque;
 use std::io::ErrorKind;
 use std::net::{Net, SocketAddr};
 use std::{io, net};
@@ -33,7 +35,7 @@ struct Calling {
 enum Standing {
     UnderWay,
     Through,
-    Failed,
+    Failed(io::Error),
 }
 
 /// What a wire was opened with: mio asks for a `Net` with each call, and uses none. It opens nothing itself.
@@ -50,6 +52,8 @@ pub(crate) struct Calls {
     may_have: bool,
     /// When each is called again.
     pub retries: Retries,
+    /// Which calls have failed, by their places, and why, where that was not told yet.
+    failed: VecDeque<(usize, io::Error), Global>,
 }
 
 impl Calls {
@@ -73,6 +77,7 @@ impl Calls {
             retries: Retries::new(alloc, spread),
             asked,
             may_have: false,
+            failed: VecDeque::new(alloc),
         };
         calls.begin_all(registry, token)?;
         Ok(calls)
@@ -101,19 +106,42 @@ impl Calls {
         ensures spread { self.new.retries.spread ≡ (if is_again then spread_on self.old.retries.spread 1 else self.old.retries.spread) }
     {
         self.retries.begin(place, is_again);
-        if self.try_call(place, registry, token).is_none() {
-            self.retries.end(place);
+        if let Err(error) = self.try_call(place, registry, token) {
+            self.fail(place, error);
         }
     }
 
-    /// Begins a call; nothing, where the system refuses, or memory runs out.
-    fn try_call(&mut self, place: usize, registry: &Registry, token: Token) -> Option<()>
+    /// The call of the one at a place has failed. Where there is no memory for it, that is not told.
+    pub fn fail(&mut self, place: usize, error: io::Error)
+        ensures asked { self.new.asked ≡ self.old.asked }
+        ensures under_way { self.new.under_way ≡ self.old.under_way }
+        ensures spread { self.new.retries.spread ≡ self.old.retries.spread }
+    {
+        self.retries.end(place);
+        let _noted = self.failed.push_back((place, error));
+    }
+
+    /// A call that has failed and was not told yet.
+    pub fn unreached(&mut self) -> Option<Unreached> {
+        let (place, error) = self.failed.pop_front()?;
+        let name = self.asked.get(place)?.name.copy();
+        Some(Unreached { name, error })
+    }
+
+    /// Begins a call.
+    ///
+    /// # Errors
+    /// Where the system refuses, or memory runs out.
+    fn try_call(&mut self, place: usize, registry: &Registry, token: Token) -> io::Result<()>
         ensures asked { self.new.asked ≡ self.old.asked }
         ensures retries { self.new.retries ≡ self.old.retries }
     {
-        let address = self.asked.get(place)?.address;
-        let stream = begin_call(address, registry, token)?;
-        self.under_way.push(Calling { stream, place }).ok()
+        let Some(callee) = self.asked.get(place) else {
+            return Ok(());
+        };
+        let stream = begin_call(callee.address, registry, token)?;
+        self.under_way.push(Calling { stream, place })?;
+        Ok(())
     }
 
     /// Whether some may be through, or have failed.
@@ -137,9 +165,9 @@ impl Calls {
                     let calling = self.under_way.swap_remove(at);
                     return Some((calling.stream, calling.place));
                 }
-                Standing::Failed => {
+                Standing::Failed(error) => {
                     let calling = self.under_way.swap_remove(at);
-                    self.retries.end(calling.place);
+                    self.fail(calling.place, error);
                 }
             }
         }
@@ -179,7 +207,7 @@ impl Calling {
     fn standing(&self) -> Standing {
         match self.stream.take_error() {
             Ok(None) => self.reached(),
-            Ok(Some(_)) | Err(_) => Standing::Failed,
+            Ok(Some(error)) | Err(error) => Standing::Failed(error),
         }
     }
 
@@ -188,7 +216,7 @@ impl Calling {
         match self.stream.peer_addr() {
             Ok(_) => Standing::Through,
             Err(error) if error.kind() == ErrorKind::NotConnected => Standing::UnderWay,
-            Err(_) => Standing::Failed,
+            Err(error) => Standing::Failed(error),
         }
     }
 }
@@ -208,11 +236,12 @@ impl Net for Granted {
     }
 }
 
-/// Begins to call; nothing, where the system refuses.
-fn begin_call(address: SocketAddr, registry: &Registry, token: Token) -> Option<TcpStream> {
-    let mut stream = TcpStream::connect(&Granted, address).ok()?;
-    registry
-        .register(&mut stream, token, Interest::WRITABLE)
-        .ok()?;
-    Some(stream)
+/// Begins to call.
+///
+/// # Errors
+/// Where the system refuses.
+fn begin_call(address: SocketAddr, registry: &Registry, token: Token) -> io::Result<TcpStream> {
+    let mut stream = TcpStream::connect(&Granted, address)?;
+    registry.register(&mut stream, token, Interest::WRITABLE)?;
+    Ok(stream)
 }

@@ -10,12 +10,13 @@ use crate::keep_alive::ask_after;
 use crate::listening::Listening;
 use crate::sockets::Sockets;
 use irc_names::ServerName;
-use irc_outbox::{Got, IoFault, Ready, Wire};
+use irc_outbox::{Got, IoFault, Ready, Unreached, Wire};
 use irc_turns::{Crowd, Round, wait_for};
 use mio::net::TcpStream;
 use mio::{Events, Interest, Poll, Token};
 use std::alloc::Global;
 use std::io;
+use std::io::ErrorKind;
 use std::net::{IpAddr, Net, SocketAddr};
 use std::time::Duration;
 
@@ -228,7 +229,8 @@ impl MioWire {
     fn called(&mut self) -> Option<Ready> {
         let (stream, place) = self.calls.next()?;
         let Some(number) = self.admit_called(stream) else {
-            self.calls.retries.end(place);
+            self.calls
+                .fail(place, io::Error::from(ErrorKind::OutOfMemory));
             return None;
         };
         let name = self.calls.reach(place, number)?;
@@ -324,5 +326,9 @@ impl Wire for MioWire {
     fn know(&mut self, is_known: bool, yields: bool) {
         self.calls
             .know(is_known, yields, self.poll.registry(), Token(CALLS));
+    }
+
+    fn unreached(&mut self) -> Option<Unreached> {
+        self.calls.unreached()
     }
 }

@@ -4,7 +4,11 @@ use Rattle.std.specs.Prelude.{⊤}
 use Rattle.std.specs.Io.KnownBytes.{Appends}
 use Rattle.irc_outbox.specs.Calls.{Call}
 use Rattle.irc_sockets.specs.declared.mio_wire.MioWire.{MioWire}
+use Rattle.irc_engine.specs.declared.engine.EngineFault.{EngineFault}
 use Rattle.irc_engine.specs.Turning.{EngineView}
+use Rattle.irc_engine.specs.Telling.{RunsTelling}
+use Rattle.irc_engine.specs.Laws.Tellings.{runs_tell_some}
+use Rattle.irc_journal.specs.Saying.{AreSomeSaid}
 use Rattle.irc_endings.specs.declared.fault.Stop.{Stop}
 use Rattle.irc_endings.specs.declared.fault.Stop.TheVariants.{Usage, BadScript, BadConfiguration, Failed}
 use Rattle.ircd.specs.declared.setup.Setup.{Setup}
@@ -19,41 +23,57 @@ use Rattle.irc_endings.specs.ScriptLemmas.Sinking.{all_lost}
 pub tells_nothing : (held : Option (List ℕ)) (text : List ℕ) → Wrote held held text
 tells_nothing held text = all_lost (sink held []) text
 
--- `ready` is cut short
-pub ready_cut : {W : Type 0} (is_after : W → List Call → Type 0) (turns : ℕ) (old new : EngineView W) (held after : Option (List ℕ)) (r : Result (Unit {0}) Stop)
-    → Wrote held after ready_text → IsErrAnd r (λ stop. stop ≡ Failed) → Serves is_after turns old new held after r
-ready_cut is_after turns old new held after (Ok _) tells failed = absurd failed
-ready_cut is_after turns old new held after (Err stop) tells failed = subst (λ s. Serves is_after turns old new held after (Err s)) (sym failed) tells
+-- nothing is said
+nothing_said : (held : Option (List ℕ)) → AreSomeSaid held held
+nothing_said held = ([], refl)
 
--- it was printed, and turns were taken
-pub ready_said : {W : Type 0} (is_after : W → List Call → Type 0) (turns : ℕ) (old new : EngineView W) (held after : Option (List ℕ)) (r : Result (Unit {0}) Stop)
-    → Appends held after ready_text → Wrote held after ready_text → TakesTurns is_after old turns new r → Serves is_after turns old new held after r
-ready_said is_after turns old new held after (Ok _) appended tells gone = (appended, gone)
-ready_said is_after turns old new held after (Err stop) appended tells gone = ready_cut is_after turns old new held after (Err stop) tells gone
+-- `ready` is cut short
+module _ {W : Type 0} (is_after : W → List Call → Type 0) (turns : ℕ) (old new : EngineView W) (held after said said_after : Option (List ℕ)) where
+  cut_by : (r : Result (Unit {0}) Stop) → Wrote held after ready_text → AreSomeSaid said said_after → IsErrAnd r (λ stop. stop ≡ Failed)
+      → Serves is_after turns old new held after said said_after r
+  cut_by (Ok _) tells some failed = absurd failed
+  cut_by (Err stop) tells some failed = subst (λ s. Serves is_after turns old new held after said said_after (Err s)) (sym failed) (tells, some)
+
+  -- it was printed, and turns were taken
+  pub ready_said : (r : Result (Unit {0}) Stop) → Appends held after ready_text → Wrote held after ready_text
+      → TakesTurns is_after old turns new said said_after r → Serves is_after turns old new held after said said_after r
+  ready_said (Ok _) appended tells gone = (appended, gone)
+  ready_said (Err stop) appended tells gone = cut_by (Err stop) tells gone.1 gone.0
+
+pub ready_cut : {W : Type 0} (is_after : W → List Call → Type 0) (turns : ℕ) (old new : EngineView W) (held after said : Option (List ℕ))
+    (r : Result (Unit {0}) Stop) → Wrote held after ready_text → IsErrAnd r (λ stop. stop ≡ Failed) → Serves is_after turns old new held after said said r
+ready_cut is_after turns old new held after said r tells failed = cut_by is_after turns old new held after said said r tells (nothing_said said) failed
+
+-- a turn is not taken
+pub turns_stopped : {W : Type 0} (is_after : W → List Call → Type 0) (old : EngineView W) (turns : ℕ) (new : EngineView W) (said said_after : Option (List ℕ))
+    (r : Result (Unit {0}) EngineFault) → RunsTelling is_after old said turns new said_after r → TakesTurns is_after old turns new said said_after (Err Failed)
+turns_stopped is_after old turns new said said_after r runs = (refl, runs_tell_some is_after old said turns new said_after r runs)
 
 -- a text sets nothing up
-stopped_by : (text : List ℕ) (turns : ℕ) (stop : Stop) (held : Option (List ℕ)) → IsReadSetup text (Err stop) → ServesText text turns (Err stop) held held
-stopped_by text turns BadConfiguration held bad = (bad, refl)
-stopped_by text turns Failed held bad = unprinted refl
-stopped_by text turns Usage held bad = absurd bad
-stopped_by text turns (BadScript line) held bad = absurd bad
+stopped_by : (text : List ℕ) (turns : ℕ) (stop : Stop) (held said : Option (List ℕ)) → IsReadSetup text (Err stop) → ServesText text turns (Err stop) held held said said
+stopped_by text turns BadConfiguration held said bad = (bad, refl, refl)
+stopped_by text turns Failed held said bad = unprinted refl refl
+stopped_by text turns Usage held said bad = absurd bad
+stopped_by text turns (BadScript line) held said bad = absurd bad
 
-pub text_refused : (text : List ℕ) (turns : ℕ) (r : Result (Unit {0}) Stop) (stop : Stop) (held : Option (List ℕ))
-    → IsReadSetup text (Err stop) → IsErrAnd r (λ e. e ≡ stop) → ServesText text turns r held held
-text_refused text turns (Ok _) stop held bad failed = absurd failed
-text_refused text turns (Err e) stop held bad failed = subst (λ s. ServesText text turns (Err s) held held) (sym failed) (stopped_by text turns stop held bad)
+pub text_refused : (text : List ℕ) (turns : ℕ) (r : Result (Unit {0}) Stop) (stop : Stop) (held said : Option (List ℕ))
+    → IsReadSetup text (Err stop) → IsErrAnd r (λ e. e ≡ stop) → ServesText text turns r held held said said
+text_refused text turns (Ok _) stop held said bad failed = absurd failed
+text_refused text turns (Err e) stop held said bad failed =
+    subst (λ s. ServesText text turns (Err s) held held said said) (sym failed) (stopped_by text turns stop held said bad)
 
 -- nobody listens
-pub not_opened : (text : List ℕ) (turns : ℕ) (r : Result (Unit {0}) Stop) (stop : Stop) (held : Option (List ℕ))
-    → stop ≡ Failed → IsErrAnd r (λ e. e ≡ stop) → ServesText text turns r held held
-not_opened text turns (Ok _) stop held is failed = absurd failed
-not_opened text turns (Err e) stop held is failed =
-    subst (λ s. ServesText text turns (Err s) held held) (sym (failed ∙ is)) (unprinted refl)
+pub not_opened : (text : List ℕ) (turns : ℕ) (r : Result (Unit {0}) Stop) (stop : Stop) (held said : Option (List ℕ))
+    → stop ≡ Failed → IsErrAnd r (λ e. e ≡ stop) → ServesText text turns r held held said said
+not_opened text turns (Ok _) stop held said is failed = absurd failed
+not_opened text turns (Err e) stop held said is failed =
+    subst (λ s. ServesText text turns (Err s) held held said said) (sym (failed ∙ is)) (unprinted refl refl)
 
 -- what it sets up is served
-pub text_served : (turns : ℕ) (first last : EngineView MioWire) (text : List ℕ) (setup : Setup) (held after : Option (List ℕ)) (r : Result (Unit {0}) Stop)
-    → IsTextOf text setup → IsOpened setup first → Serves (λ wire calls. ⊤) turns first last held after r → ServesText text turns r held after
-text_served turns first last text setup held after (Ok _) is opened serves = record {
+pub text_served : (turns : ℕ) (first last : EngineView MioWire) (text : List ℕ) (setup : Setup) (held after said said_after : Option (List ℕ)) (r : Result (Unit {0}) Stop)
+    → IsTextOf text setup → IsOpened setup first → Serves (λ wire calls. ⊤) turns first last held after said said_after r
+    → ServesText text turns r held after said said_after
+text_served turns first last text setup held after said said_after (Ok _) is opened serves = record {
   setup = setup;
   is_text_of = is;
   first = first;
@@ -62,29 +82,32 @@ text_served turns first last text setup held after (Ok _) is opened serves = rec
   is_ready = serves.0;
   taken = serves.1;
 }
-text_served turns first last text setup held after (Err Failed) is opened serves = printing setup is serves
-text_served turns first last text setup held after (Err BadConfiguration) is opened serves = absurd serves
-text_served turns first last text setup held after (Err Usage) is opened serves = absurd serves
-text_served turns first last text setup held after (Err (BadScript line)) is opened serves = absurd serves
+text_served turns first last text setup held after said said_after (Err Failed) is opened serves = printing setup is serves.0 serves.1
+text_served turns first last text setup held after said said_after (Err BadConfiguration) is opened serves = absurd serves
+text_served turns first last text setup held after said said_after (Err Usage) is opened serves = absurd serves
+text_served turns first last text setup held after said said_after (Err (BadScript line)) is opened serves = absurd serves
 
 -- a file is not read
-pub file_refused : (turns : ℕ) (r : Result (Unit {0}) Stop) (stop : Stop) (held : Option (List ℕ)) → IsOfFile stop → IsErrAnd r (λ e. e ≡ stop)
-    → ServesFile turns r held held
-file_refused turns (Ok _) stop held (inl is) failed = absurd failed
-file_refused turns (Ok _) stop held (inr is) failed = absurd failed
-file_refused turns (Err e) stop held (inl is) failed = subst (λ s. ServesFile turns (Err s) held held) (sym (failed ∙ is)) refl
-file_refused turns (Err e) stop held (inr is) failed = subst (λ s. ServesFile turns (Err s) held held) (sym (failed ∙ is)) (tells_nothing held ready_text)
+pub file_refused : (turns : ℕ) (r : Result (Unit {0}) Stop) (stop : Stop) (held said : Option (List ℕ)) → IsOfFile stop → IsErrAnd r (λ e. e ≡ stop)
+    → ServesFile turns r held held said said
+file_refused turns (Ok _) stop held said (inl is) failed = absurd failed
+file_refused turns (Ok _) stop held said (inr is) failed = absurd failed
+file_refused turns (Err e) stop held said (inl is) failed = subst (λ s. ServesFile turns (Err s) held held said said) (sym (failed ∙ is)) (refl, refl)
+file_refused turns (Err e) stop held said (inr is) failed =
+    subst (λ s. ServesFile turns (Err s) held held said said) (sym (failed ∙ is)) (tells_nothing held ready_text, nothing_said said)
 
--- what was printed where it is cut short is a front of `ready`
-cut_short : (text : List ℕ) (held after : Option (List ℕ)) → IsCutShort text held after → Wrote held after ready_text
-cut_short text held after (unprinted is) = subst (λ a. Wrote held a ready_text) (sym is) (tells_nothing held ready_text)
-cut_short text held after (printing setup is tells) = tells
+-- what was printed where it is cut short is a front of `ready`, and what was said is of links
+cut_short : (text : List ℕ) (held after said said_after : Option (List ℕ)) → IsCutShort text held after said said_after
+    → Wrote held after ready_text × AreSomeSaid said said_after
+cut_short text held after said said_after (unprinted is same) =
+    (subst (λ a. Wrote held a ready_text) (sym is) (tells_nothing held ready_text), subst (λ a. AreSomeSaid said a) (sym same) (nothing_said said))
+cut_short text held after said said_after (printing setup is tells some) = (tells, some)
 
 -- a file is served by the text that it holds
-pub file_served : (text : List ℕ) (turns : ℕ) (r : Result (Unit {0}) Stop) (held after : Option (List ℕ)) → ServesText text turns r held after
-    → ServesFile turns r held after
-file_served text turns (Ok _) held after served = (text, served)
-file_served text turns (Err Failed) held after served = cut_short text held after served
-file_served text turns (Err BadConfiguration) held after served = served.1
-file_served text turns (Err Usage) held after served = absurd served
-file_served text turns (Err (BadScript line)) held after served = absurd served
+pub file_served : (text : List ℕ) (turns : ℕ) (r : Result (Unit {0}) Stop) (held after said said_after : Option (List ℕ))
+    → ServesText text turns r held after said said_after → ServesFile turns r held after said said_after
+file_served text turns (Ok _) held after said said_after served = (text, served)
+file_served text turns (Err Failed) held after said said_after served = cut_short text held after said said_after served
+file_served text turns (Err BadConfiguration) held after said said_after served = (served.1, served.2)
+file_served text turns (Err Usage) held after said said_after served = absurd served
+file_served text turns (Err (BadScript line)) held after said said_after served = absurd served

@@ -11,7 +11,9 @@ use Rattle.irc_settings.specs.Configuration.{AreSettingsOf, is_configuration}
 use Rattle.irc_server.specs.declared.config.Config.{Config}
 use Rattle.irc_server.specs.Configuring.{config_fault, made_view}
 use Rattle.irc_stage.specs.View.{KnownPeer, known_peer}
-use Rattle.irc_engine.specs.Turning.{EngineView, IsNew, Turns}
+use Rattle.irc_engine.specs.Turning.{EngineView, IsNew}
+use Rattle.irc_engine.specs.Telling.{ToldTurns}
+use Rattle.irc_journal.specs.Saying.{AreSomeSaid}
 use Rattle.irc_turns.specs.Spreads.{name_spread}
 use Rattle.irc_sockets.specs.declared.calls.Callee.{Callee}
 use Rattle.irc_sockets.specs.declared.listening.Listening.{Listening}
@@ -131,48 +133,58 @@ pub record IsOpened (setup : Setup) (engine : EngineView MioWire) : Type 0 where
   pub spread : wire.calls.retries.spread ≡ setup.spread
   pub is_new : IsNew setup.server wire setup.client_room setup.link_room engine
 
--- `ready` was printed, and all turns were taken; else a front of it was, and the program failed
-abbrev pub Serves : {W : Type 0} → (W → List Call → Type 0) → ℕ → EngineView W → EngineView W → Option (List ℕ) → Option (List ℕ) → Result (Unit {0}) Stop → Type 0
-Serves is_after turns old new printed printed_after (Ok _) = Appends printed printed_after ready_text × Turns is_after old turns new
-Serves is_after turns old new printed printed_after (Err Failed) = Wrote printed printed_after ready_text
-Serves is_after turns old new printed printed_after (Err BadConfiguration) = ⊥
-Serves is_after turns old new printed printed_after (Err Usage) = ⊥
-Serves is_after turns old new printed printed_after (Err (BadScript line)) = ⊥
+-- `ready` was printed, all turns were taken, and behind each what there was to tell of links was said; else a front of `ready` was printed, the
+-- program failed, and what was said is of links
+abbrev pub Serves : {W : Type 0} → (W → List Call → Type 0) → ℕ → EngineView W → EngineView W → Option (List ℕ) → Option (List ℕ)
+    → Option (List ℕ) → Option (List ℕ) → Result (Unit {0}) Stop → Type 0
+Serves is_after turns old new printed printed_after errors errors_after (Ok _) =
+    Appends printed printed_after ready_text × ToldTurns is_after old errors turns new errors_after
+Serves is_after turns old new printed printed_after errors errors_after (Err Failed) =
+    Wrote printed printed_after ready_text × AreSomeSaid errors errors_after
+Serves is_after turns old new printed printed_after errors errors_after (Err BadConfiguration) = ⊥
+Serves is_after turns old new printed printed_after errors errors_after (Err Usage) = ⊥
+Serves is_after turns old new printed printed_after errors errors_after (Err (BadScript line)) = ⊥
 
--- where the program failed: nothing was printed; or the text sets up a server, and a front of `ready` was
-pub data IsCutShort (text : List ℕ) (printed printed_after : Option (List ℕ)) : Type 0 where
-  unprinted : printed_after ≡ printed → IsCutShort text printed printed_after
-  printing : (setup : Setup) → IsTextOf text setup → Wrote printed printed_after ready_text → IsCutShort text printed printed_after
+-- where the program failed: nothing was printed or said; or the text sets up a server, a front of `ready` was printed, and what was said is of links
+pub data IsCutShort (text : List ℕ) (printed printed_after errors errors_after : Option (List ℕ)) : Type 0 where
+  unprinted : printed_after ≡ printed → errors_after ≡ errors → IsCutShort text printed printed_after errors errors_after
+  printing : (setup : Setup) → IsTextOf text setup → Wrote printed printed_after ready_text → AreSomeSaid errors errors_after
+      → IsCutShort text printed printed_after errors errors_after
 
--- A text was served: it sets up a server; once this was open, `ready` was printed, and all of so many turns were taken. Sockets keep no account of their calls.
-pub record IsServed (text : List ℕ) (turns : ℕ) (printed printed_after : Option (List ℕ)) : Type 0 where
+-- A text was served: it sets up a server; once this was open, `ready` was printed, and all of so many turns were taken, with what there was to tell of
+-- links said behind each. Sockets keep no account of their calls.
+pub record IsServed (text : List ℕ) (turns : ℕ) (printed printed_after errors errors_after : Option (List ℕ)) : Type 0 where
   pub setup : Setup
   pub is_text_of : IsTextOf text setup
   pub first : EngineView MioWire
   pub last : EngineView MioWire
   pub is_opened : IsOpened setup first
   pub is_ready : Appends printed printed_after ready_text
-  pub taken : Turns (λ wire calls. ⊤) first turns last
+  pub taken : ToldTurns (λ wire calls. ⊤) first errors turns last errors_after
 
--- How serving by a text ends: anything was printed only where the text sets up a server; a bad text is refused, and nothing printed.
-abbrev pub ServesText : List ℕ → ℕ → Result (Unit {0}) Stop → Option (List ℕ) → Option (List ℕ) → Type 0
-ServesText text turns (Ok _) printed printed_after = IsServed text turns printed printed_after
-ServesText text turns (Err BadConfiguration) printed printed_after = IsBadText text × (printed_after ≡ printed)
-ServesText text turns (Err Failed) printed printed_after = IsCutShort text printed printed_after
-ServesText text turns (Err Usage) printed printed_after = ⊥
-ServesText text turns (Err (BadScript line)) printed printed_after = ⊥
+-- How serving by a text ends: anything was printed or said only where the text sets up a server; a bad text is refused, and nothing printed or said.
+abbrev pub ServesText : List ℕ → ℕ → Result (Unit {0}) Stop → (printed printed_after errors errors_after : Option (List ℕ)) → Type 0
+ServesText text turns (Ok _) printed printed_after errors errors_after = IsServed text turns printed printed_after errors errors_after
+ServesText text turns (Err BadConfiguration) printed printed_after errors errors_after =
+    IsBadText text × (printed_after ≡ printed) × (errors_after ≡ errors)
+ServesText text turns (Err Failed) printed printed_after errors errors_after = IsCutShort text printed printed_after errors errors_after
+ServesText text turns (Err Usage) printed printed_after errors errors_after = ⊥
+ServesText text turns (Err (BadScript line)) printed printed_after errors errors_after = ⊥
 
 -- How serving by a file ends. What the file holds no clause can tell: some text, or none where it cannot be read.
-abbrev pub ServesFile : ℕ → Result (Unit {0}) Stop → Option (List ℕ) → Option (List ℕ) → Type 0
-ServesFile turns (Err BadConfiguration) printed printed_after = printed_after ≡ printed
-ServesFile turns (Err Failed) printed printed_after = Wrote printed printed_after ready_text
-ServesFile turns (Err Usage) printed printed_after = ⊥
-ServesFile turns (Err (BadScript line)) printed printed_after = ⊥
-ServesFile turns (Ok _) printed printed_after = (text : List ℕ) × IsServed text turns printed printed_after
+abbrev pub ServesFile : ℕ → Result (Unit {0}) Stop → (printed printed_after errors errors_after : Option (List ℕ)) → Type 0
+ServesFile turns (Err BadConfiguration) printed printed_after errors errors_after = (printed_after ≡ printed) × (errors_after ≡ errors)
+ServesFile turns (Err Failed) printed printed_after errors errors_after =
+    Wrote printed printed_after ready_text × AreSomeSaid errors errors_after
+ServesFile turns (Err Usage) printed printed_after errors errors_after = ⊥
+ServesFile turns (Err (BadScript line)) printed printed_after errors errors_after = ⊥
+ServesFile turns (Ok _) printed printed_after errors errors_after =
+    (text : List ℕ) × IsServed text turns printed printed_after errors errors_after
 
--- the status is that of how serving ended, and so is what is said on standard error
+-- the status is that of how serving ended, and so is what is said last on standard error, behind what was said of links
 pub record EndsServing (turns status : ℕ) (printed printed_after errors errors_after : Option (List ℕ)) : Type 0 where
   pub ending : Result (Unit {0}) Stop
-  pub served : ServesFile turns ending printed printed_after
+  pub by_then : Option (List ℕ)
+  pub served : ServesFile turns ending printed printed_after errors by_then
   pub status_is : status ≡ exit_status ending
-  pub tells : Wrote errors errors_after (ending_text ending)
+  pub tells : Wrote by_then errors_after (ending_text ending)

@@ -11,10 +11,12 @@ mod serve;
 #[cfg(test)]
 mod serve_tests;
 mod setup;
+mod unwaited;
 
 use irc_endings::{stop_with, words_given};
 use program::run;
 use std::process::ExitCode;
+use unwaited::Unwaited;
 
 fn main(rt: HostRuntime) -> ExitCode {
     run_words(&rt)
@@ -30,7 +32,9 @@ fn run_words(rt: &HostRuntime) -> ExitCode
 fn run_given(rt: &HostRuntime) -> u8
     ensures { IsStatus result }
 {
-    let mut errors = rt.stderr();
+    let mut errors = Unwaited {
+        errors: rt.stderr(),
+    };
     match words_given(rt) {
         Ok(words) => run(rt, &words, &mut rt.stdin(), &mut rt.stdout(), &mut errors),
         Err(stop) => stop_with(stop, &mut errors),

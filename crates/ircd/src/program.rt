@@ -71,6 +71,6 @@ fn run_server<T: AllocGlobal + Files + Net, W: Write, E: Write>(
     ensures { EndsServingOn W.contents E.contents turns
         result output.old output.new errors.old errors.new }
 {
-    let ended = serve(rt, file, turns, output);
+    let ended = serve(rt, file, turns, output, errors);
     end_with(ended, errors)
 }

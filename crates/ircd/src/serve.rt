@@ -15,22 +15,24 @@ use std::io::{ErrorKind, Write};
 use std::net::Net;
 
 /// Serves as a file says, for so many turns. Says `ready` as soon as clients and servers can connect, and the servers that it calls are called,
-/// whether they are reached or not.
+/// whether they are reached or not. What becomes of links is said to `errors` behind each turn.
 ///
 /// # Errors
 /// - [`Stop::BadConfiguration`] where the file cannot be read, or is no configuration. Then nothing is printed.
 /// - [`Stop::Failed`] where the system lets nobody listen, where `ready` cannot be written, and behind a turn that is not done: the device
 ///   failed, or memory ran out.
-pub fn serve<T: AllocGlobal + Files + Net, W: Write>(
+pub fn serve<T: AllocGlobal + Files + Net, W: Write, E: Write>(
     rt: &T,
     file: &str,
     turns: u64,
     output: &mut W,
+    errors: &mut E,
 ) -> Result<(), Stop>
-    ensures { ServesFile turns result (W.contents output.old) (W.contents output.new) }
+    ensures { ServesFile turns result (W.contents output.old) (W.contents output.new)
+        (E.contents errors.old) (E.contents errors.new) }
 {
     let text = read_file(rt, file)?;
-    serve_text(rt, rt.alloc(), text.as_str(), turns, output)
+    serve_text(rt, text.as_str(), turns, output, errors)
 }
 
 /// All that a file holds.
@@ -45,18 +47,19 @@ fn read_file<T: AllocGlobal + Files>(rt: &T, file: &str) -> Result<String, Stop>
 }
 
 /// Serves as a text says.
-fn serve_text<T: Net, W: Write>(
-    net: &T,
-    alloc: Global,
+fn serve_text<T: AllocGlobal + Net, W: Write, E: Write>(
+    rt: &T,
     text: &str,
     turns: u64,
     output: &mut W,
+    errors: &mut E,
 ) -> Result<(), Stop>
-    ensures { ServesText text.now turns result (W.contents output.old) (W.contents output.new) }
+    ensures { ServesText text.now turns result (W.contents output.old) (W.contents output.new)
+        (E.contents errors.old) (E.contents errors.new) }
 {
-    let setup = read_setup(alloc, text)?;
-    let mut engine = open(net, alloc, setup)?;
-    run_engine(&mut engine, turns, output)
+    let setup = read_setup(rt.alloc(), text)?;
+    let mut engine = open(rt, rt.alloc(), setup)?;
+    run_engine(&mut engine, turns, output, errors)
 }
 
 /// An engine that listens, and has called whom it is to call.
@@ -82,22 +85,29 @@ fn open<T: Net>(net: &T, alloc: Global, setup: Setup) -> Result<Engine<MioWire>,
 }
 
 /// Says `ready`, and takes so many turns.
-fn run_engine<W: Wire, O: Write>(
+fn run_engine<W: Wire, O: Write, E: Write>(
     engine: &mut Engine<W>,
     turns: u64,
     output: &mut O,
+    errors: &mut E,
 ) -> Result<(), Stop>
-    ensures { IsRun W.is_after turns engine.old engine.new (O.contents output.old) (O.contents output.new) result }
+    ensures { IsRun W.is_after turns engine.old engine.new (O.contents output.old) (O.contents output.new)
+        (E.contents errors.old) (E.contents errors.new) result }
 {
     say_ready(output)?;
-    take_turns(engine, turns)
+    take_turns(engine, turns, errors)
 }
 
 /// Takes so many turns, up to the first that is not done: it is the last, and the program fails.
-fn take_turns<W: Wire>(engine: &mut Engine<W>, turns: u64) -> Result<(), Stop>
-    ensures { TakesTurns W.is_after (engine_view engine.old) turns (engine_view engine.new) result }
+fn take_turns<W: Wire, E: Write>(
+    engine: &mut Engine<W>,
+    turns: u64,
+    errors: &mut E,
+) -> Result<(), Stop>
+    ensures { TakesTurns W.is_after (engine_view engine.old) turns (engine_view engine.new)
+        (E.contents errors.old) (E.contents errors.new) result }
 {
-    match engine.run(turns) {
+    match engine.run_telling(turns, errors) {
         Ok(()) => Ok(()),
         Err(_) => Err(Stop::Failed),
     }

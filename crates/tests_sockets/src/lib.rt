@@ -35,3 +35,7 @@ mod sockets;
 mod spreads;
 #[cfg(test)]
 mod steps;
+#[cfg(test)]
+mod tellings;
+#[cfg(test)]
+mod unheard;

@@ -3,7 +3,9 @@ use Rattle.std.specs.Prelude.{◌≡◌, ℕ, ◌⊎◌, Option, Result, Ok, Err
 use Rattle.irc_outbox.specs.Calls.{Call}
 use Rattle.irc_sockets.specs.declared.mio_wire.MioWire.{MioWire}
 use Rattle.irc_engine.specs.declared.engine.Engine.{Engine}
-use Rattle.irc_engine.specs.Turning.{EngineView, Turns}
+use Rattle.irc_engine.specs.Turning.{EngineView}
+use Rattle.irc_engine.specs.Telling.{ToldTurns}
+use Rattle.irc_journal.specs.Saying.{AreSomeSaid}
 use Rattle.irc_engine.specs.Loops.Moments.{engine_view}
 use Rattle.irc_endings.specs.declared.fault.Stop.{Stop}
 use Rattle.irc_endings.specs.declared.fault.Stop.TheVariants.{BadConfiguration, Failed}
@@ -15,15 +17,17 @@ abbrev pub Opens : Setup → Result (Engine MioWire) Stop → Type 0
 Opens setup (Ok engine) = IsOpened setup (engine_view engine)
 Opens setup (Err stop) = stop ≡ Failed
 
--- all of so many turns were taken, or one was not, and the program failed
-abbrev pub TakesTurns : {W : Type 0} → (W → List Call → Type 0) → EngineView W → ℕ → EngineView W → Result (Unit {0}) Stop → Type 0
-TakesTurns is_after old turns new (Ok _) = Turns is_after old turns new
-TakesTurns is_after old turns new (Err stop) = stop ≡ Failed
+-- all of so many turns were taken, or one was not, and the program failed; what was said is of links
+abbrev pub TakesTurns : {W : Type 0} → (W → List Call → Type 0) → EngineView W → ℕ → EngineView W → Option (List ℕ) → Option (List ℕ)
+    → Result (Unit {0}) Stop → Type 0
+TakesTurns is_after old turns new errors errors_after (Ok _) = ToldTurns is_after old errors turns new errors_after
+TakesTurns is_after old turns new errors errors_after (Err stop) = (stop ≡ Failed) × AreSomeSaid errors errors_after
 
 -- how serving by an engine ends, once it is open
-abbrev pub IsRun : {W : Type 0} → (W → List Call → Type 0) → ℕ → Engine W → Engine W → Option (List ℕ) → Option (List ℕ)
+abbrev pub IsRun : {W : Type 0} → (W → List Call → Type 0) → ℕ → Engine W → Engine W → (printed printed_after errors errors_after : Option (List ℕ))
     → Result (Unit {0}) Stop → Type 0
-IsRun is_after turns old new printed printed_after result = Serves is_after turns (engine_view old) (engine_view new) printed printed_after result
+IsRun is_after turns old new printed printed_after errors errors_after result =
+    Serves is_after turns (engine_view old) (engine_view new) printed printed_after errors errors_after result
 
 -- why a file is not read
 abbrev pub IsOfFile : Stop → Type 0

@@ -2,7 +2,7 @@ use Rattle.std.proofs.Common.{subst, arith}
 use Rattle.irc_engine.specs.Loops.Moments.{engine_view}
 use Rattle.irc_engine.specs.Telling.{TellsTurned, ToldTurns, no_told, told_more, all_told}
 use Rattle.irc_engine.proofs.TellingLaws.{told_stops}
-use Rattle.irc_engine.proofs.telling.Engine.run_telling.Goals as goal
+use Rattle.irc_engine.proofs.engine.Engine.run_telling.Goals as goal
 
 pub loop-turn-init : goal.loop-turn-init
 loop-turn-init g c = no_told

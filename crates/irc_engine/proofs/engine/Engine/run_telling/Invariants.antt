@@ -1,6 +1,6 @@
 use Rattle.irc_engine.specs.Loops.Moments.{engine_view}
 use Rattle.irc_engine.specs.Telling.{ToldTurns}
-use Rattle.irc_engine.proofs.telling.Engine.run_telling.Given as goal
+use Rattle.irc_engine.proofs.engine.Engine.run_telling.Given as goal
 
 -- so many turns were taken so far, with what was said behind each
 abbrev pub invariant-loop-turn : goal.invariant-loop-turn
