@@ -23,6 +23,7 @@
   ring     three of which each two are to be linked: all know each other within ten seconds, and then no link is lost
   flooding a client that floods another server without end is slowed: the link stays, and nobody else waits, on this machine and over a slow line
   probed   the system asks after both ends of a link
+  spoken   what becomes of links is said on standard error; where that is closed, full, or a pipe that nobody reads, nothing ends
 
 tests/linked_daemons.py PROGRAM [PART ..]. PROGRAM is crates/ircd/out/ircd, which `./ircd build` makes.
 Exit status: 0 where every part held, 1 where one did not.
@@ -86,11 +87,12 @@ class Daemon:
                 text += f"retry = {retry}\n"
         return text
 
-    def begin(self):
-        """Starts, and is not waited for."""
+    def begin(self, **how):
+        """Starts, and is not waited for. What it says is kept, unless it is to go somewhere else."""
         with open(self.path, "w", encoding="ascii") as file:
             file.write(self.text or self.configuration())
-        self.process = subprocess.Popen([self.program, "serve", self.path], stdout=subprocess.PIPE)
+        with open(self.path + ".said", "wb") as said:
+            self.process = subprocess.Popen([self.program, "serve", self.path], stdout=subprocess.PIPE, **({"stderr": said} | how))
 
     def start(self):
         self.begin()
@@ -107,6 +109,16 @@ class Daemon:
             self.process.wait()
             self.process.stdout.close()
             self.process = None
+
+    def said(self, count):
+        """The first so many lines that it has said."""
+        end = time.monotonic() + SECONDS
+        while True:
+            with open(self.path + ".said", encoding="ascii") as file:
+                lines = file.read().splitlines()
+            if len(lines) >= count or time.monotonic() > end:
+                return lines
+            time.sleep(0.02)
 
     def is_running(self):
         return self.process is not None and self.process.poll() is None
@@ -1036,8 +1048,61 @@ def probed(program):
         return told("probed", len(table) == 2 and count == 2, f"of two ends of a link the system asks after {count}")
 
 
+SAID_BY_CALLED = ["ircd: link from b.net: up",
+                  "ircd: link from an unknown server: refused: a wrong password",
+                  "ircd: link from x.net: up",
+                  "ircd: link from x.net: closed: a line with an unknown command",
+                  "ircd: link from an unknown server: lost before it was up",
+                  "ircd: link from b.net: lost"]
+
+
+def all_said(program):
+    with Network(program, ["a.net", "b.net"], [("b.net", "a.net")], retry=1) as network:
+        called, caller = network["a.net"], network["b.net"]
+        called.knows("x.net")
+        caller.start()
+        first = caller.said(1)[0]
+        called.start()
+        network.see_all("a.net", 2)
+        network.peer("a.net", "x.net", password="none").ends()
+        network.peer("a.net", "x.net").linked().says("FOO")
+        called.said(4)
+        network.peer("a.net", "x.net", greets=False).socket.close()
+        called.said(5)
+        caller.kill()
+        lines = called.said(6)
+        return told("spoken", first == "ircd: link to a.net: not reached: Connection refused (os error 111)" and lines == SAID_BY_CALLED,
+                    f"the caller says first {first!r}, and the called one {lines}")
+
+
+def goes_on(program, how, text):
+    """Whether a server answers behind so many links that were refused that no pipe holds what is to be said of them."""
+    with Network(program, ["a.net"], []) as network:
+        network["a.net"].begin(**how)
+        network["a.net"].is_ready()
+        al = network.person("a.net", "al")
+        for _ in range(1500):
+            with socket.create_connection(("127.0.0.1", network["a.net"].links), timeout=SECONDS) as stream:
+                stream.sendall(b"FOO\r\n")
+                while stream.recv(4096):
+                    pass
+        return told("spoken", al.answers() < 1 and network.all_run(), f"it goes on where standard error is {text}")
+
+
+def spoken(program):
+    held = all_said(program)
+    unread, writer = os.pipe()
+    with open("/dev/full", "wb") as full:
+        held = goes_on(program, {"stderr": full}, "full") and held
+    held = goes_on(program, {"stderr": writer}, "a pipe that nobody reads") and held
+    os.close(unread)
+    held = goes_on(program, {"stderr": writer}, "a pipe whose reader is gone") and held
+    os.close(writer)
+    return goes_on(program, {"stderr": None, "preexec_fn": lambda: os.close(2)}, "closed") and held
+
+
 PARTS = [people, clash, lost, burst, joined, wild, deaf, small, liars, doors, silent, knocking, reset, waiting, refused, files, late, again, crossing,
-         ring, flooding, probed]
+         ring, flooding, probed, spoken]
 
 
 def holds(part, program):

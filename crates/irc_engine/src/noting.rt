@@ -13,11 +13,7 @@ use std::alloc::AllocError;
 const ITS_OWN: u32 = 1;
 
 /// Enters what comes to light by an event; the server has handled it.
-pub(crate) fn note(
-    journal: &mut Journal,
-    event: &Event,
-    server: &Server,
-) -> Result<(), AllocError>
+pub(crate) fn note(journal: &mut Journal, event: &Event, server: &Server) -> Result<(), AllocError>
     ensures { OnOk result (EntersAll (event_signs event.now server.now) journal.old journal.new) }
 {
     match event {

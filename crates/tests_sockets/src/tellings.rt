@@ -20,11 +20,19 @@ const GREETS: &[u8] = b"PASS pw 0210010001 TREE|\r\nSERVER b.net 1 1 :B\r\n";
 
 static ROWS: [Row; 10] = [
     Row {
-        happens: &[Step::Client(1), Step::Bytes(1, b"NICK al\r\nUSER u 0 * :Al\r\n"), Step::End(1)],
+        happens: &[
+            Step::Client(1),
+            Step::Bytes(1, b"NICK al\r\nUSER u 0 * :Al\r\n"),
+            Step::End(1),
+        ],
         said: b"",
     },
     Row {
-        happens: &[Step::Linked(7), Step::Room(7, 9999), Step::Bytes(7, b"PASS pw 0210010001 TREE|\r\n")],
+        happens: &[
+            Step::Linked(7),
+            Step::Room(7, 9999),
+            Step::Bytes(7, b"PASS pw 0210010001 TREE|\r\n"),
+        ],
         said: b"",
     },
     Row {
@@ -32,7 +40,12 @@ static ROWS: [Row; 10] = [
         said: b"ircd: link to b.net: up\n",
     },
     Row {
-        happens: &[Step::Linked(7), Step::Room(7, 9999), Step::Bytes(7, GREETS), Step::End(7)],
+        happens: &[
+            Step::Linked(7),
+            Step::Room(7, 9999),
+            Step::Bytes(7, GREETS),
+            Step::End(7),
+        ],
         said: b"ircd: link from b.net: up\nircd: link from b.net: lost\n",
     },
     Row {
@@ -75,7 +88,11 @@ static ROWS: [Row; 10] = [
             ircd: link from b.net: closed: a line with an unknown command\n",
     },
     Row {
-        happens: &[Step::Called(7), Step::Room(7, 9999), Step::Bytes(7, b"ERROR :no\r\n")],
+        happens: &[
+            Step::Called(7),
+            Step::Room(7, 9999),
+            Step::Bytes(7, b"ERROR :no\r\n"),
+        ],
         said: b"ircd: link to b.net: refused: a line with an unknown command\n",
     },
 ];
@@ -201,7 +218,13 @@ fn is_said(said: Option<Vec<u8, Global>>, first: &[u8], words: &[u8]) -> bool {
 fn why_a_link_is_refused_is_told(rt: HostRuntime) {
     for cause in &REFUSED {
         let from = said_of(rt.alloc(), &Step::Linked(7), b"", cause.lines);
-        assert!(rt; is_said(from, b"ircd: link from an unknown server: refused: ", cause.words));
+        assert!(rt;
+            is_said(
+                from,
+                b"ircd: link from an unknown server: refused: ",
+                cause.words
+            )
+        );
         let to = said_of(rt.alloc(), &Step::Called(7), b"", cause.lines);
         assert!(rt; is_said(to, b"ircd: link to b.net: refused: ", cause.words));
     }

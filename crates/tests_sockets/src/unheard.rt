@@ -105,5 +105,7 @@ fn said_of_a_call(alloc: Global) -> Option<Vec<u8, Global>> {
 #[test]
 fn a_call_that_fails_is_told_once(rt: HostRuntime) {
     let said = said_of_a_call(rt.alloc()).expect(&rt, "three turns");
-    assert!(rt; said.as_slice() == b"ircd: link to b.net: not reached: connection refused\n".as_slice());
+    assert!(rt;
+        said.as_slice() == b"ircd: link to b.net: not reached: connection refused\n".as_slice()
+    );
 }

@@ -18,7 +18,7 @@ loop-place-preserved g c =
     let out = sent_of c.in-Some.out in
     let is = sym c.get.ensures.there ∙ ap (option_map sent_of) c.in-Some.is in
     let more = sym (take_more outs c.loop-place.place out (slice_get_within outs c.loop-place.place out is)
-        ∙ ap (λ o. take c.loop-place.place outs ++ o ∷ []) (get_or_from_slice_get outs c.loop-place.place out out is)) in
+    ∙ ap (λ o. take c.loop-place.place outs ++ o ∷ []) (get_or_from_slice_get outs c.loop-place.place out out is)) in
     record {
       carries = subst (λ os. Carries g.W.Wire.is_after [] c.args.self.now os c.dispatch_one.new.self) more
           (carries_on _ _ _ _ _ _ _ _ c.loop-place.invariant.carries c.in_ok-dispatch_one.ensures.carries);
