@@ -34,7 +34,7 @@ from rows import GROUPS, WRITTEN
 SECONDS = 60
 # what no call answers that has ample memory
 NOT_OK = ("memory", "failed", "unknown", "refused", "nobody", "no effect", "not free", "not made", "bad name", "known", "full", "taken", "no such",
-          "not member", "no line", "NotAtRest", "NoSuch", "NotLinked", "LinkRefused", "Disagree", "UnknownCommand", "Parameters", "BadToken",
+          "not member", "no line", "NotAtRest", "NoSuch", "NotLinked", "LinkRefused", "UnknownCommand", "Parameters", "BadToken",
           "WrongDirection", "BadName", "Order")
 
 
