@@ -159,13 +159,13 @@ static ROWS: [Row; 30] = [
         output: b"",
         errors: BAD,
     },
-    // two that are not there, and one that is not called
+    // two that are not there, and one that is not called; behind no turn nothing is told
     Row {
         room: ROOM,
         more: "[[peer]]\nname = \"b.net\"\npassword = \"pw\"\nconnect = \"127.0.0.1:1\"\n\
 [[peer]]\nname = \"c.net\"\npassword = \"pw\"\n\
 [[peer]]\nname = \"d.net\"\npassword = \"pw\"\nconnect = \"[::1]:1\"\n",
-        words: &["serve", FILE, "3"],
+        words: &["serve", FILE, "0"],
         status: 0,
         output: READY,
         errors: b"",
@@ -254,7 +254,7 @@ static ROWS: [Row; 30] = [
         words: &["serve", FILE, "3"],
         status: 0,
         output: READY,
-        errors: b"",
+        errors: b"ircd: link to b.net: not reached: Connection refused (os error 111)\n",
     },
     // one that would be called again, and is not called
     Row {

@@ -143,14 +143,14 @@ static CLOSED: [Cause; 8] = [
     },
     Cause {
         lines: b"NICK dd 2 u h 1 + :D\r\n",
-        words: b"a number of no server\n",
+        words: b"a line with wrong parameters\n",
     },
     Cause {
         lines: b":b.net SERVER d.net 2 1 :D\r\n",
         words: b"a number of no server\n",
     },
     Cause {
-        lines: b":cy QUIT :x\r\n",
+        lines: b":a.net SQUIT b.net :x\r\n",
         words: b"a line from the wrong direction\n",
     },
     Cause {
