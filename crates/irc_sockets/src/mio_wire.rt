@@ -125,7 +125,8 @@ impl MioWire {
         self.calls.retries.look();
         let has_arrived = self.take_events();
         self.sockets.talkers.let_go();
-        self.round.begin(self.sockets.talkers.waiting(), has_arrived);
+        self.round
+            .begin(self.sockets.talkers.waiting(), has_arrived);
         Ok(())
     }
 

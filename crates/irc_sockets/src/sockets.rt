@@ -176,11 +176,7 @@ fn unread(kind: ErrorKind) -> Result<Got, IoFault>
 }
 
 /// Writes.
-fn write_anew(
-    stream: &mut TcpStream,
-    talker: &mut Talker,
-    bytes: &[u8],
-) -> Result<usize, IoFault>
+fn write_anew(stream: &mut TcpStream, talker: &mut Talker, bytes: &[u8]) -> Result<usize, IoFault>
     ensures { IfOk result (λ count. count ≤ length bytes.now) }
 {
     match stream.write(bytes) {

@@ -182,13 +182,7 @@ impl Talkers {
     }
 
     /// A write to one is over, of so many bytes in all. It took so many of them, or failed. One that has taken its answers is asked again.
-    pub fn end_write(
-        &mut self,
-        number: usize,
-        all: usize,
-        taken: Option<usize>,
-        round: &mut Round,
-    )
+    pub fn end_write(&mut self, number: usize, all: usize, taken: Option<usize>, round: &mut Round)
         ensures queue { ComesLast (is_new_behind round.old all taken (talker_at self.old number)) number self.old self.new }
         ensures others { SameButQueue (only (behind_write round.old all taken) number self.old) self.new }
         ensures round { round.new ≡ round_behind number all taken round.old (talker_at self.old number) }

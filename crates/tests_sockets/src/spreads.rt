@@ -28,7 +28,9 @@ fn parts_from_all(one: u64) -> bool {
 
 #[test]
 fn any_two_spreads_are_soon_apart(rt: HostRuntime) {
-    assert!(rt; parts_from_all(0) && parts_from_all(1) && parts_from_all(398) && parts_from_all(796));
+    assert!(rt;
+        parts_from_all(0) && parts_from_all(1) && parts_from_all(398) && parts_from_all(796)
+    );
 }
 
 /// Whether servers of these names call apart from the first time on.
