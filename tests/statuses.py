@@ -18,6 +18,7 @@ import tempfile
 REPOSITORY = pathlib.Path(__file__).resolve().parent.parent
 SECONDS = 60
 
+UNREACHED = b"ircd: link to b.net: not reached: Connection refused (os error 111)\n"
 USAGE = b"ircd: usage: ircd sim | ircd serve FILE [TURNS]\n"
 BAD_CONFIGURATION = b"ircd: bad configuration\n"
 FAILED = b"ircd: failed\n"
@@ -125,7 +126,7 @@ def rows(free, taken, links_free, links_taken):
         (["serve", "no_such_file.toml", "0"], b"", 3, b"", BAD_CONFIGURATION),
         (["serve", free, "0"], b"", 0, b"ready\n", b""),
         (["serve", taken, "0"], b"", 4, b"", FAILED),
-        (["serve", links_free, "3"], b"", 0, b"ready\n", b""),
+        (["serve", links_free, "3"], b"", 0, b"ready\n", UNREACHED),
         (["serve", links_taken, "0"], b"", 4, b"", FAILED),
     ]
 
