@@ -1000,7 +1000,8 @@ def as_process(code, *words):
 
 
 def flooded(program, seconds, rate):
-    """The longest that others wait beside a flood to another server, and whether the link is never lost meanwhile."""
+    """The longest that others wait beside a flood to another server, whether the link is never lost meanwhile, and whether the flood was
+    read to the end."""
     with Network(program, ["a.net", "b.net"], [], client_room=524288, link_room=1048576) as network:
         network["b.net"].knows("a.net", Line(network, network["a.net"].links, rate=rate).port if rate else network["a.net"].links)
         network["a.net"].knows("b.net")
@@ -1023,16 +1024,16 @@ def flooded(program, seconds, rate):
                 client.stdout.close()
         al.says("LUSERS")
         is_linked = " 2 servers" in al.sees(" 251 ") and not al.times(" QUIT ") and not bo.times(" QUIT ")
-        return longest, is_flooding and is_linked and network.all_run()
+        return longest, is_linked and network.all_run(), is_flooding
 
 
 def flooding(program):
     held = True
     for seconds, rate in ((30, None), (30, 1_250_000)):
-        longest, is_linked = flooded(program, seconds, rate)
-        held = told("flooding", is_linked and longest < 0.025,
+        longest, is_linked, is_read = flooded(program, seconds, rate)
+        held = told("flooding", is_linked and is_read and longest < 0.025,
                     f"behind {seconds} s of a flood over a link {'of 1.25 MB/s' if rate else 'on this machine'} that link is {'there' if is_linked else 'LOST'}; "
-                    f"others waited {longest * 1000:.1f} ms at most") and held
+                    f"who is flooded is {'there' if is_read else 'LOST'}; others waited {longest * 1000:.1f} ms at most") and held
     return held
 
 
