@@ -5,6 +5,7 @@ use Rattle.std.specs.List.{slice_split}
 use Rattle.irc_modes.specs.Modes.{is_nil}
 use Rattle.irc_acts.specs.Marks.{comma}
 
+-- whether a byte parts two entries
 abbrev pub is_comma : ℕ → Bool
 is_comma b = nat_eq b comma
 

@@ -23,6 +23,7 @@ use Rattle.irc_acts.specs.Moves.{own_channels}
 abbrev pub mask_of : User → List ℕ
 mask_of user = full_name user.nick user.user user.host
 
+-- whether some ban of a channel is against a user
 abbrev pub is_banned : User → Channel → Bool
 is_banned user channel = list_any (λ ban. matches ban (mask_of user)) channel.modes.bans
 
@@ -41,10 +42,12 @@ visibility_of privacy.Public = visibility.Public
 visibility_of privacy.Private = visibility.Private
 visibility_of privacy.Secret = visibility.Secret
 
+-- whether the channel is listed for everybody
 abbrev pub is_public : Privacy → Bool
 is_public privacy.Public = true
 is_public other = false
 
+-- whether its members alone may know of it
 abbrev pub is_secret : Privacy → Bool
 is_secret privacy.Secret = true
 is_secret other = false

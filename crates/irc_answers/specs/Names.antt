@@ -30,6 +30,7 @@ is_named_to me channel member = has_member (key me.nick) channel || not member.i
 abbrev pub listed_as : (User → Bool) → Flags → User → Option Listed
 listed_as is_named flags user = if is_named user then Some (record { mark = mark_of flags; nick = user.nick }) else None
 
+-- a row of a channel's members, by the user whose it is
 abbrev pub listed : Table User → (User → Bool) → List ℕ × Flags → Option Listed
 listed users is_named member = option_and_then (listed_as is_named member.1) (row users member.0)
 
@@ -49,6 +50,7 @@ name_line channel names = Answer (NamReply (visibility_of channel.modes.privacy)
 abbrev pub name_lines : Channel → List Listed → List Act
 name_lines channel names = map (name_line channel) (in_lines max_names names)
 
+-- what is told of the members of one channel
 abbrev pub names_of : Table User → User → Channel → List Act
 names_of users me channel = name_lines channel (named_members users me channel)
 
@@ -65,9 +67,11 @@ abbrev pub known_names : Table User → User → Option Channel → List Act
 known_names users me None = []
 known_names users me (Some channel) = if is_known me channel then names_of users me channel else []
 
+-- the end names the channel as it was asked for
 abbrev pub end_of_names : List ℕ → Act
 end_of_names asked = Answer (EndOfNames (client_words asked))
 
+-- what is told of one name that is asked for; it has an end, be it a channel or not
 abbrev pub one_names : Room → User → List ℕ → List Act
 one_names room me name = known_names room.users me (row room.channels (key name)) ++ end_of_names name ∷ []
 

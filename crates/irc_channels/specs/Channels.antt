@@ -22,6 +22,7 @@ new_channel name = record { name = name; modes = no_modes; topic = []; members =
 abbrev pub has_member : List ℕ → Channel → Bool
 has_member nick channel = is_some (row channel.members nick)
 
+-- whether the user with this fold has an invitation that it has not used
 abbrev pub is_invited : List ℕ → Channel → Bool
 is_invited nick channel = is_some (row channel.invited nick)
 
@@ -81,6 +82,7 @@ adds_none changes channel = not (list_any (adds_ban channel.modes.bans) changes)
 abbrev pub member_changed : List ℕ → (Flags → Flags) → Channel → Channel
 member_changed nick change channel = record channel { members = alter (key nick) (option_map change) channel.members }
 
+-- the modes of the channel itself; its members keep their flags
 abbrev pub modes_changed : (Modes → Modes) → Channel → Channel
 modes_changed change channel = record channel { modes = change channel.modes }
 

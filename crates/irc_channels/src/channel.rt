@@ -60,6 +60,9 @@ impl Channel {
 
     /// A user joins, and its invitation is used up; one who is a member already changes nothing, and takes no memory. Where there is
     /// no memory nothing has changed.
+    ///
+    /// # Errors
+    /// Where memory runs out; nothing has changed then.
     pub fn join(&mut self, nick: &Nick, op: bool) -> Result<(), AllocError>
         ensures ok { OnOk result (self.new ≡ joined (key nick.now) op self.old) }
         ensures refused { OnErr result (self.new ≡ self.old) }
@@ -104,6 +107,9 @@ impl Channel {
     }
 
     /// A user is invited; one who is invited already takes no memory. Where there is no memory nothing has changed.
+    ///
+    /// # Errors
+    /// Where memory runs out; nothing has changed then.
     pub fn invite(&mut self, nick: &Nick) -> Result<(), AllocError>
         ensures ok { OnOk result (self.new ≡ invited_too (key nick.now) self.old) }
         ensures refused { OnErr result (self.new ≡ self.old) }
@@ -137,6 +143,9 @@ impl Channel {
 
     /// Changes modes, of the channel and of its members, one after another. Only a ban that is added takes memory; where there is none
     /// nothing has changed.
+    ///
+    /// # Errors
+    /// Where memory runs out; nothing has changed then.
     #[tactic(auto, using(crate::proofs::ChangesParted::all_parted))]
     pub fn change(&mut self, changes: &[ModeChange]) -> Result<(), AllocError>
         ensures ok { OnOk result (self.new ≡ all_changed changes.now self.old) }

@@ -96,6 +96,9 @@ impl Channels {
 
     /// A user joins a channel, which is made where it is not there, as it is spelled here (RFC 2812 section 3.2.1). One who is a
     /// member already changes nothing, and takes no memory.
+    ///
+    /// # Errors
+    /// [`ChannelsFault::Memory`] where memory runs out. Nothing has changed then.
     pub fn join(
         &mut self,
         nick: &Nick,
@@ -118,6 +121,10 @@ impl Channels {
     }
 
     /// A member leaves a channel, which ends with its last member (RFC 2811 section 3). It takes no memory.
+    ///
+    /// # Errors
+    /// [`ChannelsFault::NoSuchChannel`] where the channel is not there, then
+    /// [`ChannelsFault::NotMember`] where the user is no member of it. Nothing has changed then.
     pub fn part(&mut self, nick: &Nick, channel: &ChannelName) -> Result<(), ChannelsFault>
         ensures fault { result_err result ≡ leaving_fault_at nick.now self.old channel.now }
         ensures ok { Alters result channel.now (option_and_then (left (key nick.now))) self.old self.new }
@@ -134,6 +141,10 @@ impl Channels {
     }
 
     /// Changes modes of a channel and of its members, one after another (RFC 2811 section 4). Only a ban that is added takes memory.
+    ///
+    /// # Errors
+    /// [`ChannelsFault::NoSuchChannel`] where the channel is not there,
+    /// [`ChannelsFault::Memory`] where memory runs out. Nothing has changed then.
     pub fn change(
         &mut self,
         channel: &ChannelName,
@@ -152,6 +163,9 @@ impl Channels {
     }
 
     /// Gives a channel another topic. It takes no memory.
+    ///
+    /// # Errors
+    /// [`ChannelsFault::NoSuchChannel`] where the channel is not there. Nothing has changed then.
     pub fn set_topic(&mut self, channel: &ChannelName, topic: &Words) -> Result<(), ChannelsFault>
         ensures fault { result_err result ≡ fault_at self.old channel.now }
         ensures ok { Alters result channel.now (option_map (with_topic topic.now)) self.old self.new }
@@ -168,6 +182,9 @@ impl Channels {
     /// A channel's name is spelled as given, where that is greater by bytes than the stored
     /// spelling. So of two spellings the greater stays, whichever was there first. It takes no
     /// memory.
+    ///
+    /// # Errors
+    /// [`ChannelsFault::NoSuchChannel`] where the channel is not there. Nothing has changed then.
     pub fn respell(&mut self, channel: &ChannelName) -> Result<(), ChannelsFault>
         ensures fault { result_err result ≡ fault_at self.old channel.now }
         ensures ok { Alters result channel.now (option_map (respelled channel.now))
@@ -183,6 +200,10 @@ impl Channels {
     }
 
     /// Invites a user to a channel. One who is invited already takes no memory.
+    ///
+    /// # Errors
+    /// [`ChannelsFault::NoSuchChannel`] where the channel is not there,
+    /// [`ChannelsFault::Memory`] where memory runs out. Nothing has changed then.
     pub fn invite(&mut self, nick: &Nick, channel: &ChannelName) -> Result<(), ChannelsFault>
         ensures fault { IsOwedOrMemory (fault_at self.old channel.now) (result_err result) }
         ensures ok { Alters result channel.now (option_map (invited_too (key nick.now))) self.old self.new }
@@ -197,6 +218,9 @@ impl Channels {
     }
 
     /// Takes the invitation of a user to a channel back; where there is none nothing changes. It takes no memory.
+    ///
+    /// # Errors
+    /// [`ChannelsFault::NoSuchChannel`] where the channel is not there. Nothing has changed then.
     pub fn uninvite(&mut self, nick: &Nick, channel: &ChannelName) -> Result<(), ChannelsFault>
         ensures fault { result_err result ≡ fault_at self.old channel.now }
         ensures ok { Alters result channel.now (option_map (uninvited (key nick.now))) self.old self.new }

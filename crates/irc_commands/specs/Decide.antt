@@ -16,5 +16,6 @@ decide_for room place message None = nothing
 decide_for room place message (Some me) =
     if is_from message.prefix (Some me.nick) then row_for room place me message else nothing
 
+-- what comes of a line of the user with this nickname; nothing where there is no such user
 unfoldable pub decide : Room → Place → List ℕ → Parsed → Decided
 decide room place who message = decide_for room place message (row room.users (key who))

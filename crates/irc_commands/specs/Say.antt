@@ -37,10 +37,12 @@ may_speak user channel =
     && (not channel.modes.moderated || is_raised flags)
     && (is_raised flags || not (is_banned user channel))
 
+-- whether it is the verb that is never answered (RFC 2812 section 3.3.2)
 abbrev pub is_notice : Verb → Bool
 is_notice verb.Privmsg = false
 is_notice verb.Notice = true
 
+-- the command by which the text comes to those whom it is for
 abbrev pub say_command : Verb → List ℕ
 say_command verb.Privmsg = codes "PRIVMSG"
 say_command verb.Notice = codes "NOTICE"
@@ -51,6 +53,7 @@ said_text me which to words =
     let empty = joined_text (record { sender = full me.nick me.user me.host; command = say_command which; middle = to ∷ []; last = Some [] }) in
     take (max_line - length empty) words
 
+-- a text that goes through has its effect alone: who speaks is told nothing
 abbrev pub say_text : User → Verb → Target → List ℕ → List ℕ → List Act
 say_text me which to name words = Do (Say me.nick (is_notice which) to (bytes_kept (said_text me which name words))) ∷ []
 
@@ -65,6 +68,7 @@ abbrev pub to_user : User → Verb → List ℕ → List ℕ → Option User →
 to_user me which word words None = Answer (NoSuchNick (client_words word)) ∷ []
 to_user me which word words (Some user) = say_text me which (target.User user.nick) user.nick words
 
+-- one target: a channel where the word is written as the name of one, and a user otherwise
 abbrev pub to_one : Room → User → Verb → List ℕ → List ℕ → List Act
 to_one room me which words name =
     if names_channel name then to_channel me which name words (row room.channels (key name))
@@ -75,6 +79,7 @@ abbrev pub too_many : List (List ℕ) → List Act
 too_many [] = []
 too_many (target ∷ more) = Answer (TooManyTargets (client_words target)) ∷ []
 
+-- whether a step is a reply to who gave the command
 abbrev pub is_answer : Act → Bool
 is_answer (Answer reply) = true
 is_answer other = false
@@ -84,6 +89,7 @@ abbrev pub unless_notice : Verb → List Act → List Act
 unless_notice verb.Privmsg steps = steps
 unless_notice verb.Notice steps = filter (λ step. not (is_answer step)) steps
 
+-- the targets in turn, as many as are served; the first that is not is answered
 abbrev pub say_to : Room → User → Verb → List ℕ → List ℕ → List Act
 say_to room me which targets words =
     flat_map (to_one room me which words) (take max_targets (entries targets)) ++ too_many (drop max_targets (entries targets))

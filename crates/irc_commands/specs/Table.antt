@@ -31,6 +31,7 @@ use Rattle.irc_commands.specs.Say.{say_steps}
 use Rattle.irc_commands.specs.Topic.{topic_steps}
 use Rattle.irc_registering.specs.CommandNames.{CommandRow, row_named}
 
+-- what a word that names no command is answered
 abbrev pub unknown : List ℕ → Decided
 unknown word = does (Answer (UnknownCommand (client_words word)) ∷ [])
 

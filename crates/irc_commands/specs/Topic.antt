@@ -27,6 +27,7 @@ topic_set me channel text (Some flags) =
     if channel.modes.topic_locked && not flags.op then Answer (ChanOPrivsNeeded channel.name)
     else Do (SetTopic (by.User me.nick) channel.name (cut_words text))
 
+-- of a channel that the user may know of: its topic is told where no text is given, else set
 abbrev pub topic_known : User → Channel → List (List ℕ) → Act
 topic_known me channel [] = topic_told channel.name channel.topic
 topic_known me channel (text ∷ more) = topic_set me channel text (row channel.members (key me.nick))

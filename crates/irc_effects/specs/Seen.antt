@@ -71,6 +71,7 @@ full_sender user = full user.nick user.user user.host
 abbrev pub from_nick : Room → List ℕ → Option Sender
 from_nick room nick = option_map full_sender (row room.users (key nick))
 
+-- the same, where the doer may be a server: each viewer sees its own home as that
 abbrev pub from_by : Room → By → User → Option Sender
 from_by room (by.User nick) viewer = from_nick room nick
 from_by room by.Home viewer = Some (named viewer.home)
@@ -82,6 +83,7 @@ parts_of command middle last sender = option_map (λ s. record { sender = s; com
 abbrev pub line_from : List ℕ → List (List ℕ) → Option (List ℕ) → Option Sender → Option (List ℕ)
 line_from command middle last sender = option_map text (parts_of command middle last sender)
 
+-- what a text is for, as it is written
 abbrev pub target_name : Room → Target → List ℕ
 target_name room (target.User nick) = stored_nick room nick
 target_name room (target.Channel channel) = stored_channel room channel
@@ -104,6 +106,7 @@ shown_parts room (Invite by nick channel) viewer = parts_of (codes "INVITE") (st
 shown_parts room (UserMode nick invisible) viewer =
     parts_of (codes "MODE") (stored_nick room nick ∷ (if invisible then codes "+i" else codes "-i") ∷ []) None (from_nick room nick)
 
+-- the line that an effect shows to a viewer, if it shows one
 abbrev pub shown_line : Room → Effect → User → Option (List ℕ)
 shown_line room effect viewer = option_map text (shown_parts room effect viewer)
 
@@ -112,6 +115,7 @@ pub record Showing : Type 0 where
   pub viewer : List ℕ
   pub line : List ℕ
 
+-- the viewer with its line, where it sees the effect
 abbrev pub shown_to : Room → Effect → User → Option Showing
 shown_to room effect viewer =
     if sees room effect viewer.nick then option_map (λ line. record { viewer = viewer.nick; line = line }) (shown_line room effect viewer) else None

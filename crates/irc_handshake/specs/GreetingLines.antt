@@ -18,6 +18,7 @@ agreement = codes "TREE|"
 abbrev pub from_nobody : List ℕ → List (List ℕ) → Option (List ℕ) → Written
 from_nobody command middle last = record { sender = nobody; command = command; middle = middle; last = last }
 
+-- the first line of a greeting (RFC 2813 section 4.1.1)
 abbrev pub pass_parts : List ℕ → Written
 pass_parts password = from_nobody (codes "PASS") (password ∷ version ∷ agreement ∷ []) None
 

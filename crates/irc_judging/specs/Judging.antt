@@ -27,9 +27,11 @@ abbrev pub differs : Bool → Bool → Bool
 differs true other = not other
 differs _ other = other
 
+-- the change that is made where a letter is obeyed, with its word as it is told to all
 abbrev pub change_made : Bool → ModeLetter → Option (List ℕ) → ModeChange
 change_made plus which word = record { plus = plus; letter = which; word = word }
 
+-- what would change nothing is not made, and nobody is told
 abbrev pub kept_if : Bool → ModeChange → Verdict
 kept_if test change = if test then Keeps change else Nothing
 
@@ -109,6 +111,7 @@ abbrev pub member_judged : Table Flags → List ℕ → Bool → ModeLetter → 
 member_judged members name plus which word None = Says (NoSuchNick (client_words word))
 member_judged members name plus which word (Some user) = flag_judged name user.nick plus which (row members (key word))
 
+-- the letters of members: the word is a user's nickname; without one nothing comes of the letter
 abbrev pub word_judged : Table User → Channel → Bool → ModeLetter → Option (List ℕ) → Verdict
 word_judged users now plus which None = Nothing
 word_judged users now plus which (Some word) = member_judged now.members now.name plus which word (row users (key word))

@@ -3,6 +3,7 @@ use Rattle.std.specs.Prelude.{ℕ, Bool, false, ◌||◌, ◌==◌, List, [], �
 use Rattle.std.specs.List.{list_any}
 use Rattle.irc_line.specs.Limits.{max_line}
 
+-- the bytes that part lines, words and names, in ASCII
 abbrev pub carriage_return : ℕ
 carriage_return = 13
 
@@ -21,6 +22,7 @@ exclamation_mark = 33
 abbrev pub at_sign : ℕ
 at_sign = 64
 
+-- a space parts words; a colon begins a prefix, and a last parameter that may hold spaces
 abbrev pub is_space : ℕ → Bool
 is_space b = b == space
 
@@ -31,6 +33,7 @@ is_colon b = b == colon
 abbrev pub is_line_end : ℕ → Bool
 is_line_end b = (b == carriage_return) || (b == line_feed)
 
+-- no message may hold a NUL
 abbrev pub is_nul : ℕ → Bool
 is_nul b = b == 0
 
@@ -42,6 +45,7 @@ abbrev pub begins : (ℕ → Bool) → List ℕ → Bool
 begins p [] = false
 begins p (b ∷ bytes) = p b
 
+-- the end of a line as it is written
 abbrev pub crlf : List ℕ
 crlf = carriage_return ∷ line_feed ∷ []
 

@@ -16,6 +16,7 @@ is_carried_byte b = not (is_nul b || is_line_end b)
 abbrev pub is_carried : List ℕ → Bool
 is_carried bytes = list_all is_carried_byte bytes
 
+-- the same, as a condition in clauses
 abbrev pub IsCarried : List ℕ → Type 0
 IsCarried bytes = IsTrue (is_carried bytes)
 

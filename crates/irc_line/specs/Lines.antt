@@ -19,6 +19,7 @@ earlier_pieces [] = []
 earlier_pieces (piece ∷ []) = []
 earlier_pieces (piece ∷ next ∷ pieces) = piece ∷ earlier_pieces (next ∷ pieces)
 
+-- whether there are no bytes
 abbrev pub is_empty : List ℕ → Bool
 is_empty [] = true
 is_empty (b ∷ bytes) = false
@@ -40,6 +41,7 @@ pub record Begun : Type 0 where
   pub kept : List ℕ
   pub nul_seen : Bool
 
+-- what counts of these bytes, where a piece begins with them
 abbrev pub begun_of : List ℕ → Begun
 begun_of piece = record { kept = cut piece; nul_seen = has_nul piece }
 
@@ -59,6 +61,7 @@ stream_for framer = framer.kept ++ (if framer.nul_seen && not (has_nul framer.ke
 abbrev pub completed : Begun → List ℕ → List (List ℕ)
 completed framer bytes = lines (stream_for framer ++ bytes)
 
+-- what a framer is when bytes have come to it: the last piece of all has begun
 abbrev pub begun_behind : Begun → List ℕ → Begun
 begun_behind framer bytes = begun_of (tail (stream_for framer ++ bytes))
 

@@ -33,13 +33,16 @@ prefix_of nobody = None
 prefix_of (named name) = Some name
 prefix_of (full nick user host) = Some (full_name nick user host)
 
+-- who a line is from, as it is written, before its command
 abbrev pub prefix_text : Option (List ℕ) → List ℕ
 prefix_text None = []
 prefix_text (Some name) = (colon ∷ []) ++ name ++ (space ∷ [])
 
+-- the parameters that stand as words, as they are written
 abbrev pub middle_text : List (List ℕ) → List ℕ
 middle_text = flat_map (λ word. space ∷ word)
 
+-- the last parameter behind its colon, as it is written
 abbrev pub last_text : Option (List ℕ) → List ℕ
 last_text None = []
 last_text (Some last) = space ∷ colon ∷ last

@@ -201,9 +201,11 @@ wire_table =
     ∷ line (codes "KICK") kick_line ∷ line (codes "MODE") mode_line ∷ line (codes "TOPIC") topic_line
     ∷ line (codes "PRIVMSG") (say_line false) ∷ line (codes "NOTICE") (say_line true) ∷ line (codes "INVITE") invite_line ∷ []
 
+-- the row of a command, if it is one that links carry
 abbrev pub wire_row_of : List ℕ → Option Row
 wire_row_of word = find (λ (r : Row). is_command r.command word) wire_table
 
+-- what a line means by its row, or its first fault
 abbrev pub read_row : Reader → Parsed → Option Row → Result (List Effect) WireFault
 read_row reader message None = Err UnknownCommand
 read_row reader message (Some r) = first_fault (r.check reader message.prefix message.params)

@@ -38,13 +38,16 @@ pub record Reader : Type 0 where
   -- whether a channel is there, and has a member behind the link
   pub has_far : List ℕ → Bool
 
+-- whether a server is reached by this link
 abbrev pub is_behind_link : Known → ℕ → List ℕ → Bool
 is_behind_link known link name = option_map_or (nat_eq link) (next_hop known name) false
 
+-- whether a member of a channel is at home behind this link
 abbrev pub some_behind_link : Room → Known → ℕ → Channel → Bool
 some_behind_link room known link channel =
     list_any (λ fold. option_map_or (is_behind_link known link) (home_under room fold) false) (keys channel.members)
 
+-- what a server knows when a line comes to it by this link
 abbrev pub reader_of : Room → Known → ℕ → Reader
 reader_of room known link = record {
   home = λ nick. home_under room (key nick);

@@ -72,6 +72,10 @@ fn may_come(at: Arrival<'_>, name: &[u8]) -> bool
 }
 
 /// Refuses a line from a name that may not come by the link.
+///
+/// # Errors
+/// [`WireFault::WrongDirection`] where the name is that of a server that is not behind the link,
+/// or of a user that is at home on one.
 pub fn expect_from(at: Arrival<'_>, name: &[u8]) -> Result<(), WireFault>
     ensures { result ≡ (if may_come (reader at.entry) name.now then Ok tt else Err WrongDirection) }
 {

@@ -12,6 +12,7 @@ max_number = 4294967295
 abbrev pub max_number_digits : ℕ
 max_number_digits = 10
 
+-- whether the first digit is a zero, by which a number would have several spellings
 abbrev pub begins_with_zero : List ℕ → Bool
 begins_with_zero [] = false
 begins_with_zero (digit ∷ digits) = nat_eq digit 0x30

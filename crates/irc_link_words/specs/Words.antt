@@ -27,6 +27,7 @@ is_command command word = bytes_eq (map to_ascii_lowercase word) (map to_ascii_l
 
 -- ---- mode i of a user
 
+-- the words of a MODE that set it and take it away
 abbrev pub with_i : List ℕ
 with_i = codes "+i"
 
@@ -47,12 +48,15 @@ is_come_mode word = bytes_eq word with_i || bytes_eq word no_mode
 abbrev pub op_mark : List ℕ
 op_mark = 7 ∷ codes "o"
 
+-- the channel as a JOIN writes it, by whether the user becomes an operator
 abbrev pub marked : List ℕ → Bool → List ℕ
 marked channel op = if op then channel ++ op_mark else channel
 
+-- whether such a word says that the user becomes an operator
 abbrev pub is_marked : List ℕ → Bool
 is_marked word = bytes_eq (drop (length word - length op_mark) word) op_mark
 
+-- the channel's name, whether the word says so or not
 abbrev pub unmarked : List ℕ → List ℕ
 unmarked word = if is_marked word then take (length word - length op_mark) word else word
 
@@ -63,6 +67,7 @@ abbrev pub is_for_channel : List ℕ → Bool
 is_for_channel [] = false
 is_for_channel (first ∷ rest) = nat_eq first 0x23
 
+-- a word that does not stand for a channel stands for a user
 abbrev pub target_of : List ℕ → Target
 target_of word = if is_for_channel word then target.Channel word else target.User word
 
@@ -84,11 +89,13 @@ as_text bytes = record { items = bytes }
 
 -- ---- a user name
 
+-- whether a word may stand in the place of a user name: one that no server has to cut or clean
 abbrev pub is_user_name : List ℕ → Bool
 is_user_name word = not (is_nil word) && list_all is_user_byte word && fits max_user_name word
 
 -- ---- changes of modes
 
+-- the change that a letter asks for; none where it asks for the list, lacks a word or is unknown
 abbrev pub made : Asked → Option ModeChange
 made (change plus letter word) = Some (record { plus = plus; letter = letter; word = word })
 made list = None

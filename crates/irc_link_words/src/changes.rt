@@ -19,6 +19,9 @@ use std::alloc::{AllocError, Global};
 
 /// The changes that words tell of, where these are what the changes are written as, and the words of the changes keep the rules of their
 /// letters. Whether o and v name members by nicknames is not looked at.
+///
+/// # Errors
+/// Where memory runs out.
 pub fn read_changes(alloc: Global, words: &[&[u8]]) -> Result<Option<ModeChanges>, AllocError>
     ensures { IfOk result (λ changes. changes ≡ told_changes (words_now words.now)) }
 {

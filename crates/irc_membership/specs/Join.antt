@@ -29,6 +29,7 @@ pub record JoinEntry : Type 0 where
   pub channel : List ℕ
   pub key : List ℕ
 
+-- an entry for this channel, with what is given for its key
 abbrev pub asks : List ℕ → List ℕ → JoinEntry
 asks channel given = record { channel = channel; key = given }
 
@@ -42,10 +43,12 @@ with_keys (channel ∷ channels) (given ∷ keys) = asks channel given ∷ with_
 unfoldable pub asked_for : List ℕ → List ℕ → List JoinEntry
 asked_for channels keys = filter (λ asked. not (is_nil asked.channel)) (with_keys (pieces channels) (pieces keys))
 
+-- whether what is given opens a channel with this key; anything opens one that has none
 abbrev pub opens : Option (List ℕ) → List ℕ → Bool
 opens None given = true
 opens (Some word) given = pointwise nat_eq word given
 
+-- whether the limit leaves no place for another member (RFC 2811 section 4.2.9)
 abbrev pub is_full : Option ℕ → Channel → Bool
 is_full None channel = false
 is_full (Some limit) channel = nat_le limit (length (keys channel.members))
@@ -75,6 +78,7 @@ joins room me name op channel =
     let now = joined (key me.nick) op channel in
     Do (Join me.nick channel.name op) ∷ joiner_topic now ++ names_of room.users me now ++ end_of_names name ∷ []
 
+-- a channel that is there is joined unless something keeps the user out
 abbrev pub admitted : Room → User → List ℕ → Channel → Option Act → List Act
 admitted room me name channel None = joins room me name false channel
 admitted room me name channel (Some refusal) = refusal ∷ []
@@ -84,9 +88,11 @@ abbrev pub joins_found : Room → User → JoinEntry → Option Channel → List
 joins_found room me asked None = joins room me asked.channel true (new_channel asked.channel)
 joins_found room me asked (Some channel) = admitted room me asked.channel channel (kept_out me asked.key channel)
 
+-- by the name that is asked for
 abbrev pub joins_asked : Room → User → JoinEntry → List Act
 joins_asked room me asked = joins_found room me asked (row room.channels (key asked.channel))
 
+-- one entry of a list: nothing comes of it where the user is a member already
 abbrev pub join_one : User → Room → JoinEntry → List Act
 join_one me room asked =
     if not (is_channel asked.channel) then Answer (NoSuchChannel (client_words asked.channel)) ∷ []
@@ -106,6 +112,7 @@ leave_each room me = map (leaves me) (own_channels room me)
 abbrev pub join_list : Room → User → List ℕ → List ℕ → List Act
 join_list room me list keys = in_turn (join_one me) room (asked_for list keys)
 
+-- the word by which a JOIN leaves all channels (RFC 2812 section 3.2.1)
 abbrev pub is_zero : List ℕ → Bool
 is_zero word = pointwise nat_eq word (codes "0")
 

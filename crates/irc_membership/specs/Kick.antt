@@ -23,6 +23,7 @@ pub record Kicking : Type 0 where
   pub channel : List ℕ
   pub nick : List ℕ
 
+-- an entry for this channel and this nickname
 abbrev pub kicking : List ℕ → List ℕ → Kicking
 kicking channel nick = record { channel = channel; nick = nick }
 
@@ -60,6 +61,7 @@ kicks_found users me text asked (Some channel) =
     unless_refused (first_refusal (kick_refusals channel.name (row channel.members (key me.nick))))
     (kicks me text channel.name asked.nick (member_named users channel asked.nick))
 
+-- one entry of the list, in the room as those before it leave it
 abbrev pub kick_one : User → List ℕ → Room → Kicking → List Act
 kick_one me text room asked = kicks_found room.users me text asked (row room.channels (key asked.channel))
 

@@ -21,6 +21,7 @@ left_by me text name None = Answer (NoSuchChannel (client_words name)) ∷ []
 left_by me text name (Some channel) =
     if has_member (key me.nick) channel then Do (Part me.nick channel.name text) ∷ [] else Answer (NotOnChannel channel.name) ∷ []
 
+-- one name of the list, in the room as those before it leave it
 abbrev pub part_one : User → List ℕ → Room → List ℕ → List Act
 part_one me text room name = left_by me text name (row room.channels (key name))
 

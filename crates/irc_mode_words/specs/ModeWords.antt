@@ -77,6 +77,7 @@ once letter.Operator has_next = false
 once letter.Voice has_next = false
 once other has_next = true
 
+-- what a mode's letter is read as; any other takes no parameter, and counts each time
 abbrev pub reading_of : Bool → ℕ → Option ModeLetter → Option (List ℕ) → Reading
 reading_of plus byte None next = record { byte = byte; takes = false; once = false; asked = unknown byte }
 reading_of plus byte (Some letter) next = record {
@@ -90,14 +91,17 @@ reading_of plus byte (Some letter) next = record {
 abbrev pub reading : Bool → ℕ → Option (List ℕ) → Reading
 reading plus byte next = reading_of plus byte (mode_of byte) next
 
+-- the parameter that stands next, if one is left
 abbrev pub next_word : List (List ℕ) → Option (List ℕ)
 next_word [] = None
 next_word (word ∷ words) = Some word
 
+-- whether a parameter is taken where there is one
 abbrev pub asks_for_word : Asks → Bool
 asks_for_word Nothing = false
 asks_for_word other = true
 
+-- the same of a letter with its sign; what is no mode's takes none
 abbrev pub letter_asks : Bool → Option ModeLetter → Bool
 letter_asks plus None = false
 letter_asks plus (Some letter) = asks_for_word (needs plus letter)
@@ -119,6 +123,7 @@ letters_read plus (byte ∷ letters) words =
 
 -- ---- then the limits drop letters
 
+-- whether it is of this letter, and only the first such letter counts
 abbrev pub is_once_with : ℕ → Reading → Bool
 is_once_with byte reading = reading.once && nat_eq byte reading.byte
 

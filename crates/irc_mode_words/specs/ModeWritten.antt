@@ -28,6 +28,7 @@ letters_behind sign (c ∷ changes) =
     (if c.plus then (if sign then [] else sign_byte true ∷ []) else (if sign then sign_byte false ∷ [] else []))
     ++ letter_byte c.letter ∷ letters_behind c.plus changes
 
+-- the letters of changes, with a sign where it is another than before
 abbrev pub letters_text : List ModeChange → List ℕ
 letters_text [] = []
 letters_text (c ∷ changes) = sign_byte c.plus ∷ letter_byte c.letter ∷ letters_behind c.plus changes

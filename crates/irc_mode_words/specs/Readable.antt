@@ -35,6 +35,7 @@ is_parameter letter.Operator word = is_nick word
 is_parameter letter.Voice word = is_nick word
 is_parameter other word = false
 
+-- a letter that has a parameter has one that it can be read with, and another has none
 abbrev pub word_fits : Bool → ModeLetter → Option (List ℕ) → Bool
 word_fits plus letter None = not (has_parameter plus letter)
 word_fits plus letter (Some word) = has_parameter plus letter && is_parameter letter word
@@ -43,6 +44,7 @@ word_fits plus letter (Some word) = has_parameter plus letter && is_parameter le
 abbrev pub has_its_word : ModeChange → Bool
 has_its_word c = word_fits c.plus c.letter c.word
 
+-- whether a parameter is written for a change
 abbrev pub is_worded : ModeChange → Bool
 is_worded c = is_some c.word
 

@@ -26,9 +26,11 @@ pub record Outcome : Type 0 where
   pub replies : List Act
   pub changes : List ModeChange
 
+-- what changes nothing, and is at most answered
 abbrev pub only_replies : List Act → Outcome
 only_replies replies = record { replies = replies; changes = [] }
 
+-- what comes of one letter, as it was judged
 abbrev pub outcome_of : Verdict → Outcome
 outcome_of (Says reply) = only_replies (Answer reply ∷ [])
 outcome_of (Keeps made) = record { replies = []; changes = made ∷ [] }
@@ -75,6 +77,7 @@ in_one me channel outcome = outcome.replies ++ changing me channel outcome.chang
 abbrev pub obeyed : Table User → User → Channel → List Asked → List Act
 obeyed users me channel items = in_one me channel (served users channel channel items)
 
+-- only an operator of the channel is obeyed
 abbrev pub asked_of : Table User → User → Channel → List Asked → List Act
 asked_of users me channel items =
     if is_operator (row channel.members (key me.nick)) then obeyed users me channel items else denied channel items
@@ -84,6 +87,7 @@ abbrev pub in_channel : Table User → User → Channel → List (List ℕ) → 
 in_channel users me channel [] = modes_shown me channel ∷ []
 in_channel users me channel (letters ∷ words) = asked_of users me channel (modes_read (letters ∷ words))
 
+-- what comes of a MODE for the channel that was found under a name, if one was
 unfoldable pub channel_mode : Table User → User → List ℕ → List (List ℕ) → Option Channel → List Act
 channel_mode users me name more None = Answer (NoSuchChannel (client_words name)) ∷ []
 channel_mode users me name more (Some channel) = in_channel users me channel more

@@ -48,6 +48,7 @@ modes_shown me channel =
     Answer (ChannelModeIs channel.name (bytes_kept (letters_set channel.modes)) (option_map (key_shown (has_member (key me.nick) channel)) channel.modes.key)
     channel.modes.limit)
 
+-- one ban as a user is told it
 abbrev pub ban_shown : List ℕ → List ℕ → Act
 ban_shown channel mask = Answer (BanList channel mask)
 

@@ -16,6 +16,7 @@ use Rattle.irc_modes.specs.declared.modes.AskedChange.{AskedChange}
 use Rattle.irc_modes.specs.declared.modes.ModeLetter.{ModeLetter}
 use Rattle.irc_modes.specs.declared.modes.ModeLetter.TheVariants as letter
 
+-- the modes of a new channel
 abbrev pub no_modes : Modes
 no_modes = record {
   invite_only = false;
@@ -28,6 +29,7 @@ no_modes = record {
   bans = [];
 }
 
+-- whether nothing is in a list
 abbrev pub is_nil : {X : Type 0} → List X → Bool
 is_nil [] = true
 is_nil (x ∷ xs) = false
@@ -68,9 +70,11 @@ with_ban mask bans =
     filter (λ ban. is_lt (name_cmp ban mask)) bans
     ++ mask ∷ filter (λ ban. is_lt (name_cmp mask ban)) bans
 
+-- The bans but for the one that is the same under the fold.
 abbrev pub without_ban : List ℕ → List (List ℕ) → List (List ℕ)
 without_ban mask bans = filter (λ ban. not (same mask ban)) bans
 
+-- what the sign does with a mask
 abbrev pub ban_changed : Bool → List ℕ → List (List ℕ) → List (List ℕ)
 ban_changed true mask bans = with_ban mask bans
 ban_changed false mask bans = without_ban mask bans
@@ -79,6 +83,7 @@ ban_changed false mask bans = without_ban mask bans
 abbrev pub bans_changed : Bool → List ℕ → List (List ℕ) → List (List ℕ)
 bans_changed plus word bans = if is_ban_mask word then ban_changed plus word bans else bans
 
+-- a letter that has no parameter changes no ban
 abbrev pub bans_by_word : Bool → Option (List ℕ) → List (List ℕ) → List (List ℕ)
 bans_by_word plus (Some word) bans = bans_changed plus word bans
 bans_by_word plus None bans = bans
@@ -113,6 +118,7 @@ mode_changed plus letter.Limit word m = record m { limit = limit_changed plus wo
 mode_changed plus letter.Ban word m = record m { bans = bans_by_word plus word m.bans }
 mode_changed plus other word m = m
 
+-- what one change does
 abbrev pub mode_step : Modes → ModeChange → Modes
 mode_step modes change = mode_changed change.plus change.letter change.word modes
 

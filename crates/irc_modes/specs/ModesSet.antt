@@ -17,6 +17,7 @@ use Rattle.irc_modes.specs.Limits.{max_limit}
 abbrev pub set : ModeLetter → Option (List ℕ) → ModeChange
 set which word = record { plus = true; letter = which; word = word }
 
+-- a mode without a parameter
 abbrev pub flag_set : Bool → ModeLetter → List ModeChange
 flag_set on which = if on then set which None ∷ [] else []
 
@@ -26,6 +27,7 @@ privacy_set Public = []
 privacy_set Private = set letter.Private None ∷ []
 privacy_set Secret = set letter.Secret None ∷ []
 
+-- the key, and the limit in decimal; what is not set needs no letter
 abbrev pub key_set : Option (List ℕ) → List ModeChange
 key_set None = []
 key_set (Some key) = set letter.Key (Some key) ∷ []

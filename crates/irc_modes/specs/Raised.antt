@@ -19,6 +19,7 @@ use Rattle.irc_modes.specs.declared.modes.Privacy.TheVariants.{Public, Secret}
 abbrev pub is_above : {X : Type 0} → (X → X → Ordering) → X → Option X → Bool
 is_above order new there = option_map_or (λ old. is_lt (order old new)) there true
 
+-- p and s are one value: what of it each of the two letters looks at
 abbrev pub is_public : Privacy → Bool
 is_public Public = true
 is_public other = false

@@ -64,6 +64,9 @@ impl BanList {
     }
 
     /// The same bans once more.
+    ///
+    /// # Errors
+    /// Where memory runs out.
     pub fn copy(&self) -> Result<Self, AllocError>
         ensures { IfOk result (λ copy. copy ≡ self.now) }
     {
@@ -102,6 +105,9 @@ impl BanList {
 
     /// Makes the changes that are of bans, one after another; however many bans there are, a ban is added. Room for those that are
     /// added is made before the first change, so where there is no memory nothing has changed.
+    ///
+    /// # Errors
+    /// Where memory runs out; nothing has changed then.
     pub fn change(&mut self, changes: &[ModeChange]) -> Result<(), AllocError>
         ensures ok { OnOk result (self.new ≡ bans_after changes.now self.old) }
         ensures refused { OnErr result (self.new ≡ self.old) }

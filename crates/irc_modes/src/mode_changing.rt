@@ -29,6 +29,9 @@ impl Modes {
     }
 
     /// The same modes once more.
+    ///
+    /// # Errors
+    /// Where memory runs out.
     pub fn copy(&self) -> Result<Self, AllocError>
         ensures { IfOk result (λ copy. copy ≡ self.now) }
     {
@@ -46,6 +49,9 @@ impl Modes {
 
     /// Changes modes of the channel, one after another. The letters o and v are modes of a member, and change nothing here. Only a
     /// ban that is added takes memory; where there is none nothing has changed.
+    ///
+    /// # Errors
+    /// Where memory runs out; nothing has changed then.
     #[tactic(auto, using(crate::proofs::SettingsParted::modes_parted))]
     pub fn change(&mut self, changes: &[ModeChange]) -> Result<(), AllocError>
         ensures ok { OnOk result (self.new ≡ modes_after changes.now self.old) }

@@ -51,9 +51,11 @@ visibility_text Public = codes "="
 visibility_text Private = codes "*"
 visibility_text Secret = codes "@"
 
+-- a member as it stands in a list of names
 abbrev pub marked_nick : Listed → List ℕ
 marked_nick member = mark_text member.mark ++ member.nick
 
+-- a channel as it stands among those of a user, with what the user is there
 abbrev pub on_channel : OnChannel → List ℕ
 on_channel place = mark_text place.mark ++ place.channel
 

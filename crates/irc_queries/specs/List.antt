@@ -28,6 +28,7 @@ abbrev pub known_entry : Table User → User → Option Channel → List Act
 known_entry users me None = []
 known_entry users me (Some channel) = if is_known me channel then channel_entry users me channel ∷ [] else []
 
+-- of one name that is asked for; nothing is told of a name that is no channel
 abbrev pub asked_entry : Room → User → List ℕ → List Act
 asked_entry room me name = known_entry room.users me (row room.channels (key name))
 

@@ -35,6 +35,7 @@ user_line place channel mark user =
 abbrev pub member_if_seen : Place → (User → Bool) → Channel → Flags → User → Option Act
 member_if_seen place seen channel flags user = if seen user then Some (user_line place (Some channel.name) (mark_of flags) user) else None
 
+-- a row of a channel's members, by the user whose it is
 abbrev pub member_line : Room → Place → (User → Bool) → Channel → List ℕ × Flags → Option Act
 member_line room place seen channel member = option_and_then (member_if_seen place seen channel member.1) (row room.users member.0)
 
@@ -64,6 +65,7 @@ abbrev pub asks_for_operators : List (List ℕ) → Bool
 asks_for_operators [] = false
 asks_for_operators (word ∷ more) = pointwise nat_eq word (codes "o")
 
+-- the end names what was asked for
 abbrev pub end_of_who : List ℕ → Act
 end_of_who asked = Answer (EndOfWho (client_words asked))
 

@@ -36,6 +36,7 @@ place_in me user channel = if is_listed me channel then option_map (placed_in ch
 abbrev pub places : Room → User → User → List OnChannel
 places room me user = filter_map (place_in me user) (own_channels room user)
 
+-- one line of a user's channels, which may take several
 abbrev pub channels_line : User → List OnChannel → Act
 channels_line user channels = Answer (WhoisChannels user.nick (record { items = channels }))
 
@@ -46,10 +47,12 @@ whois_replies room place me user =
     ∷ Answer (WhoisServer user.nick user.home (bytes_kept (info_of place user.home)))
     ∷ map (channels_line user) (in_lines max_whois_channels (places room me user))
 
+-- what is told of the user that was found under a nickname, if one was
 abbrev pub told_if_there : Room → Place → User → List ℕ → Option User → List Act
 told_if_there room place me name None = Answer (NoSuchNick (client_words name)) ∷ []
 told_if_there room place me name (Some user) = whois_replies room place me user
 
+-- what is told of one nickname that is asked for
 abbrev pub told_of_one : Room → Place → User → List ℕ → List Act
 told_of_one room place me name = told_if_there room place me name (row room.users (key name))
 

@@ -6,5 +6,6 @@ use Rattle.irc_line.specs.Messages.{nobody, text}
 abbrev pub closing_line : List ℕ → List ℕ
 closing_line words = text (record { sender = nobody; command = codes "ERROR"; middle = []; last = Some words })
 
+-- the same, telling why it ends
 abbrev pub error_line : List ℕ → List ℕ
 error_line reason = closing_line (codes "Closing link (" ++ reason ++ codes ")")

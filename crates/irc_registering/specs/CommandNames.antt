@@ -23,6 +23,7 @@ pub record CommandRow : Type 0 where
 abbrev pub row_view : Bor (List ℕ) × Command × ℕ → CommandRow
 row_view row = record { name = row.0.now; command = row.1; least = row.2 }
 
+-- a row as it is written below
 abbrev pub named : List ℕ → Command → ℕ → CommandRow
 named name command least = record { name = name; command = command; least = least }
 
@@ -44,8 +45,10 @@ abbrev pub found : List ℕ → List CommandRow → Option CommandRow
 found word [] = None
 found word (row ∷ rows) = if same_letters word row.name then Some row else found word rows
 
+-- the row of a line's first word, if it is a command that is built
 abbrev pub row_named : List ℕ → Option CommandRow
 row_named word = found word rows
 
+-- which command a word is, if it is one
 abbrev pub command_of : List ℕ → Option Command
 command_of word = option_map (λ row. row.command) (row_named word)

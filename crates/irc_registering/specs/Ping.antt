@@ -7,6 +7,7 @@ use Rattle.irc_acts.specs.declared.act.Act.{Act}
 use Rattle.irc_acts.specs.declared.act.Act.TheVariants.{Answer, Raw}
 use Rattle.irc_acts.specs.Acts.{bytes_kept}
 
+-- the answer to a PING: the server names itself, and gives the word back (RFC 2812 section 3.7.3)
 abbrev pub pong_line : List ℕ → List ℕ → List ℕ
 pong_line server word = text (record { sender = named server; command = codes "PONG"; middle = server ∷ []; last = Some word })
 

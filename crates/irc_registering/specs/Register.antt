@@ -37,6 +37,7 @@ reply_name pending = unwrap_or pending.nick (asterisk ∷ [])
 abbrev pub replies : Pending → List Act → Registered
 replies pending steps = record { pending = pending; steps = steps; registered = false; close = false }
 
+-- the user that a connection becomes, at home here and without mode i
 abbrev pub user_of : Place → Pending → List ℕ → List ℕ → User
 user_of place pending nickname username = record {
   nick = nickname;
@@ -72,6 +73,7 @@ nick_chosen room place pending nickname =
     else if has_user room nickname then replies pending (Answer (NicknameInUse nickname) ∷ [])
     else complete room place (record pending { nick = Some nickname })
 
+-- a NICK that gives no nickname, or an empty one, chooses none (RFC 2812 section 3.1.2)
 abbrev pub nick_row : Room → Place → Pending → List (List ℕ) → Registered
 nick_row room place pending [] = replies pending (Answer NoNicknameGiven ∷ [])
 nick_row room place pending ([] ∷ more) = replies pending (Answer NoNicknameGiven ∷ [])
@@ -83,10 +85,12 @@ user_row room place pending (username ∷ mode ∷ unused ∷ real ∷ more) =
     complete room place (record pending { user = Some (clean_user username); real = cut_real real })
 user_row room place pending fewer = replies pending (Answer (NeedMoreParams (client_words (codes "USER"))) ∷ [])
 
+-- whoever is not registered yet may leave, and no user hears of it
 abbrev pub quit_row : Pending → List (List ℕ) → Registered
 quit_row pending params =
     record { pending = pending; steps = Raw (bytes_kept (error_line (reason_given params (reply_name pending)))) ∷ []; registered = false; close = true }
 
+-- by the command: these alone are served before registration
 abbrev pub pending_row_of : Room → Place → Pending → List (List ℕ) → Option Command → Registered
 pending_row_of room place pending params (Some command.Pass) = replies pending []
 pending_row_of room place pending params (Some command.Pong) = replies pending []
@@ -100,5 +104,6 @@ pending_row_of room place pending params other = replies pending (Answer NotRegi
 abbrev pub pending_row : Room → Place → Pending → Parsed → Registered
 pending_row room place pending message = pending_row_of room place pending message.params (command_of message.command)
 
+-- what comes of a line before registration; one that names another sender is ignored
 unfoldable pub register : Room → Place → Pending → Parsed → Registered
 register room place pending message = if is_from message.prefix pending.nick then pending_row room place pending message else replies pending []

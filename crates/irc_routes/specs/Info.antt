@@ -8,6 +8,7 @@ use Rattle.irc_names.specs.Names.{is_one_of, fits}
 abbrev pub is_text_byte : ℕ → Bool
 is_text_byte byte = not (is_one_of (0x00 ∷ 0x0D ∷ 0x0A ∷ []) byte)
 
+-- whether bytes may be the text by which a server tells what it is
 abbrev pub is_info : List ℕ → Bool
 is_info bytes = list_all is_text_byte bytes && fits max_info bytes
 

@@ -8,6 +8,7 @@ use Rattle.irc_rules.specs.Limits.{max_user_name, max_real_name}
 abbrev pub is_user_byte : ℕ → Bool
 is_user_byte byte = is_ascii_alphanumeric byte || list_any (nat_eq byte) (codes "-._~")
 
+-- `_` stands for each byte that may not stand in a user name
 abbrev pub clean_user_byte : ℕ → ℕ
 clean_user_byte byte = if is_user_byte byte then byte else 95
 

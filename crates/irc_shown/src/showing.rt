@@ -14,6 +14,9 @@ use irc_users::User;
 use std::alloc::{AllocError, Global};
 
 /// Writes the line that an effect that does something shows, and adds the users of the server of this name who see it, in folded order.
+///
+/// # Errors
+/// Where memory runs out: nothing is promised of `shown` then.
 pub fn show(
     alloc: Global,
     own: &[u8],

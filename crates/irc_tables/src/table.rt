@@ -143,6 +143,9 @@ impl<V: Drop> NameTable<V> {
     }
 
     /// Puts a value under a name, in place of what stands there. Where something does, it takes no memory.
+    ///
+    /// # Errors
+    /// Where memory runs out; nothing has changed then.
     pub fn insert(&mut self, name: &[u8], value: V) -> Result<(), AllocError>
         requires { length name.now ≤ MAX_CHANNEL }
         ensures ok { OnOk result (self.new ≡ alter (key name.now) (λ _. Some value) self.old) }

@@ -87,6 +87,10 @@ impl Users {
     }
 
     /// Adds a user, unless its nickname is taken. No other user's number changes.
+    ///
+    /// # Errors
+    /// [`UsersFault::Taken`] where the nickname is taken, [`UsersFault::Memory`] where memory runs
+    /// out. Nothing has changed then.
     pub fn add(&mut self, user: User) -> Result<(), UsersFault>
         ensures taken { IsErrOf result UsersFault.Taken ↔ IsTrue (has_nick self.old.users user.nick) }
         ensures ok { OnOk result (self.new.users ≡ with_user user self.old.users) }
@@ -107,6 +111,10 @@ impl Users {
     }
 
     /// Gives the user with a nickname another, as spelled. It keeps its number, as all others do. It takes no memory.
+    ///
+    /// # Errors
+    /// [`RenameFault::Taken`] where another user has the new nickname, then
+    /// [`RenameFault::NoSuchUser`] where nobody has the old one. Nothing has changed then.
     pub fn rename(&mut self, nick: &Nick, new: &Nick) -> Result<(), RenameFault>
         ensures fault { result_err result ≡ rename_fault self.old.users nick.now new.now }
         ensures ok { OnOk result (self.new.users ≡ moved_to nick.now new.now self.old.users) }
