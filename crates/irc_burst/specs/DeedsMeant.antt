@@ -61,6 +61,7 @@ pub record Judged : Type 0 where
   pub late : Option CloseReason
   pub told : List Told
 
+-- what a line tells that is right in itself, unless something else is against it
 abbrev pub unless_late : Option CloseReason → List Told → Result (List Told) CloseReason
 unless_late None told = Ok told
 unless_late (Some reason) told = Err reason
@@ -96,6 +97,7 @@ of_server reader server parameters direction names deeds = record {
 abbrev pub is_next_distance : Reader → List ℕ → ℕ → Bool
 is_next_distance reader uplink distance = option_map_or (λ links. nat_eq distance (links + 1)) (reader.distance uplink) true && nat_lt distance max_number
 
+-- SERVER for a server behind the link: the neighbour's number for it has to be free
 abbrev pub later_server : Reader → Known → (uplink name distance token info : List ℕ) → Judged
 later_server reader known uplink name distance token info = record {
   parameters = is_number distance && is_number token && is_info info && is_next_distance reader uplink (number_of distance);
@@ -110,11 +112,13 @@ later_server reader known uplink name distance token info = record {
 abbrev pub only_first : Bool → Judged
 only_first parameters = record { parameters = parameters; token = true; direction = true; names = true; late = Some reason.Order; told = [] }
 
+-- with a prefix it tells of a server more; without one it is a greeting, and comes too late
 abbrev pub server_line : Reader → Known → Option (List ℕ) → List (List ℕ) → Judged
 server_line reader known (Some uplink) (name ∷ distance ∷ token ∷ info ∷ []) = later_server reader known uplink name distance token info
 server_line reader known (Some uplink) other = malformed_burst
 server_line reader known None params = only_first (is_some (greeting_of params))
 
+-- PASS belongs to the handshake, and no server says it for another
 abbrev pub pass_line : Option (List ℕ) → List (List ℕ) → Judged
 pass_line None params = only_first (is_some (password_of params))
 pass_line (Some name) params = malformed_burst
@@ -131,6 +135,7 @@ squit_line reader known _ _ = malformed_burst
 abbrev pub killed : List ℕ → Room → List ℕ → List Deed
 killed server room nick = option_map_or (λ (holder : User). kills server holder.nick ∷ []) (row room.users (key nick)) []
 
+-- A nickname that nobody holds is no fault: its user may have left while the KILL was on its way.
 abbrev pub kill_line : Reader → Room → Option (List ℕ) → List (List ℕ) → Judged
 kill_line reader room (Some server) (nick ∷ text ∷ []) =
     of_server reader server (bytes_eq text (codes "Nick collision")) true (is_nick nick) (killed server room nick)
@@ -156,13 +161,16 @@ abbrev pub has_mark : ℕ → List ℕ → Bool
 has_mark mark [] = false
 has_mark mark (first ∷ rest) = nat_eq first mark
 
+-- what is left of a word behind this mark; a word without it is left whole
 abbrev pub without_mark : ℕ → List ℕ → List ℕ
 without_mark mark [] = []
 without_mark mark (first ∷ rest) = if nat_eq first mark then rest else first ∷ rest
 
+-- `@`: an operator of the channel
 abbrev pub at_mark : ℕ
 at_mark = 0x40
 
+-- `+`: who may speak while the channel is moderated
 abbrev pub plus_mark : ℕ
 plus_mark = 0x2B
 
@@ -171,9 +179,11 @@ abbrev pub member_of : List ℕ → List ℕ × Flags
 member_of word =
     (without_mark plus_mark (without_mark at_mark word), record { op = has_mark at_mark word; voice = has_mark plus_mark (without_mark at_mark word) })
 
+-- what stands between two members
 abbrev pub is_comma : ℕ → Bool
 is_comma byte = nat_eq byte 0x2C
 
+-- the members that an NJOIN names, with their flags
 abbrev pub members_of : List ℕ → List (List ℕ × Flags)
 members_of text = map member_of (slice_split is_comma text)
 
@@ -181,6 +191,7 @@ members_of text = map member_of (slice_split is_comma text)
 abbrev pub as_stored : Room → List ℕ × Flags → List ℕ × Flags
 as_stored room member = (stored_nick room member.0, member.1)
 
+-- NJOIN: of those that it names only new members are told of; to name others is no fault
 abbrev pub njoin_line : Reader → Room → Option (List ℕ) → List (List ℕ) → Judged
 njoin_line reader room (Some server) (channel ∷ text ∷ []) =
     of_server reader server (nat_le (length (members_of text)) members_a_line) true
@@ -216,6 +227,7 @@ wire_reason fault.WrongDirection = reason.WrongDirection
 wire_reason fault.BadName = reason.BadName
 wire_reason fault.Memory = reason.Parameters
 
+-- What effects come to in this room: where a nickname is held already, users are killed instead.
 abbrev pub effects_told : List ℕ → Room → Option (List ℕ) → Result (List Effect) WireFault → Result (List Told) CloseReason
 effects_told own room prefix (Ok effects) = Ok (map a_deed (flat_map (collided own room (server_of prefix)) effects))
 effects_told own room prefix (Err fault) = Err (wire_reason fault)
@@ -227,9 +239,11 @@ pub record BurstRow : Type 0 where
   pub command : List ℕ
   pub judge : Reader → Known → Room → Option (List ℕ) → List (List ℕ) → Judged
 
+-- a row of the table
 abbrev pub burst_line : List ℕ → (Reader → Known → Room → Option (List ℕ) → List (List ℕ) → Judged) → BurstRow
 burst_line command judge = record { command = command; judge = judge }
 
+-- the commands whose lines are judged here, and not as lines that tell of effects
 abbrev pub burst_table : List BurstRow
 burst_table =
     burst_line (codes "SERVER") (λ reader known room. server_line reader known)
@@ -238,9 +252,11 @@ burst_table =
     ∷ burst_line (codes "NJOIN") (λ reader known room. njoin_line reader room)
     ∷ burst_line (codes "PASS") (λ reader known room. pass_line) ∷ []
 
+-- the row of a command, if it is one of these
 abbrev pub burst_row_of : List ℕ → Option BurstRow
 burst_row_of word = find (λ (r : BurstRow). is_command r.command word) burst_table
 
+-- a line with any other command tells of effects, or is no line of the protocol
 abbrev pub read_burst_row : Room → Known → ℕ → Parsed → Option BurstRow → Result (List Told) CloseReason
 read_burst_row room known link message (Some r) = first_reason (r.judge (reader_of room known link) known room message.prefix message.params)
 read_burst_row room known link message None = effects_told known.name room message.prefix (means room known link message)

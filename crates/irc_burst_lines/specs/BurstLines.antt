@@ -21,11 +21,14 @@ use Rattle.irc_burst_lines.specs.DeedLines.{deed_parts}
 abbrev pub is_near : Known → ℕ → List ℕ → Bool
 is_near known link home = not (is_behind_link known link home)
 
+-- a server that is known on this side is a server more on the other
 abbrev pub server_deed : ServerRow → Deed
 server_deed r = gains r.uplink r.name r.info
 
+-- what an end tells of its side: the servers first, for each user is told of by its home
 abbrev pub burst_deeds : Room → Known → ℕ → List Deed
 burst_deeds room known link = map server_deed (servers_told known link) ++ burst_of known.name (is_near known link) room
 
+-- a burst as it goes out on a link: one line for each deed, none of which changes the room here
 unfoldable pub burst_parts : Room → Known → ℕ → List Written
 burst_parts room known link = map (deed_parts room known) (burst_deeds room known link)

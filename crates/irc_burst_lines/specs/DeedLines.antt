@@ -21,9 +21,11 @@ abbrev pub server_parts : Known → List ℕ → List ℕ → List ℕ → Writt
 server_parts known uplink name info =
     from uplink (codes "SERVER") (name ∷ decimal (next_distance known name) ∷ decimal (written_token known name) ∷ []) (Some info)
 
+-- SQUIT: the other servers learn of one that is lost, and the text with which its users quit
 abbrev pub squit_parts : List ℕ → List ℕ → List ℕ → Written
 squit_parts server name text = from server (codes "SQUIT") (name ∷ []) (Some text)
 
+-- KILL is written for a nickname that two users have, and for nothing else
 abbrev pub kill_parts : List ℕ → List ℕ → Written
 kill_parts server nick = from server (codes "KILL") (nick ∷ []) (Some (codes "Nick collision"))
 
@@ -35,10 +37,12 @@ member_text member = (if member.1.op then codes "@" else []) ++ (if member.1.voi
 abbrev pub more_text : List (List ℕ × Flags) → List ℕ
 more_text members = flat_map (λ member. codes "," ++ member_text member) members
 
+-- all members that one NJOIN brings, as its last parameter
 abbrev pub members_text : List (List ℕ × Flags) → List ℕ
 members_text [] = []
 members_text (member ∷ members) = member_text member ++ more_text members
 
+-- NJOIN brings members, each with the flags that it has in the channel
 abbrev pub njoin_parts : List ℕ → List ℕ → List (List ℕ × Flags) → Written
 njoin_parts server channel members = from server (codes "NJOIN") (channel ∷ []) (Some (members_text members))
 
@@ -46,6 +50,7 @@ njoin_parts server channel members = from server (codes "NJOIN") (channel ∷ []
 abbrev pub mode_parts : List ℕ → List ℕ → List ModeChange → Written
 mode_parts server channel changes = from server (codes "MODE") (channel ∷ changes_written changes) None
 
+-- TOPIC from a server: a topic is told without the user who set it
 abbrev pub topic_parts : List ℕ → List ℕ → List ℕ → Written
 topic_parts server channel topic = from server (codes "TOPIC") (channel ∷ []) (Some topic)
 

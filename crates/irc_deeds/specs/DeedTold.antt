@@ -48,6 +48,7 @@ deed_told arrival (brings server channel members) s =
 deed_told arrival deed s =
     told_on_all arrival (deed_parts s.view.room s.view.routes deed) (all_changed (effects_of s.view.room deed) s)
 
+-- one after another, each told in the room that those before it have left
 abbrev pub deeds_told : Option ℕ → List Deed → Served → Served
 deeds_told arrival [] s = s
 deeds_told arrival (deed ∷ deeds) s = deeds_told arrival deeds (deed_told arrival deed s)
@@ -69,6 +70,7 @@ told_by link (a_server uplink name distance token info) s =
     then gain_told link uplink name info (record s { view = with_row link uplink name distance token info s.view })
     else s
 
+-- one line may tell of several: a new nickname that is held already kills two users
 abbrev pub all_told : ℕ → List Told → Served → Served
 all_told link [] s = s
 all_told link (told ∷ later) s = all_told link later (told_by link told s)
@@ -84,6 +86,7 @@ abbrev pub losses : List ℕ → List ℕ → List (List ℕ) → List Deed
 losses own far [] = []
 losses own far (name ∷ names) = loses own name (split_text own far) ∷ losses own far names
 
+-- what is lost with a link: nothing, while the server at its other end is not met
 abbrev pub lost_behind : View → ℕ → Option End → List Deed
 lost_behind view link None = []
 lost_behind view link (Some end) = option_map_or (λ far. losses view.routes.name far (names_behind view.routes link)) end.far []

@@ -46,6 +46,7 @@ opened view end (Ok (opening.Password word)) = password word
 opened view end (Ok (opening.Greeting name info)) =
     met_unless (refusal (password_for view name) (unwrap_or end.password []) view.routes name) name info
 
+-- until the server at the other end has named itself, a line is of the handshake
 abbrev pub message_heard : View → ℕ → End → Parsed → Heard
 message_heard view link end message =
     if is_met end then of_met (deeds_meant view.room view.routes link message)

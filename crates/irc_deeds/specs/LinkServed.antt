@@ -32,9 +32,11 @@ opening_parts view name = pass_parts (unwrap_or (password_for view name) []) ∷
 abbrev pub owed_by : View → ℕ → List ℕ → End → List Written
 owed_by view link name end = (if is_none end.starts then opening_parts view name else []) ++ burst_parts view.room view.routes link
 
+-- the same of a link by its number; on one that is not open nothing is owed
 abbrev pub owes : View → ℕ → List ℕ → List Written
 owes view link name = option_map_or (owed_by view link name) (get view.ends link) []
 
+-- lines that go out on this link alone, in this order
 abbrev pub on_link : ℕ → List Written → List Sent
 on_link link lines = map (λ parts. line_on link (text parts)) lines
 

@@ -55,6 +55,7 @@ told_homes room (Say by notice (target.User nick) text) = Some (option_to_list (
 told_homes room (Invite by nick channel) = Some (option_to_list (home_under room (key nick)))
 told_homes room effect = None
 
+-- the links toward these servers; where every server is told, all links whose far end is met
 abbrev pub ways_toward : Ends → Known → Option (List (List ℕ)) → List ℕ
 ways_toward ends known None = met_links ends
 ways_toward ends known (Some homes) = links_toward known homes

@@ -22,6 +22,7 @@ use Rattle.irc_room.specs.InTurn.{after_all}
 use Rattle.irc_merge.specs.ShownAlong.{shown_along}
 use Rattle.irc_merge.specs.Quits.{quits_of, users_at, collision_text}
 
+-- what a line between servers tells: an effect, or what no client can bring about
 pub data Deed : Type 0 where
   -- a line of a user, or NICK with which a user is introduced
   does : (effect : Effect) → Deed

@@ -48,6 +48,7 @@ one_channel one other = record {
   invited = both either one.invited other.invited;
 }
 
+-- a channel that one of two rooms has alone stays as it is there
 abbrev pub joined_channel : Option Channel → Option Channel → Option Channel
 joined_channel (Some one) (Some other) = Some (one_channel one other)
 joined_channel (Some one) None = Some one

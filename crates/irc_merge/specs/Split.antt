@@ -22,6 +22,7 @@ lost_homes text room (home ∷ homes) = lost_homes text (lost_home text room hom
 abbrev pub lost_users : List (List ℕ) → Room → List User
 lost_users homes room = flat_map (λ home. users_at home room) homes
 
+-- all that a lost link does to a room on this side: these users quit, each with the same text
 abbrev pub split_effects : List ℕ → List (List ℕ) → Room → List Effect
 split_effects text homes room = quits_of text (lost_users homes room)
 

@@ -46,6 +46,7 @@ abbrev pub closed_told : Bool → ℕ → Served → Served
 closed_told true conn s = with_sent (end_of conn ∷ []) (record s { view = unseated conn s.view })
 closed_told false conn s = s
 
+-- the steps are done in order, and only then is a client closed that is to be
 abbrev pub decision_told : ℕ → Option (List ℕ) → Decided → Served → Served
 decision_told conn name decision s = closed_told decision.close conn (steps_told conn name decision.steps s)
 
@@ -61,6 +62,7 @@ user_told view conn None message = in_silence view
 user_told view conn (Some user) message =
     decision_told conn (Some user.nick) (decide view.room (place_of view.routes) user.nick message) (in_silence view)
 
+-- what a line does depends on whether its client has registered; from nobody it does nothing
 abbrev pub message_told : View → ℕ → Option Client → Parsed → Served
 message_told view conn None message = in_silence view
 message_told view conn (Some (Registering pending)) message = given_told conn (register view.room (place_of view.routes) pending message) view
@@ -76,9 +78,11 @@ abbrev pub quit_told : Option (List ℕ) → Served → Served
 quit_told None s = s
 quit_told (Some nick) s = effect_told None (Quit nick lost_text) s
 
+-- its seat is empty before its user quits, so that nothing is put out to it
 abbrev pub gone_told : View → ℕ → Served
 gone_told view conn = quit_told (user_of view.room (client_of (machine_of view) conn)) (in_silence (unseated conn view))
 
+-- what a server does when something happens to one of its clients
 unfoldable pub client_told : View → Happening → Served
 client_told view (connects conn host) = in_silence (seated conn (fresh host) view)
 client_told view (says conn read) = line_told view conn read

@@ -126,5 +126,6 @@ client_ended nick text s = record {
   out = s.out ++ (to_viewer s.view.clients (record { viewer = nick; line = error_line text }) ++ ends_of nick s.view.clients);
 }
 
+-- a user is killed: the others see it quit, and its own client is told why and closed
 abbrev pub taken_out : List ℕ → List ℕ → Served → Served
 taken_out nick text s = client_ended nick text (quit_by nick text s)

@@ -30,6 +30,7 @@ pub data Happening : Type 0 where
   says : (conn : ℕ) (read : Result Parsed LineFault) → Happening
   goes : (conn : ℕ) → Happening
 
+-- what has become of the machine, and what is put out to clients, in order
 pub record Handled : Type 0 where
   pub machine : RoomMachine
   pub out : List Sent
@@ -48,10 +49,12 @@ to_viewer clients showing =
 abbrev pub renamed_in : List ℕ → List ℕ → Client → Client
 renamed_in old new client = if is_client old client then Registered new else client
 
+-- of all effects only a new nickname changes who a client is
 abbrev pub clients_after : Effect → Clients → Clients
 clients_after (Rename nick new) clients = each_client (renamed_in nick new) clients
 clients_after effect clients = clients
 
+-- the room changes, and the clients with it, so that each stays the user it was
 abbrev pub machine_after : RoomMachine → Effect → RoomMachine
 machine_after machine effect = record machine { room = after machine.room effect; clients = clients_after effect machine.clients }
 
@@ -83,6 +86,7 @@ abbrev pub closing : Bool → ℕ → Handled → Handled
 closing true conn before = record { machine = without_client before.machine conn; out = before.out ++ end_of conn ∷ [] }
 closing false conn before = before
 
+-- the steps are done in order, and only then is a client closed that is to be
 abbrev pub decided : RoomMachine → ℕ → Option (List ℕ) → Decided → Handled
 decided machine conn name decision = closing decision.close conn (all_stepped conn name decision.steps (unchanged machine))
 
@@ -98,10 +102,12 @@ pending_decided machine conn registration =
     closing registration.close conn
     (all_stepped conn name registration.steps (unchanged (with_client machine conn (client_after registration name))))
 
+-- a line of a registered client is decided as its user's; without a user it does nothing
 abbrev pub user_decided : RoomMachine → ℕ → Option User → Parsed → Handled
 user_decided machine conn None message = unchanged machine
 user_decided machine conn (Some user) message = decided machine conn (Some user.nick) (decide machine.room machine.place user.nick message)
 
+-- what a line does depends on whether its client has registered; from nobody it does nothing
 abbrev pub said_by : RoomMachine → ℕ → Option Client → Parsed → Handled
 said_by machine conn None message = unchanged machine
 said_by machine conn (Some (Registering pending)) message = pending_decided machine conn (register machine.room machine.place pending message)
@@ -122,6 +128,7 @@ user_of room None = None
 user_of room (Some (Registering pending)) = None
 user_of room (Some (Registered nick)) = option_map (λ (user : User). user.nick) (row room.users (key nick))
 
+-- who was a user quits; who was none leaves the room as it is
 abbrev pub quits : Option (List ℕ) → Handled → Handled
 quits None before = before
 quits (Some nick) before = with_effect (Quit nick lost_text) before

@@ -16,10 +16,12 @@ use Rattle.irc_stage.specs.EffectTold.{Served, on_links, with_sent}
 
 -- ---- what an end keeps
 
+-- the password that the other end gave, which is looked at when it names itself
 abbrev pub with_password : ℕ → List ℕ → View → View
 with_password link word view =
     option_map_or (λ (end : End). record view { ends = insert view.ends link (record end { password = Some word }) }) (get view.ends link) view
 
+-- the name of the server at the other end, once it is met
 abbrev pub with_far : ℕ → List ℕ → View → View
 with_far link name view =
     option_map_or (λ (end : End). record view { ends = insert view.ends link (record end { far = Some name }) }) (get view.ends link) view
@@ -30,9 +32,11 @@ with_far link name view =
 abbrev pub is_taken : Known → ℕ → List ℕ → ℕ → Bool
 is_taken known link name token = is_none (added_fault known name) && is_none (token_in known link token)
 
+-- a server more is behind this link, under the neighbour's number for it
 abbrev pub with_row : ℕ → List ℕ → List ℕ → ℕ → ℕ → List ℕ → View → View
 with_row link uplink name distance token info view = record view { routes = added link uplink name distance token info view.routes }
 
+-- a server that is lost is known no more
 abbrev pub without_row : List ℕ → View → View
 without_row name view = record view { routes = without_server name view.routes }
 

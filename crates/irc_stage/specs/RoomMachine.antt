@@ -10,17 +10,21 @@ use Rattle.irc_stage.specs.declared.clients.Client.{Client}
 abbrev pub Clients : Type 0
 Clients = FinMap nat_cmp Client
 
+-- what a server is to its clients: where they are, who is connected, and the room they meet in
 pub record RoomMachine : Type 0 where
   pub place : Place
   pub clients : Clients
   pub room : Room
 
+-- who has this connection, if anyone
 abbrev pub client_of : RoomMachine → ℕ → Option Client
 client_of machine conn = get machine.clients conn
 
+-- the connection is this client from now on
 abbrev pub with_client : RoomMachine → ℕ → Client → RoomMachine
 with_client machine conn client = record machine { clients = insert machine.clients conn client }
 
+-- the connection is nobody any more
 abbrev pub without_client : RoomMachine → ℕ → RoomMachine
 without_client machine conn = record machine { clients = remove machine.clients conn }
 
