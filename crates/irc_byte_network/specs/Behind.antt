@@ -17,13 +17,16 @@ Ways = FinMap nat_cmp (List (List ℕ))
 abbrev pub each_way : (ℕ → List (List ℕ) → List (List ℕ)) → Ways → Ways
 each_way change ways = from_entries (map (λ (e : ℕ × List (List ℕ)). (e.0, change e.0 e.1)) (entries ways))
 
+-- what waits on the ways of a server, with these lines ahead of it
 abbrev pub site_behind : (ℕ → List (List ℕ)) → Site → Site
 site_behind ahead site = record site { queues = each_way (λ to lines. ahead to ++ lines) site.queues }
 
+-- of all servers, by their places
 abbrev pub sites_behind : Ahead → List Site → List Site
 sites_behind ahead [] = []
 sites_behind ahead (site ∷ sites) = site_behind (ahead 0) site ∷ sites_behind (λ place. ahead (suc place)) sites
 
+-- the network in which these lines are delivered before those that wait in it
 abbrev pub net_behind : Ahead → Network → Network
 net_behind ahead net = record net { sites = sites_behind ahead net.sites }
 
@@ -34,5 +37,6 @@ course_behind ahead course = record course { net = net_behind ahead course.net }
 abbrev pub emptied_site : Site → Site
 emptied_site site = record site { queues = each_way (λ to lines. []) site.queues }
 
+-- no line waits anywhere, and all else is as it was
 abbrev pub emptied : Network → Network
 emptied net = record net { sites = map emptied_site net.sites }

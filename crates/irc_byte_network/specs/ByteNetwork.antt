@@ -25,6 +25,7 @@ pub record ByteCourse : Type 0 where
   pub net : ByteNetwork
   pub receipts : List Receipt
 
+-- nothing has been done to it yet, and nothing received by that
 abbrev pub byte_begun : ByteNetwork → ByteCourse
 byte_begun net = record { net = net; receipts = [] }
 
@@ -79,6 +80,7 @@ rows_written (site ∷ sites) (row ∷ wires) = row_written (entries site.queues
 abbrev pub queues_written : Network → Wires → ByteNetwork
 queues_written net wires = record { network = emptied net; wires = rows_written net.sites wires }
 
+-- what servers have put out for each other is written; what clients received is theirs already
 abbrev pub course_written : Course → Wires → ByteCourse
 course_written course wires = record { net = queues_written course.net wires; receipts = course.receipts }
 
@@ -94,6 +96,7 @@ abbrev pub lost_along : Option LinkPlaces → Wires → Wires
 lost_along None wires = wires
 lost_along (Some ends) wires = without_wire ends.far ends.near (without_wire ends.near ends.far wires)
 
+-- of all items only a cut changes what is on its way already
 abbrev pub wires_after : Network → Item → Wires → Wires
 wires_after net item wires = lost_along (cut_ends net item) wires
 
@@ -115,6 +118,7 @@ completed_in net from to count = lines_by count (wire_at net.wires from to)
 abbrev pub wires_come : ByteNetwork → ℕ → ℕ → ℕ → Wires
 wires_come net from to count = with_wire from to (advanced count (wire_at net.wires from to)) net.wires
 
+-- servers are asked as in a network of lines: what is on its way is nothing to them
 abbrev pub course_without_wires : ByteCourse → Course
 course_without_wires course = record { net = course.net.network; receipts = course.receipts }
 

@@ -31,9 +31,11 @@ routes_in net server = (view_at net server).routes
 
 -- ---- its configuration
 
+-- how a server is set up, as its own view has it
 abbrev pub setting_now : View → Setting
 setting_now view = record { name = view.routes.name; info = view.routes.info; created = view.routes.created; peers = view.peers }
 
+-- none where no server is at the site
 abbrev pub setting_at : Site → Option Setting
 setting_at site = option_map setting_now site.server
 

@@ -24,12 +24,14 @@ pub record NetView : Type 0 where
   pub failed : Bool
   pub network : ByteNetwork
 
+-- memory has not run out for it
 abbrev pub standing : ByteNetwork → NetView
 standing network = record { failed = false; network = network }
 
 -- ---- an item
 
--- A line that a client says is one: 1 to 510 bytes, without NUL, CR and LF. It is the one thing that is asked of a caller.
+-- A line that a client says holds no NUL, CR or LF. It is the one thing that is asked of a caller:
+-- that a line has at most 510 bytes is the bound of its type, and that it has any byte is not asked.
 abbrev pub IsGivable : Item → Type 0
 IsGivable (line client bytes) = IsCarried bytes
 IsGivable other = ⊤
@@ -41,6 +43,7 @@ IsPlayable step = ⊤
 abbrev pub ArePlayable : List Step → Type 0
 ArePlayable = AllByRecursion IsPlayable
 
+-- an item is taken: the answer says which client connected by it, and what clients received
 pub record Gives (net : ByteNetwork) (item : Item) (answer : Answer) (new : NetView) : Type 0 where
   pub none : item_fault net item ≡ None
   pub after : new ≡ standing (item_given item net).net
@@ -58,6 +61,7 @@ pub data IsGiven : NetView → Item → Result Answer NetFault → NetView → T
 
 -- ---- bytes that come
 
+-- what is on its way from the near end to the far one
 abbrev pub wire_between : ByteNetwork → LinkPlaces → Wire
 wire_between net ends = wire_at net.wires ends.near ends.far
 
@@ -72,6 +76,7 @@ piece count net from to = option_map_or (piece_between count net) (link_places n
 abbrev pub count_between : ℕ → ByteNetwork → LinkPlaces → ℕ
 count_between count net ends = min count (length (wire_between net ends).bytes)
 
+-- between names that are no servers none come
 abbrev pub piece_count : ℕ → ByteNetwork → Name → Name → ℕ
 piece_count count net from to = option_map_or (count_between count net) (link_places net.network from to) 0
 

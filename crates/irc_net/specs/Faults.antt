@@ -10,6 +10,7 @@ use Rattle.irc_byte_network.specs.ByteNetwork.{ByteNetwork, is_byte_rest}
 use Rattle.irc_network.specs.Network.{Network, site_view}
 pub use Rattle.irc_network.specs.Refusing.{are_agreed, fault_at_rest, way_fault}
 
+-- a refusal as the caller is told of it
 abbrev pub fault_by : Refusal → NetFault
 fault_by no_such_server = fault.NoSuchServer
 fault_by no_such_client = fault.NoSuchClient
@@ -20,6 +21,7 @@ fault_by link_refused = fault.LinkRefused
 unfoldable pub item_fault : ByteNetwork → Item → Option NetFault
 item_fault net item = if is_byte_rest net then option_map fault_by (fault_at_rest net.network item) else Some fault.NotAtRest
 
+-- bytes come between two servers that are linked, at rest or not
 unfoldable pub deliver_fault : ByteNetwork → Name → Name → Option NetFault
 deliver_fault net from to = option_map fault_by (way_fault net.network from to)
 

@@ -44,20 +44,25 @@ pub record Course : Type 0 where
   pub net : Network
   pub receipts : List Receipt
 
+-- nothing has been done to it yet, and nothing received by that
 abbrev pub begun : Network → Course
 begun net = record { net = net; receipts = [] }
 
 -- ---- who is where
 
+-- the place of the server of this name, if there is one; ways are kept by places
 abbrev pub server_place : Network → Name → Option ℕ
 server_place net name = place_in net.names name
 
+-- the server at this place, with the lines that wait on its ways
 abbrev pub site_at : Network → ℕ → Option Site
 site_at net place = slice_get net.sites place
 
+-- the same by its name
 abbrev pub site_of : Network → Name → Option Site
 site_of net name = option_and_then (site_at net) (server_place net name)
 
+-- what the server of this name knows and holds, where one is there
 abbrev pub site_view : Network → Name → Option View
 site_view net name = option_and_then (λ (site : Site). site.server) (site_of net name)
 
@@ -71,11 +76,13 @@ is_at_rest net = list_all is_quiet net.sites
 abbrev pub with_site : ℕ → Site → Network → Network
 with_site place site net = record net { sites = slice_set net.sites place site }
 
+-- where no server is at the place, nothing is changed
 abbrev pub site_changed_at : ℕ → (Site → Site) → Network → Network
 site_changed_at place change net = option_map_or (λ site. with_site place (change site) net) (site_at net place) net
 
 -- ---- what a server puts out
 
+-- one line that came to one client
 abbrev pub receipt : ℕ → List ℕ → Receipt
 receipt client text = record { client = client; text = text }
 
@@ -120,6 +127,7 @@ site_asked place occurrence course = option_map_or (asked_at place occurrence co
 abbrev pub max_count : ℕ
 max_count = 18446744073709551615
 
+-- a line more has been taken since the last item
 abbrev pub line_counted : Network → Network
 line_counted net = record net { taken = min (net.taken + 1) max_count }
 
@@ -178,6 +186,7 @@ abbrev pub site_asked_if : Option ℕ → Occurrence → Course → Course
 site_asked_if None occurrence course = course
 site_asked_if (Some place) occurrence course = site_asked place occurrence course
 
+-- the place of the server that a client connected to
 abbrev pub home_place : Network → ℕ → Option ℕ
 home_place net client = option_and_then (server_place net) (home_in net.homes client)
 
@@ -186,6 +195,7 @@ pub record LinkPlaces : Type 0 where
   pub near : ℕ
   pub far : ℕ
 
+-- none unless both are servers
 abbrev pub link_places : Network → Name → Name → Option LinkPlaces
 link_places net near far =
     option_and_then (λ one. option_map (λ other. record { near = one; far = other }) (server_place net far)) (server_place net near)
@@ -197,15 +207,18 @@ servers_linked near far net ends =
     (begun (site_changed_at ends.far (with_way ends.near) (site_changed_at ends.near (with_way ends.far)
     (record net { links = record { near = near; far = far } ∷ net.links })))))
 
+-- The way between them is gone before they are asked, with what waits on it.
 abbrev pub servers_parted : Name → Name → Network → LinkPlaces → Course
 servers_parted near far net ends =
     site_asked ends.far (link_down ends.near) (site_asked ends.near (link_down ends.far)
     (begun (site_changed_at ends.far (without_way ends.near) (site_changed_at ends.near (without_way ends.far)
     (record net { links = links_without net.links near far })))))
 
+-- clients are numbered from 1, in the order in which they connect
 abbrev pub next_client : Network → ℕ
 next_client net = length net.homes + 1
 
+-- what an item does at once; the lines that it sets on their way are delivered later
 abbrev pub done_by : Item → Network → Course
 done_by (connect server host) net =
     site_asked_if (server_place net server) (of_client (connects (next_client net) host)) (begun (with_client server net))

@@ -15,9 +15,11 @@ use Rattle.irc_network.specs.Network.{Network, server_place, site_view}
 abbrev pub has_client : ℕ → View → Bool
 has_client client view = is_some (get view.clients client)
 
+-- whether a client of this number is connected at its home
 abbrev pub is_there : Network → ℕ → Bool
 is_there net client = option_map_or (has_client client) (option_and_then (site_view net) (home_in net.homes client)) false
 
+-- only a client that is connected says something, or goes
 abbrev pub client_fault : Network → ℕ → Option Refusal
 client_fault net client = if is_there net client then None else Some no_such_client
 
@@ -31,13 +33,16 @@ meeting_fault net near far near_view far_view =
     if joined net.links near far || not (are_peers near far near_view far_view)
     then Some link_refused else None
 
+-- that both are servers is looked at before what each holds of the other
 abbrev pub link_fault : Network → Name → Name → Option View → Option View → Option Refusal
 link_fault net near far (Some near_view) (Some far_view) = meeting_fault net near far near_view far_view
 link_fault net near far near_view far_view = Some no_such_server
 
+-- whoever has a place in the network is a server, linked or not
 abbrev pub is_server : Network → Name → Bool
 is_server net name = is_some (server_place net name)
 
+-- a client connects to a server that is there
 abbrev pub server_fault : Network → Name → Option Refusal
 server_fault net server = if is_server net server then None else Some no_such_server
 
@@ -47,6 +52,7 @@ way_fault net from to =
     if not (is_server net from) || not (is_server net to) then Some no_such_server
     else (if are_linked net.links from to then None else Some not_linked)
 
+-- why an item is not taken by a network in which no line is on its way
 abbrev pub fault_at_rest : Network → Item → Option Refusal
 fault_at_rest net (connect server host) = server_fault net server
 fault_at_rest net (line client bytes) = client_fault net client

@@ -9,6 +9,7 @@ use Rattle.irc_network.specs.declared.item.Item.{Item as GivenItem}
 use Rattle.irc_network.specs.declared.item.Item.TheVariants.{Connect, Line, Gone, Link, Cut}
 use Rattle.irc_network.specs.Network.{Receipt, receipt}
 
+-- an item as it was given
 abbrev pub item_of : GivenItem → Item
 item_of (Connect server host) = connect server host
 item_of (Line client bytes) = line client bytes.items
@@ -19,9 +20,11 @@ item_of (Cut near far) = cut near far
 abbrev pub items_of : List GivenItem → List Item
 items_of = map item_of
 
+-- a receipt as it is handed out
 abbrev pub receipt_of : KeptReceipt → Receipt
 receipt_of kept = receipt kept.client kept.text.items
 
+-- several, in the same order
 abbrev pub receipts_of : List KeptReceipt → List Receipt
 receipts_of = map receipt_of
 

@@ -60,6 +60,7 @@ left to lines site = record site { queues = insert site.queues to lines }
 abbrev pub with_way : ℕ → Site → Site
 with_way to site = record site { queues = insert site.queues to [] }
 
+-- what still waits on a way is lost with it
 abbrev pub without_way : ℕ → Site → Site
 without_way to site = record site { queues = remove site.queues to }
 

@@ -16,10 +16,12 @@ use Rattle.irc_line.specs.Lines.{Begun, begun_behind, completed, has_nothing, no
 
 -- ---- one direction of a link
 
+-- what the far end has of a line that is not whole yet, and what is still on its way, in order
 pub record Wire : Type 0 where
   pub begun : Begun
   pub bytes : List ℕ
 
+-- nothing was written yet, or all that was has come in whole lines
 abbrev pub new_wire : Wire
 new_wire = record { begun = nothing_begun; bytes = [] }
 
@@ -47,6 +49,7 @@ Yields count wire before after = bytes_of after.items ≡ bytes_of before.items 
 abbrev pub lines_to_come : Wire → List (List ℕ)
 lines_to_come wire = completed wire.begun wire.bytes
 
+-- whether there is no byte at all
 abbrev pub is_none : List ℕ → Bool
 is_none [] = true
 is_none (byte ∷ bytes) = false
@@ -70,6 +73,7 @@ through_line_feed (byte ∷ bytes) = if byte == line_feed then 1 else suc (throu
 abbrev pub Wires : Type 0
 Wires = List (FinMap nat_cmp Wire)
 
+-- the wires from the server at this place, if there is one
 abbrev pub from_at : Wires → ℕ → Option (FinMap nat_cmp Wire)
 from_at wires from = slice_get wires from
 
@@ -77,6 +81,7 @@ from_at wires from = slice_get wires from
 abbrev pub wire_in : ℕ → FinMap nat_cmp Wire → Wire
 wire_in to row = unwrap_or (get row to) new_wire
 
+-- from a place where no server is nothing is on its way
 abbrev pub wire_at : Wires → ℕ → ℕ → Wire
 wire_at wires from to = option_map_or (wire_in to) (from_at wires from) new_wire
 
@@ -102,9 +107,11 @@ abbrev pub without_wire : ℕ → ℕ → Wires → Wires
 without_wire from to wires =
     option_map_or (λ row. slice_set wires from (remove row to)) (from_at wires from) wires
 
+-- the same of all wires from one server
 abbrev pub are_still_in : FinMap nat_cmp Wire → Bool
 are_still_in row = list_all (λ to. is_still (wire_in to row)) (keys row)
 
+-- nothing is on its way anywhere, and no line has come in part
 abbrev pub are_still : Wires → Bool
 are_still wires = list_all are_still_in wires
 

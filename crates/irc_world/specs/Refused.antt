@@ -10,6 +10,7 @@ use Rattle.irc_stage.specs.View.{KnownPeer}
 use Rattle.irc_world.specs.World.{Setting, World, setting_of, is_server, home_of}
 use Rattle.irc_world.specs.Stepping.{Item, connect, line, gone, link, cut}
 
+-- what may be against an item, seen by one who sees the whole network
 pub data Refusal : Type 0 where
   -- no server has such a name
   no_such_server : Refusal
@@ -30,6 +31,7 @@ password_for settings server peer =
     option_and_then (λ (s : Setting). option_map (λ (p : KnownPeer). p.password) (find (λ (p : KnownPeer). same p.name peer) s.peers))
     (setting_of settings server)
 
+-- a password that is not kept is equal to none, so that strangers are no peers
 abbrev pub are_equal : Option (List ℕ) → Option (List ℕ) → Bool
 are_equal (Some one) (Some other) = same one other
 are_equal one other = false
@@ -44,12 +46,15 @@ link_refusal settings world near far =
     if joined world.links near far || not (are_peers settings near far)
     then Some link_refused else None
 
+-- that both are servers is looked at before anything else
 abbrev pub needs_servers : List Setting → Name → Name → Option Refusal → Option Refusal
 needs_servers settings one other refusal = if is_server settings one && is_server settings other then refusal else Some no_such_server
 
+-- only a client that is connected says something, or goes
 abbrev pub needs_client : World → ℕ → Option Refusal
 needs_client world client = if is_some (open_client world client) then None else Some no_such_client
 
+-- None where the item is taken
 unfoldable pub refused : List Setting → World → Item → Option Refusal
 refused settings world (connect server host) = if is_server settings server then None else Some no_such_server
 refused settings world (line client bytes) = needs_client world client

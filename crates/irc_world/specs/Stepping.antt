@@ -50,6 +50,7 @@ by_machine settings world home happening = record {
   lines = λ client. lines_to client (handled (machine_at settings world home) happening).out;
 }
 
+-- a client acts in the part of its home; one that never connected does nothing
 abbrev pub by_client : List Setting → World → ℕ → Happening → Stepped
 by_client settings world client happening = option_map_or (λ home. by_machine settings world home happening) (home_of world client) (still world)
 
@@ -80,6 +81,7 @@ meeting_lines own other (Some (Registered nick)) =
     merge_shown own.room other.room nick
     ++ (if clashes_in other.room (Some (Registered nick)) then error_line collision_text ∷ [] else [])
 
+-- two parts become one: their halls are merged, and the clients of each meet the other's users
 abbrev pub link_made : World → Name → Name → Stepped
 link_made world near far = record {
   world = with_hall near (merged (world.hall near) (world.hall far)) (record world { links = record { near = near; far = far } ∷ world.links });
@@ -112,6 +114,7 @@ leaving_lines settings left near far room (Some (Registering pending)) = []
 leaving_lines settings left near far room (Some (Registered nick)) =
     shown_along nick room (split_effects (split_text near far) (servers_on_side settings left far) room)
 
+-- one part becomes two: each keeps what is on its side, and its clients see the others quit
 abbrev pub parted : List Setting → World → List Link → Name → Name → Stepped
 parted settings world left near far = record {
   world = with_hall far (remaining settings world left far near) (with_hall near (remaining settings world left near far) (record world { links = left }));

@@ -35,9 +35,11 @@ pub record World : Type 0 where
 abbrev pub new_world : World
 new_world = record { links = []; homes = []; hall = λ server. record { clients = empty; room = no_room } }
 
+-- how the server of this name is set up, if there is one
 abbrev pub setting_of : List Setting → Name → Option Setting
 setting_of settings server = find (λ (s : Setting). same s.name server) settings
 
+-- whoever is set up is a server, linked or not
 abbrev pub is_server : List Setting → Name → Bool
 is_server settings server = is_some (setting_of settings server)
 
@@ -51,6 +53,7 @@ abbrev pub home_in : List Name → ℕ → Option Name
 home_in homes zero = None
 home_in homes (suc earlier) = slice_get homes earlier
 
+-- the server that a client connected to; it stays its home when the client is gone
 abbrev pub home_of : World → ℕ → Option Name
 home_of world client = home_in world.homes client
 
@@ -63,6 +66,7 @@ known_from settings links own server =
     (λ (s : Setting). record { name = s.name; info = s.info; distance = distance links own server })
     (setting_of settings server) else None
 
+-- whether a link is one of this server's
 abbrev pub has_end : Name → Link → Bool
 has_end server link = same link.near server || same link.far server
 
@@ -76,6 +80,7 @@ joined_place settings links own = record {
   servers = values (tabulate (map (λ (s : Setting). s.name) settings) (known_from settings links own.name));
 }
 
+-- where the clients of a server are; a name that is no server's stands alone
 abbrev pub place_at : List Setting → List Link → Name → Place
 place_at settings links server = option_map_or (joined_place settings links) (setting_of settings server) (alone server [] [])
 
