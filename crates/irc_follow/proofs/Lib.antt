@@ -35,7 +35,6 @@ pub mod SaidServerOn
 pub mod SaidShows
 pub mod ServerLines
 pub mod SideFlows
-pub mod SpelledMembers
 pub mod ToldInTurn
 pub mod ToldNumbers
 pub mod ToldServers

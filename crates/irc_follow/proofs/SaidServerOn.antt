@@ -27,6 +27,7 @@ use Rattle.irc_merge.specs.BurstRead.{brought, new_members, some_far}
 use Rattle.irc_merge.specs.Deeds.{Deed, brings, loses, sets, tops, titled, effects_of}
 use Rattle.irc_merge.specs.Quits.{quits_of, users_at}
 use Rattle.irc_merge.proofs.LookingAside.{alike_read_alike}
+use Rattle.irc_merge.specs.Lemmas.SpelledMembers.{new_titled}
 use Rattle.irc_relay.specs.Links.{Name}
 use Rattle.irc_relay.specs.Relay.{TakesFrom}
 use Rattle.irc_routes.specs.declared.server_row.ServerRow.{ServerRow}
@@ -56,7 +57,6 @@ use Rattle.irc_follow.proofs.Neighbours as beside
 use Rattle.irc_follow.proofs.SaidDeed.{deed_served}
 use Rattle.irc_follow.proofs.SaidEffect.{far_is_another, rooms_alike}
 use Rattle.irc_follow.proofs.ServerLines.{all_so, brought_some, members_plain, members_read, members_whole, modes_plain, modes_read, modes_whole, or_so, topic_plain, topic_read, topic_whole}
-use Rattle.irc_follow.proofs.SpelledMembers.{new_respelled}
 
 module _ (known : IsKnownOfLines) (s : Fixed) (p t u : Name) (w : of_side.Part) (view other : View) (line : List ℕ) (client : ℕ)
     (fixed : IsFixed s) (takes : TakesFrom s.streams t p) (next : TakesFrom s.streams u t) (apart : u ≢ p) (writer : Fits s t w view)
@@ -277,7 +277,7 @@ module _ (known : IsKnownOfLines) (s : Fixed) (p t u : Name) (w : of_side.Part) 
     new_there : AllByRecursion (λ (member : List ℕ × Flags). home_passes far other.room.users (key member.0) ≡ true) members
         → new_members far other.room channel members ≡ members
     new_there homes =
-        sym (new_respelled far channel members other.room)
+        sym (new_titled far channel members other.room)
         ∙ all_new far other.room.users channel members (titled_by channel other.room) (titled_by channel w.hall.room)
         (alike_are_respelled_alike channel other.room w.hall.room rooms) refl by_bringer.each homes
 

@@ -7,13 +7,13 @@ use Rattle.irc_burst.specs.DeedsMeant.{as_stored}
 use Rattle.irc_channels.specs.declared.channel.Channel.{Channel}
 use Rattle.irc_channels.specs.declared.flags.Flags.{Flags}
 use Rattle.irc_follow.proofs.DeedEffects.{members_quiet, users_stay}
-use Rattle.irc_merge.proofs.Bringing.{new_titled}
 use Rattle.irc_merge.proofs.CanBeDone.{members_do}
 use Rattle.irc_merge.proofs.Tests.{and_not}
 use Rattle.irc_merge.specs.BurstRead.{is_new_member, new_members}
 use Rattle.irc_merge.specs.Bursts.{home_passes}
 use Rattle.irc_merge.specs.CanBeDone.{DoesSomething}
 use Rattle.irc_merge.specs.Deeds.{flag_given, member_comes, changes_made, raised_in}
+use Rattle.irc_merge.specs.Lemmas.SpelledMembers.{new_titled}
 use Rattle.irc_modes.specs.declared.modes.ModeChange.{ModeChange}
 use Rattle.irc_modes.specs.declared.modes.ModeLetter.{ModeLetter}
 use Rattle.irc_modes.specs.declared.modes.ModeLetter.TheVariants as letter

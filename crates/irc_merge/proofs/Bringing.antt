@@ -34,6 +34,7 @@ use Rattle.irc_merge.specs.BurstRead.{is_new_member, new_members, brought, some_
 use Rattle.irc_merge.specs.MergeShown.{letters_line, mode_lines}
 use Rattle.irc_merge.specs.Lemmas.TableWords.{alter_twice}
 use Rattle.irc_merge.specs.Lemmas.Reading.{read_one, reads, reads-one, reads-append}
+use Rattle.irc_merge.specs.Lemmas.SpelledMembers.{new_titled}
 use Rattle.irc_merge.proofs.Tests.{and_not}
 
 -- ---- one row
@@ -218,29 +219,6 @@ new_by_row far name (member ∷ members) room =
         ∙ ap (λ x. row_new (home_passes far room.users) name x members) (row-alter_same (key name) (comes_to name (key member.0) member.1) room.channels))
     by_test false is more less = less
 
--- who is new does not depend on how the channel is spelled
-some_new_spelled : (passes : List ℕ → Bool) (title name : List ℕ) (members : List (List ℕ × Flags)) (channel : Channel)
-    → row_new passes name (Some (respelled title channel)) members ≡ row_new passes name (Some channel) members
-some_new_spelled passes title name [] channel = refl
-some_new_spelled passes title name (member ∷ members) channel =
-    by_test (is_new passes (key member.0) (Some channel))
-    (some_new_spelled passes title name members (with_member (key member.0) member.1 channel)) (some_new_spelled passes title name members channel)
-  where
-    by_test : (b : Bool)
-        → row_new passes name (Some (respelled title (with_member (key member.0) member.1 channel))) members
-        ≡ row_new passes name (Some (with_member (key member.0) member.1 channel)) members
-        → row_new passes name (Some (respelled title channel)) members ≡ row_new passes name (Some channel) members
-        → cond b (member ∷ row_new passes name (Some (respelled title (with_member (key member.0) member.1 channel))) members)
-        (row_new passes name (Some (respelled title channel)) members)
-        ≡ cond b (member ∷ row_new passes name (Some (with_member (key member.0) member.1 channel)) members) (row_new passes name (Some channel) members)
-    by_test true more less = ap (λ ms. member ∷ ms) more
-    by_test false more less = less
-
-new_spelled : (passes : List ℕ → Bool) (title name : List ℕ) (members : List (List ℕ × Flags)) (x : Option Channel)
-    → row_new passes name (option_map (respelled title) x) members ≡ row_new passes name x members
-new_spelled passes title name members None = refl
-new_spelled passes title name members (Some channel) = some_new_spelled passes title name members channel
-
 -- ---- a line: the channel takes its spelling where somebody comes at all, and then they come
 
 abbrev pub spelled : List ℕ → List (List ℕ × Flags) → Room → Room
@@ -258,15 +236,6 @@ spelled_row name (member ∷ news) room = refl
 -- the room in which the members of a line come
 abbrev pub line_spelled : (List ℕ → Bool) → List ℕ → Room → List (List ℕ × Flags) → Room
 line_spelled far name room members = spelled name (new_members far room name members) room
-
--- those who are new are so in either spelling
-pub new_titled : (far : List ℕ → Bool) (name : List ℕ) (members : List (List ℕ × Flags)) (room : Room)
-    → new_members far (titled_by name room) name members ≡ new_members far room name members
-new_titled far name members room =
-    new_by_row far name members (titled_by name room)
-    ∙ ap (λ x. row_new (home_passes far room.users) name x members) (row-alter_same (key name) (option_map (respelled name)) room.channels)
-    ∙ new_spelled (home_passes far room.users) name name members (row room.channels (key name))
-    ∙ sym (new_by_row far name members room)
 
 line_new : (far : List ℕ → Bool) (name : List ℕ) (members : List (List ℕ × Flags)) (room : Room)
     → new_members far room name members ≡ new_members far (line_spelled far name room members) name members

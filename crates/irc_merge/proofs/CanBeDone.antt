@@ -28,7 +28,7 @@ use Rattle.irc_merge.specs.Deeds.{Deed, does, gains, loses, kills, brings, sets,
 use Rattle.irc_merge.specs.Bursts.{home_passes}
 use Rattle.irc_merge.specs.BurstRead.{introduced, is_new_member, new_members, brought, some_far, read_deed, read_all}
 use Rattle.irc_merge.specs.CanBeDone.{DoesSomething, DeedsDo, IsOfBurst, LinesCanBeDone}
-use Rattle.irc_merge.proofs.Bringing.{new_titled}
+use Rattle.irc_merge.specs.Lemmas.SpelledMembers.{new_titled}
 use Rattle.irc_merge.proofs.Tests.{and_not}
 
 -- ---- single effects

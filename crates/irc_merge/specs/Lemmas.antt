@@ -7,4 +7,5 @@ pub mod Quitting
 pub mod Reading
 pub mod ShownReading
 pub mod ShownUsers
+pub mod SpelledMembers
 pub mod TableWords

@@ -117,7 +117,8 @@ new_so far name (member ∷ members) room other one = λ i.
     (comes_so name member room other one) i
     else new_so far name members room other one i
 
-pub new_respelled : (far : List ℕ → Bool) (name : List ℕ) (members : List (List ℕ × Flags)) (room : Room)
+-- those who are new are so in either spelling
+pub new_titled : (far : List ℕ → Bool) (name : List ℕ) (members : List (List ℕ × Flags)) (room : Room)
     → new_members far (titled_by name room) name members ≡ new_members far room name members
-new_respelled far name members room =
+new_titled far name members room =
     new_so far name members (titled_by name room) room (record { users = refl; channels = (all_else_stays name room).channels })
