@@ -33,7 +33,7 @@ use Rattle.irc_merge.specs.Lemmas.ListedMerge.{AreInOrder, CanBeListed, list_wit
 use Rattle.irc_merge.specs.Lemmas.TableWords.{row-kept}
 use Rattle.irc_stage.specs.declared.clients.Client.{Client}
 use Rattle.irc_stage.specs.declared.clients.Client.TheVariants.{Registered}
-use Rattle.irc_stage.specs.Handle.{says as speaks}
+use Rattle.irc_stage.specs.Handle.{says as speaks, user_of}
 use Rattle.irc_line.specs.Reading.{read_of}
 use Rattle.irc_acts.specs.Acts.{effects_among}
 use Rattle.irc_commands.specs.Decisions.{Decided}
@@ -41,9 +41,9 @@ use Rattle.irc_routes.specs.Place.{Place}
 use Rattle.irc_world.specs.World.{servers_where, known_from, home_of, machine_at}
 use Rattle.irc_world.specs.Stepping.{link, step, split_text, servers_on_side, leaving_lines}
 use Rattle.irc_world.specs.Refused.{refused}
-use Rattle.irc_world.specs.Bounds.{effects_at, effects_said, effects_of_user, most}
+use Rattle.irc_world.specs.Bounds.{effects_at, effects_said, effects_of_user, effects_left, most}
 use Rattle.irc_world.specs.Networks.{three_peers, hall_after, als_doings, bos_doings, zeds_clients, zeds_doings, other_zeds_clients, other_zeds_doings, three_people, three_clients, in_a_line, cut_off, a_to_b, b_to_c, two_apart}
-use Rattle.irc_world.specs.SmallWorlds.{LinesAtMost, zeds_topic, bos_z, bos_client, KillsComeFirst, PasswordsDiffer, told_apart, line_of_links, Whereabouts, two_clients, two_doings, other_two_clients, other_two_doings, ErrorComesLast, als_channel, bos_voice, OperatorBeforeVoice, four_doings, four_clients, four_lose, four_lose_back, LostInOrder, inviting, InvitedAtHome}
+use Rattle.irc_world.specs.SmallWorlds.{LinesAtMost, four_peers, links_of_pairs, cys_doings, zeds_topic, bos_z, bos_client, KillsComeFirst, PasswordsDiffer, told_apart, line_of_links, Whereabouts, two_clients, two_doings, other_two_clients, other_two_doings, ErrorComesLast, als_channel, bos_voice, OperatorBeforeVoice, four_doings, four_clients, four_lose, four_lose_back, LostInOrder, inviting, InvitedAtHome}
 use Rattle.irc_world.proofs.ListedHalls.{list_lost, InOrderLeaving, list_seen_leaving, leaving_listed, servers_listed, list_meeting}
 use Rattle.irc_world.proofs.NetworksProved.{met, als_in_order, bos_in_order, zeds_in_order, other_zeds_in_order, als_hall, others_hall, als_side, others_side, als_side_in_order, others_side_in_order}
 use Rattle.irc_world.proofs.BoSpeaks.{message, is_read, bo_there, decides, spoken}
@@ -92,9 +92,25 @@ b_left : length (servers_where three_peers (joined (b_to_c ∷ []) b_net)) ≡ 2
 unfolding part
 b_left = ap length (servers_listed three_peers (joined (b_to_c ∷ []) b_net) tt)
 
-als_told : length (burst a_net (room_after als_doings)) ≡ 3
+a_and_b : length (servers_where four_peers (joined links_of_pairs b_net)) ≡ 2
+unfolding part
+a_and_b = ap length (servers_listed four_peers (joined links_of_pairs b_net) tt)
+
+c_and_d : length (servers_where four_peers (joined links_of_pairs c_net)) ≡ 2
+unfolding part
+c_and_d = ap length (servers_listed four_peers (joined links_of_pairs c_net) tt)
+
+als_told : (server : Name) → length (burst server (room_after als_doings)) ≡ 3
 unfolding fold fold_table in_lines
-als_told = burst_length a_net als_doings als_in_order 3 (ap length (burst_listed a_net (list_room als_doings) als_in_order))
+als_told server = burst_length server als_doings als_in_order 3 (ap length (burst_listed server (list_room als_doings) als_in_order))
+
+cys_in_order : AreInOrder (list_room cys_doings)
+unfolding fold fold_table
+cys_in_order = record { users = tt; channels = tt; members = tt }
+
+cys_told : length (burst c_net (room_after cys_doings)) ≡ 1
+unfolding fold fold_table in_lines
+cys_told = burst_length c_net cys_doings cys_in_order 1 (ap length (burst_listed c_net (list_room cys_doings) cys_in_order))
 
 bos_told : length (burst b_net (room_after bos_doings)) ≡ 3
 unfolding fold fold_table in_lines
@@ -129,15 +145,24 @@ effects_are place =
     ∙ ap (effects_of_user (record { place = place; clients = three_people.clients; room = three_people.room }) message) bo_there
     ∙ ap (λ (d : Decided). effects_among d.steps) (decides place)
 
+bo_leaves : user_of three_people.room (get three_people.clients 2) ≡ Some (codes "bo")
+bo_leaves =
+    ap (user_of three_people.room) (get-from_entries nat_cmp_total three_clients 2)
+    ∙ ap (option_map (λ (user : User). user.nick)) bo_there
+
 pub lines_at_most : LinesAtMost
 unfolding most part step links_without
 lines_at_most = record {
   first_link = λ i. for_link (a_alone i) (b_alone i) (nothing_told a_net i) (nothing_told b_net i);
-  people = λ i. for_link (a_alone i) (b_alone i) (als_told i) (bos_told i);
+  people = λ i. for_link (a_alone i) (b_alone i) (als_told a_net i) (bos_told i);
   clash = λ i. for_link (a_alone i) (b_alone i) (zeds_told i) (other_zeds_told i);
   spoken = λ i. length (effects_are (machine_at three_peers (in_a_line three_people) b_net).place i) * (all_three i - 1);
+  left = λ i. length (effects_left (bo_leaves i)) * (all_three i - 1);
   lost = λ i. b_left i * (a_left i - 1) + a_left i * (b_left i - 1);
   back = λ i. for_link (a_left i) (b_left i) (als_side_told i) (others_side_told i);
+  pairs = λ i. for_link (a_and_b i) (c_and_d i) (als_told b_net i) (cys_told i);
+  pairs_lost = λ i. c_and_d i * (a_and_b i - 1) + a_and_b i * (c_and_d i - 1);
+  connected = refl;
 }
 
 -- ---- kills come first

@@ -12,23 +12,66 @@ use Rattle.irc_relay.specs.Links.{Link, links_without}
 use Rattle.irc_routes.specs.Place.{KnownServer, Place}
 use Rattle.irc_stage.specs.declared.clients.Client.{Client}
 use Rattle.irc_stage.specs.declared.clients.Client.TheVariants.{Registered}
-use Rattle.irc_world.specs.World.{Setting, Hall, new_world, place_at}
-use Rattle.irc_world.specs.Stepping.{line, link, cut, Stepped, step}
+use Rattle.irc_world.specs.World.{Setting, Hall, World, new_world, with_hall, place_at}
+use Rattle.irc_world.specs.Stepping.{connect, line, gone, link, cut, Stepped, step}
 use Rattle.irc_world.specs.Refused.{refused, link_refused}
 use Rattle.irc_world.specs.Bounds.{most}
 use Rattle.irc_world.specs.Parts.{view_at}
 use Rattle.irc_world.specs.Examples.{with_peers, peer}
 use Rattle.irc_world.specs.Networks.{three_peers, on_a, on_b, on_c, hall_after, two_apart, a_to_b, b_to_c, als_people, bos_people, als_room, bos_room, zeds_clients, zed_quits, with_zed, with_other_zed, in_a_line, three_people, cut_off}
 
--- How many lines servers need at most: for the first link of two servers; for a link of two on each of which there are two people and a channel; where a nickname
--- is on both sides; for a text, which two other servers are told of; for a lost link, of which one server is told; and for that link when it is back.
+-- ---- how many lines servers need
+
+-- a.net, b.net, c.net and d.net, of which each is a peer of the next
+abbrev pub four_peers : List Setting
+four_peers =
+    with_peers (codes "a.net") (peer (codes "b.net") (codes "pw") ∷ [])
+    ∷ with_peers (codes "b.net") (peer (codes "a.net") (codes "pw") ∷ peer (codes "c.net") (codes "pw") ∷ [])
+    ∷ with_peers (codes "c.net") (peer (codes "b.net") (codes "pw") ∷ peer (codes "d.net") (codes "pw") ∷ [])
+    ∷ with_peers (codes "d.net") (peer (codes "c.net") (codes "pw") ∷ [])
+    ∷ []
+
+abbrev pub c_to_d : Link
+c_to_d = record { near = codes "c.net"; far = codes "d.net" }
+
+abbrev pub links_of_pairs : List Link
+links_of_pairs = c_to_d ∷ a_to_b ∷ []
+
+-- cy (3) on c.net, in no channel
+abbrev pub cys_doings : List Effect
+cys_doings = on_c (codes "cy") ∷ []
+
+abbrev pub cys_hall : Hall
+cys_hall = hall_after ((3, Registered (codes "cy")) ∷ []) cys_doings
+
+-- a.net and b.net with al's people, and c.net and d.net with cy
+abbrev pub two_pairs : World
+two_pairs = with_hall (codes "a.net") als_people (with_hall (codes "c.net") cys_hall (record new_world {
+  links = links_of_pairs;
+  homes = codes "a.net" ∷ codes "a.net" ∷ codes "c.net" ∷ [];
+}))
+
+abbrev pub pairs_linked : World
+pairs_linked = (step four_peers two_pairs (link (codes "b.net") (codes "c.net"))).world
+
+-- How many lines servers need at most: for the first link of two servers; for a link of two on
+-- each of which there are two people and a channel; where a nickname is on both sides; for a text,
+-- and for who leaves, which two other servers are told of; for a lost link, of which one server is
+-- told; and for that link when it is back. Of two pairs that are linked one tells of two servers,
+-- two people and a channel, and the other of two servers and one: five lines and three, each once
+-- to either server there and once more for an answer, and two PASS. Once that link is lost, either
+-- end tells its neighbour of two servers. Of who has but connected no other server is told.
 pub record LinesAtMost : Type 0 where
   pub first_link : most three_peers new_world (link (codes "a.net") (codes "b.net")) ≡ 6
   pub people : most three_peers (two_apart als_people bos_people) (link (codes "a.net") (codes "b.net")) ≡ 18
   pub clash : most three_peers (two_apart with_zed with_other_zed) (link (codes "a.net") (codes "b.net")) ≡ 20
   pub spoken : most three_peers (in_a_line three_people) (line 2 (codes "PRIVMSG #c :hi")) ≡ 2
+  pub left : most three_peers (in_a_line three_people) (gone 2) ≡ 2
   pub lost : most three_peers (in_a_line three_people) (cut (codes "a.net") (codes "b.net")) ≡ 1
   pub back : most three_peers cut_off.world (link (codes "a.net") (codes "b.net")) ≡ 31
+  pub pairs : most four_peers two_pairs (link (codes "b.net") (codes "c.net")) ≡ 26
+  pub pairs_lost : most four_peers pairs_linked (cut (codes "b.net") (codes "c.net")) ≡ 4
+  pub connected : most three_peers (in_a_line three_people) (connect (codes "a.net") (codes "h")) ≡ 0
 
 -- ---- who is killed quits first, and then halves are joined
 

@@ -40,8 +40,9 @@ pub fn bo_is_heard()
     ensures { BoIsHeard }
 {}
 
-/// How many lines servers need at most: for a link of two that are empty, of two with people, and of two with one nickname; for a text; for a link that is
-/// lost, and for one that is back.
+/// How many lines servers need at most: for a link of two that are empty, of two with people, of two
+/// with one nickname, and of two pairs; for a text, for who leaves, and for who connects; for a link
+/// that is lost, between pairs too, and for one that is back.
 pub fn lines_at_most()
     ensures { LinesAtMost }
 {}
