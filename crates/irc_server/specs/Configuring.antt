@@ -11,7 +11,7 @@ use Rattle.irc_handshake.specs.Passwords.{is_password}
 use Rattle.irc_stage.specs.declared.peer.Peer.{Peer}
 use Rattle.irc_server.specs.declared.config.Config.{Config}
 use Rattle.irc_server.specs.declared.config.ConfigFault.{ConfigFault}
-use Rattle.irc_server.specs.declared.config.ConfigFault.TheVariants.{BadName, DoubleName, Memory}
+use Rattle.irc_server.specs.declared.config.ConfigFault.TheVariants.{BadName, DoubleName}
 use Rattle.irc_stage.specs.View.{View, new_view}
 
 abbrev pub is_text : List ℕ → Bool
@@ -49,8 +49,7 @@ config_fault config =
 abbrev pub made_view : Config → View
 made_view config = new_view (alone_known config.own.name.items config.own.info.items config.own.created.items) config.peers.items
 
--- what comes of a configuration
+-- what comes of a configuration; no memory is wanted for it
 abbrev pub IsMade : Config → Result (Option View) ConfigFault → Type 0
 IsMade config (Ok server) = (config_fault config ≡ None) × (server ≡ Some (made_view config))
-IsMade config (Err Memory) = config_fault config ≡ None
 IsMade config (Err fault) = config_fault config ≡ Some fault

@@ -54,7 +54,7 @@ impl Server {
     ///
     /// # Errors
     /// [`ConfigFault::BadName`] where a name, a text or a password is outside its limits; then [`ConfigFault::DoubleName`] where two
-    /// peers have one name, or one has the server's own; [`ConfigFault::Memory`] where memory runs out.
+    /// peers have one name, or one has the server's own. It takes no memory, so that it never answers [`ConfigFault::Memory`].
     pub fn new(alloc: Global, config: Config) -> Result<Self, ConfigFault>
         ensures { IsMade config result }
     {

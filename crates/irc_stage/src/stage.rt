@@ -125,7 +125,9 @@ impl Stage {
     }
 
     /// Where it takes memory from.
-    pub fn alloc(&self) -> Global {
+    pub fn alloc(&self) -> Global
+        ensures { result ≡ self.now.alloc }
+    {
         self.alloc
     }
 
