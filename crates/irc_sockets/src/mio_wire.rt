@@ -120,7 +120,7 @@ impl MioWire {
             self.wake_doors();
         }
         let waited = if is_over { wait } else { 0 };
-        self.sockets.talkers.holding.pass(waited);
+        self.sockets.talkers.pass(waited);
         self.calls.retries.pass(waited);
         self.calls.retries.look();
         let has_arrived = self.take_events();
@@ -134,7 +134,7 @@ impl MioWire {
     fn wait(&self) -> u64 {
         let talkers = &self.sockets.talkers;
         let is_busy = talkers.waiting() > 0 || self.has_arrivals() || self.round.has_more;
-        let is_holding = !talkers.holding.is_empty();
+        let is_holding = !talkers.holds_nobody();
         wait_for(is_busy, self.calls.retries.wait(), is_holding)
     }
 

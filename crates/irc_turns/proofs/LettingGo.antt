@@ -10,8 +10,8 @@ use Rattle.std.specs.Option.{IsSome}
 use Rattle.irc_turns.specs.HeldBack.{HeldBack, held_still, held_at}
 use Rattle.irc_turns.specs.declared.holding.Held.{Held}
 use Rattle.irc_turns.specs.declared.talker.Talker.{Talker}
-use Rattle.irc_turns.specs.declared.talkers.Talkers.{Talkers}
-use Rattle.irc_turns.specs.Numbered.{talker_at, talker_changed_if, talker_changed_at, only, tried_again, asked_again, is_new_again, is_full_one, is_due, ComesLast, QueuesUp, SameButQueue, LetsOneGo}
+use Rattle.irc_turns.specs.Numbered.{NumberedTalkers, talker_at, talker_changed_if, talker_changed_at, only, tried_again, asked_again, is_full_one, is_due, LetsOneGo}
+use Rattle.irc_turns.specs.Talking.{held_no_more}
 
 -- ---- those before the place from which one was taken stay
 
@@ -25,7 +25,7 @@ before_place xs i k last d before within =
 -- ---- who is due
 
 -- whose time is not over, by a talker that takes bytes
-takes_bytes : (passed : ℕ) (talkers : Talkers) (held : Held) (by : ℕ) (b : Bool) → cond b (Some held.by) None ≡ Some by
+takes_bytes : (passed : ℕ) (talkers : NumberedTalkers) (held : Held) (by : ℕ) (b : Bool) → cond b (Some held.by) None ≡ Some by
     → is_full_one (talker_at talkers by) ≡ false → not (b && is_full_one (talker_at talkers held.by)) ≡ true
 takes_bytes passed talkers held by true one free = ap (λ o. not (is_full_of o)) one ∙ ap not free
   where
@@ -34,22 +34,22 @@ takes_bytes passed talkers held by true one free = ap (λ o. not (is_full_of o))
     is_full_of (Some number) = is_full_one (talker_at talkers number)
 takes_bytes passed talkers held by false one free = refl
 
-pub due_by_room : (talkers : Talkers) (place by : ℕ) (held : Held) → slice_get talkers.holding.held place ≡ Some held
+pub due_by_room : (talkers : NumberedTalkers) (place by : ℕ) (held : Held) → slice_get talkers.holding.held place ≡ Some held
     → held_at talkers.holding place ≡ Some by → is_full_one (talker_at talkers by) ≡ false → is_due talkers held ≡ true
 due_by_room talkers place by held there one free =
     takes_bytes talkers.holding.passed talkers held by (nat_lt talkers.holding.passed held.until)
     (sym (ap (held_still talkers.holding.passed) there) ∙ one) free
 
-over : (talkers : Talkers) (held : Held) (b : Bool) → cond b (Some held.by) None ≡ None → not (b && is_full_one (talker_at talkers held.by)) ≡ true
+over : (talkers : NumberedTalkers) (held : Held) (b : Bool) → cond b (Some held.by) None ≡ None → not (b && is_full_one (talker_at talkers held.by)) ≡ true
 over talkers held true none = cc none
 over talkers held false none = refl
 
-pub due_by_time : (talkers : Talkers) (place : ℕ) (held : Held) → slice_get talkers.holding.held place ≡ Some held
+pub due_by_time : (talkers : NumberedTalkers) (place : ℕ) (held : Held) → slice_get talkers.holding.held place ≡ Some held
     → held_at talkers.holding place ≡ None → is_due talkers held ≡ true
 due_by_time talkers place held there none =
     over talkers held (nat_lt talkers.holding.passed held.until) (sym (ap (held_still talkers.holding.passed) there) ∙ none)
 
-in_time : (old : Talkers) (held : Held) (by : ℕ) (b : Bool) → cond b (Some held.by) None ≡ Some by → is_full_one (talker_at old by) ≡ true
+in_time : (old : NumberedTalkers) (held : Held) (by : ℕ) (b : Bool) → cond b (Some held.by) None ≡ Some by → is_full_one (talker_at old by) ≡ true
     → not (b && is_full_one (talker_at old held.by)) ≡ false
 in_time old held by true one full = ap (λ o. not (is_full_of o)) one ∙ ap not full
   where
@@ -59,7 +59,7 @@ in_time old held by true one full = ap (λ o. not (is_full_of o)) one ∙ ap not
 in_time old held by false one full = cc one
 
 -- whoever is held still was not due before, since no talker has become full
-pub not_due : (old talkers : Talkers) (place by : ℕ) (d : Held) → place < length talkers.holding.held → held_at talkers.holding place ≡ Some by
+pub not_due : (old talkers : NumberedTalkers) (place by : ℕ) (d : Held) → place < length talkers.holding.held → held_at talkers.holding place ≡ Some by
     → is_full_one (talker_at talkers by) ≡ true → ((number : ℕ) → is_full_one (talker_at talkers number) ≡ true → is_full_one (talker_at old number) ≡ true)
     → talkers.holding.passed ≡ old.holding.passed → is_due old (get_or talkers.holding.held place d) ≡ false
 not_due old talkers place by d within one full fuller passed =
@@ -89,12 +89,12 @@ full_in : (change : Talker → Talker) (number n : ℕ) (slab : Slab Talker) (sl
 full_in change number n slab None there keeps full = full
 full_in change number n slab (Some talker) there keeps full = written slab number n talker (change talker) there (keeps talker) full
 
-pub fuller : (between after new : Talkers) (by who : ℕ) → after.by_number ≡ talker_changed_at tried_again by between.by_number
-    → new.by_number ≡ talker_changed_at asked_again who after.by_number → (n : ℕ) → is_full_one (talker_at new n) ≡ true → is_full_one (talker_at between n) ≡ true
+pub fuller : (between after new : NumberedTalkers) (by who : ℕ) → after.by_number ≡ talker_changed_at tried_again by between.by_number
+    → new.by_number ≡ talker_changed_at held_no_more who after.by_number → (n : ℕ) → is_full_one (talker_at new n) ≡ true → is_full_one (talker_at between n) ≡ true
 fuller between after new by who tried asked n full =
     full_in tried_again by n between.by_number _ refl (λ s e. cc e)
     (ap (λ slab. is_full_one (get slab n)) (sym tried)
-    ∙ full_in asked_again who n after.by_number _ refl (λ s e. e) (ap (λ slab. is_full_one (get slab n)) (sym asked) ∙ full))
+    ∙ full_in held_no_more who n after.by_number _ refl (λ s e. e) (ap (λ slab. is_full_one (get slab n)) (sym asked) ∙ full))
 
 -- ---- one is let go
 
@@ -102,19 +102,17 @@ holding_is : (h : HeldBack) (held : List Held) (passed : ℕ) → h.held ≡ hel
 holding_is h held passed same_held same_passed =
     ap (λ xs. record { held = xs; passed = h.passed }) same_held ∙ ap (λ p. record { held = held; passed = p }) same_passed
 
-pub gone : (between after new : Talkers) (holding : HeldBack) (place : ℕ) (held : Held) → slice_get between.holding.held place ≡ Some held
+pub gone : (between after new : NumberedTalkers) (holding : HeldBack) (place : ℕ) (held : Held) → slice_get between.holding.held place ≡ Some held
     → is_due between held ≡ true → holding.held ≡ swap_remove between.holding.held place held → holding.passed ≡ between.holding.passed
-    → after ≡ only tried_again held.by (record between { holding = holding }) → ComesLast (is_new_again (talker_at after held.who)) held.who after new
-    → SameButQueue (only asked_again held.who after) new → LetsOneGo between new place held
-gone between after new holding place held there due left passed tried queue others = record {
+    → after ≡ only tried_again held.by (record between { holding = holding }) → new ≡ asked_again held.who after
+    → LetsOneGo between new place held
+gone between after new holding place held there due left passed tried asked = record {
   there = there;
   due = due;
-  queue = subst (λ (s : Talkers). QueuesUp (is_new_again (talker_at s held.who)) held.who s.queue new.queue) tried queue;
-  others =
-      others
-      ∙ ap (λ (s : Talkers). record (only asked_again held.who s) { queue = new.queue }) tried
-      ∙ ap (λ h. record (only asked_again held.who (only tried_again held.by (record between { holding = h }))) { queue = new.queue })
-      (holding_is holding _ _ left passed);
+  left =
+      asked
+      ∙ ap (λ (s : NumberedTalkers). asked_again held.who s) tried
+      ∙ ap (λ h. asked_again held.who (only tried_again held.by (record between { holding = h }))) (holding_is holding _ _ left passed);
 }
 
 -- ---- place by place

@@ -1,3 +1,4 @@
 pub mod FirstReported
 pub mod FrontSteps
 pub mod LettingGo
+pub mod QueueMarks

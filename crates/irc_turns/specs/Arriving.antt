@@ -1,5 +1,5 @@
 -- Who waits at a door.
-use Rattle.std.specs.Prelude.{ℕ, Bool, true, false, ◌&&◌, ◌||◌, ◌-◌, nat_lt}
+use Rattle.std.specs.Prelude.{Bool, true, false, ◌&&◌, ◌||◌, ◌-◌, nat_lt}
 use Rattle.irc_turns.specs.declared.arrivals.Arrivals.{Arrivals}
 
 abbrev pub nobody_waits : Arrivals

@@ -5,6 +5,7 @@ pub mod Gathering
 pub mod HeldBack
 pub mod Numbered
 pub mod Pacing
+pub mod Queues
 pub mod Retries
 pub mod Rounds
 pub mod Spreads

@@ -1,8 +1,6 @@
 -- Those who talk to the server, by their numbers, and the queue of those that are to be reported.
-use Rattle.std.specs.Prelude.{◌≡◌, ◌⊎◌, ◌≤◌, ℕ, Bool, true, false, not, ◌&&◌, ◌||◌, ◌-◌, nat_eq, nat_lt, if◌then◌else◌, Option, Some, None, is_none, List, [], ◌∷◌, ◌++◌, take, drop, filter}
+use Rattle.std.specs.Prelude.{◌≡◌, ◌⊎◌, ℕ, Bool, true, false, not, ◌&&◌, ◌||◌, ◌-◌, nat_eq, nat_lt, if◌then◌else◌, Option, Some, None, is_none, List, [], ◌∷◌}
 use Rattle.std.specs.List.{slice_get, swap_remove}
-use Rattle.std.specs.VecDeque.{deque_len, deque_capacity}
-use Rattle.std.specs.declared.collections.VecDeque.{VecDeque}
 use Rattle.slab.specs.Slab.{Slab, get, with_value, Updates}
 use Rattle.irc_turns.specs.declared.round.Round.{Round}
 use Rattle.irc_turns.specs.Rounds.{wait_more, more_noted}
@@ -11,54 +9,35 @@ use Rattle.irc_turns.specs.declared.talker.Talker.{Talker}
 use Rattle.irc_turns.specs.declared.talker.Told.{Told}
 use Rattle.irc_turns.specs.declared.talkers.Report.{Report}
 use Rattle.irc_turns.specs.declared.talkers.Report.TheVariants as report
-use Rattle.irc_turns.specs.declared.talkers.Talkers.{Talkers}
 use Rattle.irc_turns.specs.HeldBack.{HeldBack, held_too}
 use Rattle.irc_turns.specs.declared.holding.Held.{Held}
+use Rattle.irc_turns.specs.Queues.{stands_in, queued_behind, is_first}
 use Rattle.irc_turns.specs.Talking.{new_talker, is_asked, is_stuck, may_take_more, is_put_off, written, takes_again, told_so, turn_over, held_back, held_no_more}
 
+-- the talkers, the numbers of those that are to be reported, who is held back, and how many came
+pub record NumberedTalkers : Type 0 where
+  pub by_number : Slab Talker
+  pub queue : List ℕ
+  pub holding : HeldBack
+  pub count : ℕ
+
 -- the talker under a number, if there is one
-abbrev pub talker_at : Talkers → ℕ → Option Talker
+abbrev pub talker_at : NumberedTalkers → ℕ → Option Talker
 talker_at talkers number = get talkers.by_number number
 
--- the numbers of those that are to be reported, in turn
-abbrev pub talker_queue : Talkers → List ℕ
-talker_queue talkers = talkers.queue.items
-
--- those who are first in a queue stand behind the others
-abbrev pub turned_queue : ℕ → List ℕ → List ℕ
-turned_queue count queue = drop count queue ++ take count queue
-
-abbrev pub is_queued_one : Option Talker → Bool
-is_queued_one None = false
-is_queued_one (Some talker) = talker.is_queued
-
-abbrev pub queue_taken_from : Bool → ℕ → List ℕ → List ℕ
-queue_taken_from is_queued number queue = if is_queued then filter (λ other. not (nat_eq other number)) queue else queue
-
--- without a number whose talker was among them
-abbrev pub queue_without : ℕ → Talkers → List ℕ
-queue_without number talkers = queue_taken_from (is_queued_one (talker_at talkers number)) number (talker_queue talkers)
-
--- whoever is new in the queue stands behind the others; or there is no room, and nothing has changed
-abbrev pub QueuesUp : {Z : Type 0} → Bool → ℕ → VecDeque ℕ Z → VecDeque ℕ Z → Type 0
-QueuesUp false number old new = new.items ≡ old.items
-QueuesUp true number old new = (new.items ≡ old.items ++ number ∷ []) ⊎ ((deque_capacity old ≤ deque_len old) × (new.items ≡ old.items))
-
--- the same of all talkers
-abbrev pub ComesLast : Bool → ℕ → Talkers → Talkers → Type 0
-ComesLast is_new number old new = QueuesUp is_new number old.queue new.queue
+-- one that is to be reported stands behind the others, unless it stands among them
+abbrev pub queued_if : Bool → ℕ → List ℕ → List ℕ
+queued_if true number queue = queued_behind number queue
+queued_if false number queue = queue
 
 -- all but the queue is as it was
-abbrev pub SameButQueue : Talkers → Talkers → Type 0
+abbrev pub SameButQueue : NumberedTalkers → NumberedTalkers → Type 0
 SameButQueue old new = new ≡ record old { queue = new.queue }
-
-abbrev pub talker_queued : Talker → Talker
-talker_queued talker = record talker { is_queued = true }
 
 -- ---- one talker comes, or changes
 
 -- a number has a new talker, with the count of all for its serial; the others stay
-abbrev pub IsTalkerAdded : Bool → Talkers → Talkers → ℕ → Type 0
+abbrev pub IsTalkerAdded : Bool → NumberedTalkers → NumberedTalkers → ℕ → Type 0
 IsTalkerAdded is_client old new number = Updates old.by_number new.by_number number (Some (new_talker is_client new.count))
 
 abbrev pub talker_changed_if : (Talker → Talker) → ℕ → Slab Talker → Option Talker → Slab Talker
@@ -69,75 +48,68 @@ talker_changed_if change number slab (Some talker) = with_value slab number (cha
 abbrev pub talker_changed_at : (Talker → Talker) → ℕ → Slab Talker → Slab Talker
 talker_changed_at change number slab = talker_changed_if change number slab (get slab number)
 
-abbrev pub only : (Talker → Talker) → ℕ → Talkers → Talkers
+abbrev pub only : (Talker → Talker) → ℕ → NumberedTalkers → NumberedTalkers
 only change number talkers = record talkers { by_number = talker_changed_at change number talkers.by_number }
 
 -- one that was full is tried again
 abbrev pub tried_again : Talker → Talker
 tried_again talker = record talker { is_full = false }
 
--- what the system tells has it stand in the queue, where it takes bytes again, or has something to say
-abbrev pub noted : Told → Talker → Talker
-noted told talker = record (told_so talker told) { is_queued = talker.is_queued || (takes_again talker told || is_asked (told_so talker told)) }
+-- what the system tells has it reported, where it takes bytes again, or has something to say
+abbrev pub is_told : Told → Option Talker → Bool
+is_told told None = false
+is_told told (Some talker) = takes_again talker told || is_asked (told_so talker told)
+
+-- the queue then
+abbrev pub queue_told : Told → ℕ → NumberedTalkers → List ℕ
+queue_told told number talkers = queued_if (is_told told (talker_at talkers number)) number talkers.queue
+
+abbrev pub is_asked_behind : Told → Option Talker → Bool
+is_asked_behind told None = false
+is_asked_behind told (Some talker) = is_asked (told_so talker told)
 
 -- somebody has come by it who was not waiting
-abbrev pub has_come : Told → Option Talker → Bool
-has_come told None = false
-has_come told (Some talker) = is_asked (told_so talker told) && not talker.is_queued
+abbrev pub has_come : Told → ℕ → NumberedTalkers → Bool
+has_come told number talkers =
+    is_asked_behind told (talker_at talkers number) && not (stands_in number talkers.queue)
 
--- it is new in the queue
-abbrev pub is_new : Told → Option Talker → Bool
-is_new told None = false
-is_new told (Some talker) = (takes_again talker told || is_asked (told_so talker told)) && not talker.is_queued
+-- one that is held back no more is reported, if it has something to say
+abbrev pub is_asked_again : Option Talker → Bool
+is_asked_again None = false
+is_asked_again (Some talker) = is_asked (held_no_more talker)
 
-abbrev pub is_new_at : Told → ℕ → Talkers → Bool
-is_new_at told number talkers = is_new told (talker_at talkers number)
+abbrev pub asked_again : ℕ → NumberedTalkers → NumberedTalkers
+asked_again number talkers = record (only held_no_more number talkers) {
+  queue = queued_if (is_asked_again (talker_at talkers number)) number talkers.queue;
+}
 
--- one that is held back no more stands in the queue, if it has something to say
-abbrev pub asked_again : Talker → Talker
-asked_again talker = record (held_no_more talker) { is_queued = talker.is_queued || is_asked (held_no_more talker) }
+-- one of whom something is left is reported, if it is to be asked
+abbrev pub is_asked_one : Option Talker → Bool
+is_asked_one None = false
+is_asked_one (Some talker) = is_asked talker
 
-abbrev pub is_new_again : Option Talker → Bool
-is_new_again None = false
-is_new_again (Some talker) = is_asked (held_no_more talker) && not talker.is_queued
-
-abbrev pub is_new_again_at : ℕ → Talkers → Bool
-is_new_again_at number talkers = is_new_again (talker_at talkers number)
-
--- one of whom something is left, and one who has taken its answers, stands in the queue, if it is to be asked
-abbrev pub queued_if_asked : Talker → Talker
-queued_if_asked talker = record talker { is_queued = talker.is_queued || is_asked talker }
-
-abbrev pub is_new_if_asked : Option Talker → Bool
-is_new_if_asked None = false
-is_new_if_asked (Some talker) = is_asked talker && not talker.is_queued
-
-abbrev pub is_new_if_asked_at : ℕ → Talkers → Bool
-is_new_if_asked_at number talkers = is_new_if_asked (talker_at talkers number)
+abbrev pub queue_asked : ℕ → NumberedTalkers → List ℕ
+queue_asked number talkers = queued_if (is_asked_one (talker_at talkers number)) number talkers.queue
 
 -- ---- writes
-
--- whether a number is first in a queue
-abbrev pub is_first : ℕ → List ℕ → Bool
-is_first number [] = false
-is_first number (first ∷ behind) = nat_eq first number
 
 abbrev pub put_off_one : ℕ → ℕ → Bool → Option Talker → Option Bool
 put_off_one turn all may_wait None = None
 put_off_one turn all may_wait (Some talker) = Some (is_put_off talker turn all may_wait)
 
 -- whether a write of so many bytes in all waits; that of who is next to be reported waits for nothing but its socket
-abbrev pub put_off_at : Talkers → Round → ℕ → ℕ → Option Bool
+abbrev pub put_off_at : NumberedTalkers → Round → ℕ → ℕ → Option Bool
 put_off_at talkers round number all =
-    put_off_one round.turn all (round.may_wait && not (is_first number (talker_queue talkers))) (talker_at talkers number)
+    put_off_one round.turn all (round.may_wait && not (is_first number talkers.queue)) (talker_at talkers number)
 
--- behind a write, which took so many bytes, or failed
-abbrev pub behind_write : Round → ℕ → Option ℕ → Talker → Talker
-behind_write round all taken talker = queued_if_asked (written round.turn all taken talker)
+-- behind a write, which took so many bytes, or failed, one that is to be asked is reported
+abbrev pub is_asked_then : Round → ℕ → Option ℕ → Option Talker → Bool
+is_asked_then round all taken None = false
+is_asked_then round all taken (Some talker) = is_asked (written round.turn all taken talker)
 
-abbrev pub is_new_behind : Round → ℕ → Option ℕ → Option Talker → Bool
-is_new_behind round all taken None = false
-is_new_behind round all taken (Some talker) = is_asked (written round.turn all taken talker) && not talker.is_queued
+abbrev pub queue_written : Round → ℕ → Option ℕ → ℕ → NumberedTalkers → List ℕ
+queue_written round all taken number talkers =
+    queued_if (is_asked_then round all taken (talker_at talkers number)) number talkers.queue
 
 -- what the round knows of it: how much more waits than before, whether its socket is stuck, and whether a wait would be too long, since what
 -- others are told of a failure is yet to be written, or bytes wait for a socket that takes some
@@ -154,10 +126,10 @@ mark_if number None = None
 mark_if number (Some talker) = Some (record { number = number; serial = talker.serial })
 
 -- what tells a talker from each other that there is or was
-abbrev pub talker_mark : Talkers → ℕ → Option Mark
+abbrev pub talker_mark : NumberedTalkers → ℕ → Option Mark
 talker_mark talkers number = mark_if number (talker_at talkers number)
 
-abbrev pub mark_of_one : Talkers → Option ℕ → Option Mark
+abbrev pub mark_of_one : NumberedTalkers → Option ℕ → Option Mark
 mark_of_one talkers None = None
 mark_of_one talkers (Some number) = talker_mark talkers number
 
@@ -166,7 +138,7 @@ is_full_one None = false
 is_full_one (Some talker) = talker.is_full
 
 -- a turn is over for the client that was read in it, if one was
-abbrev pub turn_ended : Round → Option ℕ → Talkers → Talkers
+abbrev pub turn_ended : Round → Option ℕ → NumberedTalkers → NumberedTalkers
 turn_ended round None talkers = talkers
 turn_ended round (Some reader) talkers =
     only (λ talker. turn_over talker round.answered round.shown (mark_of_one talkers round.filled)) reader talkers
@@ -178,24 +150,24 @@ abbrev pub is_full_yet : Mark → Option Talker → Bool
 is_full_yet mark None = false
 is_full_yet mark (Some talker) = talker.is_full && nat_eq talker.serial mark.serial
 
-abbrev pub filled_by_mark : Talkers → Talker → Option Mark → Option ℕ
+abbrev pub filled_by_mark : NumberedTalkers → Talker → Option Mark → Option ℕ
 filled_by_mark talkers talker None = None
 filled_by_mark talkers talker (Some mark) =
     if is_full_yet mark (talker_at talkers mark.number) && (is_asked talker && not talker.was_held) then Some mark.number else None
 
-abbrev pub filled_by_one : Talkers → Option Talker → Option ℕ
+abbrev pub filled_by_one : NumberedTalkers → Option Talker → Option ℕ
 filled_by_one talkers None = None
 filled_by_one talkers (Some talker) = filled_by_mark talkers talker talker.fills
 
 -- whom a client that would be asked has filled, and who takes no bytes; but one that was let go is asked first
-abbrev pub filled_by : Talkers → ℕ → Option ℕ
+abbrev pub filled_by : NumberedTalkers → ℕ → Option ℕ
 filled_by talkers number = filled_by_one talkers (talker_at talkers number)
 
-abbrev pub held_by : ℕ → ℕ → Talkers → Talkers
+abbrev pub held_by : ℕ → ℕ → NumberedTalkers → NumberedTalkers
 held_by by number talkers = record (only held_back number talkers) { holding = held_too talkers.holding number by }
 
 -- it is held back by whom it has filled; or not, where memory runs out
-abbrev pub IsHeldBy : Option ℕ → ℕ → Talkers → Talkers → Type 0
+abbrev pub IsHeldBy : Option ℕ → ℕ → NumberedTalkers → NumberedTalkers → Type 0
 IsHeldBy None number old new = new ≡ old
 IsHeldBy (Some by) number old new = (new ≡ held_by by number old) ⊎ (new ≡ old)
 
@@ -206,10 +178,10 @@ abbrev pub talker_report : ℕ → Option Talker → Option Report
 talker_report number None = None
 talker_report number (Some talker) = Some (if is_asked talker then report.Readable number else report.Writable number)
 
--- it has left the queue, and what it has to say is heard
+-- what it has to say is heard
 abbrev pub talker_heard : Talker → Talker
 talker_heard talker =
-    if is_asked talker then record talker { is_queued = false; is_readable = false; was_held = false } else record talker { is_queued = false }
+    if is_asked talker then record talker { is_readable = false; was_held = false } else talker
 
 -- the client that is read in the turn
 abbrev pub turn_reader : ℕ → Option Talker → Option ℕ → Option ℕ
@@ -217,44 +189,43 @@ turn_reader number None reader = reader
 turn_reader number (Some talker) reader = if is_asked talker && talker.is_client then Some number else reader
 
 -- it has left the queue, is held back if it is to be, and is reported as it stands then
-pub record IsReported (number : ℕ) (old new : Talkers) (round : Round) (result : Option Report) (round_after : Round) : Type 0 where
-  pub held : Talkers
+pub record IsReported (number : ℕ) (old new : NumberedTalkers) (round : Round) (result : Option Report) (round_after : Round) : Type 0 where
+  pub held : NumberedTalkers
   pub is_held : IsHeldBy (filled_by old number) number (record old { queue = new.queue }) held
   pub result_is : result ≡ talker_report number (talker_at held number)
   pub left : new ≡ only talker_heard number held
   pub reader_is : round_after ≡ record round { reader = turn_reader number (talker_at held number) round.reader }
 
-abbrev pub ReportsOf : List ℕ → Talkers → Talkers → Round → Option Report → Round → Type 0
+abbrev pub ReportsOf : List ℕ → NumberedTalkers → NumberedTalkers → Round → Option Report → Round → Type 0
 ReportsOf [] old new round result round_after = (result ≡ None) × (SameButQueue old new × (round_after ≡ round))
 ReportsOf (number ∷ behind) old new round result round_after = IsReported number old new round result round_after
 
 -- the first of the queue is reported; where none is queued, nothing is
-abbrev pub ReportsFirst : Talkers → Talkers → Round → Option Report → Round → Type 0
-ReportsFirst old new round result round_after = ReportsOf (talker_queue old) old new round result round_after
+abbrev pub ReportsFirst : NumberedTalkers → NumberedTalkers → Round → Option Report → Round → Type 0
+ReportsFirst old new round result round_after = ReportsOf old.queue old new round result round_after
 
 -- ---- who is let go
 
 -- the time is over, or the talker takes bytes again or is gone
-abbrev pub is_due : Talkers → Held → Bool
+abbrev pub is_due : NumberedTalkers → Held → Bool
 is_due talkers held = not (nat_lt talkers.holding.passed held.until && is_full_one (talker_at talkers held.by))
 
 -- the last takes the place of who is let go
 abbrev pub let_go_at : ℕ → Held → HeldBack → HeldBack
 let_go_at place held holding = record holding { held = swap_remove holding.held place held }
 
--- the talker that was full is tried again, and who was held stands in the queue, if it has something to say
-abbrev pub let_go_one : ℕ → Held → Talkers → Talkers
+-- the talker that was full is tried again, and who was held is reported, if it has something to say
+abbrev pub let_go_one : ℕ → Held → NumberedTalkers → NumberedTalkers
 let_go_one place held talkers =
-    record (only asked_again held.who (only tried_again held.by talkers)) { holding = let_go_at place held talkers.holding }
+    record (asked_again held.who (only tried_again held.by talkers)) { holding = let_go_at place held talkers.holding }
 
 -- whoever is held at a place, and is due, is let go
-pub record LetsOneGo (old new : Talkers) (place : ℕ) (held : Held) : Type 0 where
+pub record LetsOneGo (old new : NumberedTalkers) (place : ℕ) (held : Held) : Type 0 where
   pub there : slice_get old.holding.held place ≡ Some held
   pub due : is_due old held ≡ true
-  pub queue : ComesLast (is_new_again_at held.who (only tried_again held.by old)) held.who old new
-  pub others : SameButQueue (let_go_one place held old) new
+  pub left : new ≡ let_go_one place held old
 
 -- some are let go, one after another
-pub data LetsGo (old : Talkers) : Talkers → Type 0 where
+pub data LetsGo (old : NumberedTalkers) : NumberedTalkers → Type 0 where
   nobody : LetsGo old old
-  one_more : (between new : Talkers) (place : ℕ) (held : Held) → LetsGo old between → LetsOneGo between new place held → LetsGo old new
+  one_more : (between new : NumberedTalkers) (place : ℕ) (held : Held) → LetsGo old between → LetsOneGo between new place held → LetsGo old new

@@ -19,7 +19,6 @@ new_talker is_client serial = record {
   is_full = false;
   is_behind = false;
   is_ending = false;
-  is_queued = false;
   is_held = false;
   was_held = false;
   may_have_more = false;

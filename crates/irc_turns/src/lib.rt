@@ -6,6 +6,7 @@ mod arrivals;
 mod crowd;
 mod holding;
 mod pace;
+mod queue;
 mod rest;
 mod retries;
 mod retry;

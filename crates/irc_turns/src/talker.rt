@@ -48,8 +48,6 @@ pub struct Talker {
     is_behind: bool,
     /// Whether the system has told that no more bytes will come behind those that are there: it tells that once.
     is_ending: bool,
-    /// Whether it stands in the queue.
-    pub is_queued: bool,
     /// Whether it is held back.
     is_held: bool,
     /// Whether it was, and was not asked since.
@@ -78,7 +76,6 @@ impl Talker {
             is_full: false,
             is_behind: false,
             is_ending: false,
-            is_queued: false,
             is_held: false,
             was_held: false,
             may_have_more: false,

@@ -1,18 +1,21 @@
 //! Those who talk to the server, by their numbers, and which of them are to be reported.
-ghost use Rattle.std.specs.Prelude.{◌≡◌, ℕ, not, false, length, drop, [], None, IfSome, IfNone};
+ghost use Rattle.std.specs.Prelude.{◌≡◌, ℕ, false, length, drop, [], None, IfSome, IfNone, IsSome, nat_eq};
 ghost use Rattle.std.specs.List.{All};
 ghost use Rattle.std.specs.Option.{option_copied_mut};
 ghost use Rattle.slab.specs.Slab.{Updates, SameValues};
-ghost use Rattle.irc_turns.specs.HeldBack.{nobody_held};
+ghost use Rattle.irc_turns.specs.HeldBack.{nobody_held, round_passed};
 ghost use Rattle.irc_turns.specs.Rounds.{arrivals_after};
-ghost use Rattle.irc_turns.specs.Numbered.{QueuesUp, talker_queued};
+ghost use Rattle.irc_turns.specs.Queues.{queue_without, queued_behind, turned_queue};
+ghost use Rattle.irc_turns.specs.Talking.{written, told_so};
+ghost use Rattle.irc_turns.specs.Numbered.{talker_at, SameButQueue, IsTalkerAdded, only, tried_again, queue_told, has_come, queue_asked, put_off_at, queue_written, round_behind, asked_again, talker_mark, mark_of_one, is_full_one, turn_ended, filled_by, IsHeldBy, ReportsFirst, LetsGo, is_due};
 
 use crate::holding::Holding;
+use crate::queue::Queue;
 use crate::round::Round;
 use crate::talker::{Mark, Talker, Told};
 use slab::Slab;
 use std::alloc::Global;
-use std::collections::VecDeque;
+use std::marker::Model;
 
 /// What is told of one that was in the queue.
 #[derive(Clone, Copy, Drop)]
@@ -27,28 +30,42 @@ pub enum Report {
 #[derive(Drop)]
 pub struct Talkers {
     by_number: Slab<Talker>,
-    /// The numbers of those that are to be reported, each once. There is room in it for all talkers.
-    queue: VecDeque<usize, Global>,
+    /// The numbers of those that are to be reported. There is room in it for all talkers.
+    queue: Queue,
     /// Who is held back.
-    pub holding: Holding,
+    holding: Holding,
     /// How many talkers there were.
     count: u64,
     alloc: Global,
 }
 
-impl Talkers {
-    ghost use Rattle.irc_turns.specs.Numbered.{talker_at, talker_queue, turned_queue, queue_without, ComesLast, SameButQueue, IsTalkerAdded, only, tried_again, noted, has_come, is_new_at, queued_if_asked, is_new_if_asked_at, is_first, put_off_at, behind_write, is_new_behind, round_behind, asked_again, is_new_again_at, talker_mark, mark_of_one, is_full_one, turn_ended, filled_by, IsHeldBy, ReportsFirst, LetsGo, is_due};
+impl Model for Talkers {
+    ghost use Rattle.std.specs.Prelude.{◌≤◌, length};
+    ghost use Rattle.irc_turns.specs.Numbered.{NumberedTalkers};
 
+    ghost Value = { NumberedTalkers };
+
+    ghost view = { λ talkers. record {
+      by_number = talkers.by_number;
+      queue = talkers.queue.numbers;
+      holding = talkers.holding;
+      count = talkers.count;
+    } };
+
+    ghost invariant = { λ talkers. length talkers.by_number.slots ≤ talkers.queue.room };
+}
+
+impl Talkers {
     /// Nobody.
     pub fn new(alloc: Global) -> Self
         ensures talkers { (number : ℕ) → talker_at result number ≡ None }
-        ensures queue { talker_queue result ≡ [] }
+        ensures queue { result.queue ≡ [] }
         ensures held { result.holding ≡ nobody_held }
         ensures count { result.count ≡ 0 }
     {
         Talkers {
             by_number: Slab::new(alloc),
-            queue: VecDeque::new(alloc),
+            queue: Queue::new(alloc),
             holding: Holding::new(alloc),
             count: 0,
             alloc,
@@ -57,7 +74,7 @@ impl Talkers {
 
     /// How many are to be reported.
     pub fn waiting(&self) -> usize
-        ensures { result ≡ length (talker_queue self.now) }
+        ensures { result ≡ length self.now.queue }
     {
         self.queue.len()
     }
@@ -68,15 +85,17 @@ impl Talkers {
         ensures serial { IfSome result (λ number. self.new.count ≡ arrivals_after self.old.count) }
         ensures added { IfSome result (IsTalkerAdded is_client self.old self.new) }
         ensures none { IfNone result (SameValues self.old.by_number self.new.by_number) }
-        ensures queue { talker_queue self.new ≡ talker_queue self.old }
+        ensures queue { self.new.queue ≡ self.old.queue }
         ensures held { self.new.holding ≡ self.old.holding }
     {
-        self.queue
-            .reserve(self.by_number.len().saturating_add(1))
-            .ok()?;
+        self.by_number.reserve(1).ok()?;
+        self.queue.make_room(self.by_number.capacity()).ok()?;
         self.count = self.count.wrapping_add(1);
         let talker = Talker::new(self.alloc, is_client, self.count);
-        self.by_number.insert(talker).ok()
+        let number = self.by_number.insert_reserved(talker);
+        // tells that no number is above the capacity, for which the queue has room
+        let _places = self.by_number.capacity();
+        Some(number)
     }
 
     /// The one under a number.
@@ -86,58 +105,53 @@ impl Talkers {
         self.by_number.get_mut(number)
     }
 
-    /// One is gone. Its number is free again.
+    /// One is gone. Its number is free again, and leaves the queue.
     pub fn remove(&mut self, number: usize)
         ensures removed { Updates self.old.by_number self.new.by_number number None }
-        ensures queue { talker_queue self.new ≡ queue_without number self.old }
+        ensures queue { self.new.queue ≡ queue_without number self.old.queue }
         ensures held { self.new.holding ≡ self.old.holding }
         ensures count { self.new.count ≡ self.old.count }
     {
-        if let Some(talker) = self.by_number.try_remove(number) {
-            if talker.is_queued {
-                self.queue.retain(|queued| *queued != number);
-            }
-        }
+        let _talker = self.by_number.try_remove(number);
+        self.queue.remove(number);
     }
 
     /// Takes in what the system tells of a socket, and whether somebody has come by it who was not waiting.
     pub fn note(&mut self, number: usize, told: Told) -> bool
-        ensures come { result ≡ has_come told (talker_at self.old number) }
-        ensures queue { ComesLast (is_new_at told number self.old) number self.old self.new }
-        ensures others { SameButQueue (only (noted told) number self.old) self.new }
+        ensures come { result ≡ has_come told number self.old }
+        ensures queue { self.new.queue ≡ queue_told told number self.old }
+        ensures others { SameButQueue (only (λ talker. told_so talker told) number self.old) self.new }
     {
         let Some(talker) = self.by_number.get_mut(number) else {
             return false;
         };
         let has_room = talker.note(told);
-        let has_come = talker.is_asked() && !talker.is_queued;
-        if has_room || has_come {
-            queue_up(talker, number, &mut self.queue);
+        let is_asked = talker.is_asked();
+        let has_come = is_asked && !self.queue.contains(number);
+        if has_room || is_asked {
+            self.queue_up(number);
         }
         has_come
     }
 
     /// Puts so many who are first in the queue behind those who came after them: who has just come does not wait for those who have more to say.
     pub fn put_behind(&mut self, count: usize)
-        ensures queue { talker_queue self.new ≡ turned_queue count (talker_queue self.old) }
+        ensures queue { self.new.queue ≡ turned_queue count self.old.queue }
         ensures others { SameButQueue self.old self.new }
     {
-        if count < self.queue.len() {
-            self.queue.rotate_left(count);
-        }
+        self.queue.turn(count);
     }
 
     /// The report of the one that is first in the queue. It leaves the queue: only what is left after the read that follows puts it back,
     /// behind the others, so that nobody who sends without end keeps them waiting. Of one that is not to be asked now nothing is told but that it
     /// may take bytes.
     pub fn report(&mut self, round: &mut Round) -> Option<Report>
-        ensures queue { talker_queue self.new ≡ drop 1 (talker_queue self.old) }
+        ensures queue { self.new.queue ≡ drop 1 self.old.queue }
         ensures first { ReportsFirst self.old self.new round.old result round.new }
     {
-        let number = self.queue.pop_front()?;
+        let number = self.queue.pop()?;
         self.hold(number);
         let talker = self.by_number.get_mut(number)?;
-        talker.is_queued = false;
         if !talker.is_asked() {
             return Some(Report::Writable(number));
         }
@@ -151,13 +165,13 @@ impl Talkers {
 
     /// One of whom something is left, and who is to be asked, is reported again.
     pub fn queue_again(&mut self, number: usize)
-        ensures queue { ComesLast (is_new_if_asked_at number self.old) number self.old self.new }
-        ensures others { SameButQueue (only queued_if_asked number self.old) self.new }
+        ensures queue { self.new.queue ≡ queue_asked number self.old }
+        ensures others { SameButQueue self.old self.new }
     {
-        if let Some(talker) = self.by_number.get_mut(number)
+        if let Some(talker) = self.by_number.get(number)
             && talker.is_asked()
         {
-            queue_up(talker, number, &mut self.queue);
+            self.queue_up(number);
         }
     }
 
@@ -166,25 +180,15 @@ impl Talkers {
     pub fn puts_off(&self, number: usize, all: usize, round: &Round) -> Option<bool>
         ensures { result ≡ put_off_at self.now round.now number all }
     {
-        let may_wait = round.may_wait && !self.is_next(number);
+        let may_wait = round.may_wait && !self.queue.is_first(number);
         let talker = self.by_number.get(number)?;
         Some(talker.is_put_off(round.turn, all, may_wait))
     }
 
-    /// Whether one is next to be reported.
-    fn is_next(&self, number: usize) -> bool
-        ensures { result ≡ is_first number (talker_queue self.now) }
-    {
-        match self.queue.front() {
-            Some(first) => *first == number,
-            None => false,
-        }
-    }
-
     /// A write to one is over, of so many bytes in all. It took so many of them, or failed. One that has taken its answers is asked again.
     pub fn end_write(&mut self, number: usize, all: usize, taken: Option<usize>, round: &mut Round)
-        ensures queue { ComesLast (is_new_behind round.old all taken (talker_at self.old number)) number self.old self.new }
-        ensures others { SameButQueue (only (behind_write round.old all taken) number self.old) self.new }
+        ensures queue { self.new.queue ≡ queue_written round.old all taken number self.old }
+        ensures others { SameButQueue (only (written round.old.turn all taken) number self.old) self.new }
         ensures round { round.new ≡ round_behind number all taken round.old (talker_at self.old number) }
     {
         let Some(talker) = self.by_number.get_mut(number) else {
@@ -196,7 +200,7 @@ impl Talkers {
         // where it failed, what others are told of that was put into their outboxes behind the writes of this turn
         round.note_more(taken.is_none() || talker.may_take_more());
         if talker.is_asked() {
-            queue_up(talker, number, &mut self.queue);
+            self.queue_up(number);
         }
     }
 
@@ -292,25 +296,35 @@ impl Talkers {
 
     /// A client is held back no more.
     fn ask_again(&mut self, number: usize)
-        ensures queue { ComesLast (is_new_again_at number self.old) number self.old self.new }
-        ensures others { SameButQueue (only asked_again number self.old) self.new }
+        ensures { self.new ≡ asked_again number self.old }
     {
         if let Some(talker) = self.by_number.get_mut(number) {
             talker.let_go();
             if talker.is_asked() {
-                queue_up(talker, number, &mut self.queue);
+                self.queue_up(number);
             }
         }
     }
-}
 
-/// Has one reported, if it is not to be already. There is room: it was made as it came.
-fn queue_up(talker: &mut Talker, number: usize, queue: &mut VecDeque<usize, Global>)
-    ensures talker { talker.new ≡ talker_queued talker.old }
-    ensures queue { QueuesUp (not talker.old.is_queued) number queue.old queue.new }
-{
-    if !talker.is_queued {
-        talker.is_queued = true;
-        let _queued = queue.push_back(number);
+    /// Has one reported that is there, if it is not to be already. There is room: it was made as it came.
+    fn queue_up(&mut self, number: usize)
+        requires { IsSome (talker_at self.old number) }
+        ensures { self.new ≡ record self.old { queue = queued_behind number self.old.queue } }
+    {
+        self.queue.push(number);
+    }
+
+    /// A round is over, in which so many milliseconds were waited.
+    pub fn pass(&mut self, waited: u64)
+        ensures { self.new ≡ record self.old { holding = round_passed self.old.holding waited } }
+    {
+        self.holding.pass(waited);
+    }
+
+    /// Whether nobody is held back.
+    pub fn holds_nobody(&self) -> bool
+        ensures { result ≡ nat_eq 0 (length self.now.holding.held) }
+    {
+        self.holding.is_empty()
     }
 }

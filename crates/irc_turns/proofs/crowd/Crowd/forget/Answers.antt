@@ -1,6 +1,6 @@
-use Rattle.std.proofs.Common.{rules, not, nat_eq, ◌∙◌, sym, ap, List}
+use Rattle.std.proofs.Common.{rules, not, nat_eq, ◌∙◌, ap, List}
 use Rattle.std.proofs.lemmas.Fn.{filter_same}
-use Rattle.irc_turns.specs.Crowds.{Crowded, open_without}
+use Rattle.irc_turns.specs.Crowds.{open_without}
 use Rattle.irc_turns.specs.declared.crowd.Comer.{Comer}
 use Rattle.irc_turns.proofs.crowd.Crowd.forget.Goals as goal
 

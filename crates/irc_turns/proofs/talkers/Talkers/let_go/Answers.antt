@@ -1,7 +1,8 @@
-use Rattle.std.proofs.Common.{◌≡◌, ◌<◌, ◌≤◌, ℕ, true, false, get_or, refl, sym, ◌∙◌, ap, subst, arith}
+use Rattle.std.proofs.Common.{◌≡◌, ◌<◌, ℕ, true, false, length, get_or, refl, sym, ◌∙◌, ap, subst, arith}
+use Rattle.std.specs.List.{slice_get, swap_remove}
+use Rattle.irc_turns.specs.HeldBack.{held_at}
 use Rattle.irc_turns.specs.declared.holding.Held.{Held}
-use Rattle.irc_turns.specs.declared.talkers.Talkers.{Talkers}
-use Rattle.irc_turns.specs.Numbered.{is_due, nobody, one_more}
+use Rattle.irc_turns.specs.Numbered.{NumberedTalkers, only, tried_again, is_due, nobody, one_more}
 use Rattle.irc_turns.proofs.LettingGo.{before_place, due_by_room, due_by_time, not_due, fuller, gone, one_further}
 use Rattle.irc_turns.proofs.talkers.Talkers.let_go.Goals as goal
 use Rattle.irc_turns.proofs.talkers.Talkers.let_go.Goals.{in_default-via-in-Some+else-is_full, in_default-via-in_default}
@@ -18,46 +19,49 @@ loop-place-init c = record {
     none k below = omega arith
 
 pub loop-place-preserved-then-is_full : goal.loop-place-preserved-then-is_full
-loop-place-preserved-then-is_full c = record {
-  one_by_one = c.loop-place.invariant.one_by_one;
-  all = one_further (λ k. (d : Held) → is_due c.args.self.now (get_or c.loop-place.self.holding.held k d) ≡ false) c.loop-place.place c.loop-place.invariant.all
-      (λ d. not_due c.args.self.now c.loop-place.self c.loop-place.place c.in-Some.by d
-      (subst (λ n. c.loop-place.place < n) c.len.ensures c.loop-place-test.true) (sym c.at.ensures ∙ c.in-Some.is)
-      (sym c.is_full.ensures ∙ c.if-is_full.true) c.loop-place.invariant.full c.loop-place.invariant.passed);
-  full = c.loop-place.invariant.full;
-  passed = c.loop-place.invariant.passed;
-}
+loop-place-preserved-then-is_full c =
+    let place = c.loop-place.place in
+    let within =
+    subst (λ (s : NumberedTalkers). place < length s.holding.held) c.self.view_is (subst (λ n. place < n) c.len.ensures c.loop-place-test.true) in
+    let held = ap (λ (s : NumberedTalkers). held_at s.holding place) (sym c.self.view_is) ∙ sym c.at.ensures ∙ c.in-Some.is in
+    record {
+      one_by_one = c.loop-place.invariant.one_by_one;
+      all = one_further (λ k. (d : Held) → is_due c.args.self.now (get_or c.loop-place.self.holding.held k d) ≡ false) place c.loop-place.invariant.all
+          (λ d. not_due c.args.self.now c.loop-place.self place c.in-Some.by d within held (sym c.is_full.ensures ∙ c.if-is_full.true)
+          c.loop-place.invariant.full c.loop-place.invariant.passed);
+      full = c.loop-place.invariant.full;
+      passed = c.loop-place.invariant.passed;
+    }
 
 pub loop-place-preserved : goal.loop-place-preserved
 loop-place-preserved c =
     let between = c.loop-place.self in
     let place = c.loop-place.place in
     let held = c.let_go-held.result in
-    let within = subst (λ n. place < n) c.len.ensures c.loop-place-test.true in
-    let left = ap (λ (s : Talkers). s.holding) c.ask_again.ensures.others ∙ ap (λ (s : Talkers). s.holding) c.try_again.ensures in
+    let holding = c.let_go-held.new.self in
+    let there = ap (λ (s : NumberedTalkers). slice_get s.holding.held place) (sym c.self.view_is) ∙ c.let_go-held.ensures.who in
+    let others = c.let_go-held.ensures.others ∙ ap (λ (s : NumberedTalkers). swap_remove s.holding.held place held) c.self.view_is in
+    let passed = c.let_go-held.ensures.passed ∙ ap (λ (s : NumberedTalkers). s.holding.passed) c.self.view_is in
+    let tried = c.try_again.ensures ∙ ap (λ (s : NumberedTalkers). only tried_again held.by (record s { holding = holding })) c.self.view_is in
+    let left = ap (λ (s : NumberedTalkers). s.holding) c.ask_again.ensures ∙ ap (λ (s : NumberedTalkers). s.holding) c.try_again.ensures in
+    let at = ap (λ (s : NumberedTalkers). held_at s.holding place) (sym c.self.view_is) ∙ sym c.at.ensures in
     let due : is_due between held ≡ true = elim c.in_default.branch [
       | in_default-via-in-Some+else-is_full w ↦
-          due_by_room between place w.in-Some.by held c.let_go-held.ensures.who (sym c.at.ensures ∙ w.in-Some.is) (sym w.is_full.ensures ∙ w.if-is_full.false)
-      | in_default-via-in_default w ↦ due_by_time between place held c.let_go-held.ensures.who (sym c.at.ensures ∙ w.in_default.is)
+          due_by_room between place w.in-Some.by held there (at ∙ w.in-Some.is) (sym w.is_full.ensures ∙ w.if-is_full.false)
+      | in_default-via-in_default w ↦ due_by_time between place held there (at ∙ w.in_default.is)
     ] in
     record {
       one_by_one = one_more between c.ask_again.new.self place held c.loop-place.invariant.one_by_one
-          (gone between c.try_again.new.self c.ask_again.new.self c.let_go-held.new.self place held c.let_go-held.ensures.who due
-          c.let_go-held.ensures.others c.let_go-held.ensures.passed c.try_again.ensures c.ask_again.ensures.queue c.ask_again.ensures.others);
+          (gone between c.try_again.new.self c.ask_again.new.self holding place held there due others passed tried c.ask_again.ensures);
       all = λ k below d.
           ap (λ h. is_due c.args.self.now (get_or h.held k d)) left
-          ∙ ap (λ xs. is_due c.args.self.now (get_or xs k d)) c.let_go-held.ensures.others
-          ∙ ap (is_due c.args.self.now) (before_place between.holding.held place k held d below within)
+          ∙ ap (λ xs. is_due c.args.self.now (get_or xs k d)) others
+          ∙ ap (is_due c.args.self.now) (before_place between.holding.held place k held d below
+          (subst (λ (s : NumberedTalkers). place < length s.holding.held) c.self.view_is (subst (λ n. place < n) c.len.ensures c.loop-place-test.true)))
           ∙ c.loop-place.invariant.all k below d;
       full = λ number full.
           c.loop-place.invariant.full number
-          (fuller between c.try_again.new.self c.ask_again.new.self held.by held.who (ap (λ (s : Talkers). s.by_number) c.try_again.ensures)
-          (ap (λ (s : Talkers). s.by_number) c.ask_again.ensures.others) number full);
-      passed = ap (λ h. h.passed) left ∙ c.let_go-held.ensures.passed ∙ c.loop-place.invariant.passed;
+          (fuller between c.try_again.new.self c.ask_again.new.self held.by held.who (ap (λ (s : NumberedTalkers). s.by_number) tried)
+          (ap (λ (s : NumberedTalkers). s.by_number) c.ask_again.ensures) number full);
+      passed = ap (λ h. h.passed) left ∙ passed ∙ c.loop-place.invariant.passed;
     }
-
-pub returns-clause-all : goal.returns-clause-all
-returns-clause-all c = λ k d below. c.loop-place.invariant.all k (passed k _ _ _ below c.len.ensures c.loop-place-test.false) d
-  where
-    passed : (k size counted place : ℕ) → k < size → counted ≡ size → counted ≤ place → k < place
-    passed k size counted place below same past = omega arith

@@ -1,48 +1,65 @@
-use Rattle.std.proofs.Common.{◌++◌, ◌&&◌, false, true, refl, sym, ◌∙◌, ap}
-use Rattle.std.specs.Option.{option_to_list, option_copied_mut}
-use Rattle.irc_turns.proofs.FirstReported.{reported, none_there, none_read, none_told, as_heard, as_told, as_read}
+use Rattle.std.proofs.Common.{◌≡◌, ◌&&◌, drop, false, true, sym, ◌∙◌, ap}
+use Rattle.std.specs.Option.{option_copied_mut}
+use Rattle.slab.specs.Slab.{with_value}
+use Rattle.irc_turns.specs.Numbered.{NumberedTalkers, talker_at, turn_reader}
+use Rattle.irc_turns.proofs.FirstReported.{none_reported, reported, none_there, none_read, none_told, as_heard, as_told, as_read}
 use Rattle.irc_turns.proofs.talkers.Talkers.report.Goals as goal
+use Rattle.irc_turns.proofs.talkers.Talkers.report.Goals.{then-talker, else-talker}
+
+pub returns-in_err-number-clause-first : goal.returns-in_err-number-clause-first
+returns-in_err-number-clause-first c = none_reported c.args.self.now _ c.args.round.now _
+    (ap (λ (s : NumberedTalkers). s.queue) (sym c.self.view_is) ∙ c.in_err-number.ensures.numbers ∙ c.pop.ensures.rest
+    ∙ ap (λ (s : NumberedTalkers). drop 1 s.queue) c.self.view_is)
+    c.from_residual.ensures (ap (λ (s : NumberedTalkers). record s { queue = c.pop.new.self.numbers }) c.self.view_is)
 
 pub returns-in_err-talker-clause-first : goal.returns-in_err-talker-clause-first
 returns-in_err-talker-clause-first c =
     let held = c.hold.new.self in
     let number = c.in_ok-number.number in
-    let none = sym c.get_mut.ensures.value ∙ ap option_copied_mut c.in_err-talker.was in
-    reported c.args.self.now _ held _ number c.pop_front.new.self.items c.args.round.now _ _
-    (c.pop_front.ensures.items ∙ ap (λ r. option_to_list r ++ c.pop_front.new.self.items) c.in_ok-number.was) refl c.hold.ensures
-    (c.from_residual-in_err-talker.ensures ∙ none_told held number none) (none_there held number none) (none_read held number c.args.round.now none)
+    let none =
+    ap (λ (s : NumberedTalkers). talker_at s number) (sym c.self-2.view_is) ∙ sym c.get_mut.ensures.value ∙ ap option_copied_mut c.in_err-talker.was in
+    reported c.args.self.now _ held _ number c.pop.new.self.numbers c.args.round.now _ _
+    (ap (λ (s : NumberedTalkers). s.queue) (sym c.self.view_is) ∙ c.in_ok-number.ensures.numbers)
+    (ap (λ (s : NumberedTalkers). record s { queue = c.pop.new.self.numbers }) c.self.view_is) c.hold.ensures
+    (c.from_residual-in_err-talker.ensures ∙ none_told held number none) (c.self-2.view_is ∙ none_there held number none) (none_read held number c.args.round.now none)
 
 pub returns-then-not-is_asked-clause-first : goal.returns-then-not-is_asked-clause-first
 returns-then-not-is_asked-clause-first c =
     let held = c.hold.new.self in
     let number = c.in_ok-number.number in
-    let there = sym c.get_mut.ensures.value ∙ ap option_copied_mut c.in_ok-talker.was in
+    let talker = c.in_ok-talker.talker.now in
+    let there =
+    ap (λ (s : NumberedTalkers). talker_at s number) (sym c.self-2.view_is) ∙ sym c.get_mut.ensures.value ∙ ap option_copied_mut c.in_ok-talker.was in
     let asked = sym c.is_asked.ensures ∙ c.if-not-is_asked.true in
-    reported c.args.self.now _ held _ number c.pop_front.new.self.items c.args.round.now _ _
-    (c.pop_front.ensures.items ∙ ap (λ r. option_to_list r ++ c.pop_front.new.self.items) c.in_ok-number.was) refl c.hold.ensures
-    (as_told held number c.in_ok-talker.talker.now false there asked) (as_heard held number c.in_ok-talker.talker.now false there asked)
-    (as_read held number c.in_ok-talker.talker.now false c.args.round.now there (ap (λ b. b && c.in_ok-talker.talker.now.is_client) asked))
+    reported c.args.self.now _ held _ number c.pop.new.self.numbers c.args.round.now _ _
+    (ap (λ (s : NumberedTalkers). s.queue) (sym c.self.view_is) ∙ c.in_ok-number.ensures.numbers)
+    (ap (λ (s : NumberedTalkers). record s { queue = c.pop.new.self.numbers }) c.self.view_is) c.hold.ensures
+    (as_told held number talker false there asked)
+    (ap (λ (s : NumberedTalkers). record s { by_number = with_value s.by_number number talker }) c.self-2.view_is
+    ∙ as_heard held number talker false there asked)
+    (as_read held number talker false c.args.round.now there (ap (λ b. b && talker.is_client) asked))
 
-pub returns-then-talker-clause-first : goal.returns-then-talker-clause-first
-returns-then-talker-clause-first c =
+pub returns-clause-first : goal.returns-clause-first
+returns-clause-first c =
     let held = c.hold.new.self in
     let number = c.in_ok-number.number in
-    let there = sym c.get_mut.ensures.value ∙ ap option_copied_mut c.in_ok-talker.was in
+    let talker = c.in_ok-talker.talker.now in
+    let there =
+    ap (λ (s : NumberedTalkers). talker_at s number) (sym c.self-2.view_is) ∙ sym c.get_mut.ensures.value ∙ ap option_copied_mut c.in_ok-talker.was in
     let asked = sym c.is_asked.ensures ∙ c.if-not-is_asked.false in
-    reported c.args.self.now _ held _ number c.pop_front.new.self.items c.args.round.now _ _
-    (c.pop_front.ensures.items ∙ ap (λ r. option_to_list r ++ c.pop_front.new.self.items) c.in_ok-number.was) refl c.hold.ensures
-    (as_told held number c.in_ok-talker.talker.now true there asked) (as_heard held number c.in_ok-talker.talker.now true there asked)
-    (as_read held number c.in_ok-talker.talker.now true c.args.round.now there
-    (ap (λ b. b && c.in_ok-talker.talker.now.is_client) asked ∙ c.if-talker.true))
-
-pub returns-else-talker-clause-first : goal.returns-else-talker-clause-first
-returns-else-talker-clause-first c =
-    let held = c.hold.new.self in
-    let number = c.in_ok-number.number in
-    let there = sym c.get_mut.ensures.value ∙ ap option_copied_mut c.in_ok-talker.was in
-    let asked = sym c.is_asked.ensures ∙ c.if-not-is_asked.false in
-    reported c.args.self.now _ held _ number c.pop_front.new.self.items c.args.round.now _ _
-    (c.pop_front.ensures.items ∙ ap (λ r. option_to_list r ++ c.pop_front.new.self.items) c.in_ok-number.was) refl c.hold.ensures
-    (as_told held number c.in_ok-talker.talker.now true there asked) (as_heard held number c.in_ok-talker.talker.now true there asked)
-    (as_read held number c.in_ok-talker.talker.now false c.args.round.now there
-    (ap (λ b. b && c.in_ok-talker.talker.now.is_client) asked ∙ c.if-talker.false))
+    let read : c.if-talker.round ≡ record c.args.round.now { reader = turn_reader number (talker_at held number) c.args.round.now.reader } =
+    elim c.if-talker.branch [
+      | then-talker w ↦
+          w.round-is ∙ as_read held number talker true c.args.round.now there (ap (λ b. b && talker.is_client) asked ∙ w.if-talker.true)
+      | else-talker w ↦
+          w.round-is ∙ as_read held number talker false c.args.round.now there (ap (λ b. b && talker.is_client) asked ∙ w.if-talker.false)
+    ] in
+    reported c.args.self.now _ held _ number c.pop.new.self.numbers c.args.round.now _ _
+    (ap (λ (s : NumberedTalkers). s.queue) (sym c.self.view_is) ∙ c.in_ok-number.ensures.numbers)
+    (ap (λ (s : NumberedTalkers). record s { queue = c.pop.new.self.numbers }) c.self.view_is) c.hold.ensures
+    (as_told held number talker true there asked)
+    (ap (λ (s : NumberedTalkers). record s {
+      by_number = with_value s.by_number number (record talker { is_readable = false; was_held = false });
+    }) c.self-2.view_is
+    ∙ as_heard held number talker true there asked)
+    read
