@@ -1,5 +1,7 @@
 //! Calls of other servers.
-ghost use Rattle.std.specs.Prelude.{◌≡◌, if◌then◌else◌, IfOk, OnOk};
+ghost use Rattle.std.specs.Prelude.{◌≡◌, if◌then◌else◌, IfOk, OnOk, Some};
+ghost use Rattle.std.specs.List.{slice_get};
+ghost use Rattle.std.specs.Option.{option_copied};
 ghost use Rattle.irc_turns.specs.Spreads.{spread_on};
 
 use irc_names::ServerName;
@@ -57,6 +59,8 @@ pub(crate) struct Calls {
 }
 
 impl Calls {
+    ghost use Rattle.irc_sockets.specs.Calling.{IsCalled, Knows, name_at, name_of, rows_closed, rows_ended, rows_reached};
+
     /// Calls each of these, and waits for none of them: the system reports under the token when one is through or has failed. A server that the
     /// system refuses to call is passed over.
     ///
@@ -104,6 +108,11 @@ impl Calls {
     fn call(&mut self, place: usize, is_again: bool, registry: &Registry, token: Token)
         ensures asked { self.new.asked ≡ self.old.asked }
         ensures spread { self.new.retries.spread ≡ (if is_again then spread_on self.old.retries.spread 1 else self.old.retries.spread) }
+        ensures rows { IsCalled place self.old.retries.comers self.old.retries.rows.items self.new.retries.rows.items }
+        ensures called { self.new.retries.called_at ≡ (if is_again then Some self.old.retries.passed else self.old.retries.called_at) }
+        ensures looked { self.new.retries.looked_at ≡ self.old.retries.looked_at }
+        ensures passed { self.new.retries.passed ≡ self.old.retries.passed }
+        ensures comers { self.new.retries.comers ≡ self.old.retries.comers }
     {
         self.retries.begin(place, is_again);
         if let Err(error) = self.try_call(place, registry, token) {
@@ -115,7 +124,8 @@ impl Calls {
     pub fn fail(&mut self, place: usize, error: io::Error)
         ensures asked { self.new.asked ≡ self.old.asked }
         ensures under_way { self.new.under_way ≡ self.old.under_way }
-        ensures spread { self.new.retries.spread ≡ self.old.retries.spread }
+        ensures rows { self.new.retries.rows.items ≡ rows_ended place self.old.retries.comers self.old.retries.rows.items }
+        ensures retries { self.new.retries ≡ record self.old.retries { rows = self.new.retries.rows } }
     {
         self.retries.end(place);
         let _noted = self.failed.push_back((place, error));
@@ -176,26 +186,40 @@ impl Calls {
     }
 
     /// The call of the one at a place is a link of this number now, and has this name.
-    pub fn reach(&mut self, place: usize, link: u64) -> Option<ServerName> {
+    pub fn reach(&mut self, place: usize, link: u64) -> Option<ServerName>
+        ensures name { result ≡ name_of (slice_get self.old.asked.items place) }
+        ensures rows { self.new.retries.rows.items ≡ rows_reached place link self.old.retries.rows.items }
+        ensures retries { self.new.retries ≡ record self.old.retries { rows = self.new.retries.rows } }
+        ensures others { self.new ≡ record self.old { retries = self.new.retries } }
+    {
         self.retries.reach(place, link);
         Some(self.asked.get(place)?.name.copy())
     }
 
     /// A connection was closed, which may be a link that a call has become.
-    pub fn close(&mut self, link: u64) {
+    pub fn close(&mut self, link: u64)
+        ensures rows { self.new.retries.rows.items ≡ rows_closed link self.old.retries }
+        ensures retries { self.new.retries ≡ record self.old.retries { rows = self.new.retries.rows } }
+        ensures others { self.new ≡ record self.old { retries = self.new.retries } }
+    {
         if let Some(place) = self.retries.place_of(link) {
             self.retries.end(place);
         }
     }
 
     /// The one that would be called, if it is not known.
-    pub fn would_call(&self) -> Option<&ServerName> {
+    pub fn would_call(&self) -> Option<&ServerName>
+        ensures { option_copied result ≡ name_at self.now.asked.items self.now.retries.looked_at }
+    {
         let place = self.retries.looked_at?;
         Some(&self.asked.get(place)?.name)
     }
 
     /// Takes in whether that one is known, and calls it where that is due.
-    pub fn know(&mut self, is_known: bool, yields: bool, registry: &Registry, token: Token) {
+    pub fn know(&mut self, is_known: bool, yields: bool, registry: &Registry, token: Token)
+        ensures asked { self.new.asked ≡ self.old.asked }
+        ensures known { Knows is_known yields self.old.retries self.new.retries }
+    {
         if let Some(place) = self.retries.know(is_known, yields) {
             self.call(place, true, registry, token);
         }

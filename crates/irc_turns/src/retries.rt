@@ -128,6 +128,7 @@ impl Retries {
         ensures called { self.new.called_at ≡ self.old.called_at }
         ensures passed { self.new.passed ≡ self.old.passed }
         ensures spread { self.new.spread ≡ self.old.spread }
+        ensures comers { self.new.comers ≡ self.old.comers }
     {
         let place = self.looked_at.take()?;
         self.see(place, is_known, yields).then_some(place)
@@ -141,6 +142,7 @@ impl Retries {
         ensures passed { self.new.passed ≡ self.old.passed }
         ensures spread { self.new.spread ≡ self.old.spread }
         ensures looked { self.new.looked_at ≡ self.old.looked_at }
+        ensures comers { self.new.comers ≡ self.old.comers }
     {
         let is_apart = self.is_apart();
         let now = self.passed;
@@ -166,6 +168,7 @@ impl Retries {
         ensures rows { self.new.rows.items ≡ row_changed (λ row. call_begun row self.old.comers) place self.old.rows.items }
         ensures called { self.new.called_at ≡ (if is_again then Some self.old.passed else self.old.called_at) }
         ensures spread { self.new.spread ≡ (if is_again then spread_on self.old.spread 1 else self.old.spread) }
+        ensures others { self.new ≡ record self.old { rows = self.new.rows; called_at = self.new.called_at; spread = self.new.spread } }
     {
         if is_again {
             self.called_at = Some(self.passed);
@@ -179,7 +182,8 @@ impl Retries {
 
     /// The call of the server at a place is through, and is a link of this number now.
     pub fn reach(&mut self, place: usize, link: u64)
-        ensures { self.new.rows.items ≡ row_changed (λ row. call_reached row link) place self.old.rows.items }
+        ensures rows { self.new.rows.items ≡ row_changed (λ row. call_reached row link) place self.old.rows.items }
+        ensures others { self.new ≡ record self.old { rows = self.new.rows } }
     {
         if let Some(row) = self.rows.get_mut(place) {
             row.reach(link);
@@ -189,7 +193,7 @@ impl Retries {
     /// The call of the server at a place has failed, or its link has ended.
     pub fn end(&mut self, place: usize)
         ensures rows { self.new.rows.items ≡ row_changed (λ row. call_ended row self.old.comers) place self.old.rows.items }
-        ensures spread { self.new.spread ≡ self.old.spread }
+        ensures others { self.new ≡ record self.old { rows = self.new.rows } }
     {
         let comers = self.comers;
         if let Some(row) = self.rows.get_mut(place) {
