@@ -30,7 +30,7 @@ import sys
 import threading
 import time
 
-from linked_daemons import SECONDS, Line, Network, Person, Stream, told
+from linked_daemons import SECONDS, Line, Network, Stream, told
 
 NAMES = ["a.net", "b.net", "c.net"]
 # who looks is in this channel, which is the last one of each burst
@@ -59,9 +59,8 @@ class Way(Line):
     """A line between two servers that holds what is sent either way until it is let go, and knows how often a connection has ended."""
 
     def __init__(self, network, target, delay, flows):
-        self.flows = [threading.Event() for _ in range(2)]
-        self.ended = []
-        self.open = []
+        self.flows = [threading.Event(), threading.Event()]
+        self.ended, self.open = [], []
         if flows:
             self.lets_go()
         super().__init__(network, target, delay)
@@ -92,7 +91,7 @@ class Way(Line):
         self.ended.append(source)
 
     def writes(self, sink, pieces):
-        super().writes(sink, Held(pieces, self.flows[sink.getpeername()[1] == self.target]))
+        super().writes(sink, Held(pieces, self.flows[sink.getsockname()[1] == self.port]))
 
 
 class Field(Network):
@@ -166,16 +165,19 @@ class Field(Network):
                     raise OSError(f"nothing comes from {speaker} to {hearer}, and no link is lost")
         return True
 
-    def told_by(self, name):
+    def told_by(self, watcher):
         """All that a server tells to a neighbour, who goes again."""
-        peer = self.peer(name, "z" + name)
+        peer = self.peer(watcher.server, "z" + watcher.server)
         peer.sees(f" NJOIN {LAST} :")
         peer.socket.close()
-        self.is_whole()
+        self.waits([watcher], "LUSERS", f" 251 .* {len(self.daemons)} servers")
         return State(peer.seen)
 
     def states(self):
-        return [self.told_by(name) for name in self.daemons]
+        states = [self.told_by(watcher) for watcher in self.watchers]
+        # until the others have read that the peers are gone
+        self.rests(1)
+        return states
 
     def reasons(self):
         """Why links were closed, as the daemons say."""
@@ -264,8 +266,8 @@ def by_kind(counts):
 
 
 # Of each side there are x and w, operators of #any.c, y, who is none, and f, who is in #any.g alone. `own.y` is this side's y, `their.y` the
-# other's; `any.z` is one name for both, `spelt.d` and `text.t` are this side's way to write what both do, `count.` a number of its own.
-# The channel #any.c has +n, a topic and a ban.
+# other's; `any.z` is one name for both, `spelt.d` one that each side writes in other letters, `count.l` a number of its own, and `new any.z`
+# somebody who comes. The channel #any.c has +n, a topic and a ban.
 OPERATIONS = [
     # nicknames
     "f NICK any.z", "new any.z", "f NICK any.z | f NICK own.z", "new any.z | new NICK own.z", "f NICK any.z | f QUIT",
@@ -273,12 +275,12 @@ OPERATIONS = [
     "w NICK own.u | w NICK own.v", "f NICK SPELT.f", "y NICK SPELT.y", "f NICK their.f", "new own.n", "f QUIT :bye", "y QUIT",
     "f NICK any.z | f NICK own.z | new any.z", "f NICK any.z | new own.f",
     # channels
-    "f JOIN #spelt.d", "f JOIN #spelt.e,#spelt.h | f PART #spelt.h", "f JOIN #any.k | f MODE #any.k +k text.k", "f JOIN #any.c", "y PART #any.c",
+    "f JOIN #spelt.d", "f JOIN #spelt.e,#spelt.h | f PART #spelt.h", "f JOIN #any.k | f MODE #any.k +k own.k", "f JOIN #any.c", "y PART #any.c",
     "y PART #any.c | y JOIN #any.c", "w PART #any.c | w JOIN #any.c", "y JOIN 0", "f PART #any.g :bye", "x KICK #any.c their.y",
-    "x KICK #any.c their.w", "x KICK #any.c own.y", "x INVITE their.f #any.c", "x INVITE own.f #any.i", "x TOPIC #any.c :text.t", "x TOPIC #any.c :",
+    "x KICK #any.c their.w", "x KICK #any.c own.y", "x INVITE their.f #any.c", "x INVITE own.f #any.i", "x TOPIC #any.c :own.t", "x TOPIC #any.c :",
     # modes
-    "x MODE #any.c +o their.y", "x MODE #any.c +v their.y", "x MODE #any.c -o their.w", "x MODE #any.c -o own.w", "x MODE #any.c +k text.k",
-    "x MODE #any.c +k text.k | x MODE #any.c -k text.k", "x MODE #any.c +l count.l", "x MODE #any.c -n", "x MODE #any.c -n | x MODE #any.c +n",
+    "x MODE #any.c +o their.y", "x MODE #any.c +v their.y", "x MODE #any.c -o their.w", "x MODE #any.c -o own.w", "x MODE #any.c +k own.k",
+    "x MODE #any.c +k own.k | x MODE #any.c -k own.k", "x MODE #any.c +l count.l", "x MODE #any.c -n", "x MODE #any.c -n | x MODE #any.c +n",
     "x MODE #any.c +ims", "x MODE #any.c +b spelt.b!*@*", "x MODE #any.c -b old!*@*",
     "x MODE #any.c -b old!*@* | x MODE #any.c +b old!*@*", "y MODE own.y +i",
     # texts
@@ -305,10 +307,10 @@ class Side:
             kind, rest = match.groups()
             if kind == "count":
                 return "10" if here == "a" else "20"
-            front = {"own": here, "their": there, "any": "", "spelt": "s", "text": here, "SPELT": here}[kind]
+            front = {"own": here, "their": there, "any": "", "spelt": "s", "SPELT": here}[kind]
             word = f"{front}{rest}{self.number}"
             return word.upper() if kind == "SPELT" or kind == "spelt" and here == "b" else word
-        return re.sub(r"\b(own|their|any|spelt|SPELT|text|count)\.([a-z]+)", name, text)
+        return re.sub(r"\b(own|their|any|spelt|SPELT|count)\.([a-z]+)", name, text)
 
     def does(self, operation):
         """Each step is done when this returns, and nothing else of the other side is known here where the link is held."""
@@ -321,14 +323,6 @@ class Side:
             else:
                 self.people[who].says(line)
                 self.people[who].answers()
-
-    def leaves(self):
-        for person in self.people.values():
-            if not person.is_over and person.is_open():
-                person.says("QUIT")
-        for person in self.people.values():
-            person.ends()
-            person.socket.close()
 
 
 def are_given(field, number, first, second):
@@ -353,26 +347,26 @@ def are_given(field, number, first, second):
     for way in field.ways:
         way.lets_go()
     found = differences(*field.states(), lambda name: re.sub("[^0-9]", "", name) == str(number)) if field.rests() else None
-    for side in sides:
-        side.leaves()
+    field.counts_lost()
+    for person in [*near.values(), *far.values()]:
+        person.socket.close()
     return found
 
 
 def matrix(program, given):
-    lost, unlike, pairs = 0, collections.Counter(), 0
+    unlike, pairs = collections.Counter(), 0
     with Field(program, 2) as field:
         for place, first in enumerate(OPERATIONS):
             for second in OPERATIONS[place:]:
                 pairs += 1
                 found = are_given(field, pairs, first, second)
-                lost += field.counts_lost() > 0
                 kind = "lost" if found is None else kind_of(found)
-                unlike[kind] += kind in KINDS
+                unlike[kind] += kind is not None
                 if given.show and kind is not None:
                     print(f"     {KINDS.get(kind, 'link lost')}: {first} / {second}", flush=True)
-        count = sum(unlike.values())
-        return told("matrix", lost == 0 and count <= MOST_UNLIKE and field.all_run(),
-                    f"of {pairs} pairs {lost} lose a link, and {count} end differently: {by_kind(unlike)}{why(field.reasons())}")
+        count = sum(unlike[kind] for kind in KINDS)
+        return told("matrix", unlike["lost"] == 0 and count <= MOST_UNLIKE and field.all_run(),
+                    f"of {pairs} pairs {unlike['lost']} lose a link, and {count} end differently: {by_kind(unlike)}{why(field.reasons())}")
 
 
 class Anybody(Stream):
@@ -410,8 +404,9 @@ ROOMS = ["#r", "#R", "#s", "#t", "#u"]
 def by_chance(chance):
     """A line of anybody, perhaps with something turned."""
     nick, room, sign = chance.choice(POOL), chance.choice(ROOMS), chance.choice("+-")
-    line = chance.choice([f"NICK {nick}"] * 8 + [f"JOIN {room}"] * 4 + [f"TOPIC {room} :{chance.randrange(100)}", f"MODE {room} {sign}o {nick}"] * 2 + [
-        "JOIN 0", f"PART {room} :off", f"KICK {room} {nick} :out", f"MODE {room} {sign}v {nick}", f"MODE {room} {sign}{chance.choice('nimpst')}",
+    line = chance.choice([f"NICK {nick}"] * 8 + [f"JOIN {room}"] * 4 + [
+        f"TOPIC {room} :{chance.randrange(100)}", f"TOPIC {room} :tea", f"MODE {room} {sign}o {nick}", f"MODE {room} {sign}o {nick}", "JOIN 0",
+        f"PART {room} :off", f"KICK {room} {nick} :out", f"MODE {room} {sign}v {nick}", f"MODE {room} {sign}{chance.choice('nimpst')}",
         f"MODE {room} {sign}k key", f"MODE {room} {sign}l {chance.randrange(5, 20)}", f"MODE {room} {sign}b {nick}!*@*", f"MODE {nick} {sign}i",
         f"PRIVMSG {room} :hello", f"PRIVMSG {room} :hello", f"NOTICE {nick},{room} :hello", f"INVITE {nick} {room}", "QUIT :bye"])
     if chance.random() < 0.1:
@@ -466,8 +461,9 @@ def random_use(program, given):
             field.rests()
             still += bool(all_unlike(field))
         return told("random", lost == 0 and still == 0 and field.all_run(),
-                    f"in {given.phases} phases of three servers and {len(clients)} clients {lost} links are lost, and {sum(unlike.values())} phases end "
-                    f"differently ({by_kind(unlike)}), {still} of them still when links were made anew; {time.monotonic() - start:.0f} s{why(field.reasons())}")
+                    f"in {given.phases} phases of three servers and {len(clients)} clients {lost} links are lost, and {sum(unlike.values())} phases "
+                    f"end differently ({by_kind(unlike)}), {still} of them still when links were made anew; {time.monotonic() - start:.0f} s"
+                    + why(field.reasons()))
 
 
 def race(program, part, lines, taken):
@@ -509,12 +505,12 @@ def race_b(program, _):
 
 
 class Returning(Anybody):
-    """A client that comes back at once under its name when it is closed, and does the same again; where somebody has the name, it takes a
-    like one. Who is eager says its lines all the time, and wants its own name alone."""
+    """A client that comes back at once under its name when it is closed, and does the same again. Where somebody has the name, it asks
+    again a little later. Who is eager says its lines all the time."""
 
     def __init__(self, network, server, nick, lines, eager=False):
         self.network, self.nick, self.lines, self.eager = network, nick, lines, eager
-        self.kills, self.last_kill = 0, time.monotonic()
+        self.kills, self.last_kill, self.again = 0, time.monotonic(), None
         super().__init__(network, server, nick)
 
     def turn(self):
@@ -525,14 +521,17 @@ class Returning(Anybody):
                 self.kills, self.last_kill = self.kills + 1, time.monotonic()
             elif " 001 " in line:
                 self.tries(*self.lines)
-            elif " 433 " in line and not self.eager:
-                self.tries(f"NICK {self.nick}_")
+            elif " 433 " in line:
+                self.again = time.monotonic() + 0.05
         self.seen.clear()
         if self.is_over:
             self.socket.close()
             super().__init__(self.network, self.server, self.nick)
         elif self.eager:
             self.tries(f"NICK {self.nick}", *self.lines)
+        elif self.again is not None and self.again < time.monotonic():
+            self.again = None
+            self.tries(f"NICK {self.nick}")
 
 
 class Crowd(threading.Thread):
@@ -575,7 +574,8 @@ def rejoin(program, _):
         lost = unlike = kills = 0
         for _ in range(8):
             with Field(program, 2, delay, flows=False) as field:
-                crowd = Crowd([Returning(field, server, f"n{number}", ["JOIN #den", "PRIVMSG #den :back"]) for number in range(20) for server in field.daemons])
+                crowd = Crowd([Returning(field, server, f"n{number}", ["JOIN #den", "PRIVMSG #den :back"])
+                               for number in range(20) for server in field.daemons])
                 time.sleep(0.2)
                 field.ways[0].lets_go()
                 field.is_whole()
@@ -593,10 +593,9 @@ def rejoin(program, _):
 
 
 def bots(program, _):
-    lost = 0
-    kills = []
+    lost, kills = 0, []
     with Field(program, 3, 0.2) as field:
-        for _ in range(TRIES):
+        for _ in range(5):
             field["b.net"].kill()
             field.waits([field.watchers[0], field.watchers[2]], "LUSERS", " 251 .* 1 servers")
             crowd = Crowd([Returning(field, server, "same", ["JOIN #net", "PRIVMSG #net :back"]) for server in ("a.net", "c.net")])
@@ -609,47 +608,30 @@ def bots(program, _):
             lost += field.counts_lost() > 0
             kills.append(crowd.kills())
             crowd.ends()
-        return told("bots", lost == 0 and field.all_run(), f"two with one nickname behind 200 ms a way are killed {kills} times in {TRIES} goes; links are lost in {lost} of them{why(field.reasons())}")
+        return told("bots", lost == 0 and field.all_run(),
+                    f"two with one nickname behind 200 ms a way are killed {kills} times in five goes; links are lost in {lost}{why(field.reasons())}")
 
 
 def dup(program, _):
-    lost, kills, first, held, reasons = 0, 0, [], True, collections.Counter()
-    for _ in range(5):
-        with Field(program, 3, 0.02) as field:
-            start = time.monotonic()
+    lost = kills = 0
+    with Field(program, 3, 0.02) as field:
+        for _ in range(5):
             crowd = Crowd([Returning(field, server, "dup", ["JOIN #den", "PRIVMSG #den :word"], eager=True) for server in ("a.net", "c.net")])
-            while time.monotonic() < start + 5 and not field.lost():
-                time.sleep(0.005)
-            if field.lost():
-                lost += 1
-                first.append(f"{time.monotonic() - start:.2f} s")
+            time.sleep(5)
             crowd.ends()
+            field.rests()
+            lost += field.counts_lost() > 0
             kills += crowd.kills()
-            held = held and field.all_run()
-            reasons += field.reasons()
-    return told("dup", lost == 0 and held, f"two that take one nickname again and again for 5 s: a link is lost in {lost} of 5 "
-                f"{'after ' + ', '.join(first) if first else ''} ({kills} kills){why(reasons)}")
+        return told("dup", lost == 0 and field.all_run(),
+                    f"two that take one nickname again and again for 5 s: links are lost in {lost} of 5 goes ({kills} kills){why(field.reasons())}")
 
 
 def half_gone(program, _):
-    alone = lost = 0
     with Field(program, 2) as field:
-        for number in range(TRIES):
-            way = field.ways[0]
-            p, q = field.person("a.net", f"p{number}"), field.person("b.net", f"q{number}")
-            field.rests(1)
-            way.holds()
-            for person, lines in ((p, [f"NICK z{number}", f"NICK y{number}"]), (q, [f"NICK z{number}"])):
-                person.says(*lines)
-                person.answers()
-            # either end's lines come first in turn
-            way.flows[number % 2].set()
-            time.sleep(0.02)
-            way.lets_go()
-            field.rests()
-            lost += field.counts_lost() > 0
-            alone += "alone" in differences(*field.states(), lambda nick: nick.endswith(str(number)))
-        return told("half_gone", alone == 0 and lost == 0 and field.all_run(), f"in {alone} of {TRIES} goes somebody is on one side alone; links are lost in {lost}")
+        ends = [are_given(field, number, OPERATIONS[2], OPERATIONS[0]) for number in range(TRIES)]
+        lost, alone = ends.count(None), sum(1 for found in ends if found and "alone" in found)
+        return told("half_gone", alone == 0 and lost == 0 and field.all_run(),
+                    f"in {alone} of {TRIES} goes somebody is on one side alone; links are lost in {lost}{why(field.reasons())}")
 
 
 def is_chased(field, number, command):
@@ -694,7 +676,8 @@ def chase(program, _):
             held = held and good == 4
             results.append(f"{good} of 4 are {what} on both sides")
         lost = field.counts_lost()
-        return told("chase", held and lost == 0 and field.all_run(), f"of those who take another nickname every 20 ms {' and '.join(results)}; links lost: {lost}{why(field.reasons())}")
+        return told("chase", held and lost == 0 and field.all_run(),
+                    f"of those who take another nickname every 20 ms {' and '.join(results)}; links lost: {lost}{why(field.reasons())}")
 
 
 PARTS = {"matrix": matrix, "random": random_use, "race_a": race_a, "race_b": race_b, "rejoin": rejoin, "bots": bots, "dup": dup, "half_gone": half_gone,
