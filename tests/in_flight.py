@@ -561,9 +561,13 @@ class Crowd(threading.Thread):
         while time.monotonic() < min(end, max(client.last_kill for client in self.clients) + quiet):
             time.sleep(0.01)
 
-    def ends(self):
+    def stops(self):
+        """Nobody does anything from here on."""
         self.is_stopped = True
         self.join()
+
+    def ends(self):
+        self.stops()
         for client in self.clients:
             client.socket.close()
 
@@ -583,6 +587,7 @@ def rejoin(program, _):
                 is_lost = field.counts_lost() > 0
                 lost += is_lost
                 kills += crowd.kills()
+                crowd.stops()
                 unlike += not is_lost and field.rests() and bool(all_unlike(field))
                 crowd.ends()
                 held = held and field.all_run()
